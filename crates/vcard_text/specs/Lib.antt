@@ -1,0 +1,2 @@
+pub mod TextMaps
+pub mod FaultNumbers

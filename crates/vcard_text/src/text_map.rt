@@ -1,0 +1,92 @@
+//! A map from texts that contracts see as a finite map from their octets.
+ghost use Rattle.std.specs.Prelude.{◌≡◌, IfOk, OnOk, OnErr, string_bytes, option_copied, map, None};
+ghost use Rattle.std.specs.Map.Iter.{deref_pair};
+ghost use Rattle.std.specs.FinMap as finite;
+ghost use Rattle.vcard_text.specs.TextMaps.{texts};
+
+use crate::memory::NoMemory;
+use std::alloc::Global;
+use std::collections::BTreeMap;
+use std::marker::Model;
+
+/// A `BTreeMap` with text keys, whose contracts name what stands at each key.
+#[derive(Drop)]
+pub struct TextMap<V> {
+    inner: BTreeMap<String, V>,
+}
+
+impl<V> Model for TextMap<V> {
+    ghost use Rattle.std.specs.FinMap as finite;
+    ghost use Rattle.vcard_text.specs.TextMaps.{text_cmp, coded_text, texts};
+
+    ghost Value = { finite.FinMap text_cmp V };
+
+    ghost coded = { finite.code coded_text V.code };
+
+    ghost view = { λ text_map. texts text_map.inner };
+}
+
+impl<V: Drop> TextMap<V> {
+    /// An empty map, which takes no memory.
+    pub fn new(alloc: Global) -> TextMap<V>
+        ensures { result ≡ finite.empty }
+    {
+        TextMap {
+            inner: BTreeMap::new(alloc),
+        }
+    }
+
+    /// The map of a `BTreeMap`, which takes no memory.
+    pub fn from_map(inner: BTreeMap<String, V>) -> TextMap<V>
+        ensures { result ≡ texts inner }
+    {
+        TextMap { inner }
+    }
+
+    /// The `BTreeMap` itself, which takes no memory.
+    pub fn as_map(&self) -> &BTreeMap<String, V>
+        ensures { texts result.now ≡ self.now }
+    {
+        &self.inner
+    }
+
+    pub fn clear(&mut self)
+        ensures { self.new ≡ finite.empty }
+    {
+        self.inner.clear();
+    }
+
+    pub fn get(&self, key: &str) -> Option<&V>
+        ensures { option_copied result ≡ finite.get self.now key.now }
+    {
+        self.inner.get(key)
+    }
+
+    /// Puts the value at the key. An `Err` leaves the map as it was, and comes only where the key wasn't there.
+    pub fn insert(&mut self, key: String, value: V) -> Result<(), NoMemory>
+        ensures ok { OnOk result (self.new ≡ finite.insert self.old (string_bytes key) value) }
+        ensures err { OnErr result (self.new ≡ self.old) }
+        ensures absent { OnErr result (finite.get self.old (string_bytes key) ≡ None) }
+    {
+        self.inner.insert(key, value)?;
+        Ok(())
+    }
+
+    pub fn remove(&mut self, key: &str) -> Option<V>
+        ensures value { result ≡ finite.get self.old key.now }
+        ensures removed { self.new ≡ finite.remove self.old key.now }
+    {
+        self.inner.remove(key)
+    }
+
+    /// The entries, by the octets of their keys.
+    pub fn entries(&self, alloc: Global) -> Result<Vec<(&str, &V)>, NoMemory>
+        ensures { IfOk result (λ entries. map deref_pair entries.items ≡ finite.entries self.now) }
+    {
+        let mut entries = Vec::new(alloc);
+        for (key, value) in self.inner.iter() {
+            entries.push((key.as_str(), value))?;
+        }
+        Ok(entries)
+    }
+}
