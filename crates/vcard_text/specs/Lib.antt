@@ -1,2 +1,11 @@
 pub mod TextMaps
 pub mod FaultNumbers
+pub mod Grammar
+pub mod LogicalLines
+pub mod Folding
+pub mod Cards
+pub mod Spelling
+pub mod Steps
+pub mod LineReading
+pub mod Unfolding
+pub mod Faults

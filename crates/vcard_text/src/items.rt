@@ -1,6 +1,8 @@
 //! A list that contracts see as its items.
-ghost use Rattle.std.specs.Prelude.{◌≡◌, List, [], ◌∷◌, ◌++◌, OnOk, OnErr};
+ghost use Rattle.std.specs.Prelude.{◌≡◌, List, [], ◌∷◌, ◌++◌, ◌↔◌, OnOk, OnErr, IfOk, IsTrue};
 
+use crate::memory::NoMemory;
+use crate::part::Part;
 use std::alloc::{AllocFailed, Global};
 use std::marker::Model;
 
@@ -60,5 +62,32 @@ impl<T> Items<T> {
     /// The allocator that the items are kept by.
     pub fn alloc(&self) -> Global {
         *self.inner.allocator()
+    }
+}
+
+impl<T: Part> Items<T> {
+    pub fn try_copy(&self) -> Result<Items<T>, NoMemory>
+        ensures { IfOk result (λ copy. copy ≡ self.now) }
+    {
+        let mut inner = Vec::with_capacity(self.alloc(), self.inner.len())?;
+        for item in &self.inner {
+            inner.push(item.try_copy()?)?;
+        }
+        Ok(Items { inner })
+    }
+
+    /// Whether both have the same items in the same order.
+    pub fn is_same(&self, other: &Items<T>) -> bool
+        ensures { IsTrue result ↔ (self.now ≡ other.now) }
+    {
+        if self.inner.len() != other.inner.len() {
+            return false;
+        }
+        for (i, item) in self.inner.iter().enumerate() {
+            if !item.is_same(&other.inner[i]) {
+                return false;
+            }
+        }
+        true
     }
 }

@@ -1,0 +1,134 @@
+//! The reader of a card.
+ghost use Rattle.std.specs.Prelude.{◌≡◌, ◌≢◌, ◌∷◌, ◌≤◌, List, ℕ, IsTrue, IfOk, IfErr, Some, Ok, Err, drop, string_bytes};
+ghost use Rattle.vcard_text.specs.Steps.{Gives};
+ghost use Rattle.vcard_text.specs.LogicalLines.{continues};
+ghost use Rattle.vcard_text.specs.Unfolding.{before, unfolded_from, logical_lines};
+ghost use Rattle.vcard_text.specs.Spelling.{without_mark, Spells};
+ghost use Rattle.vcard_text.specs.Faults.{card_from, card_of_texts, within_bounds, card_of_text, first_fault};
+ghost use Rattle.vcard_text.specs.declared.fault.CardFault.TheVariants.{Memory};
+ghost use Rattle.vcard_text.specs.declared.line.Line.{Line};
+
+use crate::bounds::TEXT_OCTETS_MAX;
+use crate::card::Card;
+use crate::fault::CardFault;
+use crate::items::Items;
+use crate::line::Line;
+use crate::scan::Scan;
+use crate::writer::canonical_len;
+use std::alloc::Global;
+
+/// Whether a physical line continues the one before it.
+fn continues(piece: &str) -> bool
+    ensures { result ≡ continues piece.now }
+{
+    matches!(piece.as_bytes().first(), Some(b' ' | b'\t'))
+}
+
+/// A physical line without the space or the tab that it begins with.
+fn without_first(piece: &str) -> &str
+    requires { IsTrue (continues piece.now) }
+    ensures { result.now ≡ drop 1 piece.now }
+{
+    &piece[1..]
+}
+
+/// Reads a logical line, unless it is empty.
+fn take_line(alloc: Global, scan: Scan, line: &str) -> Result<Scan, CardFault>
+    ensures goes_on { IfOk result (λ next. (others : List (List ℕ)) →
+        card_from scan (before line.now others) ≡ card_from next others) }
+    ensures ends { IfErr result (λ fault. fault ≢ Memory → (others : List (List ℕ)) →
+        card_from scan (before line.now others) ≡ Err fault) }
+{
+    if line.is_empty() {
+        return Ok(scan);
+    }
+    scan.take(alloc, line)
+}
+
+/// Reads a physical line: it goes on with the logical line so far, or ends it and begins the next.
+fn take_piece(alloc: Global, scan: Scan, line: &mut String, piece: &str) -> Result<Scan, CardFault>
+    ensures goes_on { IfOk result (λ next. (pieces : List (List ℕ)) →
+        card_from scan (unfolded_from (string_bytes line.old) (piece.now ∷ pieces)) ≡ card_from next (unfolded_from (string_bytes line.new) pieces)) }
+    ensures ends { IfErr result (λ fault. fault ≢ Memory → (pieces : List (List ℕ)) →
+        card_from scan (unfolded_from (string_bytes line.old) (piece.now ∷ pieces)) ≡ Err fault) }
+{
+    if continues(piece) {
+        line.push_str(without_first(piece))?;
+        return Ok(scan);
+    }
+    let next = take_line(alloc, scan, line.as_str())?;
+    line.clear();
+    line.push_str(piece)?;
+    Ok(next)
+}
+
+/// The lines of the card that a text's logical lines spell, or their first fault. One logical line is kept at a time.
+fn read_lines(alloc: Global, text: &str) -> Result<Items<Line>, CardFault>
+    ensures { Gives (λ lines. lines) result (card_of_texts (logical_lines text.now)) }
+{
+    let mut scan = Scan::start(alloc);
+    let mut pieces = text.lines();
+    let Some(first) = pieces.next() else {
+        return scan.finish();
+    };
+    let mut line = String::from_str(alloc, first)?;
+    for piece in pieces {
+        scan = take_piece(alloc, scan, &mut line, piece)?;
+    }
+    let scan = take_line(alloc, scan, line.as_str())?;
+    scan.finish()
+}
+
+/// The text behind its byte order mark, if it has one.
+fn without_mark(text: &str) -> &str
+    ensures { result.now ≡ without_mark text.now }
+{
+    text.strip_prefix('\u{FEFF}').unwrap_or(text)
+}
+
+/// The lines, unless their canonical text is too long.
+#[tactic(auto, unfolding(crate::specs::Faults::within_bounds))]
+fn within_bounds(alloc: Global, lines: Items<Line>) -> Result<Items<Line>, CardFault>
+    ensures { Gives (λ lines. lines) result (within_bounds lines) }
+{
+    if canonical_len(alloc, lines.as_slice())? <= TEXT_OCTETS_MAX {
+        Ok(lines)
+    } else {
+        Err(CardFault::TooLong)
+    }
+}
+
+/// The lines of the card that a text spells, or the text's first fault.
+#[tactic(auto, unfolding(crate::specs::Faults::card_of_text))]
+fn read_text(alloc: Global, text: &[u8]) -> Result<Items<Line>, CardFault>
+    ensures { Gives (λ lines. lines) result (card_of_text text.now) }
+{
+    if text.len() > TEXT_OCTETS_MAX {
+        return Err(CardFault::TooLong);
+    }
+    let Ok(text) = str::from_utf8(text) else {
+        return Err(CardFault::NotUtf8);
+    };
+    let lines = read_lines(alloc, without_mark(text))?;
+    within_bounds(alloc, lines)
+}
+
+/// Reads the card that a text spells (RFC 6350, section 3): at most 262,144 octets of UTF-8, one byte order mark in front
+/// or none, folded or not, its lines ended by CRLF or LF.
+///
+/// An `Err` is the text's first fault: `TooLong` or `NotUtf8`, then the first fault of the first logical line that has one,
+/// then `NoEnd`, `NoName`, `NoUid`, `MemberOutsideGroup`, and then `TooLong` for the canonical text. `Memory` comes in place
+/// of any answer where a growth was refused.
+pub fn read_card(alloc: Global, text: &[u8]) -> Result<Card, CardFault>
+    // What is read is the card that the text spells.
+    ensures card { IfOk result (λ card. Spells text.now card) }
+
+    // A text that spells a card is read, unless memory runs out.
+    ensures every { (lines : List Line) → Spells text.now lines → result ≢ Err Memory → result ≡ Ok lines }
+
+    // What is refused is refused for its first fault, unless memory ran out.
+    ensures fault { IfErr result (λ fault. fault ≢ Memory → first_fault text.now ≡ Some fault) }
+{
+    let lines = read_text(alloc, text)?;
+    Ok(Card::from_lines(lines))
+}
