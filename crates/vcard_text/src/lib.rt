@@ -15,6 +15,8 @@ pub mod memory;
 pub mod part;
 pub mod reader;
 mod scan;
+#[cfg(test)]
+mod tests;
 pub mod text;
 pub mod text_map;
 pub mod writer;
