@@ -98,7 +98,7 @@ impl Card {
     pub fn uid(&self) -> &str
         ensures { result.now ≡ uid_of self.now }
     {
-        match find_named(self.lines.as_slice(), "UID") {
+        match find_named(self.lines(), "UID") {
             Some(line) => line.value.as_str(),
             None => "",
         }
@@ -108,15 +108,14 @@ impl Card {
     pub fn kind(&self) -> Kind
         ensures { result ≡ kind_of self.now }
     {
-        kind_of(self.lines.as_slice())
+        kind_of(self.lines())
     }
 
     /// The first line of the name, which is compared without regard to ASCII case.
     pub fn first(&self, name: &str) -> Option<&Line>
         ensures { option_copied result ≡ first_named name.now self.now }
     {
-        self.lines
-            .as_slice()
+        self.lines()
             .iter()
             .find(|line| line.name.as_str().eq_ignore_ascii_case(name))
     }

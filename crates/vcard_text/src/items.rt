@@ -31,10 +31,10 @@ impl<T> Items<T> {
     }
 
     /// The items of a `Vec`, which takes no memory.
-    pub fn from_vec(inner: Vec<T>) -> Items<T>
-        ensures { result ≡ inner.items }
+    pub fn from_vec(items: Vec<T>) -> Items<T>
+        ensures { result ≡ items.items }
     {
-        Items { inner }
+        Items { inner: items }
     }
 
     /// The `Vec` itself, which takes no memory.

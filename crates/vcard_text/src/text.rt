@@ -21,10 +21,10 @@ impl Model for Text {
 
 impl Text {
     /// The text of a `String`, which takes no memory.
-    pub fn new(inner: String) -> Text
-        ensures { result ≡ string_bytes inner }
+    pub fn new(text: String) -> Text
+        ensures { result ≡ string_bytes text }
     {
-        Text { inner }
+        Text { inner: text }
     }
 
     /// A copy of borrowed text.
@@ -60,6 +60,6 @@ impl Text {
     pub fn is_same(&self, other: &Text) -> bool
         ensures { IsTrue result ↔ (self.now ≡ other.now) }
     {
-        self.inner.as_str() == other.inner.as_str()
+        self.as_str() == other.as_str()
     }
 }

@@ -37,10 +37,10 @@ impl<V: Drop> TextMap<V> {
     }
 
     /// The map of a `BTreeMap`, which takes no memory.
-    pub fn from_map(inner: BTreeMap<String, V>) -> TextMap<V>
-        ensures { result ≡ texts inner }
+    pub fn from_map(map: BTreeMap<String, V>) -> TextMap<V>
+        ensures { result ≡ texts map }
     {
-        TextMap { inner }
+        TextMap { inner: map }
     }
 
     /// The `BTreeMap` itself, which takes no memory.
