@@ -1,0 +1,4 @@
+pub mod Bounds
+pub mod RefusalNumbers
+pub mod TokenTexts
+pub mod Outcomes
