@@ -1,0 +1,13 @@
+pub mod BasicLemmas
+pub mod TextLemmas
+pub mod NamedBookLemmas
+pub mod SameCardLemmas
+pub mod PutLemmas
+pub mod PageLemmas
+pub mod CountLemmas
+pub mod CreateLemmas
+pub mod HistoryLemmas
+pub mod DueLemmas
+pub mod RowLemmas
+pub mod ReportLemmas
+pub mod WorldLemmas

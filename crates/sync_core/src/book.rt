@@ -1,0 +1,181 @@
+//! A book that is kept in memory.
+ghost use Rattle.std.specs.Prelude.{◌≡◌, ◌<◌, ◌^◌, IfOk, IsSome, OnOk, OnErr, string_bytes};
+ghost use Rattle.vcard_text.specs.Cards.{uid_of};
+ghost use Rattle.sync_core.specs.Books.{empty_book, live_at, stored_behind, with_change};
+ghost use Rattle.sync_core.specs.Counting.{live_count};
+ghost use Rattle.sync_core.specs.Putting.{put_answer, answer_over, found_in, next_number, reason_for};
+
+use crate::answers::{ImportTally, PutAnswer};
+use crate::change::Change;
+use crate::counts::Counts;
+use crate::limits::Limits;
+use crate::refusal::Refusal;
+use crate::row::Row;
+use std::alloc::Global;
+use std::marker::Model;
+use vcard_text::{Card, NoMemory, TextMap};
+
+/// A book in memory, with a row for each member.
+#[derive(Drop)]
+pub(crate) struct PlainBook {
+    id: u64,
+    number: u64,
+    horizon: u64,
+    counts: Counts,
+    members: TextMap<Row>,
+    imports: TextMap<ImportTally>,
+}
+
+impl Model for PlainBook {
+    ghost use Rattle.std.specs.Prelude.{◌≡◌};
+    ghost use Rattle.sync_core.specs.BookCodes.{coded_book};
+    ghost use Rattle.sync_core.specs.Books.{Book};
+    ghost use Rattle.sync_core.specs.Counting.{total};
+
+    ghost Value = { Book };
+
+    ghost coded = { coded_book };
+
+    ghost view = { λ b. record { id = b.id; number = b.number; horizon = b.horizon; counts = b.counts; members = b.members; imports = b.imports } };
+
+    // The counts can't pass the number, so none of them overflows.
+    ghost invariant = { λ b. total b.counts ≡ b.number };
+}
+
+impl PlainBook {
+    /// A book without members, which takes no memory.
+    pub(crate) fn new(alloc: Global, id: u64) -> PlainBook
+        ensures { result ≡ empty_book id }
+    {
+        PlainBook {
+            id,
+            number: 0,
+            horizon: 0,
+            counts: Counts::none(),
+            members: TextMap::new(alloc),
+            imports: TextMap::new(alloc),
+        }
+    }
+
+    pub(crate) fn id(&self) -> u64
+        ensures { result ≡ self.now.id }
+    {
+        self.id
+    }
+
+    pub(crate) fn number(&self) -> u64
+        ensures { result ≡ self.now.number }
+    {
+        self.number
+    }
+
+    pub(crate) fn horizon(&self) -> u64
+        ensures { result ≡ self.now.horizon }
+    {
+        self.horizon
+    }
+
+    pub(crate) fn members(&self) -> &TextMap<Row>
+        ensures { result.now ≡ self.now.members }
+    {
+        &self.members
+    }
+
+    /// The live card of the UID, with its version.
+    fn live(&self, uid: &str) -> Option<(u64, &Card)>
+        ensures { stored_behind result ≡ live_at self.now uid.now }
+    {
+        let row = self.members.get(uid)?;
+        match &row.card {
+            Some(card) => Some((row.changed, card)),
+            None => None,
+        }
+    }
+
+    /// How many cards are live.
+    fn cards(&self) -> u64
+        ensures { result ≡ live_count self.now.counts }
+    {
+        // The counts add up to the number, so no sum of them overflows.
+        let _number = self.number;
+        self.counts.live()
+    }
+
+    /// The number of the next change.
+    fn next_number(&self, limits: Limits) -> Result<u64, Refusal>
+        ensures value { result ≡ next_number limits self.now.number }
+        ensures room { OnOk result (self.now.number < 2 ^ 63) }
+    {
+        if self.number < limits.changes_max() {
+            Ok(self.number + 1)
+        } else {
+            Err(Refusal::ChangesSpent)
+        }
+    }
+
+    /// What a put of the card comes to, where this is live at its UID.
+    fn answer_over(
+        &self,
+        limits: Limits,
+        card: &Card,
+        live: Option<(u64, &Card)>,
+    ) -> Result<PutAnswer, Refusal>
+        ensures answer { result ≡ answer_over limits (found_in self.now (uid_of card.now)) card.now (stored_behind live.entry) }
+        ensures room { IfOk result (λ answer. IsSome (reason_for answer) → self.now.number < 2 ^ 63) }
+    {
+        let Some((version, stored)) = live else {
+            if self.cards() >= limits.cards_max() {
+                return Err(Refusal::BookFull);
+            }
+            let version = self.next_number(limits)?;
+            return Ok(PutAnswer::Created { version });
+        };
+        if stored.is_same(card) {
+            return Ok(PutAnswer::Unchanged { version });
+        }
+        let version = self.next_number(limits)?;
+        Ok(PutAnswer::Edited { version })
+    }
+
+    /// What a put of the card comes to. It changes nothing.
+    pub(crate) fn answer_to_put(
+        &self,
+        limits: Limits,
+        card: &Card,
+        expect: Option<u64>,
+    ) -> Result<PutAnswer, Refusal>
+        ensures answer { result ≡ put_answer limits (found_in self.now (uid_of card.now)) card.now expect }
+        ensures room { IfOk result (λ answer. IsSome (reason_for answer) → self.now.number < 2 ^ 63) }
+    {
+        let live = self.live(card.uid());
+        let has = match live {
+            Some((version, _)) => version,
+            None => 0,
+        };
+        if let Some(expect) = expect
+            && expect != has
+        {
+            return Err(Refusal::VersionMismatch { has });
+        }
+        self.answer_over(limits, card, live)
+    }
+
+    /// The change takes the next number. An `Err` leaves the book as it was.
+    pub(crate) fn apply(&mut self, uid: String, change: Change) -> Result<(), NoMemory>
+        requires { self.old.number < 2 ^ 63 }
+        ensures ok { OnOk result (self.new ≡ with_change self.old (string_bytes uid) change) }
+        ensures err { OnErr result (self.new ≡ self.old) }
+    {
+        let changed = self.number + 1;
+        let mut counts = self.counts;
+        counts.add(&change);
+        let card = match change {
+            Change::Stores(card, _) => Some(card),
+            Change::TakesAway(_) => None,
+        };
+        self.members.insert(uid, Row { changed, card })?;
+        self.number = changed;
+        self.counts = counts;
+        Ok(())
+    }
+}

@@ -1,0 +1,30 @@
+//! What holds of all histories, and of the rows that stand for them.
+ghost use Rattle.sync_core.specs.Counting.{EventsAreCounted, LiveAreCounted};
+ghost use Rattle.sync_core.specs.Reports.{DueHaveEvents};
+ghost use Rattle.sync_core.specs.WorldSteps.{CreatingFollows, PuttingFollows, ReportsFollow};
+
+/// The counts of a history add up to its number of events, and tell how many cards are live.
+pub fn changes_are_counted()
+    ensures events { EventsAreCounted }
+    ensures live { LiveAreCounted }
+{}
+
+/// A report tells of the members that have events since the mark.
+pub fn due_members_have_events()
+    ensures { DueHaveEvents }
+{}
+
+/// A book that is made in the rows is made in the histories.
+pub fn creating_follows_histories()
+    ensures { CreatingFollows }
+{}
+
+/// A card that is stored in the rows is stored in the histories.
+pub fn putting_follows_histories()
+    ensures { PuttingFollows }
+{}
+
+/// The page that the rows give is the report of the history.
+pub fn reports_follow_histories()
+    ensures { ReportsFollow }
+{}

@@ -1,0 +1,199 @@
+//! A store that keeps its books in memory.
+ghost use Rattle.std.specs.Prelude.{◌≡◌, ◌<◌, ◌^◌, ◌∷◌, IfNone, IfSome, OnOk, OnErr, Some, None, length, slice_get, slice_set, string_bytes};
+ghost use Rattle.std.specs.FinMap as finite;
+ghost use Rattle.sync_core.specs.declared.plain_store.Named.{Named};
+ghost use Rattle.sync_core.specs.BookNames.{is_legal_name, is_name_octet};
+ghost use Rattle.sync_core.specs.Books.{Books, with_change, empty_book};
+ghost use Rattle.sync_core.specs.Creating.{new_id, create_step};
+ghost use Rattle.sync_core.specs.NamedBooks.{named_books, IsPlaceOf};
+ghost use Rattle.sync_core.specs.Outcomes.{Does, Reads, HasNoStoreFault};
+ghost use Rattle.sync_core.specs.Pages.{IsReport, report_step};
+ghost use Rattle.sync_core.specs.Putting.{put_step, reason_for};
+
+use crate::answers::PutAnswer;
+use crate::book::PlainBook;
+use crate::change::{Change, StoreReason};
+use crate::denied::Denied;
+use crate::limits::Limits;
+use crate::page::Page;
+use crate::refusal::Refusal;
+use crate::report;
+use crate::store::BookStore;
+use crate::token::Token;
+use std::alloc::Global;
+use std::marker::Model;
+use vcard_text::{Card, NoMemory, Text};
+
+#[derive(Drop)]
+pub(crate) struct Named {
+    pub(crate) name: Text,
+    pub(crate) book: PlainBook,
+}
+
+/// Books in memory, which are gone with the store.
+#[derive(Drop)]
+pub struct PlainStore {
+    books: Vec<Named>,
+    limits: Limits,
+    alloc: Global,
+}
+
+impl Model for PlainStore {
+    ghost use Rattle.sync_core.specs.NamedBooks.{named_books, AreApart};
+    ghost use Rattle.sync_core.specs.StoreStates.{StoreState, coded_state};
+
+    ghost Value = { StoreState };
+
+    ghost coded = { coded_state };
+
+    ghost view = { λ s. record { limits = s.limits; books = named_books s.books.items } };
+
+    ghost invariant = { λ s. AreApart s.books.items };
+}
+
+impl PlainStore {
+    /// A store without books, whose books take their memory from the allocator. It takes none itself.
+    pub fn new(alloc: Global, limits: Limits) -> PlainStore
+        ensures books { result.books ≡ finite.empty }
+        ensures limits { result.limits ≡ limits }
+    {
+        PlainStore {
+            books: Vec::new(alloc),
+            limits,
+            alloc,
+        }
+    }
+}
+
+/// The place of the book of a name.
+fn place_of(books: &[Named], name: &str) -> Option<usize>
+    ensures none { IfNone result (finite.get (named_books books.now) name.now ≡ None) }
+    ensures within { IfSome result (λ i. i < length books.now) }
+    ensures some { IfSome result (IsPlaceOf books.now name.now) }
+{
+    for (i, named) in books.iter().enumerate() {
+        if named.name.as_str() == name {
+            return Some(i);
+        }
+    }
+    None
+}
+
+fn is_octet_of_name(octet: u8) -> bool
+    ensures { result ≡ is_name_octet octet }
+{
+    matches!(octet, b'a'..=b'z' | b'0'..=b'9' | b'-')
+}
+
+/// Whether a book may have the name.
+fn is_book_name(name: &str) -> bool
+    ensures { result ≡ is_legal_name name.now }
+{
+    let octets = name.as_bytes();
+    if octets.is_empty() || octets.len() > 40 {
+        return false;
+    }
+    for octet in octets {
+        if !is_octet_of_name(*octet) {
+            return false;
+        }
+    }
+    true
+}
+
+/// The id of a new book of the name. It changes nothing.
+fn id_for(books: &[Named], limits: Limits, name: &str) -> Result<u64, Refusal>
+    ensures { result ≡ new_id limits name.now (finite.contains_key (named_books books.now) name.now) (length books.now) }
+{
+    if !is_book_name(name) {
+        return Err(Refusal::BadBookName);
+    }
+    if place_of(books, name).is_some() {
+        return Err(Refusal::BookExists);
+    }
+    let count = books.len() as u64;
+    if count >= limits.books_max() {
+        return Err(Refusal::TooManyBooks);
+    }
+    Ok(count + 1)
+}
+
+/// Why the card is stored, where it is.
+fn reason_of(answer: PutAnswer) -> Option<StoreReason>
+    ensures { result ≡ reason_for answer }
+{
+    match answer {
+        PutAnswer::Created { .. } => Some(StoreReason::Creation),
+        PutAnswer::Edited { .. } => Some(StoreReason::Edit),
+        PutAnswer::Unchanged { .. } => None,
+    }
+}
+
+/// The change is applied to the book at the place. An `Err` leaves the books as they were.
+fn apply_at(books: &mut Vec<Named>, i: usize, uid: String, change: Change) -> Result<(), NoMemory>
+    requires place { i < length books.old.items }
+    requires room { (b : Named) → slice_get books.old.items i ≡ Some b → b.book.number < 2 ^ 63 }
+    ensures ok { OnOk result ((b : Named) → slice_get books.old.items i ≡ Some b →
+        books.new.items ≡ slice_set books.old.items i (record { name = b.name; book = with_change b.book (string_bytes uid) change })) }
+    ensures err { OnErr result (books.new.items ≡ books.old.items) }
+{
+    let named = &mut books[i];
+    named.book.apply(uid, change)
+}
+
+impl BookStore for PlainStore {
+    ghost books = { λ s. s.books };
+
+    ghost limits = { λ s. s.limits };
+
+    ghost premise = { λ _. Unit {0} };
+
+    fn create_book(&mut self, name: &str) -> Result<u64, Denied>
+        ensures limits { self.new.limits ≡ self.old.limits }
+        ensures does { Does result (create_step self.old.limits self.old.books name.now) self.old.books self.new.books }
+        ensures no_store_fault { HasNoStoreFault result }
+    {
+        let id = id_for(self.books.as_slice(), self.limits, name)?;
+        let name = Text::copy_of(self.alloc, name)?;
+        let book = PlainBook::new(self.alloc, id);
+        self.books.push(Named { name, book })?;
+        Ok(id)
+    }
+
+    fn put(&mut self, book: &str, card: &Card, expect: Option<u64>) -> Result<PutAnswer, Denied>
+        ensures limits { self.new.limits ≡ self.old.limits }
+        ensures does { Does result (put_step self.old.limits self.old.books book.now card.now expect) self.old.books self.new.books }
+        ensures no_store_fault { HasNoStoreFault result }
+    {
+        let Some(i) = place_of(self.books.as_slice(), book) else {
+            return Err(Denied::Refused(Refusal::NoSuchBook));
+        };
+        let answer = self.books[i].book.answer_to_put(self.limits, card, expect)?;
+        let Some(reason) = reason_of(answer) else {
+            return Ok(answer);
+        };
+        let uid = String::from_str(self.alloc, card.uid())?;
+        let card = card.try_copy()?;
+        apply_at(&mut self.books, i, uid, Change::Stores(card, reason))?;
+        Ok(answer)
+    }
+
+    fn report(
+        &mut self,
+        book: &str,
+        token: Option<Token>,
+        limit: Option<u64>,
+    ) -> Result<Page, Denied>
+        ensures limits { self.new.limits ≡ self.old.limits }
+        ensures does { Reads IsReport result (report_step self.old.limits self.old.books book.now token limit) self.old.books self.new.books }
+        ensures no_store_fault { HasNoStoreFault result }
+    {
+        let Some(i) = place_of(self.books.as_slice(), book) else {
+            return Err(Denied::Refused(Refusal::NoSuchBook));
+        };
+        let book = &self.books[i].book;
+        let mark = report::mark_of(book, token)?;
+        let size = report::size_of_page(self.limits, limit)?;
+        Ok(report::page(self.alloc, book, mark, size)?)
+    }
+}

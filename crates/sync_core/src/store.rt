@@ -1,0 +1,65 @@
+//! What a store of books does, whatever it keeps them in.
+ghost use Rattle.sync_core.specs.Bounds.{Bounds};
+ghost use Rattle.sync_core.specs.Books.{Books};
+ghost use Rattle.sync_core.specs.Creating.{create_step};
+ghost use Rattle.sync_core.specs.Outcomes.{Does, Reads};
+ghost use Rattle.sync_core.specs.Pages.{IsReport, report_step};
+ghost use Rattle.sync_core.specs.Putting.{put_step};
+ghost use Rattle.std.specs.Prelude.{◌≡◌};
+
+use crate::answers::PutAnswer;
+use crate::denied::Denied;
+use crate::page::Page;
+use crate::token::Token;
+use vcard_text::Card;
+
+/// Books by name, of cards by UID. After a refusal and after a fault the books are as before.
+///
+/// The premise of a store says of the store as it stands that nobody else wrote to it, and that what was written
+/// was read again. Where it holds after a call, it held before it.
+pub trait BookStore {
+    /// The books by their names, each as its rows.
+    ghost books: { Self → Books };
+
+    /// The limits, which no call changes.
+    ghost limits: { Self → Bounds };
+
+    /// What all calls so far rest on.
+    ghost premise: { Self → Type 0 };
+
+    /// Makes an empty book and answers its id: 1 in an empty store, then 2 and so on.
+    ///
+    /// Refused, by the first that holds, with `BadBookName` where the name isn't 1 to 40 of `a` to `z`, `0` to `9`
+    /// and the hyphen, `BookExists` where a book has the name, `TooManyBooks` where the store has as many books as
+    /// its limit.
+    fn create_book(&mut self, name: &str) -> Result<u64, Denied>
+        ensures premise { premise self.new → premise self.old }
+        ensures limits { limits self.new ≡ limits self.old }
+        ensures does { premise self.new → Does result (create_step (limits self.old) (books self.old) name.now) (books self.old) (books self.new) };
+
+    /// Stores the card under its UID, where no equal card is live there, and answers its version.
+    ///
+    /// `expect` is the version that the live card of the UID must have, 0 where none may be live, and `None` where
+    /// it doesn't matter. Refused, by the first that holds, with `NoSuchBook`; `VersionMismatch` with what is live;
+    /// and for a card that isn't live already, `BookFull` where no card of the UID is live and the book has as many
+    /// as its limit, `ChangesSpent` where the book took as many changes as its limit.
+    fn put(&mut self, book: &str, card: &Card, expect: Option<u64>) -> Result<PutAnswer, Denied>
+        ensures premise { premise self.new → premise self.old }
+        ensures limits { limits self.new ≡ limits self.old }
+        ensures does { premise self.new → Does result (put_step (limits self.old) (books self.old) book.now card.now expect) (books self.old) (books self.new) };
+
+    /// The first members that changed or went since the token, in the order of their last changes (RFC 6578,
+    /// sections 3.2 to 3.7), at most `limit` and at most a page of them. Without a token it is a first report.
+    ///
+    /// Refused, by the first that holds, with `NoSuchBook`; `BadToken` with `OtherBook`, `TooNew` or `TooOld`;
+    /// `BadLimit` where the limit is 0.
+    fn report(
+        &mut self,
+        book: &str,
+        token: Option<Token>,
+        limit: Option<u64>,
+    ) -> Result<Page, Denied>
+        ensures premise { premise self.new → premise self.old }
+        ensures limits { limits self.new ≡ limits self.old }
+        ensures does { premise self.new → Reads IsReport result (report_step (limits self.old) (books self.old) book.now token limit) (books self.old) (books self.new) };
+}
