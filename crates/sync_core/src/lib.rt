@@ -14,6 +14,8 @@ pub mod refusal;
 mod report;
 pub mod row;
 pub mod store;
+#[cfg(test)]
+mod tests;
 pub mod token;
 
 pub use answers::{BookLine, ImportTally, Moved, PutAnswer, Stored, Tally};

@@ -75,4 +75,22 @@ impl Limits {
     {
         self.books_max
     }
+
+    /// Limits of so many live cards, changes and books, for tests.
+    #[cfg(test)]
+    pub(crate) fn small(cards_max: u64, changes_max: u64, books_max: u64) -> Limits
+        requires cards { 1 ≤ cards_max }
+        requires few_cards { cards_max ≤ 10000 }
+        requires changes { 1 ≤ changes_max }
+        requires few_changes { changes_max ≤ 1000000000000 }
+        requires books { 1 ≤ books_max }
+        requires few_books { books_max ≤ 100 }
+    {
+        Limits {
+            page_max: 100,
+            cards_max,
+            changes_max,
+            books_max,
+        }
+    }
 }
