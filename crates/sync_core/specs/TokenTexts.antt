@@ -1,4 +1,4 @@
--- The text of a sync token, which is an absolute URI (RFC 6578, section 3.2). Its form is this project's own.
+-- The text of a sync token, which is a URI (RFC 6578, section 4). Its form is this project's own.
 use Rattle.std.specs.Prelude.{ℕ, List, ◌++◌, codes, decimal}
 use Rattle.sync_core.specs.declared.token.Token.{Token}
 

@@ -40,6 +40,11 @@ impl Fault {
 }
 
 impl fmt::Display for Fault {
+    ghost use Rattle.std.specs.Prelude.{Some};
+    ghost use Rattle.sync_core.specs.RefusalNumbers.{fault_text};
+
+    ghost output = { λ fault. Some (fault_text fault) };
+
     fn fmt<W: fmt::Write>(&self, f: &mut fmt::Formatter<W>) -> fmt::Result {
         f.write_str(self.text())
     }
@@ -55,6 +60,11 @@ pub enum Denied {
 }
 
 impl fmt::Display for Denied {
+    ghost use Rattle.std.specs.Prelude.{Some};
+    ghost use Rattle.sync_core.specs.RefusalNumbers.{denied_text};
+
+    ghost output = { λ denied. Some (denied_text denied) };
+
     fn fmt<W: fmt::Write>(&self, f: &mut fmt::Formatter<W>) -> fmt::Result {
         match self {
             Denied::Refused(refusal) => f.write_str(refusal.text()),

@@ -1,4 +1,4 @@
-//! Places in a book's history, and the texts that devices keep of them (RFC 6578, section 3.2).
+//! Places in a book's history, and the texts that devices keep of them (RFC 6578, sections 3.2 and 4).
 ghost use Rattle.std.specs.Prelude.{◌≡◌, IfOk, string_bytes};
 ghost use Rattle.sync_core.specs.TokenTexts.{token_octets};
 
@@ -8,9 +8,9 @@ use vcard_text::NoMemory;
 /// The place up to which a device has heard.
 #[derive(Clone, Copy, Debug, PartialEq, Eq)]
 pub struct Mark {
-    /// Members whose last change has at most this number were told.
+    /// Members whose last change has at most this number have been told.
     pub at: u64,
-    /// Of members that went by a change of at most this number the device has heard nothing that it keeps.
+    /// Members that went by a change with at most this number needn't be told: the device doesn't hold them.
     pub base: u64,
 }
 
