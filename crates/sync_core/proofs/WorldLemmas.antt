@@ -206,7 +206,7 @@ asked-le id number horizon (Some token) mark e le =
 
 pub reports_follow : ReportsFollow
 reports_follow world name token limit =
-    subst (λ (o : Option Book). Reports (option_map_or Ok o (Err NoSuchBook) >>= λ book. asked book (mark_asked book.id book.number book.horizon token) (page_size limits limit)) (report_meaning limits stories name token limit))
+    subst (λ (o : Option Book). Reports (option_map_or Ok o (Err NoSuchBook) >>= λ book. asked book (mark_asked book.id book.number book.horizon token) (page_size limits.page_max limit)) (report_meaning limits stories name token limit))
     (sym (get-rows stories name)) (by_story (finite.get stories name) (world.sound name))
   where
     limits : Bounds
@@ -227,7 +227,7 @@ reports_follow world name token limit =
     by_mark story sound (Err refusal) size e = refl
 
     by_story : (o : Option Story) → ((story : Story) → o ≡ Some story → IsSound story)
-        → Reports (option_map_or Ok (option_map book_of o) (Err NoSuchBook) >>= λ book. asked book (mark_asked book.id book.number book.horizon token) (page_size limits limit))
-        (option_map_or Ok o (Err NoSuchBook) >>= λ story. meant story (mark_asked story.id (length story.history) story.horizon token) (page_size limits limit))
+        → Reports (option_map_or Ok (option_map book_of o) (Err NoSuchBook) >>= λ book. asked book (mark_asked book.id book.number book.horizon token) (page_size limits.page_max limit))
+        (option_map_or Ok o (Err NoSuchBook) >>= λ story. meant story (mark_asked story.id (length story.history) story.horizon token) (page_size limits.page_max limit))
     by_story None sound = refl
-    by_story (Some story) sound = by_mark story (sound story refl) (mark_asked story.id (length story.history) story.horizon token) (page_size limits limit) refl
+    by_story (Some story) sound = by_mark story (sound story refl) (mark_asked story.id (length story.history) story.horizon token) (page_size limits.page_max limit) refl

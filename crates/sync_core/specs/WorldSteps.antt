@@ -59,7 +59,7 @@ abbrev pub report_meaning : Bounds → Stories → List ℕ → Option Token →
 report_meaning limits stories name token limit = do
   story ← story_named stories name
   mark ← mark_asked story.id (length story.history) story.horizon token
-  size ← page_size limits limit
+  size ← page_size limits.page_max limit
   Ok (page_of story.id (report story.history mark size))
 
 -- ---- the steps on rows follow

@@ -1,5 +1,5 @@
 //! A store that keeps its books in memory.
-ghost use Rattle.std.specs.Prelude.{◌≡◌, ◌<◌, ◌^◌, ◌∷◌, IfNone, IfSome, OnOk, OnErr, Some, None, length, slice_get, slice_set, string_bytes};
+ghost use Rattle.std.specs.Prelude.{◌≡◌, ◌<◌, ◌≤◌, ◌^◌, ◌∷◌, IfNone, IfSome, OnOk, OnErr, Some, None, length, slice_get, slice_set, string_bytes};
 ghost use Rattle.std.specs.FinMap as finite;
 ghost use Rattle.sync_core.specs.declared.plain_store.Named.{Named};
 ghost use Rattle.sync_core.specs.BookNames.{is_legal_name, is_name_octet};
@@ -185,15 +185,17 @@ impl BookStore for PlainStore {
         limit: Option<u64>,
     ) -> Result<Page, Denied>
         ensures limits { self.new.limits ≡ self.old.limits }
+        ensures page_has_room { 1 ≤ self.new.limits.page_max }
         ensures does { Reads IsReport result (report_step self.old.limits self.old.books book.now token limit) self.old.books self.new.books }
         ensures no_store_fault { HasNoStoreFault result }
     {
+        let page_max = self.limits.page_max();
         let Some(i) = place_of(self.books.as_slice(), book) else {
             return Err(Denied::Refused(Refusal::NoSuchBook));
         };
         let book = &self.books[i].book;
         let mark = report::mark_of(book, token)?;
-        let size = report::size_of_page(self.limits, limit)?;
+        let size = report::size_of_page(page_max, limit)?;
         Ok(report::page(self.alloc, book, mark, size)?)
     }
 }

@@ -4,7 +4,6 @@ ghost use Rattle.std.specs.Map.Iter.{deref_pair};
 ghost use Rattle.sync_core.specs.Pages.{row_is_due, due_rows, IsByNumber, entry_in, IsReport, mark_asked, page_size};
 
 use crate::book::PlainBook;
-use crate::limits::Limits;
 use crate::page::{Entry, Page};
 use crate::refusal::{Refusal, TokenCause};
 use crate::row::Row;
@@ -81,15 +80,16 @@ pub(crate) fn mark_of(book: &PlainBook, token: Option<Token>) -> Result<Mark, Re
     Ok(mark)
 }
 
-/// The most entries of a page.
-pub(crate) fn size_of_page(limits: Limits, limit: Option<u64>) -> Result<u64, Refusal>
-    ensures size { result ≡ page_size limits limit }
+/// The most entries of the page, of a store whose pages have at most so many.
+pub(crate) fn size_of_page(page_max: u64, limit: Option<u64>) -> Result<u64, Refusal>
+    requires { 0 < page_max }
+    ensures size { result ≡ page_size page_max limit }
     ensures some { IfOk result (λ size. 0 < size) }
 {
     match limit {
-        None => Ok(limits.page_max()),
+        None => Ok(page_max),
         Some(0) => Err(Refusal::BadLimit),
-        Some(limit) => Ok(limit.min(limits.page_max())),
+        Some(limit) => Ok(limit.min(page_max)),
     }
 }
 

@@ -5,7 +5,7 @@ ghost use Rattle.sync_core.specs.Creating.{create_step};
 ghost use Rattle.sync_core.specs.Outcomes.{Does, Reads};
 ghost use Rattle.sync_core.specs.Pages.{IsReport, report_step};
 ghost use Rattle.sync_core.specs.Putting.{put_step};
-ghost use Rattle.std.specs.Prelude.{◌≡◌};
+ghost use Rattle.std.specs.Prelude.{◌≡◌, ◌≤◌};
 
 use crate::answers::PutAnswer;
 use crate::denied::Denied;
@@ -61,5 +61,6 @@ pub trait BookStore {
     ) -> Result<Page, Denied>
         ensures premise { premise self.new → premise self.old }
         ensures limits { limits self.new ≡ limits self.old }
+        ensures page_has_room { 1 ≤ (limits self.new).page_max }
         ensures does { premise self.new → Reads IsReport result (report_step (limits self.old) (books self.old) book.now token limit) (books self.old) (books self.new) };
 }
