@@ -5,7 +5,7 @@ use Rattle.std.specs.FinMap as finite
 use Rattle.std.specs.FinMap.{get-empty, get-insert, same_map, entries-from_sorted, get-from_sorted}
 use Rattle.std.specs.FinMap.Entries.{find, below_all, is_sorted}
 use Rattle.std.proofs.lemmas.Bool.{leb-true}
-use Rattle.std.proofs.lemmas.List.{length-map}
+use Rattle.std.proofs.lemmas.List.{length-map, nil_from_length}
 use Rattle.std.proofs.lemmas.Map.Lookups.{exact_bytes}
 use Rattle.vcard_text.specs.TextMaps.{text_cmp}
 use Rattle.vcard_text.specs.Cards.{uid_of}
@@ -231,3 +231,10 @@ reports_follow world name token limit =
         (option_map_or Ok o (Err NoSuchBook) >>= λ story. meant story (mark_asked story.id (length story.history) story.horizon token) (page_size limits.page_max limit))
     by_story None sound = refl
     by_story (Some story) sound = by_mark story (sound story refl) (mark_asked story.id (length story.history) story.horizon token) (page_size limits.page_max limit) refl
+
+-- without books there are no rows
+pub rows-empty : rows finite.empty ≡ finite.empty
+rows-empty =
+    let none : finite.entries finite.empty ≡ [] = nil_from_length _ (sym (finite.len-entries finite.empty) ∙ finite.len-empty text_cmp Story) in
+    ap (λ (es : List (List ℕ × Story)). finite.from_sorted (map named_rows es)) none
+    ∙ same_map text_total exact_bytes _ _ (λ q. get-from_sorted text_cmp [] q tt ∙ sym (get-empty text_cmp q))

@@ -4,6 +4,9 @@ use Rattle.sync_core.specs.declared.denied.Denied.{Denied}
 use Rattle.sync_core.specs.declared.denied.Denied.TheVariants.{Refused, Fault}
 use Rattle.sync_core.specs.declared.denied.Fault.TheVariants.{Store, Memory}
 use Rattle.sync_core.specs.declared.refusal.Refusal.{Refusal}
+use Rattle.sync_core.specs.declared.refusal.Refusal.TheVariants.{BadCard}
+use Rattle.vcard_text.specs.declared.fault.CardFault.{CardFault}
+use Rattle.vcard_text.specs.declared.fault.CardFault.TheVariants.{Memory as NoRoom}
 
 -- A step is a function into an answer and the state after it, or a refusal. Its tests stand in their order.
 infixl 10 ◌>>=◌
@@ -16,6 +19,11 @@ provided holds refusal = if holds then Ok tt else Err refusal
 
 abbrev pub no_memory : Denied
 no_memory = Fault Memory
+
+-- a text that is no card is refused for its fault, unless memory ran out
+abbrev pub denied_card : CardFault → Denied
+denied_card NoRoom = no_memory
+denied_card fault = Refused (BadCard fault)
 
 -- What a call returned and left, against its step: the step's answer and the state after it, or the step's
 -- refusal and the old state. A fault may come in place of either, and leaves the old state too.

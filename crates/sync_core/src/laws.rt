@@ -1,7 +1,7 @@
 //! What holds of all histories, and of the rows that stand for them.
 ghost use Rattle.sync_core.specs.Counting.{EventsAreCounted, LiveAreCounted};
 ghost use Rattle.sync_core.specs.Reports.{DueHaveEvents};
-ghost use Rattle.sync_core.specs.WorldSteps.{CreatingFollows, PuttingFollows, ReportsFollow};
+ghost use Rattle.sync_core.specs.WorldSteps.{NothingFollows, CreatingFollows, PuttingFollows, ReportsFollow};
 
 /// The counts of a history add up to its number of events, and tell how many cards are live.
 pub fn changes_are_counted()
@@ -12,6 +12,11 @@ pub fn changes_are_counted()
 /// A report tells of the members that have events since the mark.
 pub fn due_members_have_events()
     ensures { DueHaveEvents }
+{}
+
+/// A store without books has the rows of no histories.
+pub fn empty_stores_have_no_history()
+    ensures { NothingFollows }
 {}
 
 /// A book that is made in the rows is made in the histories.
