@@ -1,0 +1,50 @@
+-- What comes of one card that is put into an empty book. This project's own.
+use Rattle.std.specs.Prelude.{ℕ, ◌≡◌, List, [], ◌∷◌, length, Some}
+use Rattle.vcard_text.specs.declared.fault.CardFault.{CardFault}
+use Rattle.vcard_text.specs.declared.line.Line.{Line}
+use Rattle.vcard_text.specs.Cards.{uid_of}
+use Rattle.vcard_text.specs.Spelling.{Spells}
+use Rattle.vcard_text.specs.Faults.{first_fault}
+use Rattle.sync_core.specs.declared.answers.PutAnswer.TheVariants.{Created}
+use Rattle.sync_core.specs.declared.change.Change.TheVariants.{Stores}
+use Rattle.sync_core.specs.declared.change.StoreReason.TheVariants.{Creation}
+use Rattle.sync_core.specs.declared.denied.Denied.{Denied}
+use Rattle.sync_core.specs.declared.denied.Denied.TheVariants.{Refused, Fault}
+use Rattle.sync_core.specs.declared.denied.Fault.TheVariants.{Store, Memory}
+use Rattle.sync_core.specs.declared.page.Page.{Page}
+use Rattle.sync_core.specs.declared.refusal.Refusal.{Refusal}
+use Rattle.sync_core.specs.declared.refusal.Refusal.TheVariants.{BadCard}
+use Rattle.sync_core.specs.Histories.{BookEvent}
+use Rattle.sync_core.specs.Reports.{report, page_of}
+use Rattle.contacts.specs.declared.first_path.FirstPath.{FirstPath}
+
+-- the history of a book in which one card was created
+abbrev pub one_creation : List Line → List BookEvent
+one_creation card = record { uid = uid_of card; change = Stores card Creation } ∷ []
+
+-- the first report of that book, which is the store's first: 100 is the most entries of a page
+abbrev pub first_page : List Line → Page
+first_page card = page_of 1 (report (one_creation card) (record { at = 0; base = length (one_creation card) }) 100)
+
+-- the put created the card with version 1, and the page is the first report after it
+pub record IsPathOf (card : List Line) (path : FirstPath) : Type 0 where
+  pub put : path.put ≡ Created 1
+  pub page : path.page ≡ first_page card
+
+-- the text spells a card, and the path is that card's
+pub record IsFirstPath (text : List ℕ) (path : FirstPath) : Type 0 where
+  pub card : List Line
+  pub spelled : Spells text card
+  pub taken : IsPathOf card path
+
+-- the text is no card, and this refusal says why
+pub record IsRefusedFor (text : List ℕ) (refusal : Refusal) : Type 0 where
+  pub fault : CardFault
+  pub refusal_is : refusal ≡ BadCard fault
+  pub first : first_fault text ≡ Some fault
+
+-- it was refused for what it is, or memory was wanting
+abbrev pub IsDeniedFor : List ℕ → Denied → Type 0
+IsDeniedFor text (Refused refusal) = IsRefusedFor text refusal
+IsDeniedFor text (Fault Store) = ⊥
+IsDeniedFor text (Fault Memory) = Unit {0}

@@ -1,0 +1,3 @@
+pub mod Stops
+pub mod FirstPaths
+pub mod Outputs

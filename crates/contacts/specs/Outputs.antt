@@ -1,0 +1,44 @@
+-- The octets that are printed of the first path. This project's own.
+use Rattle.std.specs.Prelude.{ℕ, Bool, List, [], ◌∷◌, ◌++◌, length, flat_map, codes, decimal, Option, if◌then◌else◌}
+use Rattle.std.specs.Io.KnownBytes.{Appends}
+use Rattle.vcard_text.specs.Cards.{canonical_text}
+use Rattle.sync_core.specs.declared.answers.PutAnswer.{PutAnswer}
+use Rattle.sync_core.specs.declared.answers.PutAnswer.TheVariants.{Created, Edited, Unchanged}
+use Rattle.sync_core.specs.declared.page.Entry.{Entry}
+use Rattle.sync_core.specs.declared.page.Entry.TheVariants.{Changed, Removed}
+use Rattle.sync_core.specs.declared.page.Page.{Page}
+use Rattle.sync_core.specs.TokenTexts.{token_octets}
+use Rattle.contacts.specs.declared.first_path.FirstPath.{FirstPath}
+use Rattle.contacts.specs.FirstPaths.{IsFirstPath}
+
+abbrev pub put_line : PutAnswer → List ℕ
+put_line (Created version) = codes "put created " ++ (decimal version ++ 10 ∷ [])
+put_line (Edited version) = codes "put edited " ++ (decimal version ++ 10 ∷ [])
+put_line (Unchanged version) = codes "put unchanged " ++ (decimal version ++ 10 ∷ [])
+
+-- a line, and for a live member the card's canonical text
+abbrev pub entry_lines : Entry → List ℕ
+entry_lines (Changed uid version card) =
+    codes "card " ++ (uid ++ (codes " version " ++ (decimal version ++ (codes " octets " ++ (decimal (length (canonical_text card)) ++ 10 ∷ canonical_text card)))))
+entry_lines (Removed uid) = codes "removed " ++ (uid ++ 10 ∷ [])
+
+abbrev pub entries_lines : List Entry → List ℕ
+entries_lines entries = flat_map entry_lines entries
+
+abbrev pub yes_or_no : Bool → List ℕ
+yes_or_no holds = if holds then codes "yes" else codes "no"
+
+-- the entries, the token of the page, and whether it is truncated
+abbrev pub page_lines : Page → List ℕ
+page_lines page =
+    entries_lines page.entries
+    ++ (codes "token " ++ (token_octets (record { book = page.book; mark = page.mark }) ++ (10 ∷ codes "truncated " ++ (yes_or_no page.truncated ++ 10 ∷ []))))
+
+abbrev pub path_lines : FirstPath → List ℕ
+path_lines path = put_line path.put ++ page_lines path.page
+
+-- what is written is the first path of the text
+pub record Prints (text : List ℕ) (before after : Option (List ℕ)) : Type 0 where
+  pub path : FirstPath
+  pub is : IsFirstPath text path
+  pub written : Appends before after (path_lines path)

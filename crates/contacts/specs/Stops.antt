@@ -1,0 +1,43 @@
+-- How the program ends without its output. This project's own.
+use Rattle.std.specs.Prelude.{ℕ, List, ◌∷◌, ◌++◌, codes, decimal}
+use Rattle.sync_core.specs.declared.denied.Denied.{Denied}
+use Rattle.sync_core.specs.declared.denied.Denied.TheVariants.{Refused as WasRefused, Fault as WasFault}
+use Rattle.sync_core.specs.declared.denied.Fault.TheVariants.{Store, Memory}
+use Rattle.sync_core.specs.RefusalNumbers.{refusal_number, refusal_text, fault_number, fault_text}
+use Rattle.contacts.specs.declared.stop.Stop.{Stop}
+use Rattle.contacts.specs.declared.stop.Stop.TheVariants.{Refused, Fault, Device}
+use Rattle.contacts.specs.FirstPaths.{IsRefusedFor}
+
+abbrev pub no_memory : Stop
+no_memory = Fault Memory
+
+-- a refusal and a fault of a store end a command as they are
+abbrev pub stop_of : Denied → Stop
+stop_of (WasRefused refusal) = Refused refusal
+stop_of (WasFault fault) = Fault fault
+
+-- the status that the program ends with
+abbrev pub status_of : Stop → ℕ
+status_of (Refused refusal) = 1
+status_of (Fault fault) = 3
+status_of Device = 3
+
+-- the line that standard error has of it: what kind it is, its text and its number
+abbrev pub stop_line : Stop → List ℕ
+stop_line (Refused refusal) = codes "refused " ++ (refusal_text refusal ++ 32 ∷ decimal (refusal_number refusal))
+stop_line (Fault fault) = codes "fault " ++ (fault_text fault ++ 32 ∷ decimal (fault_number fault))
+stop_line Device = codes "fault device 1"
+
+-- memory was wanting, or the reader failed
+abbrev pub IsInputStop : Stop → Type 0
+IsInputStop (Refused refusal) = ⊥
+IsInputStop (Fault Store) = ⊥
+IsInputStop (Fault Memory) = Unit {0}
+IsInputStop Device = Unit {0}
+
+-- a refusal is of the text's first fault; else memory was wanting, or the reader or the writer failed
+abbrev pub IsStopFor : List ℕ → Stop → Type 0
+IsStopFor text (Refused refusal) = IsRefusedFor text refusal
+IsStopFor text (Fault Store) = ⊥
+IsStopFor text (Fault Memory) = Unit {0}
+IsStopFor text Device = Unit {0}

@@ -1,0 +1,56 @@
+//! One card into an empty book, and the book's first report.
+ghost use Rattle.std.specs.Prelude.{◌≡◌, List, IfOk, IfErr};
+ghost use Rattle.vcard_text.specs.declared.line.Line.{Line};
+ghost use Rattle.vcard_text.specs.Spelling.{Spells};
+ghost use Rattle.sync_core.specs.Outcomes.{no_memory};
+ghost use Rattle.contacts.specs.FirstPaths.{IsPathOf, IsFirstPath, IsDeniedFor};
+
+use std::alloc::Global;
+use sync_core::laws::{
+    creating_follows_histories, empty_stores_have_no_history, putting_follows_histories,
+    reports_follow_histories,
+};
+use sync_core::{BookStore, Denied, Limits, Page, PlainStore, PutAnswer};
+use vcard_text::{Card, read_card};
+
+/// What the put answered, and the first report after it.
+#[derive(Debug, Drop)]
+pub(crate) struct FirstPath {
+    pub(crate) put: PutAnswer,
+    pub(crate) page: Page,
+}
+
+/// Puts the card into the empty book `try` of a new store in memory, and asks for the first report.
+fn put_and_report(alloc: Global, card: &Card) -> Result<FirstPath, Denied>
+    ensures path { IfOk result (IsPathOf card.now) }
+    ensures denied { IfErr result (λ denied. denied ≡ no_memory) }
+{
+    // Laws, which do nothing: what a store answers by its rows is what the histories mean.
+    empty_stores_have_no_history();
+    creating_follows_histories();
+    putting_follows_histories();
+    reports_follow_histories();
+
+    let mut store = PlainStore::new(alloc, Limits::standard());
+    store.create_book("try")?;
+    let put = store.put("try", card, None)?;
+    let page = store.report("try", None, None)?;
+    Ok(FirstPath { put, page })
+}
+
+/// Reads a card, puts it into the empty book `try` of a new store in memory, and asks for the first report.
+///
+/// Refused with `BadCard` where the text spells no card, with the text's first fault.
+pub(crate) fn first_path(alloc: Global, text: &[u8]) -> Result<FirstPath, Denied>
+    // The text spells a card, the put created it with version 1, and the report has it alone.
+    ensures path { IfOk result (IsFirstPath text.now) }
+
+    // For a text that spells a card nothing but memory can be wanting.
+    ensures every { (lines : List Line) → Spells text.now lines → IfErr result (λ denied. denied ≡ no_memory) }
+
+    // A refusal is of the text's first fault.
+    ensures denied { IfErr result (IsDeniedFor text.now) }
+{
+    let card = read_card(alloc, text)?;
+    put_and_report(alloc, &card)
+}
