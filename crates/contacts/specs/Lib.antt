@@ -1,3 +1,4 @@
+pub mod Orders
 pub mod Stops
 pub mod FirstPaths
 pub mod Outputs

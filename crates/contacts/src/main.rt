@@ -4,12 +4,14 @@
 
 mod first_path;
 mod input;
+mod order;
 mod output;
 mod stop;
 #[cfg(test)]
 mod tests;
 mod tried;
 
+use crate::order::{Order, order_of};
 use crate::stop::Stop;
 use crate::tried::run_try;
 use std::env;
@@ -17,26 +19,18 @@ use std::io::ErrorKind;
 use std::process::ExitCode;
 use std::rt::Env;
 
-/// What the words of the command line ask for.
-enum Order {
-    Try,
-    Usage,
-}
-
-/// The order of the words behind the program's name: none, or `try`. Another is answered with the usage line.
+/// The order of the words that the program was started with.
 fn read_words<R: Env + AllocGlobal>(rt: &R) -> Result<Order, Stop> {
-    let words = match env::args(rt) {
+    let mut words = match env::args(rt) {
         Ok(words) => words,
         Err(error) if error.kind() == ErrorKind::OutOfMemory => return Err(Stop::no_memory()),
         // a word that isn't UTF-8 is none that is known
         Err(_) => return Ok(Order::Usage),
     };
-    for (place, word) in words.enumerate() {
-        if place > 1 || place == 1 && word.as_str() != "try" {
-            return Ok(Order::Usage);
-        }
-    }
-    Ok(Order::Try)
+    let _name = words.next();
+    let first = words.next();
+    let second = words.next();
+    Ok(order_of(first, second))
 }
 
 fn main(rt: HostRuntime) -> ExitCode {

@@ -63,6 +63,11 @@ impl CardFault {
 }
 
 impl fmt::Display for CardFault {
+    ghost use Rattle.std.specs.Prelude.{Some};
+    ghost use Rattle.vcard_text.specs.FaultNumbers.{fault_text};
+
+    ghost output = { λ fault. Some (fault_text fault) };
+
     fn fmt<W: fmt::Write>(&self, f: &mut fmt::Formatter<W>) -> fmt::Result {
         f.write_str(match self {
             CardFault::TooLong => "the text is too long",
