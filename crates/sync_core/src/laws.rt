@@ -1,4 +1,7 @@
 //! What holds of all histories, and of the rows that stand for them.
+ghost use Rattle.std.specs.Prelude.{◌≡◌, ◌↔◌, List, true};
+ghost use Rattle.vcard_text.specs.declared.line.Line.{Line};
+ghost use Rattle.sync_core.specs.SameCards.{same_card};
 ghost use Rattle.sync_core.specs.Counting.{EventsAreCounted, LiveAreCounted};
 ghost use Rattle.sync_core.specs.Reports.{DueHaveEvents};
 ghost use Rattle.sync_core.specs.WorldSteps.{NothingFollows, CreatingFollows, PuttingFollows, ReportsFollow};
@@ -12,6 +15,11 @@ pub fn changes_are_counted()
 /// A report tells of the members that have events since the mark.
 pub fn due_members_have_events()
     ensures { DueHaveEvents }
+{}
+
+/// The test by which a put knows the same card again is equality of cards, and so of their canonical texts.
+pub fn same_cards_are_equal()
+    ensures { (a b : List Line) → (same_card a b ≡ true) ↔ (a ≡ b) }
 {}
 
 /// A store without books has the rows of no histories.
