@@ -1,5 +1,5 @@
 //! The first path, from the octets of the input to those of the output.
-ghost use Rattle.std.specs.Prelude.{◌≡◌, IfErr, IfSome, OnOk, take};
+ghost use Rattle.std.specs.Prelude.{◌≡◌, ◌≢◌, IfErr, IfSome, OnOk, take};
 ghost use Rattle.std.specs.Io.KnownBytes.{Appends, Keeps};
 ghost use Rattle.contacts.specs.declared.input.TheConstants.{INPUT_OCTETS_MAX};
 ghost use Rattle.contacts.specs.FirstPaths.{IsFirstPath};
@@ -34,6 +34,9 @@ pub(crate) fn run_try<R: Read, W: Write>(
     // What is written is the first path of what was read.
     ensures printed { OnOk result (IfSome (R.remaining reader.old)
         (λ input. Prints (take INPUT_OCTETS_MAX input) (W.contents writer.old) (W.contents writer.new))) }
+
+    // Where it is refused, or memory is wanting, nothing is written.
+    ensures kept { IfErr result (λ stop. stop ≢ Stop.Device → Keeps (W.contents writer.old) (W.contents writer.new)) }
 
     // A refusal is of the first fault of what was read.
     ensures refused { IfErr result (λ stop. IfSome (R.remaining reader.old) (λ input. IsStopFor (take INPUT_OCTETS_MAX input) stop)) }

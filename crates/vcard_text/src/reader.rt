@@ -117,8 +117,9 @@ fn read_text(alloc: Global, text: &[u8]) -> Result<Items<Line>, CardFault>
 /// or none, folded or not, its lines ended by CRLF or LF.
 ///
 /// An `Err` is the text's first fault: `TooLong` or `NotUtf8`, then the first fault of the first logical line that has one,
-/// then `NoEnd`, `NoName`, `NoUid`, `MemberOutsideGroup`, and then `TooLong` for the canonical text. `Memory` comes in place
-/// of any answer where a growth was refused.
+/// then that of a text which ends too early (`NoBegin`, `BadVersion` or `NoEnd`), then `NoName`, `NoUid`,
+/// `MemberOutsideGroup`, and then `TooLong` for the canonical text. `Memory` comes in place of any answer where a growth was
+/// refused.
 pub fn read_card(alloc: Global, text: &[u8]) -> Result<Card, CardFault>
     // What is read is the card that the text spells.
     ensures card { IfOk result (λ card. Spells text.now card) }
