@@ -1,5 +1,5 @@
 -- One card into an empty book: on histories, and so on the rows of a store.
-use Rattle.std.proofs.Common.{◌≡◌, ◌≢◌, ℕ, ◌+◌, nat_lt, List, [], ◌∷◌, Option, Some, None, Result, Ok, Err, refl, sym, ap, subst, ◌∙◌}
+use Rattle.std.proofs.Common.{◌≡◌, ◌≢◌, ℕ, ◌+◌, nat_lt, List, [], Option, Some, None, Result, Ok, Err, refl, sym, ap, subst, ◌∙◌}
 use Rattle.std.specs.Prelude.{codes, MatchResult, length, is_some}
 use Rattle.std.specs.Cmp.Lexicographic.{nat_list_cmp_total}
 use Rattle.std.specs.Option.{option_map_or}
@@ -28,8 +28,8 @@ use Rattle.sync_core.specs.Pages.{Asked, IsReport, mark_asked, page_size, report
 use Rattle.sync_core.specs.Putting.{answer_over, put_answer, next_number, reason_for, put_step}
 use Rattle.sync_core.specs.Reports.{report, page_of}
 use Rattle.sync_core.specs.Worlds.{Story, Stories, World, rows}
-use Rattle.sync_core.specs.WorldSteps.{empty_story, with_event, story_named, create_meaning, found_of, stories_after_put, put_meaning, report_meaning, IsWorldOf, Follows, Reports, NothingFollows, CreatingFollows, PuttingFollows, ReportsFollow}
-use Rattle.contacts.specs.FirstPaths.{one_creation, first_page, IsRefusedFor, IsDeniedFor}
+use Rattle.sync_core.specs.WorldSteps.{empty_story, story_named, create_meaning, found_of, stories_after_put, put_meaning, report_meaning, IsWorldOf, Follows, Reports, NothingFollows, CreatingFollows, PuttingFollows, ReportsFollow}
+use Rattle.contacts.specs.FirstPaths.{one_creation, first_page, IsDeniedFor}
 
 -- the limits that the program's store has
 pub record AreStandard (limits : Bounds) : Type 0 where

@@ -1,5 +1,5 @@
 -- A line that a UTF-8 text spells is proper: its canonical text spells it again.
-use Rattle.std.proofs.Common.{◌≡◌, ℕ, ◌<◌, ◌≤◌, Bool, true, List, [], ◌∷◌, ◌++◌, length, take, drop, IsUtf8, IsCharBoundary, Option, Some, None, sym, ap, subst, ◌∙◌, arith, drop_at, lit<}
+use Rattle.std.proofs.Common.{◌≡◌, ℕ, Bool, true, List, [], ◌∷◌, ◌++◌, length, take, IsUtf8, IsCharBoundary, Option, Some, None, sym, ap, subst, ◌∙◌, arith, drop_at, lit<}
 use Rattle.std.specs.Prelude.{IfSome}
 use Rattle.std.specs.Char.{to_ascii_uppercase}
 use Rattle.std.specs.List.{AllByRecursion}

@@ -1,5 +1,5 @@
 -- A card's lines: what they say, the rules that they keep, and their canonical text (RFC 6350, sections 3.3 and 6).
-use Rattle.std.specs.Prelude.{ℕ, ◌≡◌, ◌≤◌, Bool, true, false, ◌||◌, ◌&&◌, ◌==◌, not, nat_le, List, [], ◌∷◌, ◌++◌, map, flat_map, length, count_by, codes, bytes_eq, Option, Some, None, IfSome, find, if◌then◌else◌}
+use Rattle.std.specs.Prelude.{ℕ, ◌≡◌, ◌≤◌, Bool, true, false, ◌&&◌, ◌==◌, not, nat_le, List, [], ◌∷◌, ◌++◌, map, flat_map, length, count_by, codes, bytes_eq, Option, IfSome, find, if◌then◌else◌}
 use Rattle.std.specs.Option.{option_map_or}
 use Rattle.std.specs.List.{AllByRecursion, list_any}
 use Rattle.std.specs.Str.{str_eq_ignore_ascii_case, str_to_ascii_uppercase, IsUtf8}

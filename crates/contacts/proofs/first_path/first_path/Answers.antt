@@ -1,4 +1,3 @@
-use Rattle.std.proofs.Common.{◌∙◌}
 use Rattle.std.proofs.lemmas.Result.{err_from_is_err_and}
 use Rattle.contacts.proofs.FirstPathLemmas.{denied_for, denied_memory}
 use Rattle.contacts.proofs.first_path.first_path.Goals as goal

@@ -1,4 +1,4 @@
-use Rattle.std.proofs.Common.{ℕ, List, Ok, Err, None, Result, sym, subst, ◌∙◌, ◌≡◌}
+use Rattle.std.proofs.Common.{Ok, Err, None, Result, sym, subst, ◌∙◌, ◌≡◌}
 use Rattle.std.proofs.lemmas.Result.{err_from_is_err_and}
 use Rattle.std.specs.Prelude.{codes, MatchResult}
 use Rattle.sync_core.specs.declared.answers.PutAnswer.{PutAnswer}
