@@ -26,6 +26,13 @@ impl<V> Model for TextMap<V> {
     ghost view = { λ text_map. texts text_map.inner };
 }
 
+/// What stands at the key of a `BTreeMap` with text keys.
+pub fn value_at<'a, V>(map: &'a BTreeMap<String, V>, key: &str) -> Option<&'a V>
+    ensures { option_copied result ≡ finite.get (texts map.now) key.now }
+{
+    map.get(key)
+}
+
 impl<V: Drop> TextMap<V> {
     /// An empty map, which takes no memory.
     pub fn new(alloc: Global) -> TextMap<V>
@@ -50,16 +57,18 @@ impl<V: Drop> TextMap<V> {
         &self.inner
     }
 
+    /// Takes every entry out.
     pub fn clear(&mut self)
         ensures { self.new ≡ finite.empty }
     {
         self.inner.clear();
     }
 
+    /// What stands at the key.
     pub fn get(&self, key: &str) -> Option<&V>
         ensures { option_copied result ≡ finite.get self.now key.now }
     {
-        self.inner.get(key)
+        value_at(&self.inner, key)
     }
 
     /// Puts the value at the key. An `Err` leaves the map as it was, and comes only where the key wasn't there.
@@ -72,6 +81,7 @@ impl<V: Drop> TextMap<V> {
         Ok(())
     }
 
+    /// Takes the entry at the key out, and answers what stood there.
     pub fn remove(&mut self, key: &str) -> Option<V>
         ensures value { result ≡ finite.get self.old key.now }
         ensures removed { self.new ≡ finite.remove self.old key.now }
