@@ -17,3 +17,4 @@ pub mod ProperLemmas
 pub mod CanonicalLemmas
 pub mod WriterLemmas
 pub mod TextLemmas
+pub mod TextValueLemmas

@@ -9,3 +9,5 @@ pub mod Steps
 pub mod LineReading
 pub mod Unfolding
 pub mod Faults
+pub mod TextValues
+pub mod TextReading

@@ -19,6 +19,7 @@ mod scan;
 mod tests;
 pub mod text;
 pub mod text_map;
+pub mod text_value;
 pub mod writer;
 
 pub use card::Card;
@@ -31,4 +32,5 @@ pub use part::Part;
 pub use reader::read_card;
 pub use text::Text;
 pub use text_map::TextMap;
+pub use text_value::{components, escape, unescape};
 pub use writer::write_card;

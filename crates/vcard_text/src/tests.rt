@@ -1,6 +1,7 @@
 mod bounds;
 mod corners;
 mod parts;
+mod values;
 
 use crate::card::Card;
 use crate::fault::CardFault;
