@@ -88,7 +88,7 @@ fn without_mark(text: &str) -> &str
 
 /// The lines, unless their canonical text is too long.
 #[tactic(auto, unfolding(crate::specs::Faults::within_bounds))]
-fn within_bounds(alloc: Global, lines: Items<Line>) -> Result<Items<Line>, CardFault>
+pub(crate) fn within_bounds(alloc: Global, lines: Items<Line>) -> Result<Items<Line>, CardFault>
     ensures { Gives (λ lines. lines) result (within_bounds lines) }
 {
     if canonical_len(alloc, lines.as_slice())? <= TEXT_OCTETS_MAX {
