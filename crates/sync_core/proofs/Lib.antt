@@ -11,3 +11,5 @@ pub mod DueLemmas
 pub mod RowLemmas
 pub mod ReportLemmas
 pub mod WorldLemmas
+pub mod FollowLemmas
+pub mod ChangeLemmas

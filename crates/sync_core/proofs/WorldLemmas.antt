@@ -144,7 +144,7 @@ book_of-with_event story e past =
     ap (λ n. B n (kept_rows (e ∷ story.history) story.horizon)) longer
     ∙ ap (B (length story.history + 1)) (writes_row story.history e story.horizon past)
 
-found_is : (story : Story) (uid : List ℕ) → IsSound story → found_in (book_of story) uid ≡ found_of story.history uid
+pub found_is : (story : Story) (uid : List ℕ) → IsSound story → found_in (book_of story) uid ≡ found_of story.history uid
 found_is story uid sound =
     let F : Option Stored → ℕ → Found = λ live cards. record { live = live; cards = cards; number = length story.history } in
     ap (λ live. F live (live_count (counts_of story.history))) (live_by_row story.history story.horizon uid)

@@ -4,6 +4,8 @@ ghost use Rattle.vcard_text.specs.declared.line.Line.{Line};
 ghost use Rattle.sync_core.specs.SameCards.{same_card};
 ghost use Rattle.sync_core.specs.Counting.{EventsAreCounted, LiveAreCounted};
 ghost use Rattle.sync_core.specs.Reports.{DueHaveEvents};
+ghost use Rattle.sync_core.specs.ChangeLaws.{RemovingFollows, MovingFollows, ImportingFollows, ForgettingFollows};
+ghost use Rattle.sync_core.specs.ReadLaws.{BooksFollow, BookLinesFollow, GettingFollows, CardsFollow, KeptImportsFollow, TalliesFollow};
 ghost use Rattle.sync_core.specs.WorldSteps.{NothingFollows, CreatingFollows, PuttingFollows, ReportsFollow};
 
 /// The counts of a history add up to its number of events, and tell how many cards are live.
@@ -35,6 +37,16 @@ pub fn creating_follows_histories()
 /// A card that is stored in the rows is stored in the histories.
 pub fn putting_follows_histories()
     ensures { PuttingFollows }
+{}
+
+/// A card that is taken away in the rows is taken away in the histories.
+pub fn removing_follows_histories()
+    ensures { RemovingFollows }
+{}
+
+/// A card that moves in the rows moves in the histories: an event in each of both books.
+pub fn moving_follows_histories()
+    ensures { MovingFollows }
 {}
 
 /// The page that the rows give is the report of the history.

@@ -1,0 +1,159 @@
+-- Removals and moves in the rows, beside what they mean on histories.
+use Rattle.std.proofs.Common.{◌≡◌, ℕ, ◌+◌, Bool, true, false, not, List, [], ◌∷◌, length, Option, Some, None, Result, Ok, Err, is_some, nat_lt, refl, sym, ap, ◌∙◌, subst, ⊎_elim}
+use Rattle.std.specs.Prelude.{IsSome}
+use Rattle.std.specs.FinMap as finite
+use Rattle.std.specs.FinMap.{get-empty, get-insert, get-remove}
+use Rattle.std.proofs.lemmas.Bool.{cases_Bool, cond-true}
+use Rattle.std.proofs.lemmas.Option.{same_Some}
+use Rattle.vcard_text.specs.TextMaps.{text_cmp}
+use Rattle.vcard_text.specs.declared.line.Line.{Line}
+use Rattle.vcard_text.specs.Cards.{uid_of}
+use Rattle.sync_core.specs.declared.answers.Moved.{Moved}
+use Rattle.sync_core.specs.declared.answers.Stored.{Stored}
+use Rattle.sync_core.specs.declared.change.Change.{Change}
+use Rattle.sync_core.specs.declared.change.Change.TheVariants.{Stores, TakesAway}
+use Rattle.sync_core.specs.declared.change.StoreReason.TheVariants.{MoveIn}
+use Rattle.sync_core.specs.declared.change.RemovalReason.TheVariants.{Deletion, MoveOut}
+use Rattle.sync_core.specs.declared.refusal.Refusal.{Refusal}
+use Rattle.sync_core.specs.declared.refusal.Refusal.TheVariants.{NoSuchCard, VersionMismatch, UidTaken, SameBook, BookFull, ChangesSpent}
+use Rattle.sync_core.specs.Bounds.{Bounds}
+use Rattle.sync_core.specs.Books.{Book, Books, with_change}
+use Rattle.sync_core.specs.ChangeLaws.{RemovingFollows, MovingFollows}
+use Rattle.sync_core.specs.Histories.{BookEvent, same_uid, changed, live}
+use Rattle.sync_core.specs.Lawful.{MayHappen, IsLawful}
+use Rattle.sync_core.specs.Moving.{Moving, move_answer, books_after_move}
+use Rattle.sync_core.specs.Outcomes.{◌>>=◌, provided}
+use Rattle.sync_core.specs.Putting.{Found, found_in, is_expected, next_number}
+use Rattle.sync_core.specs.Removing.{live_card, remove_number}
+use Rattle.sync_core.specs.Worlds.{Story, Stories, World, IsSound, book_of, rows}
+use Rattle.sync_core.specs.WorldChanges.{event, remove_meaning, move_meaning, stories_after_move}
+use Rattle.sync_core.specs.WorldSteps.{with_event, story_named, found_of, IsWorldOf, Follows}
+use Rattle.sync_core.proofs.FollowLemmas.{same_answer, no_answer, follow_named, follow_test, follow_given, sound_with}
+use Rattle.sync_core.proofs.HistoryLemmas.{get-changed}
+use Rattle.sync_core.proofs.TextLemmas.{text_total, same-equal}
+use Rattle.sync_core.proofs.WorldLemmas.{rows-insert, sound-insert, wrote_world, book_of-with_event, found_is}
+
+-- ---- taking a card away
+
+live_first : {A : Type 0} (live : Option Stored) (rest : Stored → Result A Refusal) (x : A) → (live_card live >>= rest) ≡ Ok x → (stored : Stored) × (live ≡ Some stored) × (rest stored ≡ Ok x)
+live_first (Some stored) rest x e = (stored, refl, e)
+live_first None rest x e = absurd (no_answer NoSuchCard x e)
+
+some_is : {A : Type 0} (o : Option A) (x : A) → o ≡ Some x → IsSome o
+some_is o x e = ap is_some e
+
+pub removed_is_live : (limits : Bounds) (found : Found) (expect : Option ℕ) (number : ℕ) → remove_number limits found expect ≡ Ok number → IsSome found.live
+removed_is_live limits found expect number e = let l = live_first found.live _ number e in some_is found.live l.0 l.1
+
+pub removing_follows : RemovingFollows
+removing_follows world name uid expect = follow_named world name _ _ (λ story at sound.
+    let e = event uid (TakesAway Deletion) in
+    subst (λ (found : Found). Follows world.limits
+    (remove_number world.limits found expect >>= λ number. Ok (number, finite.insert (rows world.books) name (with_change (book_of story) uid (TakesAway Deletion))))
+    (remove_number world.limits (found_of story.history uid) expect >>= λ number. Ok (number, finite.insert world.books name (with_event story e))))
+    (sym (found_is story uid sound))
+    (follow_given world.limits (remove_number world.limits (found_of story.history uid) expect) _ _ (λ number is. (
+      refl,
+      wrote_world world.limits world.books name (with_event story e) (with_change (book_of story) uid (TakesAway Deletion)) world.sound
+      (sound_with story e sound (removed_is_live world.limits (found_of story.history uid) expect number is))
+      (book_of-with_event story e sound.past),
+    ))))
+
+-- ---- moving a card
+
+-- the card that is live at a UID has the UID
+pub live_uid : (h : List BookEvent) (uid : List ℕ) (s : Stored) → IsLawful h → finite.get (live h) uid ≡ Some s → uid_of s.card ≡ uid
+live_uid [] uid s lawful e = absurd (none (sym (get-empty text_cmp uid) ∙ e))
+  where
+    none : None ≡ Some s → ⊥
+    none n = cc
+live_uid (e ∷ h) uid s lawful is = ⊎_elim
+    (λ here. newest e.change here lawful.0 is)
+    (λ other. live_uid h uid s lawful.1 (sym (get-changed (live h) e.uid uid e.change (length h + 1) other) ∙ is))
+    (cases_Bool (same_uid uid e.uid))
+  where
+    newest : (change : Change) → same_uid uid e.uid ≡ true → MayHappen e.uid change (finite.get (live h) e.uid) → finite.get (changed (live h) e.uid change (length h + 1)) uid ≡ Some s → uid_of s.card ≡ uid
+    newest (Stores card why) here may g =
+        let stored : record { version = length h + 1; card = card } ≡ s = same_Some _ _ (sym (get-insert text_total (live h) e.uid (record { version = length h + 1; card = card }) uid ∙ cond-true _ _ _ here) ∙ g) in
+        ap (λ (t : Stored). uid_of t.card) (sym stored) ∙ may.0 ∙ sym (same-equal uid e.uid here)
+    newest (TakesAway why) here may g = absurd (no (sym (get-remove text_total (live h) e.uid uid ∙ cond-true _ _ _ here) ∙ g))
+      where
+        no : None ≡ Some s → ⊥
+        no n = cc
+
+-- what a move that is answered found
+pub record FoundToMove (source target : Found) (moving : Moving) : Type 0 where
+  pub stored : Stored
+  pub live : source.live ≡ Some stored
+  pub free : target.live ≡ None
+  pub card : moving.card ≡ stored.card
+
+numbered : (from version : ℕ) → Moved
+numbered from version = record { from = from; version = version }
+
+moved_card : (expected room left right : Bool) (has n m : ℕ) (card : List Line) (moving : Moving)
+    → (provided expected (VersionMismatch has) >>= λ _. provided room BookFull >>= λ _. (provided left ChangesSpent >>= λ _. Ok n) >>= λ from. (provided right ChangesSpent >>= λ _. Ok m) >>= λ version. Ok (record { card = card; numbers = record { from = from; version = version } })) ≡ Ok moving
+    → moving.card ≡ card
+moved_card true true true true has n m card moving e = ap (λ (x : Moving). x.card) (sym (same_answer _ _ e))
+moved_card true true true false has n m card moving e = absurd (no_answer ChangesSpent moving e)
+moved_card true true false right has n m card moving e = absurd (no_answer ChangesSpent moving e)
+moved_card true false left right has n m card moving e = absurd (no_answer BookFull moving e)
+moved_card false room left right has n m card moving e = absurd (no_answer (VersionMismatch has) moving e)
+
+free_first : (target : Option Stored) (rest : Result Moving Refusal) (moving : Moving) → (provided (not (is_some target)) UidTaken >>= λ _. rest) ≡ Ok moving → (target ≡ None) × (rest ≡ Ok moving)
+free_first None rest moving e = (refl, e)
+free_first (Some stored) rest moving e = absurd (no_answer UidTaken moving e)
+
+pub found_to_move : (limits : Bounds) (source target : Found) (expect : Option ℕ) (moving : Moving) → move_answer limits source target expect ≡ Ok moving → FoundToMove source target moving
+found_to_move limits source target expect moving e =
+    let l = live_first source.live _ moving e in
+    let f = free_first target.live _ moving l.2 in
+    record {
+      stored = l.0;
+      live = l.1;
+      free = f.0;
+      card = moved_card (is_expected expect l.0.version) (nat_lt target.cards limits.cards_max) (nat_lt source.number limits.changes_max) (nat_lt target.number limits.changes_max) l.0.version (source.number + 1) (target.number + 1) l.0.card moving f.1;
+    }
+
+-- both stories of a move go on soundly
+pub record MovesSoundly (source target : Story) (uid : List ℕ) (card : List Line) : Type 0 where
+  pub left : IsSound (with_event source (event uid (TakesAway MoveOut)))
+  pub came : IsSound (with_event target (event uid (Stores card MoveIn)))
+
+pub moves_soundly : (source target : Story) (uid : List ℕ) (moving : Moving) → IsSound source → IsSound target → FoundToMove (found_of source.history uid) (found_of target.history uid) moving → MovesSoundly source target uid moving.card
+moves_soundly source target uid moving s t f = record {
+  left = sound_with source (event uid (TakesAway MoveOut)) s (some_is (finite.get (live source.history) uid) f.stored f.live);
+  came = sound_with target (event uid (Stores moving.card MoveIn)) t (ap uid_of f.card ∙ live_uid source.history uid f.stored s.lawful f.live, f.free);
+}
+
+wrote_both : (world : World) (from to uid : List ℕ) (source target : Story) (card : List Line) → IsSound source → IsSound target → MovesSoundly source target uid card
+    → IsWorldOf world.limits (stories_after_move world.books from to uid source target card) (books_after_move (rows world.books) from to uid (book_of source) (book_of target) card)
+wrote_both world from to uid source target card s t m =
+    let came : BookEvent = event uid (Stores card MoveIn) in
+    let left : BookEvent = event uid (TakesAway MoveOut) in
+    let first : Stories = finite.insert world.books to (with_event target came) in
+    subst (λ (books : Books). IsWorldOf world.limits (finite.insert first from (with_event source left)) (finite.insert books from (with_change (book_of source) uid (TakesAway MoveOut))))
+    (rows-insert world.books to (with_event target came) ∙ ap (finite.insert (rows world.books) to) (book_of-with_event target came t.past))
+    (wrote_world world.limits first from (with_event source left) (with_change (book_of source) uid (TakesAway MoveOut))
+    (sound-insert world.books to (with_event target came) world.sound m.came) m.left (book_of-with_event source left s.past))
+
+pub moving_follows : MovingFollows
+moving_follows world from to uid expect =
+    follow_named world from _ _ (λ source at s.
+    follow_named world to _ _ (λ target at' t.
+    follow_test world.limits (not (same_uid from to)) SameBook _ _ (λ apart.
+    subst (λ (found : Found). Follows world.limits
+    (move_answer world.limits found (found_in (book_of target) uid) expect >>= λ moving. Ok (moving.numbers, books_after_move (rows world.books) from to uid (book_of source) (book_of target) moving.card))
+    (meant source target))
+    (sym (found_is source uid s))
+    (subst (λ (found : Found). Follows world.limits
+    (move_answer world.limits (found_of source.history uid) found expect >>= λ moving. Ok (moving.numbers, books_after_move (rows world.books) from to uid (book_of source) (book_of target) moving.card))
+    (meant source target))
+    (sym (found_is target uid t))
+    (follow_given world.limits (move_answer world.limits (found_of source.history uid) (found_of target.history uid) expect) _ _ (λ moving is. (
+      refl,
+      wrote_both world from to uid source target moving.card s t (moves_soundly source target uid moving s t (found_to_move world.limits (found_of source.history uid) (found_of target.history uid) expect moving is)),
+    )))))))
+  where
+    meant : Story → Story → Result (Moved × Stories) Refusal
+    meant source target = move_answer world.limits (found_of source.history uid) (found_of target.history uid) expect >>= λ moving. Ok (moving.numbers, stories_after_move world.books from to uid source target moving.card)

@@ -1,0 +1,45 @@
+-- Moving a card from one book to another: it is a removed member of the one and a changed member of the other
+-- (RFC 6578, section 3.5). The tests are this project's own.
+use Rattle.std.specs.Prelude.{ℕ, Bool, not, nat_lt, List, is_some, Option, Result, Ok}
+use Rattle.std.specs.FinMap as finite
+use Rattle.vcard_text.specs.declared.line.Line.{Line}
+use Rattle.sync_core.specs.declared.answers.Moved.{Moved}
+use Rattle.sync_core.specs.declared.change.Change.TheVariants.{Stores, TakesAway}
+use Rattle.sync_core.specs.declared.change.StoreReason.TheVariants.{MoveIn}
+use Rattle.sync_core.specs.declared.change.RemovalReason.TheVariants.{MoveOut}
+use Rattle.sync_core.specs.declared.refusal.Refusal.{Refusal}
+use Rattle.sync_core.specs.declared.refusal.Refusal.TheVariants.{VersionMismatch, UidTaken, SameBook, BookFull}
+use Rattle.sync_core.specs.Bounds.{Bounds}
+use Rattle.sync_core.specs.Books.{Book, Books, book_named, same_name, with_change}
+use Rattle.sync_core.specs.Outcomes.{◌>>=◌, provided}
+use Rattle.sync_core.specs.Putting.{Found, is_expected, next_number, found_in}
+use Rattle.sync_core.specs.Removing.{live_card}
+
+-- the card that moves, and the numbers that the move takes in both books
+pub record Moving : Type 0 where
+  pub card : List Line
+  pub numbers : Moved
+
+-- what a move comes to, by what it finds at the UID in the book that the card leaves and in the other
+abbrev pub move_answer : Bounds → Found → Found → Option ℕ → Result Moving Refusal
+move_answer limits source target expect = do
+  stored ← live_card source.live
+  free ← provided (not (is_some target.live)) UidTaken
+  expected ← provided (is_expected expect stored.version) (VersionMismatch stored.version)
+  room ← provided (nat_lt target.cards limits.cards_max) BookFull
+  from ← next_number limits source.number
+  version ← next_number limits target.number
+  Ok (record { card = stored.card; numbers = record { from = from; version = version } })
+
+-- the books after a move from the one to the other
+abbrev pub books_after_move : Books → List ℕ → List ℕ → List ℕ → Book → Book → List Line → Books
+books_after_move books from to uid source target card =
+    finite.insert (finite.insert books to (with_change target uid (Stores card MoveIn))) from (with_change source uid (TakesAway MoveOut))
+
+abbrev pub move_step : Bounds → Books → List ℕ → List ℕ → List ℕ → Option ℕ → Result (Moved × Books) Refusal
+move_step limits books from to uid expect = do
+  source ← book_named books from
+  target ← book_named books to
+  apart ← provided (not (same_name from to)) SameBook
+  moving ← move_answer limits (found_in source uid) (found_in target uid) expect
+  Ok (moving.numbers, books_after_move books from to uid source target moving.card)
