@@ -13,3 +13,5 @@ pub mod ReportLemmas
 pub mod WorldLemmas
 pub mod FollowLemmas
 pub mod ChangeLemmas
+pub mod ImportLemmas
+pub mod ForgetLemmas

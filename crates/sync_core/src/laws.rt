@@ -49,6 +49,16 @@ pub fn moving_follows_histories()
     ensures { MovingFollows }
 {}
 
+/// Cards that are imported in the rows are imported in the histories, one after another; a repeated key acts in neither.
+pub fn importing_follows_histories()
+    ensures { ImportingFollows }
+{}
+
+/// What is forgotten in the rows is forgotten in the histories, and as many members are dropped.
+pub fn forgetting_follows_histories()
+    ensures { ForgettingFollows }
+{}
+
 /// The page that the rows give is the report of the history.
 pub fn reports_follow_histories()
     ensures { ReportsFollow }
