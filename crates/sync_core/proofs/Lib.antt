@@ -15,3 +15,4 @@ pub mod FollowLemmas
 pub mod ChangeLemmas
 pub mod ImportLemmas
 pub mod ForgetLemmas
+pub mod ReadLemmas

@@ -63,3 +63,25 @@ pub fn forgetting_follows_histories()
 pub fn reports_follow_histories()
     ensures { ReportsFollow }
 {}
+
+/// The lines of all books that the rows tell are those of their histories.
+pub fn book_lines_follow_histories()
+    ensures all { BooksFollow }
+    ensures one { BookLinesFollow }
+{}
+
+/// The card that the rows have at a UID, and all their cards, are the live ones of the history.
+pub fn cards_follow_histories()
+    ensures one { GettingFollows }
+    ensures all { CardsFollow }
+{}
+
+/// What the rows keep of imports is what the histories keep.
+pub fn kept_imports_follow_histories()
+    ensures { KeptImportsFollow }
+{}
+
+/// A book in numbers, by its rows, is its history in numbers.
+pub fn tallies_follow_histories()
+    ensures { TalliesFollow }
+{}
