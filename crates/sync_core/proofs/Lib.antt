@@ -16,3 +16,5 @@ pub mod ChangeLemmas
 pub mod ImportLemmas
 pub mod ForgetLemmas
 pub mod ReadLemmas
+pub mod SortLemmas
+pub mod RunLemmas

@@ -26,4 +26,6 @@ pub mod WorldChanges
 pub mod WorldReads
 pub mod ChangeLaws
 pub mod ReadLaws
+pub mod Calls
+pub mod RunLaws
 pub mod NamedBooks

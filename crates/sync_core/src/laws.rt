@@ -6,6 +6,7 @@ ghost use Rattle.sync_core.specs.Counting.{EventsAreCounted, LiveAreCounted};
 ghost use Rattle.sync_core.specs.Reports.{DueHaveEvents};
 ghost use Rattle.sync_core.specs.ChangeLaws.{RemovingFollows, MovingFollows, ImportingFollows, ForgettingFollows};
 ghost use Rattle.sync_core.specs.ReadLaws.{BooksFollow, BookLinesFollow, GettingFollows, CardsFollow, KeptImportsFollow, TalliesFollow};
+ghost use Rattle.sync_core.specs.RunLaws.{StaysSound, RowsAreEnough, BooksGoOn, ImportsActOnce};
 ghost use Rattle.sync_core.specs.WorldSteps.{NothingFollows, CreatingFollows, PuttingFollows, ReportsFollow};
 
 /// The counts of a history add up to its number of events, and tell how many cards are live.
@@ -84,4 +85,16 @@ pub fn kept_imports_follow_histories()
 /// A book in numbers, by its rows, is its history in numbers.
 pub fn tallies_follow_histories()
     ensures { TalliesFollow }
+{}
+
+/// Over every list of calls each history stays lawful: cards come in where their UIDs aren't live, and are edited and go
+/// where they are.
+pub fn histories_stay_lawful()
+    ensures { StaysSound }
+{}
+
+/// Where two stores have the same limits and rows, every list of calls is answered alike and leaves the same rows,
+/// whatever histories led to them: the rows forget nothing that a later call asks for.
+pub fn rows_are_enough()
+    ensures { RowsAreEnough }
 {}
