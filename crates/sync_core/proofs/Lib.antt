@@ -18,3 +18,4 @@ pub mod ForgetLemmas
 pub mod ReadLemmas
 pub mod SortLemmas
 pub mod RunLemmas
+pub mod GoingOnLemmas

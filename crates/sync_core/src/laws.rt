@@ -98,3 +98,9 @@ pub fn histories_stay_lawful()
 pub fn rows_are_enough()
     ensures { RowsAreEnough }
 {}
+
+/// No call takes a book away or undoes what happened to it: it keeps its id, its events and what it keeps of imports, and
+/// its horizon doesn't fall.
+pub fn books_go_on()
+    ensures { BooksGoOn }
+{}
