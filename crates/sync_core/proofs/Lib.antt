@@ -19,3 +19,5 @@ pub mod ReadLemmas
 pub mod SortLemmas
 pub mod RunLemmas
 pub mod GoingOnLemmas
+pub mod OnceLemmas
+pub mod TokenLemmas

@@ -28,4 +28,6 @@ pub mod ChangeLaws
 pub mod ReadLaws
 pub mod Calls
 pub mod RunLaws
+pub mod TokenLaws
+pub mod MoveLaws
 pub mod NamedBooks

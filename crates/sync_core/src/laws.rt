@@ -7,6 +7,8 @@ ghost use Rattle.sync_core.specs.Reports.{DueHaveEvents};
 ghost use Rattle.sync_core.specs.ChangeLaws.{RemovingFollows, MovingFollows, ImportingFollows, ForgettingFollows};
 ghost use Rattle.sync_core.specs.ReadLaws.{BooksFollow, BookLinesFollow, GettingFollows, CardsFollow, KeptImportsFollow, TalliesFollow};
 ghost use Rattle.sync_core.specs.RunLaws.{StaysSound, RowsAreEnough, BooksGoOn, ImportsActOnce};
+ghost use Rattle.sync_core.specs.TokenLaws.{TokensStayGood};
+ghost use Rattle.sync_core.specs.MoveLaws.{MovesTakeOneCard};
 ghost use Rattle.sync_core.specs.WorldSteps.{NothingFollows, CreatingFollows, PuttingFollows, ReportsFollow};
 
 /// The counts of a history add up to its number of events, and tell how many cards are live.
@@ -103,4 +105,16 @@ pub fn rows_are_enough()
 /// its horizon doesn't fall.
 pub fn books_go_on()
     ensures { BooksGoOn }
+{}
+
+/// An import key acts once: after an import that was answered, whatever calls come between, another with the key is
+/// answered the same and changes nothing.
+pub fn imports_act_once()
+    ensures { ImportsActOnce }
+{}
+
+/// The book of a page refuses its token only as too old, and only where it was made to forget above the token's base
+/// since the page was made.
+pub fn tokens_stay_good()
+    ensures { TokensStayGood }
 {}
