@@ -35,7 +35,7 @@ use Rattle.sync_core.proofs.WorldLemmas.{rows-insert, sound-insert, wrote_world,
 
 -- ---- taking a card away
 
-live_first : {A : Type 0} (live : Option Stored) (rest : Stored → Result A Refusal) (x : A) → (live_card live >>= rest) ≡ Ok x → (stored : Stored) × (live ≡ Some stored) × (rest stored ≡ Ok x)
+pub live_first : {A : Type 0} (live : Option Stored) (rest : Stored → Result A Refusal) (x : A) → (live_card live >>= rest) ≡ Ok x → (stored : Stored) × (live ≡ Some stored) × (rest stored ≡ Ok x)
 live_first (Some stored) rest x e = (stored, refl, e)
 live_first None rest x e = absurd (no_answer NoSuchCard x e)
 
@@ -100,7 +100,7 @@ moved_card true true false right has n m card moving e = absurd (no_answer Chang
 moved_card true false left right has n m card moving e = absurd (no_answer BookFull moving e)
 moved_card false room left right has n m card moving e = absurd (no_answer (VersionMismatch has) moving e)
 
-free_first : (target : Option Stored) (rest : Result Moving Refusal) (moving : Moving) → (provided (not (is_some target)) UidTaken >>= λ _. rest) ≡ Ok moving → (target ≡ None) × (rest ≡ Ok moving)
+pub free_first : (target : Option Stored) (rest : Result Moving Refusal) (moving : Moving) → (provided (not (is_some target)) UidTaken >>= λ _. rest) ≡ Ok moving → (target ≡ None) × (rest ≡ Ok moving)
 free_first None rest moving e = (refl, e)
 free_first (Some stored) rest moving e = absurd (no_answer UidTaken moving e)
 

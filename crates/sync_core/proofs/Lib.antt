@@ -21,3 +21,4 @@ pub mod RunLemmas
 pub mod GoingOnLemmas
 pub mod OnceLemmas
 pub mod TokenLemmas
+pub mod MoveLemmas

@@ -118,3 +118,9 @@ pub fn imports_act_once()
 pub fn tokens_stay_good()
     ensures { TokensStayGood }
 {}
+
+/// A move takes one card between two books and alters nothing else: an event in each of two histories, with the same card;
+/// every other book and card is as before, and the cards of all books together number the same.
+pub fn moves_take_one_card()
+    ensures { MovesTakeOneCard }
+{}
