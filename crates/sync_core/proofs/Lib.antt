@@ -22,3 +22,4 @@ pub mod GoingOnLemmas
 pub mod OnceLemmas
 pub mod TokenLemmas
 pub mod MoveLemmas
+pub mod WorkedHistory
