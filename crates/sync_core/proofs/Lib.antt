@@ -10,6 +10,7 @@ pub mod HistoryLemmas
 pub mod DueLemmas
 pub mod RowLemmas
 pub mod ReportLemmas
+pub mod DeviceLemmas
 pub mod WorldLemmas
 pub mod FollowLemmas
 pub mod ChangeLemmas

@@ -30,4 +30,6 @@ pub mod Calls
 pub mod RunLaws
 pub mod TokenLaws
 pub mod MoveLaws
+pub mod Devices
+pub mod Paging
 pub mod NamedBooks

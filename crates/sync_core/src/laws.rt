@@ -11,6 +11,8 @@ ghost use Rattle.sync_core.specs.TokenLaws.{TokensStayGood};
 ghost use Rattle.sync_core.specs.MoveLaws.{MovesTakeOneCard};
 ghost use Rattle.sync_core.specs.WorldSteps.{NothingFollows, CreatingFollows, PuttingFollows, ReportsFollow};
 
+pub mod devices;
+
 /// The counts of a history add up to its number of events, and tell how many cards are live.
 pub fn changes_are_counted()
     ensures events { EventsAreCounted }
