@@ -1,7 +1,6 @@
 -- A right copy stays right through events and pages.
-use Rattle.std.proofs.Common.{◌≡◌, ℕ, zero, suc, ◌+◌, ◌-◌, ◌<◌, ◌≤◌, max, Bool, true, false, cond, ◌||◌, List, [], ◌∷◌, length, take, map, get_or, Option, Some, None, nat_lt, refl, sym, ap, ◌∙◌, subst, ⊎_elim, arith}
+use Rattle.std.proofs.Common.{◌≡◌, ℕ, zero, suc, ◌-◌, ◌<◌, ◌≤◌, max, min, Bool, true, false, cond, ◌&&◌, ◌||◌, ◌==◌, List, [], ◌∷◌, length, take, map, get_or, Option, Some, None, Result, Ok, Err, nat_lt, nat_le, inr, refl, sym, ap, ◌∙◌, subst, ⊎_elim, arith}
 use Rattle.std.specs.Option.{option_map_or}
-use Rattle.std.specs.List.{AllByRecursion}
 use Rattle.std.specs.FinMap as finite
 use Rattle.std.specs.FinMap.{get-empty, get-insert, get-remove, same_map}
 use Rattle.std.proofs.lemmas.Bool.{cases_Bool, cases_lt, cond-true, cond-false, or_cases, or_left, or_right, or_parts, and_cases, both_ways, false_from_ne_true, false≢true, ltb-true, ltb-false}
@@ -9,10 +8,21 @@ use Rattle.std.proofs.lemmas.List.{take-map}
 use Rattle.std.proofs.lemmas.Map.Lookups.{exact_bytes}
 use Rattle.vcard_text.specs.TextMaps.{text_cmp}
 use Rattle.sync_core.specs.declared.page.Entry.TheVariants.{Changed, Removed}
+use Rattle.sync_core.specs.declared.page.Page.{Page}
+use Rattle.sync_core.specs.declared.refusal.Refusal.{Refusal}
+use Rattle.sync_core.specs.declared.refusal.Refusal.TheVariants.{NoSuchBook, BadToken, BadLimit}
+use Rattle.sync_core.specs.declared.refusal.TokenCause.TheVariants.{OtherBook, TooNew, TooOld}
 use Rattle.sync_core.specs.declared.token.Mark.{Mark}
+use Rattle.sync_core.specs.declared.token.Token.{Token}
+use Rattle.sync_core.specs.Bounds.{Bounds}
 use Rattle.sync_core.specs.Histories.{BookEvent, LiveCards, same_uid, live, last}
-use Rattle.sync_core.specs.Reports.{is_due, due, entry_of, mark_after, cut_page, whole_page}
-use Rattle.sync_core.specs.Devices.{applied, applied_one, Agrees, EmptyIsRight, CopiesStayRight, PartsKeepCopies, PagesMoveCopies, LastPagesCompleteCopies}
+use Rattle.sync_core.specs.Outcomes.{◌>>=◌, provided}
+use Rattle.sync_core.specs.Pages.{mark_asked, page_size}
+use Rattle.sync_core.specs.Reports.{is_due, due, entry_of, mark_after, cut_page, whole_page, report, page_of}
+use Rattle.sync_core.specs.Worlds.{Story, Stories}
+use Rattle.sync_core.specs.WorldSteps.{with_event, report_meaning}
+use Rattle.sync_core.specs.Devices.{applied, applied_one, Agrees, Holding, copy_under, ready_copy, after_page, AppliesInPart, mark_under, page_for, IsRightUnder, IsRightFor, IsRightWith, IsRight}
+use Rattle.sync_core.specs.Devices.{EmptyIsRight, CopiesStayRight, PartsKeepCopies, PagesMoveCopies, LastPagesCompleteCopies, RestartedAreRight, DevicesStayRight, PartsKeepDevices, PagesMoveDevices, LastPagesCompleteDevices, EventsKeepAllRight, PartsKeepAllRight, PagesKeepAllRight}
 use Rattle.sync_core.proofs.BasicLemmas.{is_some-false}
 use Rattle.sync_core.proofs.TextLemmas.{text_total, same-equal}
 use Rattle.sync_core.proofs.HistoryLemmas.{has, last-le, last_here, last_other, Rises, get-changed}
@@ -192,3 +202,135 @@ last_pages_complete_copies copy mark h k a =
       | true ↦ λ t. absurd (false≢true (sym t))
       | false ↦ λ t. same_map text_total exact_bytes _ _ (all_applied copy mark h a)
     ]
+
+-- ---- devices
+
+-- what a page is applied to is right at the mark that asks
+ready : (story : Story) (copy : LiveCards) (token : Option Token) → IsRightUnder story copy token → Agrees (copy_under token copy) (mark_under story.history token) story.history
+ready story copy None r = empty_is_right story.history
+ready story copy (Some token) r = r.1
+
+pub restarted_are_right : RestartedAreRight
+restarted_are_right story holding = tt
+
+pub devices_stay_right : DevicesStayRight
+devices_stay_right story holding e r = stays holding.token r
+  where
+    stays : (token : Option Token) → IsRightUnder story holding.copy token → IsRightUnder (with_event story e) holding.copy token
+    stays None r = tt
+    stays (Some token) r = (r.0, copies_stay_right holding.copy token.mark story.history e r.1)
+
+pub parts_keep_devices : PartsKeepDevices
+parts_keep_devices story holding after k r part = ⊎_elim
+    (λ same. subst Kept (sym same) (r, refl))
+    (λ first. subst Kept (sym first.after_is) (kept first.count holding.token r, refl))
+    part
+  where
+    Kept : Holding → Type 0
+    Kept a = IsRightFor story a × (a.token ≡ holding.token)
+
+    kept : (count : ℕ) (token : Option Token) → IsRightUnder story holding.copy token
+        → IsRightUnder story (applied (copy_under token holding.copy) (take count (report story.history (mark_under story.history token) k).entries)) token
+    kept count None r = tt
+    kept count (Some token) r = (r.0, parts_keep_copies holding.copy token.mark story.history k count r.1)
+
+pub pages_move_devices : PagesMoveDevices
+pages_move_devices story holding k some r =
+    (refl, pages_move_copies (ready_copy holding) (mark_under story.history holding.token) story.history k some (ready story holding.copy holding.token r))
+
+pub last_pages_complete_devices : LastPagesCompleteDevices
+last_pages_complete_devices story holding k r t =
+    last_pages_complete_copies (ready_copy holding) (mark_under story.history holding.token) story.history k (ready story holding.copy holding.token r) t
+
+-- ---- among all books
+
+right_at : (stories : Stories) (holding : Holding) (o : Option Story) → finite.get stories holding.book ≡ o → IsRight stories holding → IsRightWith o holding
+right_at stories holding o is r = subst (λ (o : Option Story). IsRightWith o holding) is r
+
+pub events_keep_all_right : EventsKeepAllRight
+events_keep_all_right stories name story e holding is r =
+    right_from (get-insert text_total stories name (with_event story e) holding.book)
+    (⊎_elim
+    (λ here. right_from (cond-true _ _ _ here) (devices_stay_right story holding e (right_at stories holding (Some story) (ap (finite.get stories) (same-equal holding.book name here) ∙ is) r)))
+    (λ other. right_from (cond-false _ _ _ other) r)
+    (cases_Bool (same_uid holding.book name)))
+  where
+    right_from : {o p : Option Story} → o ≡ p → IsRightWith p holding → IsRightWith o holding
+    right_from same r = subst (λ (q : Option Story). IsRightWith q holding) (sym same) r
+
+-- a page that a report means is one that the device's book has for it
+record IsFrom (limits : Bounds) (o : Option Story) (holding : Holding) (page : Page) : Type 0 where
+  story : Story
+  size : ℕ
+  story_is : o ≡ Some story
+  page_is : page ≡ page_for story holding size
+  some : 0 < limits.page_max → 0 < size
+
+passed : (own known old : Bool) (mark asked : Mark) → (provided own (BadToken OtherBook) >>= λ _. provided known (BadToken TooNew) >>= λ _. provided old (BadToken TooOld) >>= λ _. Ok mark) ≡ Ok asked → asked ≡ mark
+passed true true true mark asked e = cc
+passed true true false mark asked e = cc
+passed true false old mark asked e = cc
+passed false known old mark asked e = cc
+
+asked_is : (story : Story) (token : Option Token) (asked : Mark) → mark_asked story.id (length story.history) story.horizon token ≡ Ok asked → asked ≡ mark_under story.history token
+asked_is story None asked e = cc
+asked_is story (Some token) asked e =
+    let number = length story.history in
+    passed (token.book == story.id) (nat_le token.mark.at number && nat_le token.mark.base number) (nat_le story.horizon token.mark.base) token.mark asked e
+
+size_some : (page_max : ℕ) (limit : Option ℕ) (size : ℕ) → page_size page_max limit ≡ Ok size → 0 < page_max → 0 < size
+size_some page_max None size e some = let is : page_max ≡ size = cc in omega (arith, is, some)
+size_some page_max (Some limit) size e some =
+    elim (nat_lt 0 limit) as (λ b. nat_lt 0 limit ≡ b → (provided b BadLimit >>= λ _. Ok (min limit page_max)) ≡ Ok size → 0 < size) [
+      | true ↦ λ asks e. let is : min limit page_max ≡ size = cc in let more : 0 < limit = ltb-true _ _ asks in omega (arith, is, more, some)
+      | false ↦ λ asks e. cc
+    ] refl e
+
+told_from : (limits : Bounds) (stories : Stories) (holding : Holding) (limit : Option ℕ) (page : Page) → report_meaning limits stories holding.book holding.token limit ≡ Ok page → IsFrom limits (finite.get stories holding.book) holding page
+told_from limits stories holding limit page e = by_story (finite.get stories holding.book) e
+  where
+    by_mark : (story : Story) (mark : Result Mark Refusal) (size : Result ℕ Refusal) → mark_asked story.id (length story.history) story.horizon holding.token ≡ mark → page_size limits.page_max limit ≡ size
+        → (mark >>= λ m. size >>= λ k. Ok (page_of story.id (report story.history m k))) ≡ Ok page → IsFrom limits (Some story) holding page
+    by_mark story (Ok mark) (Ok k) is_mark is_size e =
+        let is : page_of story.id (report story.history mark k) ≡ page = cc in
+        record {
+          story = story;
+          size = k;
+          story_is = refl;
+          page_is = sym is ∙ ap (λ (m : Mark). page_of story.id (report story.history m k)) (asked_is story holding.token mark is_mark);
+          some = size_some limits.page_max limit k is_size;
+        }
+    by_mark story (Ok mark) (Err refusal) is_mark is_size e = absurd (no_page e)
+      where
+        no_page : Err refusal ≡ Ok page → ⊥
+        no_page n = cc
+    by_mark story (Err refusal) size is_mark is_size e = absurd (no_page e)
+      where
+        no_page : Err refusal ≡ Ok page → ⊥
+        no_page n = cc
+
+    by_story : (o : Option Story) → (option_map_or Ok o (Err NoSuchBook) >>= λ story. mark_asked story.id (length story.history) story.horizon holding.token >>= λ m. page_size limits.page_max limit >>= λ k. Ok (page_of story.id (report story.history m k))) ≡ Ok page → IsFrom limits o holding page
+    by_story None e = absurd (no_page e)
+      where
+        no_page : Err NoSuchBook ≡ Ok page → ⊥
+        no_page n = cc
+    by_story (Some story) e = by_mark story (mark_asked story.id (length story.history) story.horizon holding.token) (page_size limits.page_max limit) refl refl e
+
+pub parts_keep_all_right : PartsKeepAllRight
+parts_keep_all_right limits stories holding after limit page r e part =
+    let from = told_from limits stories holding limit page e in
+    let right = right_at stories holding (Some from.story) from.story_is r in
+    ⊎_elim
+    (λ same. subst (IsRight stories) (sym same) r)
+    (λ first.
+    let own : AppliesInPart holding (page_for from.story holding from.size) after = subst (λ (p : Page). AppliesInPart holding p after) from.page_is (inr first) in
+    let book : finite.get stories after.book ≡ Some from.story = ap (λ (a : Holding). finite.get stories a.book) first.after_is ∙ from.story_is in
+    subst (λ (o : Option Story). IsRightWith o after) (sym book) (parts_keep_devices from.story holding after from.size right own).0)
+    part
+
+pub pages_keep_all_right : PagesKeepAllRight
+pages_keep_all_right limits stories holding limit page some r e =
+    let from = told_from limits stories holding limit page e in
+    let right = right_at stories holding (Some from.story) from.story_is r in
+    subst (λ (o : Option Story). IsRightWith o (after_page holding page)) (sym from.story_is)
+    (subst (λ (p : Page). IsRightFor from.story (after_page holding p)) (sym from.page_is) (pages_move_devices from.story holding from.size (from.some some) right))

@@ -1,6 +1,6 @@
 -- What a device makes of the pages that it is told (RFC 6578, sections 3.4 to 3.6), and when it is right. What right
 -- means at the two numbers of a mark is this project's own.
-use Rattle.std.specs.Prelude.{ℕ, ◌+◌, ◌≡◌, ◌<◌, ◌≤◌, ◌⊎◌, false, List, ◌∷◌, length, take, map, fold, Option, Some, None, Ok}
+use Rattle.std.specs.Prelude.{ℕ, ◌≡◌, ◌<◌, ◌≤◌, ◌⊎◌, false, List, ◌∷◌, length, take, map, fold, Option, Some, None, Ok}
 use Rattle.std.specs.List.Sorted.{IsStrictlyIncreasing}
 use Rattle.std.specs.FinMap as finite
 use Rattle.sync_core.specs.declared.page.Entry.{Entry}

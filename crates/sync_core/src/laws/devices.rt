@@ -1,12 +1,39 @@
 //! What holds of devices that apply the pages that they are told.
-ghost use Rattle.sync_core.specs.Devices.{EmptyIsRight, CopiesStayRight};
+ghost use Rattle.sync_core.specs.Devices.{EmptyIsRight, RestartedAreRight, CopiesStayRight, DevicesStayRight, PartsKeepCopies, PartsKeepDevices, PagesMoveCopies, PagesMoveDevices, LastPagesCompleteCopies, LastPagesCompleteDevices, EventsKeepAllRight, PartsKeepAllRight, PagesKeepAllRight};
 
-/// An empty copy is right for a first report.
-pub fn empty_copies_are_right()
-    ensures { EmptyIsRight }
+/// An empty copy is right for a first report, and a device whose token was taken away is right for each book.
+pub fn first_reports_start_right()
+    ensures copies { EmptyIsRight }
+    ensures devices { RestartedAreRight }
 {}
 
-/// A right copy stays right whatever event comes, lawful or not.
+/// A right copy stays right whatever event comes, lawful or not, and so does a right device.
 pub fn copies_stay_right()
-    ensures { CopiesStayRight }
+    ensures copies { CopiesStayRight }
+    ensures devices { DevicesStayRight }
+{}
+
+/// A device that applies the first entries of its page, however many, is as right as before.
+pub fn parts_of_pages_keep_right()
+    ensures copies { PartsKeepCopies }
+    ensures devices { PartsKeepDevices }
+{}
+
+/// A right device that applies its whole page is right with the page's token, whether it had a token or not.
+pub fn whole_pages_keep_right()
+    ensures copies { PagesMoveCopies }
+    ensures devices { PagesMoveDevices }
+{}
+
+/// A page that isn't truncated makes a right device's copy the live cards, each with its version.
+pub fn last_pages_complete_copies()
+    ensures copies { LastPagesCompleteCopies }
+    ensures devices { LastPagesCompleteDevices }
+{}
+
+/// Among all books, what happens to any of them and what a device is told of its own leave each right device right.
+pub fn devices_stay_right_among_books()
+    ensures events { EventsKeepAllRight }
+    ensures parts { PartsKeepAllRight }
+    ensures pages { PagesKeepAllRight }
 {}

@@ -1,0 +1,8 @@
+use Rattle.sync_core.proofs.DeviceLemmas.{last_pages_complete_copies, last_pages_complete_devices}
+use Rattle.sync_core.proofs.laws.devices.last_pages_complete_copies.Goals as goal
+
+pub returns-clause-copies : goal.returns-clause-copies
+returns-clause-copies c = last_pages_complete_copies
+
+pub returns-clause-devices : goal.returns-clause-devices
+returns-clause-devices c = last_pages_complete_devices
