@@ -11,6 +11,7 @@ pub mod DueLemmas
 pub mod RowLemmas
 pub mod ReportLemmas
 pub mod DeviceLemmas
+pub mod PagingLemmas
 pub mod WorldLemmas
 pub mod FollowLemmas
 pub mod ChangeLemmas

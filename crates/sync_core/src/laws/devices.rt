@@ -1,5 +1,6 @@
 //! What holds of devices that apply the pages that they are told.
-ghost use Rattle.sync_core.specs.Devices.{EmptyIsRight, RestartedAreRight, CopiesStayRight, DevicesStayRight, PartsKeepCopies, PartsKeepDevices, PagesMoveCopies, PagesMoveDevices, LastPagesCompleteCopies, LastPagesCompleteDevices, EventsKeepAllRight, PartsKeepAllRight, PagesKeepAllRight};
+ghost use Rattle.sync_core.specs.Devices.{EmptyIsRight, RestartedAreRight, CopiesStayRight, DevicesStayRight, PartsKeepCopies, PartsKeepDevices, PagesMoveCopies, PagesMoveDevices, LastPagesCompleteCopies, LastPagesCompleteDevices, EventsKeepAllRight, PartsKeepAllRight, PagesKeepAllRight, DueRises, EntriesAreFirstDue};
+ghost use Rattle.sync_core.specs.Paging.{EventsAddOne, PagesLeaveRest, PagesLeaveFewer, LastPagesLeaveNone};
 
 /// An empty copy is right for a first report, and a device whose token was taken away is right for each book.
 pub fn first_reports_start_right()
@@ -36,4 +37,18 @@ pub fn devices_stay_right_among_books()
     ensures events { EventsKeepAllRight }
     ensures parts { PartsKeepAllRight }
     ensures pages { PagesKeepAllRight }
+{}
+
+/// A report tells of the first k due members in the rising order of their last events, each as it is now.
+pub fn reports_tell_the_first_due()
+    ensures order { DueRises }
+    ensures entries { EntriesAreFirstDue }
+{}
+
+/// An event makes at most one more member due; a truncated page leaves just k fewer, and any other page none.
+pub fn due_members_are_counted()
+    ensures event { EventsAddOne }
+    ensures rest { PagesLeaveRest }
+    ensures fewer { PagesLeaveFewer }
+    ensures none { LastPagesLeaveNone }
 {}
