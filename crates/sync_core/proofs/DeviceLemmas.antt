@@ -1,5 +1,5 @@
 -- A right copy stays right through events and pages.
-use Rattle.std.proofs.Common.{◌≡◌, ℕ, zero, suc, ◌-◌, ◌<◌, ◌≤◌, max, min, Bool, true, false, cond, ◌&&◌, ◌||◌, ◌==◌, List, [], ◌∷◌, length, take, map, get_or, Option, Some, None, Result, Ok, Err, nat_lt, nat_le, inr, refl, sym, ap, ◌∙◌, subst, ⊎_elim, arith}
+use Rattle.std.proofs.Common.{◌≡◌, ℕ, zero, suc, ◌-◌, ◌<◌, ◌≤◌, max, min, Bool, true, false, cond, ◌&&◌, ◌||◌, ◌==◌, List, [], ◌∷◌, length, take, map, get_or, Option, Some, None, Result, Ok, Err, nat_lt, nat_le, is_some, IsSome, inl, inr, refl, sym, ap, ◌∙◌, subst, ⊎_elim, arith}
 use Rattle.std.specs.Option.{option_map_or}
 use Rattle.std.specs.FinMap as finite
 use Rattle.std.specs.FinMap.{get-empty, get-insert, get-remove, same_map}
@@ -20,13 +20,13 @@ use Rattle.sync_core.specs.Outcomes.{◌>>=◌, provided}
 use Rattle.sync_core.specs.Pages.{mark_asked, page_size}
 use Rattle.sync_core.specs.Reports.{is_due, due, entry_of, mark_after, cut_page, whole_page, report, page_of}
 use Rattle.sync_core.specs.Worlds.{Story, Stories}
-use Rattle.sync_core.specs.WorldSteps.{with_event, report_meaning}
-use Rattle.sync_core.specs.Devices.{applied, applied_one, Agrees, Holding, copy_under, ready_copy, after_page, AppliesInPart, mark_under, page_for, IsRightUnder, IsRightFor, IsRightWith, IsRight}
-use Rattle.sync_core.specs.Devices.{EmptyIsRight, CopiesStayRight, PartsKeepCopies, PagesMoveCopies, LastPagesCompleteCopies, RestartedAreRight, DevicesStayRight, PartsKeepDevices, PagesMoveDevices, LastPagesCompleteDevices, EventsKeepAllRight, PartsKeepAllRight, PagesKeepAllRight}
+use Rattle.sync_core.specs.WorldSteps.{empty_story, with_event, report_meaning}
+use Rattle.sync_core.specs.Devices.{applied, applied_one, Agrees, Holding, copy_under, ready_copy, after_page, AppliesInPart, first_mark, mark_under, page_for, IsRightUnder, IsRightFor, IsRightWith, IsRight}
+use Rattle.sync_core.specs.Devices.{EmptyIsRight, CopiesStayRight, PartsKeepCopies, PagesMoveCopies, LastPagesCompleteCopies, RestartedAreRight, NobodyDueIsComplete, LiveAreDueFirst, NewBooksKeepAllRight, DevicesStayRight, PartsKeepDevices, PagesMoveDevices, LastPagesCompleteDevices, EventsKeepAllRight, PartsKeepAllRight, PagesKeepAllRight}
 use Rattle.sync_core.proofs.BasicLemmas.{is_some-false}
 use Rattle.sync_core.proofs.TextLemmas.{text_total, same-equal}
-use Rattle.sync_core.proofs.HistoryLemmas.{has, last-le, last_here, last_other, Rises, get-changed}
-use Rattle.sync_core.proofs.DueLemmas.{has-due, above_first, due-rises}
+use Rattle.sync_core.proofs.HistoryLemmas.{has, last-le, last_here, last_other, last_event, event-le, Rises, get-changed}
+use Rattle.sync_core.proofs.DueLemmas.{has-due, due_have_events, above_first, due-rises}
 
 -- ---- events
 
@@ -203,6 +203,29 @@ last_pages_complete_copies copy mark h k a =
       | false ↦ λ t. same_map text_total exact_bytes _ _ (all_applied copy mark h a)
     ]
 
+pub nobody_due_is_complete : NobodyDueIsComplete
+nobody_due_is_complete copy mark h a none = same_map text_total exact_bytes _ _ (λ uid.
+    get_not_due copy mark h uid a (false_from_ne_true _ (λ d. both_ways false refl (sym (ap (λ (uids : List (List ℕ)). has uids uid) none) ∙ has-due h mark uid d))))
+
+pub live_are_due_first : LiveAreDueFirst
+live_are_due_first h uid = (
+  λ c. ⊎_elim
+      (λ here. here)
+      (λ late.
+      let newest = event-le h late.number uid late.event in
+      let above = late.above in
+      let most = last-le h uid in
+      absurd (omega (arith, newest, above, most)))
+      ((due_have_events h (first_mark h) uid).0 c).1,
+  λ here. (due_have_events h (first_mark h) uid).1 (record { number = last h uid; above = has_event here; event = last_event h uid (has_event here) }, inl here),
+)
+  where
+    has_event : IsSome (finite.get (live h) uid) → 0 < last h uid
+    has_event here = ⊎_elim
+        (λ some. some)
+        (λ never. absurd (both_ways _ (ap is_some (never_live h uid never)) here))
+        (cases_lt 0 (last h uid))
+
 -- ---- devices
 
 -- what a page is applied to is right at the mark that asks
@@ -247,16 +270,31 @@ last_pages_complete_devices story holding k r t =
 right_at : (stories : Stories) (holding : Holding) (o : Option Story) → finite.get stories holding.book ≡ o → IsRight stories holding → IsRightWith o holding
 right_at stories holding o is r = subst (λ (o : Option Story). IsRightWith o holding) is r
 
+right_from : (holding : Holding) {o p : Option Story} → o ≡ p → IsRightWith p holding → IsRightWith o holding
+right_from holding same r = subst (λ (o : Option Story). IsRightWith o holding) (sym same) r
+
 pub events_keep_all_right : EventsKeepAllRight
 events_keep_all_right stories name story e holding is r =
-    right_from (get-insert text_total stories name (with_event story e) holding.book)
+    right_from holding (get-insert text_total stories name (with_event story e) holding.book)
     (⊎_elim
-    (λ here. right_from (cond-true _ _ _ here) (devices_stay_right story holding e (right_at stories holding (Some story) (ap (finite.get stories) (same-equal holding.book name here) ∙ is) r)))
-    (λ other. right_from (cond-false _ _ _ other) r)
+    (λ here. right_from holding (cond-true _ _ _ here) (devices_stay_right story holding e (right_at stories holding (Some story) (ap (finite.get stories) (same-equal holding.book name here) ∙ is) r)))
+    (λ other. right_from holding (cond-false _ _ _ other) r)
+    (cases_Bool (same_uid holding.book name)))
+
+pub new_books_keep_all_right : NewBooksKeepAllRight
+new_books_keep_all_right stories name id holding none r =
+    right_from holding (get-insert text_total stories name (empty_story id) holding.book)
+    (⊎_elim
+    (λ here. right_from holding (cond-true _ _ _ here) (no_token holding.token (right_at stories holding None (ap (finite.get stories) (same-equal holding.book name here) ∙ none) r)))
+    (λ other. right_from holding (cond-false _ _ _ other) r)
     (cases_Bool (same_uid holding.book name)))
   where
-    right_from : {o p : Option Story} → o ≡ p → IsRightWith p holding → IsRightWith o holding
-    right_from same r = subst (λ (q : Option Story). IsRightWith q holding) (sym same) r
+    no_token : (token : Option Token) → token ≡ None → IsRightUnder (empty_story id) holding.copy token
+    no_token None is = tt
+    no_token (Some token) is = absurd (no is)
+      where
+        no : Some token ≡ None → ⊥
+        no n = cc
 
 -- a page that a report means is one that the device's book has for it
 record IsFrom (limits : Bounds) (o : Option Story) (holding : Holding) (page : Page) : Type 0 where

@@ -1,19 +1,21 @@
 -- How many members are due, and how many pages are truncated.
-use Rattle.std.proofs.Common.{◌≡◌, ℕ, zero, suc, ◌+◌, ◌-◌, ◌*◌, ◌<◌, ◌≤◌, max, Bool, true, false, cond, not, ◌||◌, ◌&&◌, List, [], ◌∷◌, ◌++◌, length, map, filter, take, drop, get_or, replicate, is_some, nat_lt, refl, sym, ap, ◌∙◌, subst, arith, length-append, ⊎_elim}
+use Rattle.std.proofs.Common.{◌≡◌, ℕ, zero, suc, ◌+◌, ◌-◌, ◌*◌, ◌<◌, ◌≤◌, max, Bool, true, false, cond, not, ◌||◌, ◌&&◌, List, [], ◌∷◌, ◌++◌, length, map, filter, take, drop, get_or, Some, is_some, nat_lt, refl, sym, ap, ◌∙◌, subst, arith, length-append}
 use Rattle.std.specs.List.{AllByRecursion}
-use Rattle.std.specs.List.Sorted.{IsStrictlyIncreasing}
 use Rattle.std.specs.FinMap as finite
-use Rattle.std.proofs.lemmas.Bool.{cases_lt, cond-true, cond-false, and_parts, not-true, ltb-true, ltb-false, lt-ltb, le-ltb, false≢true}
+use Rattle.std.proofs.lemmas.Bool.{cond-true, cond-false, and_parts, not-true, ltb-true, ltb-false, lt-ltb, le-ltb, false≢true}
 use Rattle.std.proofs.lemmas.Bool.Decides.{nat_tests}
 use Rattle.std.proofs.lemmas.List.{take_all, length-drop}
 use Rattle.std.proofs.lemmas.List.Elements.{filter-append, filter_passes, All-get_or}
 use Rattle.sync_core.specs.declared.token.Mark.{Mark}
-use Rattle.sync_core.specs.Histories.{BookEvent, same_uid, live, last, touched}
+use Rattle.sync_core.specs.declared.token.Token.{Token}
+use Rattle.sync_core.specs.Histories.{BookEvent, LiveCards, same_uid, live, last, touched}
 use Rattle.sync_core.specs.Reports.{Answer, is_due, due, entry_of, mark_after, cut_page, whole_page, report}
-use Rattle.sync_core.specs.Devices.{DueRises, EntriesAreFirstDue}
-use Rattle.sync_core.specs.Paging.{Place, with_events, told, after_turn, after_turns, due_count, one_where, truncated_pages, events_to_last, EventsAddOne, PagesLeaveRest, PagesLeaveFewer, LastPagesLeaveNone, TruncatedAreBounded, QuietBooksAreToldWhole}
+use Rattle.sync_core.specs.Worlds.{Story}
+use Rattle.sync_core.specs.Devices.{Holding, after_page, mark_under, page_for, IsRightUnder, DueRises, EntriesAreFirstDue}
+use Rattle.sync_core.specs.Paging.{Place, with_events, told, after_turn, due_count, one_where, truncated_pages, events_to_last, EventsAddOne, PagesLeaveRest, PagesLeaveFewer, LastPagesLeaveNone, TruncatedAreBounded, QuietBooksAreToldWhole, after_pages, QuietDevicesCatchUp}
 use Rattle.sync_core.proofs.HistoryLemmas.{Rises, last-le, last_other, get-changed}
 use Rattle.sync_core.proofs.DueLemmas.{due-rises}
+use Rattle.sync_core.proofs.DeviceLemmas.{nobody_due_is_complete, pages_move_devices}
 
 -- ---- which members a report has
 
@@ -167,3 +169,84 @@ pub last_pages_leave_none : LastPagesLeaveNone
 last_pages_leave_none h mark k t =
     ap (λ (a : Answer). due h a.mark) (cond-false (nat_lt k (length (due h mark))) (cut_page h mark k) (whole_page h mark) (whole_where h mark k t))
     ∙ none_newer h (touched h)
+
+-- ---- turns
+
+times_next : (n k : ℕ) → (1 + n) * k ≡ k + n * k
+times_next n k = search arith
+
+-- one page more was truncated, and it had k of those that were due
+one_more : (k t before after w : ℕ) → after + k ≡ before → k < before → (0 < t → t * k < after + w) → (1 + t) * k < before + w
+one_more k zero before after w took more later = let one = times_next 0 k in let none : 0 * k ≡ 0 = search arith in omega (arith, one, none, more)
+one_more k (suc t) before after w took more later = let next = times_next (suc t) k in let rest = later (omega arith) in omega (arith, next, rest, took)
+
+module _ (k : ℕ) (some : 0 < k) where
+  -- after the first ask the rest of the turns adds what it adds
+  first_bounded : (place : Place) (events : List BookEvent) (turns : List (List BookEvent))
+      → (0 < truncated_pages k (after_turn k place events) turns → truncated_pages k (after_turn k place events) turns * k < due_count (after_turn k place events) + events_to_last k (after_turn k place events) turns)
+      → 0 < truncated_pages k place (events ∷ turns)
+      → truncated_pages k place (events ∷ turns) * k < due_count (with_events place events) + events_to_last k (after_turn k place events) turns
+  first_bounded place events turns later =
+      elim (told k (with_events place events)).truncated as (λ b. (told k (with_events place events)).truncated ≡ b → 0 < one_where b + t → (one_where b + t) * k < due_count (with_events place events) + w) [
+        | true ↦ λ cut _. one_more k t (due_count (with_events place events)) (due_count (after_turn k place events)) w
+            (pages_leave_fewer (events ++ place.history) place.mark k some cut) (cut_where (events ++ place.history) place.mark k cut) later
+        | false ↦ λ all more.
+            let none = ap length (last_pages_leave_none (events ++ place.history) place.mark k all) in
+            let same : 0 + t ≡ t = omega arith in
+            let rest = later (omega (arith, more)) in
+            subst (λ n. n * k < due_count (with_events place events) + w) (sym same) (omega (arith, none, rest))
+      ] refl
+    where
+      t : ℕ
+      t = truncated_pages k (after_turn k place events) turns
+
+      w : ℕ
+      w = events_to_last k (after_turn k place events) turns
+
+  turns_bounded : (turns : List (List BookEvent)) (place : Place) → 0 < truncated_pages k place turns → truncated_pages k place turns * k < due_count place + events_to_last k place turns
+  turns_bounded [] place more = absurd (omega arith)
+  turns_bounded (events ∷ turns) place more =
+      let first = first_bounded place events turns (turns_bounded turns (after_turn k place events)) more in
+      let add = events_add place.history events place.mark in
+      let up_to : events_to_last k place (events ∷ turns) ≡ length events + events_to_last k (after_turn k place events) turns = cond-true (nat_lt 0 (truncated_pages k place (events ∷ turns))) _ _ (lt-ltb _ _ more) in
+      omega (arith, first, add, up_to)
+
+pub truncated_are_bounded : TruncatedAreBounded
+truncated_are_bounded k place events turns some more = first_bounded k some place events turns (turns_bounded k some turns (after_turn k place events)) more
+
+-- a turn without events leaves k fewer, or none
+quiet_turn : (k : ℕ) (place : Place) (n : ℕ) → 0 < k → due_count place ≤ (1 + n) * k → due_count (after_turn k place []) ≤ n * k
+quiet_turn k place n some le =
+    elim (told k place).truncated as (λ b. (told k place).truncated ≡ b → due_count (after_turn k place []) ≤ n * k) [
+      | true ↦ λ cut. let fewer = pages_leave_fewer place.history place.mark k some cut in let next = times_next n k in omega (arith, fewer, next, le)
+      | false ↦ λ all. let none = ap length (last_pages_leave_none place.history place.mark k all) in omega (arith, none)
+    ] refl
+
+none_left : (uids : List (List ℕ)) → length uids ≤ 0 → uids ≡ []
+none_left [] le = refl
+none_left (uid ∷ uids) le = absurd (omega (arith, le))
+
+pub quiet_books_are_told_whole : QuietBooksAreToldWhole
+quiet_books_are_told_whole k place zero some le = none_left (due place.history place.mark) (let none : 0 * k ≡ 0 = search arith in omega (arith, none, le))
+quiet_books_are_told_whole k place (suc n) some le =
+    quiet_books_are_told_whole k (after_turn k place []) n some
+    (quiet_turn k place n some (let same : suc n ≡ 1 + n = omega arith in subst (λ m. due_count place ≤ m * k) same le))
+
+-- a device with a token
+caught_up : (k : ℕ) (story : Story) (n : ℕ) (book : List ℕ) (copy : LiveCards) (token : Token) → 0 < k → IsRightUnder story copy (Some token)
+    → length (due story.history token.mark) ≤ n * k → (after_pages k story n (record { book = book; copy = copy; token = Some token })).copy ≡ live story.history
+caught_up k story zero book copy token some r le =
+    nobody_due_is_complete copy token.mark story.history r.1 (none_left (due story.history token.mark) (let none : 0 * k ≡ 0 = search arith in omega (arith, none, le)))
+caught_up k story (suc n) book copy token some r le =
+    let holding : Holding = record { book = book; copy = copy; token = Some token } in
+    let next : Token = record { book = story.id; mark = (report story.history token.mark k).mark } in
+    caught_up k story n book (after_page holding (page_for story holding k)).copy next some (pages_move_devices story holding k some r)
+    (quiet_turn k (record { history = story.history; mark = token.mark }) n some (let same : suc n ≡ 1 + n = omega arith in subst (λ m. length (due story.history token.mark) ≤ m * k) same le))
+
+pub quiet_devices_catch_up : QuietDevicesCatchUp
+quiet_devices_catch_up k story zero holding some pages r le = absurd (omega arith)
+quiet_devices_catch_up k story (suc n) holding some pages r le =
+    let mark = mark_under story.history holding.token in
+    let next : Token = record { book = story.id; mark = (report story.history mark k).mark } in
+    caught_up k story n holding.book (after_page holding (page_for story holding k)).copy next some (pages_move_devices story holding k some r)
+    (quiet_turn k (record { history = story.history; mark = mark }) n some (let same : suc n ≡ 1 + n = omega arith in subst (λ m. length (due story.history mark) ≤ m * k) same le))

@@ -1,6 +1,6 @@
 -- What a device makes of the pages that it is told (RFC 6578, sections 3.4 to 3.6), and when it is right. What right
 -- means at the two numbers of a mark is this project's own.
-use Rattle.std.specs.Prelude.{ℕ, ◌≡◌, ◌<◌, ◌≤◌, ◌⊎◌, false, List, ◌∷◌, length, take, map, fold, Option, Some, None, Ok}
+use Rattle.std.specs.Prelude.{ℕ, ◌≡◌, ◌<◌, ◌≤◌, ◌⊎◌, ◌↔◌, false, List, [], ◌∷◌, length, take, map, fold, Option, Some, None, IsSome, Ok, Contains}
 use Rattle.std.specs.List.Sorted.{IsStrictlyIncreasing}
 use Rattle.std.specs.FinMap as finite
 use Rattle.sync_core.specs.declared.page.Entry.{Entry}
@@ -12,7 +12,7 @@ use Rattle.sync_core.specs.Bounds.{Bounds}
 use Rattle.sync_core.specs.Histories.{BookEvent, LiveCards, live, last}
 use Rattle.sync_core.specs.Reports.{due, entry_of, report, page_of}
 use Rattle.sync_core.specs.Worlds.{Story, Stories}
-use Rattle.sync_core.specs.WorldSteps.{with_event, report_meaning}
+use Rattle.sync_core.specs.WorldSteps.{empty_story, with_event, report_meaning}
 
 -- ---- a copy
 
@@ -129,6 +129,11 @@ abbrev pub LastPagesCompleteCopies : Type 0
 LastPagesCompleteCopies = (copy : LiveCards) (mark : Mark) (h : List BookEvent) (k : ℕ) →
     Agrees copy mark h → (report h mark k).truncated ≡ false → applied copy (report h mark k).entries ≡ live h
 
+-- a right copy is the live cards where nobody is due
+abbrev pub NobodyDueIsComplete : Type 0
+NobodyDueIsComplete = (copy : LiveCards) (mark : Mark) (h : List BookEvent) →
+    Agrees copy mark h → due h mark ≡ [] → copy ≡ live h
+
 -- ---- what holds of all devices
 
 -- a device whose token was taken away is right for each book
@@ -164,6 +169,11 @@ abbrev pub EventsKeepAllRight : Type 0
 EventsKeepAllRight = (stories : Stories) (name : List ℕ) (story : Story) (e : BookEvent) (holding : Holding) →
     finite.get stories name ≡ Some story → IsRight stories holding → IsRight (finite.insert stories name (with_event story e)) holding
 
+-- and so does a book that is made, since no device has a token of it yet
+abbrev pub NewBooksKeepAllRight : Type 0
+NewBooksKeepAllRight = (stories : Stories) (name : List ℕ) (id : ℕ) (holding : Holding) →
+    finite.get stories name ≡ None → IsRight stories holding → IsRight (finite.insert stories name (empty_story id)) holding
+
 -- what a right device is told of its book leaves it right, in part or whole
 abbrev pub PartsKeepAllRight : Type 0
 PartsKeepAllRight = (limits : Bounds) (stories : Stories) (holding after : Holding) (limit : Option ℕ) (page : Page) →
@@ -180,6 +190,10 @@ PagesKeepAllRight = (limits : Bounds) (stories : Stories) (holding : Holding) (l
 -- the numbers of the due members' last events rise strictly
 abbrev pub DueRises : Type 0
 DueRises = (h : List BookEvent) (mark : Mark) → IsStrictlyIncreasing (map (last h) (due h mark))
+
+-- under the first mark the live members are due, and no removed ones (RFC 6578, section 3.4)
+abbrev pub LiveAreDueFirst : Type 0
+LiveAreDueFirst = (h : List BookEvent) (uid : List ℕ) → Contains (due h (first_mark h)) uid ↔ IsSome (finite.get (live h) uid)
 
 -- the entries are those of the first k due members, each as it is now
 abbrev pub EntriesAreFirstDue : Type 0

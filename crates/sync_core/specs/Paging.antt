@@ -1,9 +1,11 @@
 -- How many pages of a book's report are truncated, as events come and pages are taken (RFC 6578, section 3.6). The
 -- bound is this project's own.
-use Rattle.std.specs.Prelude.{ℕ, ◌+◌, ◌*◌, ◌≡◌, ◌<◌, ◌≤◌, Bool, true, false, nat_lt, List, [], ◌∷◌, ◌++◌, length, drop, fold, replicate, if◌then◌else◌}
+use Rattle.std.specs.Prelude.{ℕ, zero, suc, ◌+◌, ◌*◌, ◌≡◌, ◌<◌, ◌≤◌, Bool, true, false, nat_lt, List, [], ◌∷◌, ◌++◌, length, drop, fold, replicate, if◌then◌else◌}
 use Rattle.sync_core.specs.declared.token.Mark.{Mark}
-use Rattle.sync_core.specs.Histories.{BookEvent}
+use Rattle.sync_core.specs.Histories.{BookEvent, live}
 use Rattle.sync_core.specs.Reports.{Answer, due, report}
+use Rattle.sync_core.specs.Worlds.{Story}
+use Rattle.sync_core.specs.Devices.{Holding, after_page, mark_under, page_for, IsRightFor}
 
 -- ---- turns
 
@@ -84,3 +86,13 @@ TruncatedAreBounded = (k : ℕ) (place : Place) (events : List BookEvent) (turns
 abbrev pub QuietBooksAreToldWhole : Type 0
 QuietBooksAreToldWhole = (k : ℕ) (place : Place) (n : ℕ) → 0 < k → due_count place ≤ n * k →
     due (after_turns k place (replicate n [])).history (after_turns k place (replicate n [])).mark ≡ []
+
+-- a device asks and applies the page, so many times while nothing happens
+abbrev pub after_pages : ℕ → Story → ℕ → Holding → Holding
+after_pages k story zero holding = holding
+after_pages k story (suc n) holding = after_pages k story n (after_page holding (page_for story holding k))
+
+-- and such a device, if it was right, ends with the live cards
+abbrev pub QuietDevicesCatchUp : Type 0
+QuietDevicesCatchUp = (k : ℕ) (story : Story) (n : ℕ) (holding : Holding) → 0 < k → 0 < n → IsRightFor story holding →
+    length (due story.history (mark_under story.history holding.token)) ≤ n * k → (after_pages k story n holding).copy ≡ live story.history

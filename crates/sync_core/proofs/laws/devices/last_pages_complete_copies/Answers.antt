@@ -1,4 +1,4 @@
-use Rattle.sync_core.proofs.DeviceLemmas.{last_pages_complete_copies, last_pages_complete_devices}
+use Rattle.sync_core.proofs.DeviceLemmas.{last_pages_complete_copies, last_pages_complete_devices, nobody_due_is_complete}
 use Rattle.sync_core.proofs.laws.devices.last_pages_complete_copies.Goals as goal
 
 pub returns-clause-copies : goal.returns-clause-copies
@@ -6,3 +6,6 @@ returns-clause-copies c = last_pages_complete_copies
 
 pub returns-clause-devices : goal.returns-clause-devices
 returns-clause-devices c = last_pages_complete_devices
+
+pub returns-clause-due : goal.returns-clause-due
+returns-clause-due c = nobody_due_is_complete
