@@ -3,7 +3,8 @@ use Rattle.std.proofs.Common.{◌≡◌, ℕ, zero, suc, ◌-◌, ◌<◌, ◌�
 use Rattle.std.specs.Option.{option_map_or}
 use Rattle.std.specs.FinMap as finite
 use Rattle.std.specs.FinMap.{get-empty, get-insert, get-remove, same_map}
-use Rattle.std.proofs.lemmas.Bool.{cases_Bool, cases_lt, cond-true, cond-false, or_cases, or_left, or_right, or_parts, and_cases, both_ways, false_from_ne_true, false≢true, ltb-true, ltb-false}
+use Rattle.std.proofs.lemmas.Bool.{cases_Bool, cases_lt, cond-true, cond-false, or_cases, or_left, or_right, or_parts, and_cases, both_ways, false_from_ne_true, false≢true, ltb-true, ltb-false, le-leb}
+use Rattle.std.proofs.lemmas.Bool.Decides.{Decides-eqb}
 use Rattle.std.proofs.lemmas.List.{take-map}
 use Rattle.std.proofs.lemmas.Map.Lookups.{exact_bytes}
 use Rattle.vcard_text.specs.TextMaps.{text_cmp}
@@ -22,8 +23,8 @@ use Rattle.sync_core.specs.Reports.{is_due, due, entry_of, mark_after, cut_page,
 use Rattle.sync_core.specs.Worlds.{Story, Stories}
 use Rattle.sync_core.specs.WorldSteps.{empty_story, with_event, report_meaning}
 use Rattle.sync_core.specs.Devices.{applied, applied_one, Agrees, Holding, copy_under, ready_copy, after_page, AppliesInPart, first_mark, mark_under, page_for, IsRightUnder, IsRightFor, IsRightWith, IsRight}
-use Rattle.sync_core.specs.Devices.{EmptyIsRight, CopiesStayRight, PartsKeepCopies, PagesMoveCopies, LastPagesCompleteCopies, RestartedAreRight, NobodyDueIsComplete, LiveAreDueFirst, NewBooksKeepAllRight, DevicesStayRight, PartsKeepDevices, PagesMoveDevices, LastPagesCompleteDevices, EventsKeepAllRight, PartsKeepAllRight, PagesKeepAllRight}
-use Rattle.sync_core.proofs.BasicLemmas.{is_some-false}
+use Rattle.sync_core.specs.Devices.{EmptyIsRight, CopiesStayRight, PartsKeepCopiesRight, WholePagesKeepCopiesRight, LastPagesCompleteCopies, RestartedAreRight, NobodyDueIsComplete, LiveAreDueFirst, NewBooksKeepAllRight, DevicesStayRight, PartsKeepDevicesRight, WholePagesKeepDevicesRight, LastPagesCompleteDevices, RightTokensAreKnown, EventsKeepAllRight, PartsKeepAllRight, WholePagesKeepAllRight}
+use Rattle.sync_core.proofs.BasicLemmas.{both, is_some-false}
 use Rattle.sync_core.proofs.TextLemmas.{text_total, same-equal}
 use Rattle.sync_core.proofs.HistoryLemmas.{has, last-le, last_here, last_other, last_event, event-le, Rises, get-changed}
 use Rattle.sync_core.proofs.DueLemmas.{has-due, due_have_events, above_first, due-rises}
@@ -104,8 +105,8 @@ some_applied copy mark h uids a = record {
 }
 
 -- the entries are those of due members, truncated or not
-pub parts_keep_copies : PartsKeepCopies
-parts_keep_copies copy mark h k count a =
+pub parts_keep_copies_right : PartsKeepCopiesRight
+parts_keep_copies_right copy mark h k count a =
     elim (nat_lt k (length (due h mark))) as (λ b. Agrees (applied copy (take count (cond b (cut_page h mark k) (whole_page h mark)).entries)) mark h) [
       | true ↦ subst (λ es. Agrees (applied copy es) mark h) (sym (take-map (entry_of h) count (take k (due h mark)))) (some_applied copy mark h (take count (take k (due h mark))) a)
       | false ↦ subst (λ es. Agrees (applied copy es) mark h) (sym (take-map (entry_of h) count (due h mark))) (some_applied copy mark h (take count (due h mark)) a)
@@ -184,8 +185,8 @@ module _ (copy : LiveCards) (mark : Mark) (h : List BookEvent) (k : ℕ) (some :
     gone = λ uid none le. get-applied copy h told uid ∙ gone_up_to uid none le;
   }
 
-pub pages_move_copies : PagesMoveCopies
-pages_move_copies copy mark h k some a =
+pub whole_pages_keep_copies_right : WholePagesKeepCopiesRight
+whole_pages_keep_copies_right copy mark h k some a =
     elim (nat_lt k (length (due h mark))) as (λ b. nat_lt k (length (due h mark)) ≡ b → Agrees (applied copy (cond b (cut_page h mark k) (whole_page h mark)).entries) (cond b (cut_page h mark k) (whole_page h mark)).mark h) [
       | true ↦ λ more. cut_applied copy mark h k some (ltb-true _ _ more) a
       | false ↦ λ all. record {
@@ -243,8 +244,8 @@ devices_stay_right story holding e r = stays holding.token r
     stays None r = tt
     stays (Some token) r = (r.0, copies_stay_right holding.copy token.mark story.history e r.1)
 
-pub parts_keep_devices : PartsKeepDevices
-parts_keep_devices story holding after k r part = ⊎_elim
+pub parts_keep_devices_right : PartsKeepDevicesRight
+parts_keep_devices_right story holding after k r part = ⊎_elim
     (λ same. subst Kept (sym same) (r, refl))
     (λ first. subst Kept (sym first.after_is) (kept first.count holding.token r, refl))
     part
@@ -255,15 +256,34 @@ parts_keep_devices story holding after k r part = ⊎_elim
     kept : (count : ℕ) (token : Option Token) → IsRightUnder story holding.copy token
         → IsRightUnder story (applied (copy_under token holding.copy) (take count (report story.history (mark_under story.history token) k).entries)) token
     kept count None r = tt
-    kept count (Some token) r = (r.0, parts_keep_copies holding.copy token.mark story.history k count r.1)
+    kept count (Some token) r = (r.0, parts_keep_copies_right holding.copy token.mark story.history k count r.1)
 
-pub pages_move_devices : PagesMoveDevices
-pages_move_devices story holding k some r =
-    (refl, pages_move_copies (ready_copy holding) (mark_under story.history holding.token) story.history k some (ready story holding.copy holding.token r))
+pub whole_pages_keep_devices_right : WholePagesKeepDevicesRight
+whole_pages_keep_devices_right story holding k some r =
+    (refl, whole_pages_keep_copies_right (ready_copy holding) (mark_under story.history holding.token) story.history k some (ready story holding.copy holding.token r))
 
 pub last_pages_complete_devices : LastPagesCompleteDevices
 last_pages_complete_devices story holding k r t =
     last_pages_complete_copies (ready_copy holding) (mark_under story.history holding.token) story.history k (ready story holding.copy holding.token r) t
+
+opened : (own known old : Bool) (mark : Mark) → own ≡ true → known ≡ true → old ≡ true → (provided own (BadToken OtherBook) >>= λ _. provided known (BadToken TooNew) >>= λ _. provided old (BadToken TooOld) >>= λ _. Ok mark) ≡ Ok mark
+opened true true true mark o k a = refl
+opened true true false mark o k a = absurd (both_ways false refl a)
+opened true false old mark o k a = absurd (both_ways false refl k)
+opened false known old mark o k a = absurd (both_ways false refl o)
+
+pub right_tokens_are_known : RightTokensAreKnown
+right_tokens_are_known story holding r le = known holding.token r le
+  where
+    known : (token : Option Token) → IsRightUnder story holding.copy token → story.horizon ≤ (mark_under story.history token).base
+        → mark_asked story.id (length story.history) story.horizon token ≡ Ok (mark_under story.history token)
+    known None r le = refl
+    known (Some token) r le =
+        let number = length story.history in
+        let past = r.1.past in
+        let ordered = r.1.ordered in
+        opened (token.book == story.id) (nat_le token.mark.at number && nat_le token.mark.base number) (nat_le story.horizon token.mark.base) token.mark
+        ((Decides-eqb token.book story.id).1 r.0) (both _ _ (le-leb _ _ (omega (arith, past, ordered))) (le-leb _ _ past)) (le-leb _ _ le)
 
 -- ---- among all books
 
@@ -363,12 +383,12 @@ parts_keep_all_right limits stories holding after limit page r e part =
     (λ first.
     let own : AppliesInPart holding (page_for from.story holding from.size) after = subst (λ (p : Page). AppliesInPart holding p after) from.page_is (inr first) in
     let book : finite.get stories after.book ≡ Some from.story = ap (λ (a : Holding). finite.get stories a.book) first.after_is ∙ from.story_is in
-    subst (λ (o : Option Story). IsRightWith o after) (sym book) (parts_keep_devices from.story holding after from.size right own).0)
+    subst (λ (o : Option Story). IsRightWith o after) (sym book) (parts_keep_devices_right from.story holding after from.size right own).0)
     part
 
-pub pages_keep_all_right : PagesKeepAllRight
-pages_keep_all_right limits stories holding limit page some r e =
+pub whole_pages_keep_all_right : WholePagesKeepAllRight
+whole_pages_keep_all_right limits stories holding limit page some r e =
     let from = told_from limits stories holding limit page e in
     let right = right_at stories holding (Some from.story) from.story_is r in
     subst (λ (o : Option Story). IsRightWith o (after_page holding page)) (sym from.story_is)
-    (subst (λ (p : Page). IsRightFor from.story (after_page holding p)) (sym from.page_is) (pages_move_devices from.story holding from.size (from.some some) right))
+    (subst (λ (p : Page). IsRightFor from.story (after_page holding p)) (sym from.page_is) (whole_pages_keep_devices_right from.story holding from.size (from.some some) right))

@@ -12,10 +12,10 @@ use Rattle.sync_core.specs.Histories.{BookEvent, LiveCards, same_uid, live, last
 use Rattle.sync_core.specs.Reports.{Answer, is_due, due, entry_of, mark_after, cut_page, whole_page, report}
 use Rattle.sync_core.specs.Worlds.{Story}
 use Rattle.sync_core.specs.Devices.{Holding, after_page, mark_under, page_for, IsRightUnder, DueRises, EntriesAreFirstDue}
-use Rattle.sync_core.specs.Paging.{Place, with_events, told, after_turn, due_count, one_where, truncated_pages, events_to_last, EventsAddOne, PagesLeaveRest, PagesLeaveFewer, LastPagesLeaveNone, TruncatedAreBounded, QuietBooksAreToldWhole, after_pages, QuietDevicesCatchUp}
+use Rattle.sync_core.specs.Paging.{Place, with_events, told, after_turn, due_count, one_where, truncated_pages, events_to_last, EventsAddAtMostOne, TruncatedPagesLeaveRest, TruncatedPagesLeaveFewer, LastPagesLeaveNobody, TruncatedPagesAreBounded, QuietBooksAreToldWhole, after_pages, QuietDevicesCatchUp}
 use Rattle.sync_core.proofs.HistoryLemmas.{Rises, last-le, last_other, get-changed}
 use Rattle.sync_core.proofs.DueLemmas.{due-rises}
-use Rattle.sync_core.proofs.DeviceLemmas.{nobody_due_is_complete, pages_move_devices}
+use Rattle.sync_core.proofs.DeviceLemmas.{nobody_due_is_complete, whole_pages_keep_devices_right}
 
 -- ---- which members a report has
 
@@ -67,8 +67,8 @@ one_at_most : {A : Type 0} (p : A → Bool) (x : A) → length (filter p (x ∷ 
 one_at_most p x = elim (p x) as (λ t. length (cond t (x ∷ []) []) ≤ 1) [ true ↦ omega arith | false ↦ omega arith ]
 
 -- nobody else becomes due
-pub events_add_one : EventsAddOne
-events_add_one h e mark =
+pub events_add_at_most_one : EventsAddAtMostOne
+events_add_at_most_one h e mark =
     let others = filter (λ v. not (same_uid v e.uid)) (touched h) in
     let split = ap length (filter-append (is_due (e ∷ h) mark) others (e.uid ∷ [])) ∙ length-append (filter (is_due (e ∷ h) mark) others) (filter (is_due (e ∷ h) mark) (e.uid ∷ [])) in
     let few = few_pass (λ v. not (same_uid v e.uid)) (is_due (e ∷ h) mark) (is_due h mark) (λ v other d. sym (still v (not-true _ other)) ∙ d) (touched h) in
@@ -82,7 +82,7 @@ events_add_one h e mark =
 
 events_add : (h : List BookEvent) (events : List BookEvent) (mark : Mark) → length (due (events ++ h) mark) ≤ length (due h mark) + length events
 events_add h [] mark = omega arith
-events_add h (e ∷ events) mark = let one = events_add_one (events ++ h) e mark in let rest = events_add h events mark in omega (arith, one, rest)
+events_add h (e ∷ events) mark = let one = events_add_at_most_one (events ++ h) e mark in let rest = events_add h events mark in omega (arith, one, rest)
 
 -- ---- a page
 
@@ -153,20 +153,20 @@ module _ (h : List BookEvent) (mark : Mark) (k : ℕ) where
     | false ↦ λ t. refl
   ]
 
-pub pages_leave_rest : PagesLeaveRest
-pages_leave_rest h mark k some t =
+pub truncated_pages_leave_rest : TruncatedPagesLeaveRest
+truncated_pages_leave_rest h mark k some t =
     let more = cut_where h mark k t in
     ap (λ (a : Answer). due h a.mark) (cond-true (nat_lt k (length (due h mark))) (cut_page h mark k) (whole_page h mark) (lt-ltb _ _ more))
     ∙ cut_leaves h mark k some more
 
-pub pages_leave_fewer : PagesLeaveFewer
-pages_leave_fewer h mark k some t =
+pub truncated_pages_leave_fewer : TruncatedPagesLeaveFewer
+truncated_pages_leave_fewer h mark k some t =
     let more = cut_where h mark k t in
-    let rest = ap length (pages_leave_rest h mark k some t) ∙ length-drop k (due h mark) in
+    let rest = ap length (truncated_pages_leave_rest h mark k some t) ∙ length-drop k (due h mark) in
     omega (arith, more, rest)
 
-pub last_pages_leave_none : LastPagesLeaveNone
-last_pages_leave_none h mark k t =
+pub last_pages_leave_nobody : LastPagesLeaveNobody
+last_pages_leave_nobody h mark k t =
     ap (λ (a : Answer). due h a.mark) (cond-false (nat_lt k (length (due h mark))) (cut_page h mark k) (whole_page h mark) (whole_where h mark k t))
     ∙ none_newer h (touched h)
 
@@ -189,9 +189,9 @@ module _ (k : ℕ) (some : 0 < k) where
   first_bounded place events turns later =
       elim (told k (with_events place events)).truncated as (λ b. (told k (with_events place events)).truncated ≡ b → 0 < one_where b + t → (one_where b + t) * k < due_count (with_events place events) + w) [
         | true ↦ λ cut _. one_more k t (due_count (with_events place events)) (due_count (after_turn k place events)) w
-            (pages_leave_fewer (events ++ place.history) place.mark k some cut) (cut_where (events ++ place.history) place.mark k cut) later
+            (truncated_pages_leave_fewer (events ++ place.history) place.mark k some cut) (cut_where (events ++ place.history) place.mark k cut) later
         | false ↦ λ all more.
-            let none = ap length (last_pages_leave_none (events ++ place.history) place.mark k all) in
+            let none = ap length (last_pages_leave_nobody (events ++ place.history) place.mark k all) in
             let same : 0 + t ≡ t = omega arith in
             let rest = later (omega (arith, more)) in
             subst (λ n. n * k < due_count (with_events place events) + w) (sym same) (omega (arith, none, rest))
@@ -211,15 +211,15 @@ module _ (k : ℕ) (some : 0 < k) where
       let up_to : events_to_last k place (events ∷ turns) ≡ length events + events_to_last k (after_turn k place events) turns = cond-true (nat_lt 0 (truncated_pages k place (events ∷ turns))) _ _ (lt-ltb _ _ more) in
       omega (arith, first, add, up_to)
 
-pub truncated_are_bounded : TruncatedAreBounded
-truncated_are_bounded k place events turns some more = first_bounded k some place events turns (turns_bounded k some turns (after_turn k place events)) more
+pub truncated_pages_bounded : TruncatedPagesAreBounded
+truncated_pages_bounded k place events turns some more = first_bounded k some place events turns (turns_bounded k some turns (after_turn k place events)) more
 
 -- a turn without events leaves k fewer, or none
 quiet_turn : (k : ℕ) (place : Place) (n : ℕ) → 0 < k → due_count place ≤ (1 + n) * k → due_count (after_turn k place []) ≤ n * k
 quiet_turn k place n some le =
     elim (told k place).truncated as (λ b. (told k place).truncated ≡ b → due_count (after_turn k place []) ≤ n * k) [
-      | true ↦ λ cut. let fewer = pages_leave_fewer place.history place.mark k some cut in let next = times_next n k in omega (arith, fewer, next, le)
-      | false ↦ λ all. let none = ap length (last_pages_leave_none place.history place.mark k all) in omega (arith, none)
+      | true ↦ λ cut. let fewer = truncated_pages_leave_fewer place.history place.mark k some cut in let next = times_next n k in omega (arith, fewer, next, le)
+      | false ↦ λ all. let none = ap length (last_pages_leave_nobody place.history place.mark k all) in omega (arith, none)
     ] refl
 
 none_left : (uids : List (List ℕ)) → length uids ≤ 0 → uids ≡ []
@@ -240,7 +240,7 @@ caught_up k story zero book copy token some r le =
 caught_up k story (suc n) book copy token some r le =
     let holding : Holding = record { book = book; copy = copy; token = Some token } in
     let next : Token = record { book = story.id; mark = (report story.history token.mark k).mark } in
-    caught_up k story n book (after_page holding (page_for story holding k)).copy next some (pages_move_devices story holding k some r)
+    caught_up k story n book (after_page holding (page_for story holding k)).copy next some (whole_pages_keep_devices_right story holding k some r)
     (quiet_turn k (record { history = story.history; mark = token.mark }) n some (let same : suc n ≡ 1 + n = omega arith in subst (λ m. length (due story.history token.mark) ≤ m * k) same le))
 
 pub quiet_devices_catch_up : QuietDevicesCatchUp
@@ -248,5 +248,5 @@ quiet_devices_catch_up k story zero holding some pages r le = absurd (omega arit
 quiet_devices_catch_up k story (suc n) holding some pages r le =
     let mark = mark_under story.history holding.token in
     let next : Token = record { book = story.id; mark = (report story.history mark k).mark } in
-    caught_up k story n holding.book (after_page holding (page_for story holding k)).copy next some (pages_move_devices story holding k some r)
+    caught_up k story n holding.book (after_page holding (page_for story holding k)).copy next some (whole_pages_keep_devices_right story holding k some r)
     (quiet_turn k (record { history = story.history; mark = mark }) n some (let same : suc n ≡ 1 + n = omega arith in subst (λ m. length (due story.history mark) ≤ m * k) same le))

@@ -10,6 +10,7 @@ use Rattle.sync_core.specs.declared.token.Mark.{Mark}
 use Rattle.sync_core.specs.declared.token.Token.{Token}
 use Rattle.sync_core.specs.Bounds.{Bounds}
 use Rattle.sync_core.specs.Histories.{BookEvent, LiveCards, live, last}
+use Rattle.sync_core.specs.Pages.{mark_asked}
 use Rattle.sync_core.specs.Reports.{due, entry_of, report, page_of}
 use Rattle.sync_core.specs.Worlds.{Story, Stories}
 use Rattle.sync_core.specs.WorldSteps.{empty_story, with_event, report_meaning}
@@ -115,13 +116,13 @@ CopiesStayRight = (copy : LiveCards) (mark : Mark) (h : List BookEvent) (e : Boo
     Agrees copy mark h → Agrees copy mark (e ∷ h)
 
 -- some first entries of the report leave a right copy right at the old mark
-abbrev pub PartsKeepCopies : Type 0
-PartsKeepCopies = (copy : LiveCards) (mark : Mark) (h : List BookEvent) (k count : ℕ) →
+abbrev pub PartsKeepCopiesRight : Type 0
+PartsKeepCopiesRight = (copy : LiveCards) (mark : Mark) (h : List BookEvent) (k count : ℕ) →
     Agrees copy mark h → Agrees (applied copy (take count (report h mark k).entries)) mark h
 
 -- the whole report makes a right copy right at the new mark
-abbrev pub PagesMoveCopies : Type 0
-PagesMoveCopies = (copy : LiveCards) (mark : Mark) (h : List BookEvent) (k : ℕ) → 0 < k →
+abbrev pub WholePagesKeepCopiesRight : Type 0
+WholePagesKeepCopiesRight = (copy : LiveCards) (mark : Mark) (h : List BookEvent) (k : ℕ) → 0 < k →
     Agrees copy mark h → Agrees (applied copy (report h mark k).entries) (report h mark k).mark h
 
 -- a report that isn't truncated makes a right copy the live cards, with their versions
@@ -146,14 +147,14 @@ DevicesStayRight = (story : Story) (holding : Holding) (e : BookEvent) →
     IsRightFor story holding → IsRightFor (with_event story e) holding
 
 -- a right device that applies its page in part is right, with its old token or still without one
-abbrev pub PartsKeepDevices : Type 0
-PartsKeepDevices = (story : Story) (holding after : Holding) (k : ℕ) →
+abbrev pub PartsKeepDevicesRight : Type 0
+PartsKeepDevicesRight = (story : Story) (holding after : Holding) (k : ℕ) →
     IsRightFor story holding → AppliesInPart holding (page_for story holding k) after →
     IsRightFor story after × (after.token ≡ holding.token)
 
 -- a right device that applies its whole page is right with the page's token
-abbrev pub PagesMoveDevices : Type 0
-PagesMoveDevices = (story : Story) (holding : Holding) (k : ℕ) → 0 < k →
+abbrev pub WholePagesKeepDevicesRight : Type 0
+WholePagesKeepDevicesRight = (story : Story) (holding : Holding) (k : ℕ) → 0 < k →
     IsRightFor story holding → IsRightFor story (after_page holding (page_for story holding k))
 
 -- a right device that applies a whole page that isn't truncated has the live cards, with their versions
@@ -161,6 +162,12 @@ abbrev pub LastPagesCompleteDevices : Type 0
 LastPagesCompleteDevices = (story : Story) (holding : Holding) (k : ℕ) →
     IsRightFor story holding → (page_for story holding k).truncated ≡ false →
     (after_page holding (page_for story holding k)).copy ≡ live story.history
+
+-- no right token is refused, unless it is older than the horizon
+abbrev pub RightTokensAreKnown : Type 0
+RightTokensAreKnown = (story : Story) (holding : Holding) → IsRightFor story holding →
+    story.horizon ≤ (mark_under story.history holding.token).base →
+    mark_asked story.id (length story.history) story.horizon holding.token ≡ Ok (mark_under story.history holding.token)
 
 -- ---- what holds among all books
 
@@ -180,8 +187,8 @@ PartsKeepAllRight = (limits : Bounds) (stories : Stories) (holding after : Holdi
     IsRight stories holding → report_meaning limits stories holding.book holding.token limit ≡ Ok page →
     AppliesInPart holding page after → IsRight stories after
 
-abbrev pub PagesKeepAllRight : Type 0
-PagesKeepAllRight = (limits : Bounds) (stories : Stories) (holding : Holding) (limit : Option ℕ) (page : Page) → 0 < limits.page_max →
+abbrev pub WholePagesKeepAllRight : Type 0
+WholePagesKeepAllRight = (limits : Bounds) (stories : Stories) (holding : Holding) (limit : Option ℕ) (page : Page) → 0 < limits.page_max →
     IsRight stories holding → report_meaning limits stories holding.book holding.token limit ≡ Ok page →
     IsRight stories (after_page holding page)
 
