@@ -3,7 +3,7 @@ use Rattle.std.proofs.Common.{◌≡◌, ℕ, zero, suc, ◌-◌, ◌<◌, ◌�
 use Rattle.std.specs.Option.{option_map_or}
 use Rattle.std.specs.FinMap as finite
 use Rattle.std.specs.FinMap.{get-empty, get-insert, get-remove, same_map}
-use Rattle.std.proofs.lemmas.Bool.{cases_Bool, cases_lt, cond-true, cond-false, or_cases, or_left, or_right, or_parts, and_cases, both_ways, false_from_ne_true, false≢true, ltb-true, ltb-false, le-leb}
+use Rattle.std.proofs.lemmas.Bool.{cases_Bool, cases_lt, cond-true, cond-false, or_cases, or_left, or_right, or_parts, and_cases, both_ways, false_from_ne_true, false≢true, ltb-true, ltb-false, le-leb, lt-leb}
 use Rattle.std.proofs.lemmas.Bool.Decides.{Decides-eqb}
 use Rattle.std.proofs.lemmas.List.{take-map}
 use Rattle.std.proofs.lemmas.Map.Lookups.{exact_bytes}
@@ -23,7 +23,7 @@ use Rattle.sync_core.specs.Reports.{is_due, due, entry_of, mark_after, cut_page,
 use Rattle.sync_core.specs.Worlds.{Story, Stories}
 use Rattle.sync_core.specs.WorldSteps.{empty_story, with_event, report_meaning}
 use Rattle.sync_core.specs.Devices.{applied, applied_one, Agrees, Holding, copy_under, ready_copy, after_page, AppliesInPart, first_mark, mark_under, page_for, IsRightUnder, IsRightFor, IsRightWith, IsRight}
-use Rattle.sync_core.specs.Devices.{EmptyIsRight, CopiesStayRight, PartsKeepCopiesRight, WholePagesKeepCopiesRight, LastPagesCompleteCopies, RestartedAreRight, NobodyDueIsComplete, LiveAreDueFirst, NewBooksKeepAllRight, DevicesStayRight, PartsKeepDevicesRight, WholePagesKeepDevicesRight, LastPagesCompleteDevices, RightTokensAreKnown, EventsKeepAllRight, PartsKeepAllRight, WholePagesKeepAllRight}
+use Rattle.sync_core.specs.Devices.{EmptyIsRight, CopiesStayRight, PartsKeepCopiesRight, WholePagesKeepCopiesRight, LastPagesCompleteCopies, RestartedAreRight, NobodyDueIsComplete, LiveAreDueFirst, NewBooksKeepAllRight, DevicesStayRight, PartsKeepDevicesRight, WholePagesKeepDevicesRight, LastPagesCompleteDevices, RightTokensAreKnown, RightTokensGrowOld, EventsKeepAllRight, PartsKeepAllRight, WholePagesKeepAllRight}
 use Rattle.sync_core.proofs.BasicLemmas.{both, is_some-false}
 use Rattle.sync_core.proofs.TextLemmas.{text_total, same-equal}
 use Rattle.sync_core.proofs.HistoryLemmas.{has, last-le, last_here, last_other, last_event, event-le, Rises, get-changed}
@@ -266,11 +266,20 @@ pub last_pages_complete_devices : LastPagesCompleteDevices
 last_pages_complete_devices story holding k r t =
     last_pages_complete_copies (ready_copy holding) (mark_under story.history holding.token) story.history k (ready story holding.copy holding.token r) t
 
-opened : (own known old : Bool) (mark : Mark) → own ≡ true → known ≡ true → old ≡ true → (provided own (BadToken OtherBook) >>= λ _. provided known (BadToken TooNew) >>= λ _. provided old (BadToken TooOld) >>= λ _. Ok mark) ≡ Ok mark
-opened true true true mark o k a = refl
-opened true true false mark o k a = absurd (both_ways false refl a)
-opened true false old mark o k a = absurd (both_ways false refl k)
-opened false known old mark o k a = absurd (both_ways false refl o)
+opened : (own known old : Bool) (mark : Mark) → own ≡ true → known ≡ true → (provided own (BadToken OtherBook) >>= λ _. provided known (BadToken TooNew) >>= λ _. provided old (BadToken TooOld) >>= λ _. Ok mark) ≡ (provided old (BadToken TooOld) >>= λ _. Ok mark)
+opened true true old mark o k = refl
+opened true false old mark o k = absurd (both_ways false refl k)
+opened false known old mark o k = absurd (both_ways false refl o)
+
+-- of a right token only the age is in question
+by_age : (story : Story) (copy : LiveCards) (token : Token) → IsRightUnder story copy (Some token)
+    → mark_asked story.id (length story.history) story.horizon (Some token) ≡ (provided (nat_le story.horizon token.mark.base) (BadToken TooOld) >>= λ _. Ok token.mark)
+by_age story copy token r =
+    let number = length story.history in
+    let past = r.1.past in
+    let ordered = r.1.ordered in
+    opened (token.book == story.id) (nat_le token.mark.at number && nat_le token.mark.base number) (nat_le story.horizon token.mark.base) token.mark
+    ((Decides-eqb token.book story.id).1 r.0) (both _ _ (le-leb _ _ (omega (arith, past, ordered))) (le-leb _ _ past))
 
 pub right_tokens_are_known : RightTokensAreKnown
 right_tokens_are_known story holding r le = known holding.token r le
@@ -278,12 +287,13 @@ right_tokens_are_known story holding r le = known holding.token r le
     known : (token : Option Token) → IsRightUnder story holding.copy token → story.horizon ≤ (mark_under story.history token).base
         → mark_asked story.id (length story.history) story.horizon token ≡ Ok (mark_under story.history token)
     known None r le = refl
-    known (Some token) r le =
-        let number = length story.history in
-        let past = r.1.past in
-        let ordered = r.1.ordered in
-        opened (token.book == story.id) (nat_le token.mark.at number && nat_le token.mark.base number) (nat_le story.horizon token.mark.base) token.mark
-        ((Decides-eqb token.book story.id).1 r.0) (both _ _ (le-leb _ _ (omega (arith, past, ordered))) (le-leb _ _ past)) (le-leb _ _ le)
+    known (Some token) r le = by_age story holding.copy token r ∙ ap (λ young. provided young (BadToken TooOld) >>= λ _. Ok token.mark) (le-leb _ _ le)
+
+pub right_tokens_grow_old : RightTokensGrowOld
+right_tokens_grow_old story holding token r is old =
+    ap (mark_asked story.id (length story.history) story.horizon) is
+    ∙ by_age story holding.copy token (subst (IsRightUnder story holding.copy) is r)
+    ∙ ap (λ young. provided young (BadToken TooOld) >>= λ _. Ok token.mark) (lt-leb story.horizon token.mark.base old)
 
 -- ---- among all books
 

@@ -1,11 +1,13 @@
 -- What a device makes of the pages that it is told (RFC 6578, sections 3.4 to 3.6), and when it is right. What right
 -- means at the two numbers of a mark is this project's own.
-use Rattle.std.specs.Prelude.{ℕ, ◌≡◌, ◌<◌, ◌≤◌, ◌⊎◌, ◌↔◌, false, List, [], ◌∷◌, length, take, map, fold, Option, Some, None, IsSome, Ok, Contains}
+use Rattle.std.specs.Prelude.{ℕ, ◌≡◌, ◌<◌, ◌≤◌, min, ◌⊎◌, ◌↔◌, false, List, [], ◌∷◌, length, take, map, fold, Option, Some, None, IsSome, Ok, Err, Contains}
 use Rattle.std.specs.List.Sorted.{IsStrictlyIncreasing}
 use Rattle.std.specs.FinMap as finite
 use Rattle.sync_core.specs.declared.page.Entry.{Entry}
 use Rattle.sync_core.specs.declared.page.Entry.TheVariants.{Changed, Removed}
 use Rattle.sync_core.specs.declared.page.Page.{Page}
+use Rattle.sync_core.specs.declared.refusal.Refusal.TheVariants.{BadToken}
+use Rattle.sync_core.specs.declared.refusal.TokenCause.TheVariants.{TooOld}
 use Rattle.sync_core.specs.declared.token.Mark.{Mark}
 use Rattle.sync_core.specs.declared.token.Token.{Token}
 use Rattle.sync_core.specs.Bounds.{Bounds}
@@ -163,11 +165,17 @@ LastPagesCompleteDevices = (story : Story) (holding : Holding) (k : ℕ) →
     IsRightFor story holding → (page_for story holding k).truncated ≡ false →
     (after_page holding (page_for story holding k)).copy ≡ live story.history
 
--- no right token is refused, unless it is older than the horizon
+-- no right token is refused, unless its base is below the horizon
 abbrev pub RightTokensAreKnown : Type 0
 RightTokensAreKnown = (story : Story) (holding : Holding) → IsRightFor story holding →
     story.horizon ≤ (mark_under story.history holding.token).base →
     mark_asked story.id (length story.history) story.horizon holding.token ≡ Ok (mark_under story.history holding.token)
+
+-- and then it is refused for its age
+abbrev pub RightTokensGrowOld : Type 0
+RightTokensGrowOld = (story : Story) (holding : Holding) (token : Token) → IsRightFor story holding →
+    holding.token ≡ Some token → token.mark.base < story.horizon →
+    mark_asked story.id (length story.history) story.horizon holding.token ≡ Err (BadToken TooOld)
 
 -- ---- what holds among all books
 
@@ -205,3 +213,7 @@ LiveAreDueFirst = (h : List BookEvent) (uid : List ℕ) → Contains (due h (fir
 -- the entries are those of the first k due members, each as it is now
 abbrev pub EntriesAreFirstDue : Type 0
 EntriesAreFirstDue = (h : List BookEvent) (mark : Mark) (k : ℕ) → (report h mark k).entries ≡ map (entry_of h) (take k (due h mark))
+
+-- and no more of them than there are, or than were asked for (RFC 6578, section 3.7)
+abbrev pub PagesFit : Type 0
+PagesFit = (h : List BookEvent) (mark : Mark) (k : ℕ) → length (report h mark k).entries ≡ min k (length (due h mark))

@@ -1,8 +1,8 @@
 //! What holds of devices that apply the pages that they are told.
-ghost use Rattle.sync_core.specs.Devices.{EmptyIsRight, RestartedAreRight, LiveAreDueFirst, CopiesStayRight, DevicesStayRight, PartsKeepCopiesRight, PartsKeepDevicesRight, WholePagesKeepCopiesRight, WholePagesKeepDevicesRight, LastPagesCompleteCopies, LastPagesCompleteDevices, NobodyDueIsComplete, RightTokensAreKnown, EventsKeepAllRight, NewBooksKeepAllRight, PartsKeepAllRight, WholePagesKeepAllRight, DueRises, EntriesAreFirstDue};
+ghost use Rattle.sync_core.specs.Devices.{EmptyIsRight, RestartedAreRight, LiveAreDueFirst, CopiesStayRight, DevicesStayRight, PartsKeepCopiesRight, PartsKeepDevicesRight, WholePagesKeepCopiesRight, WholePagesKeepDevicesRight, LastPagesCompleteCopies, LastPagesCompleteDevices, NobodyDueIsComplete, RightTokensAreKnown, RightTokensGrowOld, EventsKeepAllRight, NewBooksKeepAllRight, PartsKeepAllRight, WholePagesKeepAllRight, DueRises, EntriesAreFirstDue, PagesFit};
 ghost use Rattle.sync_core.specs.Paging.{EventsAddAtMostOne, TruncatedPagesLeaveRest, TruncatedPagesLeaveFewer, LastPagesLeaveNobody, TruncatedPagesAreBounded, QuietBooksAreToldWhole, QuietDevicesCatchUp};
 
-/// An empty copy is right for a first report, which tells of just the live members.
+/// An empty copy is right for a first report, and that report tells of just the live members.
 pub fn first_reports_start_right()
     ensures copies { EmptyIsRight }
     ensures devices { RestartedAreRight }
@@ -15,7 +15,7 @@ pub fn copies_stay_right()
     ensures devices { DevicesStayRight }
 {}
 
-/// A device that applies the first entries of its page, however many, is as right as before.
+/// A right device that applies only some first entries of its page stays right, with its old token or without one.
 pub fn parts_of_pages_keep_right()
     ensures copies { PartsKeepCopiesRight }
     ensures devices { PartsKeepDevicesRight }
@@ -34,9 +34,10 @@ pub fn last_pages_complete_copies()
     ensures due { NobodyDueIsComplete }
 {}
 
-/// A right device's token is refused only where it is older than the horizon.
+/// A right device's token is refused just where its base is below the horizon, and then for its age.
 pub fn right_tokens_are_known()
-    ensures { RightTokensAreKnown }
+    ensures known { RightTokensAreKnown }
+    ensures old { RightTokensGrowOld }
 {}
 
 /// Among all books, what happens to any of them and what a device is told of its own leave each right device right.
@@ -51,6 +52,7 @@ pub fn devices_stay_right_among_books()
 pub fn reports_tell_the_first_due()
     ensures order { DueRises }
     ensures entries { EntriesAreFirstDue }
+    ensures size { PagesFit }
 {}
 
 /// An event makes at most one more member due; a truncated page leaves just k fewer, and any other page none.
