@@ -10,8 +10,6 @@ pub mod HistoryLemmas
 pub mod DueLemmas
 pub mod RowLemmas
 pub mod ReportLemmas
-pub mod DeviceLemmas
-pub mod PagingLemmas
 pub mod WorldLemmas
 pub mod FollowLemmas
 pub mod ChangeLemmas
@@ -25,3 +23,6 @@ pub mod OnceLemmas
 pub mod TokenLemmas
 pub mod MoveLemmas
 pub mod WorkedHistory
+pub mod DeviceLemmas
+pub mod PagingLemmas
+pub mod DeviceRunLemmas

@@ -26,10 +26,10 @@ pub mod WorldChanges
 pub mod WorldReads
 pub mod ChangeLaws
 pub mod ReadLaws
+pub mod Devices
+pub mod Paging
 pub mod Calls
 pub mod RunLaws
 pub mod TokenLaws
 pub mod MoveLaws
-pub mod Devices
-pub mod Paging
 pub mod NamedBooks

@@ -6,6 +6,7 @@ use Rattle.sync_core.specs.declared.answers.ImportTally.{ImportTally}
 use Rattle.sync_core.specs.declared.refusal.Refusal.{Refusal}
 use Rattle.sync_core.specs.Bounds.{Bounds}
 use Rattle.sync_core.specs.Calls.{Call, Imports, Returned, DidImport, meaning, told, after, answers, after_all}
+use Rattle.sync_core.specs.Devices.{Holding, IsRight}
 use Rattle.sync_core.specs.Histories.{BookEvent}
 use Rattle.sync_core.specs.Worlds.{Story, Stories, World, IsSound, rows}
 
@@ -43,3 +44,8 @@ ImportsActOnce = (limits : Bounds) (stories : Stories) (name key : List ℕ) (ca
     told (meaning limits stories (Imports name key cards)) ≡ Ok (DidImport tally) →
     meaning limits (after_all limits (after limits stories (Imports name key cards)) between) (Imports name key others)
     ≡ Ok (DidImport tally, after_all limits (after limits stories (Imports name key cards)) between)
+
+-- A right device stays right whatever calls are made, on its own book and on others.
+abbrev pub CallsKeepAllRight : Type 0
+CallsKeepAllRight = (limits : Bounds) (stories : Stories) (calls : List Call) (holding : Holding) →
+    IsRight stories holding → IsRight (after_all limits stories calls) holding

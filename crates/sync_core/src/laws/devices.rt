@@ -1,5 +1,6 @@
 //! What holds of devices that apply the pages that they are told.
 ghost use Rattle.sync_core.specs.Devices.{EmptyIsRight, RestartedAreRight, LiveAreDueFirst, CopiesStayRight, DevicesStayRight, PartsKeepCopiesRight, PartsKeepDevicesRight, WholePagesKeepCopiesRight, WholePagesKeepDevicesRight, LastPagesCompleteCopies, LastPagesCompleteDevices, NobodyDueIsComplete, RightTokensAreKnown, RightTokensGrowOld, EventsKeepAllRight, NewBooksKeepAllRight, PartsKeepAllRight, WholePagesKeepAllRight, DueRises, EntriesAreFirstDue, PagesFit};
+ghost use Rattle.sync_core.specs.RunLaws.{CallsKeepAllRight};
 ghost use Rattle.sync_core.specs.Paging.{EventsAddAtMostOne, TruncatedPagesLeaveRest, TruncatedPagesLeaveFewer, LastPagesLeaveNobody, TruncatedPagesAreBounded, QuietBooksAreToldWhole, QuietDevicesCatchUp};
 
 /// An empty copy is right for a first report, and that report tells of just the live members.
@@ -72,4 +73,9 @@ pub fn truncated_pages_are_bounded()
 pub fn quiet_books_are_told_whole()
     ensures places { QuietBooksAreToldWhole }
     ensures devices { QuietDevicesCatchUp }
+{}
+
+/// A right device stays right whatever calls are made, on its own book and on others.
+pub fn devices_stay_right_over_calls()
+    ensures { CallsKeepAllRight }
 {}
