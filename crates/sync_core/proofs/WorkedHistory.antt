@@ -8,17 +8,17 @@ use Rattle.sync_core.specs.declared.answers.Moved.{Moved}
 use Rattle.sync_core.specs.declared.answers.PutAnswer.TheVariants.{Created, Edited, Unchanged}
 use Rattle.sync_core.specs.declared.answers.Tally.{Tally}
 use Rattle.sync_core.specs.declared.change.Change.TheVariants.{Stores, TakesAway}
-use Rattle.sync_core.specs.declared.change.StoreReason.TheVariants.{Creation, Edit, MoveIn}
+use Rattle.sync_core.specs.declared.change.StoreReason.TheVariants.{Creation, Edit, Import, ImportEdit, MoveIn}
 use Rattle.sync_core.specs.declared.change.RemovalReason.TheVariants.{Deletion, MoveOut}
 use Rattle.sync_core.specs.declared.page.Entry.{Entry}
 use Rattle.sync_core.specs.declared.page.Entry.TheVariants.{Changed, Removed}
 use Rattle.sync_core.specs.declared.page.Page.{Page}
 use Rattle.sync_core.specs.declared.refusal.Refusal.{Refusal}
-use Rattle.sync_core.specs.declared.refusal.Refusal.TheVariants.{BookExists, NoSuchCard, UidTaken, SameBook, VersionMismatch, BadToken, BadLimit, BadForget, BookFull, ChangesSpent, TooManyBooks}
+use Rattle.sync_core.specs.declared.refusal.Refusal.TheVariants.{BadKey, BookExists, NoSuchCard, UidTaken, SameBook, VersionMismatch, BadToken, BadLimit, BadForget, BookFull, ChangesSpent, TooManyBooks}
 use Rattle.sync_core.specs.declared.refusal.TokenCause.TheVariants.{OtherBook, TooNew, TooOld}
 use Rattle.sync_core.specs.declared.token.Token.{Token}
 use Rattle.sync_core.specs.Bounds.{Bounds}
-use Rattle.sync_core.specs.Calls.{Call, CreatesBook, Puts, Removes, Moves, Forgets, Reports, Tallies, Returned, MadeBook, DidPut, DidRemove, DidMove, DidForget, GavePage, GaveTally, answers, after_all}
+use Rattle.sync_core.specs.Calls.{Call, CreatesBook, Puts, Removes, Moves, Imports, AsksImport, Forgets, Reports, Tallies, Returned, MadeBook, DidPut, DidRemove, DidMove, DidImport, DidForget, GaveImport, GavePage, GaveTally, answers, after_all}
 use Rattle.sync_core.specs.Counting.{no_counts}
 use Rattle.sync_core.specs.Histories.{BookEvent}
 use Rattle.sync_core.specs.Reading.{tally_with}
@@ -180,6 +180,49 @@ an_equal_card_takes_no_number = simp gets
 pub tokens_are_judged : answers standard moved (Reports staff None (Some 0) ∷ Reports staff (token 2 1 1) None ∷ Reports staff (token 1 99 99) None ∷ Reports staff (token 1 3 5) None ∷ [])
     ≡ Err BadLimit ∷ Err (BadToken OtherBook) ∷ Err (BadToken TooNew) ∷ page (Removed c ∷ Changed b 7 bob ∷ Removed d ∷ Removed a ∷ []) 10 10 ∷ []
 tokens_are_judged = simp gets
+
+-- ---- imports
+
+abbrev with_clients : Stories
+with_clients = two_books ten (event b (Stores bob Creation) ∷ event a (Stores anna MoveIn) ∷ [])
+
+abbrev pat : List Line
+pat = card (codes "p") (codes "Pat Lee")
+
+abbrev quin : List Line
+quin = card (codes "q") (codes "Quin")
+
+abbrev quinn : List Line
+quinn = card (codes "q") (codes "Quinn")
+
+abbrev rae : List Line
+rae = card (codes "r") (codes "Rae")
+
+abbrev sy : List Line
+sy = card (codes "s") (codes "Sy")
+
+abbrev imported : ℕ → ℕ → ℕ → ℕ → Result Returned Refusal
+imported added edited same number = Ok (DidImport (record { added = added; edited = edited; same = same; number = number }))
+
+-- the second import with the key changes nothing, whatever it brings
+pub imports_are_kept : answers standard with_clients (Imports clients (codes "k1") (pat ∷ quin ∷ rae ∷ []) ∷ Imports clients (codes "k1") (sy ∷ []) ∷ Tallies clients ∷ [])
+    ≡ imported 3 0 0 5 ∷ imported 3 0 0 5 ∷ Ok (GaveTally (tally_with 5 0 5 (record no_counts { created = 1; imported = 3; moved_in = 1 }) 0)) ∷ []
+imports_are_kept = simp gets
+
+abbrev imported_three : Stories
+imported_three = two_books ten (event (codes "r") (Stores rae Import) ∷ event (codes "q") (Stores quin Import) ∷ event (codes "p") (Stores pat Import) ∷ event b (Stores bob Creation) ∷ event a (Stores anna MoveIn) ∷ [])
+
+pub imports_edit : answers standard imported_three (Imports clients (codes "k2") (pat ∷ quinn ∷ sy ∷ []) ∷ Imports clients (codes "k/3") [] ∷ []) ≡ imported 1 1 1 7 ∷ Err BadKey ∷ []
+imports_edit = simp gets
+
+pub import_edits_are_tallied : answers standard (two_books ten (event (codes "s") (Stores sy Import) ∷ event (codes "q") (Stores quinn ImportEdit) ∷ event (codes "r") (Stores rae Import) ∷ event (codes "q") (Stores quin Import) ∷ event (codes "p") (Stores pat Import) ∷ event b (Stores bob Creation) ∷ event a (Stores anna MoveIn) ∷ [])) (Tallies clients ∷ [])
+    ≡ Ok (GaveTally (tally_with 7 0 6 (record no_counts { created = 1; imported = 4; import_edited = 1; moved_in = 1 }) 0)) ∷ []
+import_edits_are_tallied = simp gets
+
+-- an import of no cards takes no number, and is kept
+pub empty_imports_are_kept : answers (bounds 100 1 2 1) (only_staff 0 (event b (TakesAway Deletion) ∷ event b (Stores bob Creation) ∷ [])) (Imports staff (codes "k") [] ∷ Imports staff (codes "m") (sy ∷ []) ∷ AsksImport staff (codes "k") ∷ AsksImport staff (codes "m") ∷ [])
+    ≡ imported 0 0 0 2 ∷ Err ChangesSpent ∷ Ok (GaveImport (Some (record { added = 0; edited = 0; same = 0; number = 2 }))) ∷ Ok (GaveImport None) ∷ []
+empty_imports_are_kept = simp gets
 
 -- ---- limits
 
