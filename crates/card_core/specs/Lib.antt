@@ -1,0 +1,5 @@
+pub mod FaultTexts
+pub mod Groups
+pub mod Naming
+pub mod TextSets
+pub mod Walks

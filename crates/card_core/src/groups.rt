@@ -1,0 +1,43 @@
+//! Whom a group reaches.
+ghost use Rattle.std.specs.Prelude.{◌≡◌, ◌↔◌, IfOk, None};
+ghost use Rattle.std.specs.FinMap as finite;
+ghost use Rattle.vcard_text.specs.TextMaps.{texts};
+ghost use Rattle.card_core.specs.Groups.{IsExpansion, IsOtherCard};
+ghost use Rattle.card_core.specs.declared.fault.GroupFault.TheVariants.{NoSuchCard, NotGroup};
+
+use crate::expansion::Expansion;
+use crate::fault::GroupFault;
+use crate::walk::{is_group, walk_from};
+use std::alloc::Global;
+use std::collections::BTreeMap;
+use vcard_text::Card;
+use vcard_text::text_map::value_at;
+
+/// Whom the group of this UID reaches, through its members and those of each group among them, in whatever circles they
+/// lead (RFC 6350, section 6.6.5). Each key of the map is its card's UID.
+///
+/// A member's value names the card of that UID, and where there is none and the value begins with `urn:uuid:` in any case,
+/// the card whose UID is the rest.
+///
+/// `NoSuchCard` where no card has the UID, `NotGroup` where its kind isn't group, and `Memory` where a growth was refused.
+pub fn expand(
+    alloc: Global,
+    cards: &BTreeMap<String, Card>,
+    group: &str,
+) -> Result<Expansion, GroupFault>
+    ensures expansion { IfOk result (λ expansion. IsExpansion (texts cards.now) group.now expansion) }
+    ensures no_such_card { (result ≡ Err NoSuchCard) ↔ (finite.get (texts cards.now) group.now ≡ None) }
+    ensures not_group { (result ≡ Err NotGroup) ↔ IsOtherCard (texts cards.now) group.now }
+{
+    let Some(card) = value_at(cards, group) else {
+        return Err(GroupFault::NoSuchCard);
+    };
+    if !is_group(card) {
+        return Err(GroupFault::NotGroup);
+    }
+    let walk = walk_from(alloc, cards, group, card)?;
+    Ok(Expansion {
+        people: walk.people.into_items(alloc)?,
+        missing: walk.missing.into_items(alloc)?,
+    })
+}

@@ -1,0 +1,16 @@
+//! Groups of people: who a vCard group reaches through its members (RFC 6350, section 6.6.5).
+#![tactic(auto)]
+
+pub mod expansion;
+pub mod fault;
+pub mod groups;
+pub mod laws;
+mod naming;
+#[cfg(test)]
+mod tests;
+mod text_set;
+mod walk;
+
+pub use expansion::Expansion;
+pub use fault::GroupFault;
+pub use groups::expand;
