@@ -1,59 +1,63 @@
+mod examples;
+mod passes;
+mod sizes;
+
 use crate::expansion::Expansion;
 use crate::fault::GroupFault;
 use crate::groups::expand;
 use std::alloc::Global;
 use std::collections::BTreeMap;
-use std::process::Abort;
 use std::test::Fail;
 use vcard_text::{Card, Items, Text, read_card};
 
-/// A card of the UID and the kind, with a MEMBER line for each value.
-fn card_of(alloc: Global, uid: &str, kind: &str, members: &[&str]) -> Result<Card, Fail> {
-    let mut text = format!(in alloc; "BEGIN:VCARD\nVERSION:4.0\nUID:{uid}\nFN:n\nKIND:{kind}\n")?;
-    for member in members {
-        text.push_str("MEMBER:")?;
-        text.push_str(member)?;
-        text.push_str("\n")?;
-    }
-    text.push_str("END:VCARD\n")?;
+/// A card of the UID and the kind, with the lines of its members.
+fn card_of(alloc: Global, uid: &str, kind: &str, members: &str) -> Result<Card, Fail> {
+    let mut text = format!(in alloc;
+        "BEGIN:VCARD\r\nVERSION:4.0\r\nUID:{uid}\r\nFN:n\r\nKIND:{kind}\r\n"
+    )?;
+    text.push_str(members)?;
+    text.push_str("END:VCARD\r\n")?;
     Ok(read_card(alloc, text.as_bytes())?)
 }
 
-/// The cards of a shape, each a UID, a kind and the values of its members.
-fn cards_of(
-    alloc: Global,
-    shape: &[(&str, &str, &[&str])],
-) -> Result<BTreeMap<String, Card>, Fail> {
+/// The cards of a shape: between semicolons a UID, a kind and the values of its members.
+fn cards_of(alloc: Global, shape: &str) -> Result<BTreeMap<String, Card>, Fail> {
     let mut cards = BTreeMap::new(alloc);
-    for (uid, kind, members) in shape {
-        cards.insert(
-            String::from_str(alloc, uid)?,
-            card_of(alloc, uid, kind, members)?,
-        )?;
+    for part in shape.split(';') {
+        let mut words = part.split_whitespace();
+        let uid = words.next().ok_or("no UID")?;
+        let kind = words.next().ok_or("no kind")?;
+        let mut members = String::new(alloc);
+        for value in words {
+            members.push_str("MEMBER:")?;
+            members.push_str(value)?;
+            members.push_str("\r\n")?;
+        }
+        let card = card_of(alloc, uid, kind, members.as_str())?;
+        cards.insert(String::from_str(alloc, uid)?, card)?;
     }
     Ok(cards)
 }
 
-fn is_items(rt: &impl Abort, items: &Items<Text>, wanted: &[&str], why: &str) {
-    assert_eq!(rt; items.as_slice().len(), wanted.len(), "{why}");
-    for (item, wanted) in items.as_slice().iter().zip(wanted) {
-        assert_eq!(rt; item.as_str(), *wanted, "{why}");
+/// The texts, each behind a space.
+fn joined(alloc: Global, items: &Items<Text>) -> Result<String, Fail> {
+    let mut text = String::new(alloc);
+    for item in items.as_slice() {
+        text.push_str(" ")?;
+        text.push_str(item.as_str())?;
     }
+    Ok(text)
 }
 
-#[test]
-fn follows_groups_in_a_circle(rt: HostRuntime) -> Result<(), Fail> {
-    let cards = cards_of(
-        rt.alloc(),
-        &[
-            ("g", "group", &["g2", "urn:uuid:x", "nobody"]),
-            ("g2", "group", &["g", "y"]),
-            ("x", "individual", &[]),
-            ("y", "individual", &[]),
-        ],
-    )?;
-    let Expansion { people, missing } = expand(rt.alloc(), &cards, "g")?;
-    is_items(&rt, &people, &["x", "y"], "people of g");
-    is_items(&rt, &missing, &["nobody"], "missing of g");
-    Ok(())
+/// What is told of whom the UID's card reaches.
+fn told(alloc: Global, cards: &BTreeMap<String, Card>, uid: &str) -> Result<String, Fail> {
+    match expand(alloc, cards, uid) {
+        Ok(Expansion { people, missing }) => {
+            let people = joined(alloc, &people)?;
+            let missing = joined(alloc, &missing)?;
+            Ok(format!(in alloc; "people{people}, missing{missing}")?)
+        }
+        Err(GroupFault::Memory) => Err(Fail::from(GroupFault::Memory)),
+        Err(fault) => Ok(format!(in alloc; "{fault}")?),
+    }
 }

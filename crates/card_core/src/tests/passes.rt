@@ -1,0 +1,126 @@
+//! Whom a group reaches, found a second time and plainly: by passes over all cards, as many as there are cards.
+use super::examples::EXAMPLES;
+use super::{cards_of, told};
+use std::alloc::Global;
+use std::collections::{BTreeMap, BTreeSet};
+use std::process::Abort;
+use std::test::Fail;
+use vcard_text::Card;
+
+/// Further cards, with groups at many places.
+const SHAPES: [&str; 8] = [
+    "a group b; b group c; c group d; d group a x; x individual",
+    "a group b c; b group a x; c group b urn:uuid:y; x individual; y org",
+    "a group a; b group a; c group b z; d group c; z location",
+    "a group x1 n1; b group a x2 n2; c group b x3; x1 individual; x2 individual; x3 individual",
+    "a group urn:uuid:b; b group urn:uuid:c; c group urn:uuid:urn:uuid:d; d group x; x individual",
+    "a group c; b group c; c group n; urn:uuid:c group x; d group URN:UUID:c urn:uuid:c; x individual",
+    "é group ü urn:uuid:ü; ü group é ö; ö individual; urn:uuid:ü individual; o group é",
+    "a group b b b; b group c c; c group d e; d group n; e group n d; f group e f",
+];
+
+/// The UID of the card that the value names, looked for among all.
+fn named_among_all(
+    alloc: Global,
+    cards: &BTreeMap<String, Card>,
+    value: &str,
+) -> Result<Option<String>, Fail> {
+    let mut behind = None;
+    for uid in cards.keys() {
+        if uid.as_str() == value {
+            return Ok(Some(uid.clone()?));
+        }
+        let urn = format!(in alloc; "urn:uuid:{uid}")?;
+        if value.len() == urn.len()
+            && value.ends_with(uid.as_str())
+            && value.eq_ignore_ascii_case(urn.as_str())
+        {
+            behind = Some(uid.clone()?);
+        }
+    }
+    Ok(behind)
+}
+
+/// Adds what the members of the card name, or the values themselves where they name none.
+fn add_members(
+    alloc: Global,
+    cards: &BTreeMap<String, Card>,
+    card: &Card,
+    reached: &mut BTreeSet<String>,
+    missing: &mut BTreeSet<String>,
+) -> Result<(), Fail> {
+    for value in card.members()? {
+        match named_among_all(alloc, cards, value.as_str())? {
+            Some(uid) => reached.insert(uid)?,
+            None => missing.insert(value)?,
+        };
+    }
+    Ok(())
+}
+
+/// One pass over all cards.
+fn pass(
+    alloc: Global,
+    cards: &BTreeMap<String, Card>,
+    group: &str,
+    reached: &mut BTreeSet<String>,
+    missing: &mut BTreeSet<String>,
+) -> Result<(), Fail> {
+    for (uid, card) in cards {
+        if uid.as_str() == group || reached.contains(uid.as_str()) {
+            add_members(alloc, cards, card, reached, missing)?;
+        }
+    }
+    Ok(())
+}
+
+fn is_group_card(card: &Card) -> bool {
+    card.first("KIND")
+        .is_some_and(|line| line.value.as_str().eq_ignore_ascii_case("group"))
+}
+
+/// What is to be told of a group.
+fn wanted_of(alloc: Global, cards: &BTreeMap<String, Card>, group: &str) -> Result<String, Fail> {
+    let mut reached = BTreeSet::new(alloc);
+    let mut missing = BTreeSet::new(alloc);
+    for _ in 0..cards.len() {
+        pass(alloc, cards, group, &mut reached, &mut missing)?;
+    }
+    let mut text = String::from_str(alloc, "people")?;
+    for (uid, card) in cards {
+        if reached.contains(uid.as_str()) && !is_group_card(card) {
+            text.push_str(" ")?;
+            text.push_str(uid.as_str())?;
+        }
+    }
+    text.push_str(", missing")?;
+    for value in &missing {
+        text.push_str(" ")?;
+        text.push_str(value.as_str())?;
+    }
+    Ok(text)
+}
+
+/// Each group of a shape is told as the passes find.
+fn is_told_as_found(rt: &impl Abort, alloc: Global, shape: &str) -> Result<(), Fail> {
+    let cards = cards_of(alloc, shape)?;
+    for (uid, card) in &cards {
+        if is_group_card(card) {
+            let told = told(alloc, &cards, uid.as_str())?;
+            let wanted = wanted_of(alloc, &cards, uid.as_str())?;
+            assert_eq!(rt; told.as_str(), wanted.as_str(), "{uid} of {shape}");
+        }
+    }
+    Ok(())
+}
+
+#[test]
+fn tells_what_passes_find(rt: HostRuntime) -> Result<(), Fail> {
+    for (_, shape, _) in EXAMPLES {
+        is_told_as_found(&rt, rt.alloc(), shape)?;
+    }
+    for shape in SHAPES {
+        is_told_as_found(&rt, rt.alloc(), shape)?;
+    }
+    Ok(())
+}

@@ -1,0 +1,79 @@
+//! A chain of 10,000 groups, and a group of 10,000 members.
+use super::card_of;
+use crate::groups::expand;
+use std::alloc::Global;
+use std::collections::BTreeMap;
+use std::test::Fail;
+use vcard_text::Card;
+
+const MANY: u32 = 10_000;
+
+/// The UID of a number, in the order of the numbers.
+fn uid_of(alloc: Global, number: u32) -> Result<String, Fail> {
+    Ok(format!(in alloc; "m{number:05}")?)
+}
+
+fn insert(
+    alloc: Global,
+    cards: &mut BTreeMap<String, Card>,
+    number: u32,
+    kind: &str,
+    members: &str,
+) -> Result<(), Fail> {
+    let uid = uid_of(alloc, number)?;
+    let card = card_of(alloc, uid.as_str(), kind, members)?;
+    cards.insert(uid, card)?;
+    Ok(())
+}
+
+/// Each group has the next one and a value that names no card, and the last has a person.
+#[test]
+fn follows_a_long_chain(rt: HostRuntime) -> Result<(), Fail> {
+    let mut cards = BTreeMap::new(rt.alloc());
+    for number in 0..MANY {
+        let next = uid_of(rt.alloc(), number + 1)?;
+        let members = format!(in rt.alloc(); "MEMBER:{next}\r\nMEMBER:n\r\n")?;
+        insert(rt.alloc(), &mut cards, number, "group", members.as_str())?;
+    }
+    insert(rt.alloc(), &mut cards, MANY, "individual", "")?;
+
+    let expansion = expand(rt.alloc(), &cards, "m00000")?;
+    assert_eq!(rt; expansion.people.as_slice().len(), 1);
+    for person in expansion.people.as_slice() {
+        assert_eq!(rt; person.as_str(), "m10000");
+    }
+    assert_eq!(rt; expansion.missing.as_slice().len(), 1);
+    Ok(())
+}
+
+/// Half of the members stand behind urn:uuid:, and the cards of the last tenth are missing.
+#[test]
+fn lists_many_members(rt: HostRuntime) -> Result<(), Fail> {
+    let mut cards = BTreeMap::new(rt.alloc());
+    let mut members = String::new(rt.alloc());
+    for number in 0..MANY {
+        let uid = uid_of(rt.alloc(), MANY - 1 - number)?;
+        members.push_str(if number % 2 == 0 {
+            "MEMBER:"
+        } else {
+            "MEMBER:urn:uuid:"
+        })?;
+        members.push_str(uid.as_str())?;
+        members.push_str("\r\n")?;
+    }
+    let group = card_of(rt.alloc(), "g", "group", members.as_str())?;
+    cards.insert(String::from_str(rt.alloc(), "g")?, group)?;
+    for number in 0..9_000 {
+        insert(rt.alloc(), &mut cards, number, "individual", "")?;
+    }
+
+    let expansion = expand(rt.alloc(), &cards, "g")?;
+    assert_eq!(rt; expansion.people.as_slice().len(), 9_000);
+    let mut number = 0;
+    for person in expansion.people.as_slice() {
+        assert_eq!(rt; person.as_str(), uid_of(rt.alloc(), number)?.as_str());
+        number = number.saturating_add(1);
+    }
+    assert_eq!(rt; expansion.missing.as_slice().len(), 1_000);
+    Ok(())
+}
