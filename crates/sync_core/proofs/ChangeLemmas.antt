@@ -1,5 +1,5 @@
 -- Removals and moves in the rows, beside what they mean on histories.
-use Rattle.std.proofs.Common.{◌≡◌, ℕ, ◌+◌, Bool, true, false, not, List, [], ◌∷◌, length, Option, Some, None, Result, Ok, Err, is_some, nat_lt, refl, sym, ap, ◌∙◌, subst, ⊎_elim}
+use Rattle.std.proofs.Common.{◌≡◌, ℕ, ◌+◌, Bool, true, false, not, List, [], ◌∷◌, length, Option, Some, None, Result, Ok, is_some, nat_lt, refl, sym, ap, ◌∙◌, subst, ⊎_elim}
 use Rattle.std.specs.Prelude.{IsSome}
 use Rattle.std.specs.FinMap as finite
 use Rattle.std.specs.FinMap.{get-empty, get-insert, get-remove}
@@ -17,17 +17,17 @@ use Rattle.sync_core.specs.declared.change.RemovalReason.TheVariants.{Deletion, 
 use Rattle.sync_core.specs.declared.refusal.Refusal.{Refusal}
 use Rattle.sync_core.specs.declared.refusal.Refusal.TheVariants.{NoSuchCard, VersionMismatch, UidTaken, SameBook, BookFull, ChangesSpent}
 use Rattle.sync_core.specs.Bounds.{Bounds}
-use Rattle.sync_core.specs.Books.{Book, Books, with_change}
+use Rattle.sync_core.specs.Books.{Books, with_change}
 use Rattle.sync_core.specs.ChangeLaws.{RemovingFollows, MovingFollows}
 use Rattle.sync_core.specs.Histories.{BookEvent, same_uid, changed, live}
 use Rattle.sync_core.specs.Lawful.{MayHappen, IsLawful}
 use Rattle.sync_core.specs.Moving.{Moving, move_answer, books_after_move}
 use Rattle.sync_core.specs.Outcomes.{◌>>=◌, provided}
-use Rattle.sync_core.specs.Putting.{Found, found_in, is_expected, next_number}
+use Rattle.sync_core.specs.Putting.{Found, found_in, is_expected}
 use Rattle.sync_core.specs.Removing.{live_card, remove_number}
 use Rattle.sync_core.specs.Worlds.{Story, Stories, World, IsSound, book_of, rows}
-use Rattle.sync_core.specs.WorldChanges.{event, remove_meaning, move_meaning, stories_after_move}
-use Rattle.sync_core.specs.WorldSteps.{with_event, story_named, found_of, IsWorldOf, Follows}
+use Rattle.sync_core.specs.WorldChanges.{event, stories_after_move}
+use Rattle.sync_core.specs.WorldSteps.{with_event, found_of, IsWorldOf, Follows}
 use Rattle.sync_core.proofs.FollowLemmas.{same_answer, no_answer, follow_named, follow_test, follow_given, sound_with}
 use Rattle.sync_core.proofs.HistoryLemmas.{get-changed}
 use Rattle.sync_core.proofs.TextLemmas.{text_total, same-equal}
@@ -55,8 +55,8 @@ removing_follows world name uid expect = follow_named world name _ _ (λ story a
     (follow_given world.limits (remove_number world.limits (found_of story.history uid) expect) _ _ (λ number is. (
       refl,
       wrote_world world.limits world.books name (with_event story e) (with_change (book_of story) uid (TakesAway Deletion)) world.sound
-      (sound_with story e sound (removed_is_live world.limits (found_of story.history uid) expect number is))
-      (book_of-with_event story e sound.past),
+          (sound_with story e sound (removed_is_live world.limits (found_of story.history uid) expect number is))
+          (book_of-with_event story e sound.past),
     ))))
 
 -- ---- moving a card

@@ -1,11 +1,11 @@
 -- A move takes one card between two books, and alters nothing else.
-use Rattle.std.proofs.Common.{◌≡◌, ℕ, zero, suc, ◌+◌, ◌<◌, Bool, true, false, cond, not, ◌&&◌, T, List, [], ◌∷◌, length, sum_by, Option, Some, None, Result, Ok, Err, is_some, nat_lt, is_eq, Ordering, Less, Equal, Greater, refl, sym, ap, ◌∙◌, subst, ⊎_elim, arith}
-use Rattle.std.specs.Ordering.{is_lt, eq_by_cmp}
+use Rattle.std.proofs.Common.{◌≡◌, ℕ, ◌+◌, Bool, true, false, cond, not, T, List, [], ◌∷◌, length, sum_by, Option, Some, None, Result, Ok, Err, is_some, nat_lt, is_eq, Ordering, Less, Equal, Greater, refl, sym, ap, ◌∙◌, subst, arith}
+use Rattle.std.specs.Ordering.{is_lt}
 use Rattle.std.specs.Option.{option_map_or}
 use Rattle.std.specs.FinMap as finite
 use Rattle.std.specs.FinMap.{get-insert, get-remove, len-insert, entries-insert}
 use Rattle.std.specs.FinMap.Entries.{find, put, by_order, below_all, is_sorted}
-use Rattle.std.proofs.lemmas.Bool.{cases_Bool, cond-true, cond-false, not-true}
+use Rattle.std.proofs.lemmas.Bool.{cond-true, cond-false}
 use Rattle.std.proofs.lemmas.List.Sums.{sum_by-cons}
 use Rattle.std.proofs.lemmas.Option.{same_Some}
 use Rattle.vcard_text.specs.TextMaps.{text_cmp}
@@ -16,22 +16,22 @@ use Rattle.sync_core.specs.declared.change.Change.TheVariants.{Stores, TakesAway
 use Rattle.sync_core.specs.declared.change.StoreReason.TheVariants.{MoveIn}
 use Rattle.sync_core.specs.declared.change.RemovalReason.TheVariants.{MoveOut}
 use Rattle.sync_core.specs.declared.refusal.Refusal.{Refusal}
-use Rattle.sync_core.specs.declared.refusal.Refusal.TheVariants.{NoSuchBook, VersionMismatch, SameBook, UidTaken, BookFull, ChangesSpent}
+use Rattle.sync_core.specs.declared.refusal.Refusal.TheVariants.{NoSuchBook, VersionMismatch, SameBook, BookFull, ChangesSpent}
 use Rattle.sync_core.specs.Bounds.{Bounds}
 use Rattle.sync_core.specs.Books.{same_name}
-use Rattle.sync_core.specs.Histories.{BookEvent, LiveCards, live}
+use Rattle.sync_core.specs.Histories.{LiveCards, live}
 use Rattle.sync_core.specs.MoveLaws.{cards_in, TakesOneCard, MovesTakeOneCard}
 use Rattle.sync_core.specs.Moving.{Moving, move_answer}
 use Rattle.sync_core.specs.Outcomes.{◌>>=◌, provided}
 use Rattle.sync_core.specs.Putting.{Found, is_expected}
-use Rattle.sync_core.specs.Worlds.{Story, Stories, World}
-use Rattle.sync_core.specs.WorldChanges.{event, move_meaning, stories_after_move}
+use Rattle.sync_core.specs.Worlds.{Story, Stories}
+use Rattle.sync_core.specs.WorldChanges.{event, stories_after_move}
 use Rattle.sync_core.specs.WorldSteps.{with_event, story_named, found_of}
 use Rattle.sync_core.proofs.BasicLemmas.{T_parts, T_both}
 use Rattle.sync_core.proofs.ChangeLemmas.{found_to_move, live_first, free_first}
 use Rattle.sync_core.proofs.CountLemmas.{len-removed}
 use Rattle.sync_core.proofs.FollowLemmas.{same_answer, no_answer}
-use Rattle.sync_core.proofs.TextLemmas.{text_total, same-equal, same_self, same_equiv, get-insert_here}
+use Rattle.sync_core.proofs.TextLemmas.{text_total, same_self, same_equiv, get-insert_here}
 
 -- ---- a sum over the entries of a map, where one is written over
 

@@ -1,28 +1,26 @@
 -- What the rows tell of a book, beside what its history tells.
-use Rattle.std.proofs.Common.{◌≡◌, ℕ, Bool, true, false, cond, not, ◌&&◌, ◌||◌, T, List, [], ◌∷◌, ◌++◌, map, flat_map, length, filter, Option, Some, None, Result, Ok, Err, is_some, nat_lt, ◌<◌, Ordering, Less, Equal, Greater, refl, sym, ap, ◌∙◌, subst, ⊎_elim}
+use Rattle.std.proofs.Common.{◌≡◌, ℕ, true, false, cond, not, ◌&&◌, ◌||◌, T, List, [], ◌∷◌, ◌++◌, map, flat_map, length, filter, Option, Some, None, Result, Ok, Err, is_some, nat_lt, ◌<◌, Ordering, Less, Equal, Greater, refl, sym, ap, ◌∙◌, subst}
 use Rattle.std.specs.Option.{option_map, option_map_or, option_and_then}
 use Rattle.std.specs.FinMap as finite
-use Rattle.std.specs.FinMap.{get-from_entries, same_map, entries-from_sorted}
+use Rattle.std.specs.FinMap.{get-from_entries, same_map}
 use Rattle.std.specs.FinMap.Entries.{find, below_all, is_sorted}
 use Rattle.std.specs.Ordering.{is_lt, is_eq}
-use Rattle.std.proofs.lemmas.Bool.{cases_Bool, cond-true, cond-false}
+use Rattle.std.proofs.lemmas.Bool.{cond-true, cond-false}
 use Rattle.std.proofs.lemmas.Map.Lookups.{exact_bytes}
 use Rattle.vcard_text.specs.TextMaps.{text_cmp}
-use Rattle.sync_core.specs.declared.answers.BookLine.{BookLine}
 use Rattle.sync_core.specs.declared.answers.Stored.{Stored}
 use Rattle.sync_core.specs.declared.refusal.Refusal.{Refusal}
-use Rattle.sync_core.specs.declared.refusal.Refusal.TheVariants.{NoSuchBook, BadKey}
+use Rattle.sync_core.specs.declared.refusal.Refusal.TheVariants.{NoSuchBook}
 use Rattle.sync_core.specs.declared.row.Row.{Row}
-use Rattle.sync_core.specs.Books.{Book, book_named, stored_in, live_at}
-use Rattle.sync_core.specs.Counting.{counts_of, live_count}
+use Rattle.sync_core.specs.Books.{Book, book_named, stored_in}
+use Rattle.sync_core.specs.Counting.{counts_of}
 use Rattle.sync_core.specs.Histories.{same_uid, live, last, touched}
-use Rattle.sync_core.specs.Importing.{is_legal_key}
-use Rattle.sync_core.specs.Outcomes.{◌>>=◌, provided}
+use Rattle.sync_core.specs.Outcomes.{◌>>=◌}
 use Rattle.sync_core.specs.ReadLaws.{BooksFollow, BookLinesFollow, GettingFollows, CardsFollow, KeptImportsFollow, TalliesFollow}
 use Rattle.sync_core.specs.Reading.{book_line, live_entry, live_cards, tally_with, is_removed_after, remembered_in, tally_of}
 use Rattle.sync_core.specs.Removing.{live_card}
-use Rattle.sync_core.specs.Rows.{all_rows, is_kept, kept_rows}
-use Rattle.sync_core.specs.Worlds.{Story, Stories, World, IsSound, book_of, rows}
+use Rattle.sync_core.specs.Rows.{is_kept, kept_rows}
+use Rattle.sync_core.specs.Worlds.{Story, World, IsSound, book_of, rows}
 use Rattle.sync_core.specs.WorldReads.{story_line, is_remembered_of, tally_of_story}
 use Rattle.sync_core.specs.WorldSteps.{story_named}
 use Rattle.sync_core.proofs.BasicLemmas.{T_parts, is_some-map}

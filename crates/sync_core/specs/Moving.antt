@@ -1,6 +1,6 @@
 -- Moving a card from one book to another: it is a removed member of the one and a changed member of the other
 -- (RFC 6578, section 3.5). The tests are this project's own.
-use Rattle.std.specs.Prelude.{ℕ, Bool, not, nat_lt, List, is_some, Option, Result, Ok}
+use Rattle.std.specs.Prelude.{ℕ, not, nat_lt, List, is_some, Option, Result, Ok}
 use Rattle.std.specs.FinMap as finite
 use Rattle.vcard_text.specs.declared.line.Line.{Line}
 use Rattle.sync_core.specs.declared.answers.Moved.{Moved}

@@ -1,5 +1,5 @@
 -- What the calls that change nothing tell of a book's rows. This project's own.
-use Rattle.std.specs.Prelude.{ℕ, Bool, false, not, ◌&&◌, nat_lt, List, [], ◌∷◌, ◌++◌, map, flat_map, is_some, Option, Result, Ok, Err}
+use Rattle.std.specs.Prelude.{ℕ, Bool, false, not, ◌&&◌, nat_lt, List, [], ◌∷◌, map, flat_map, is_some, Result, Ok}
 use Rattle.std.specs.Option.{option_map_or}
 use Rattle.std.specs.FinMap as finite
 use Rattle.sync_core.specs.declared.answers.BookLine.{BookLine}
