@@ -26,3 +26,4 @@ pub mod WorkedHistory
 pub mod DeviceLemmas
 pub mod PagingLemmas
 pub mod DeviceRunLemmas
+pub mod RemoveLemmas

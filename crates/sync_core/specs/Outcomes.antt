@@ -42,6 +42,10 @@ Reads allows (Err (Refused refusal)) (Ok asked) old new = ⊥
 Reads allows (Err (Refused refusal)) (Err wanted) old new = (refusal ≡ wanted) × (new ≡ old)
 Reads allows (Err (Fault fault)) step old new = new ≡ old
 
+-- The same of a call whose answer is told exactly.
+abbrev pub Tells : {A S : Type 0} → Result A Denied → Result A Refusal → S → S → Type 0
+Tells result reading old new = Reads (λ told answer. answer ≡ told) result reading old new
+
 -- the store isn't at fault: what was denied was refused, or memory was wanting
 abbrev pub HasNoStoreFault : {A : Type 0} → Result A Denied → Type 0
 HasNoStoreFault (Ok answer) = Unit {0}

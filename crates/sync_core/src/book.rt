@@ -3,6 +3,7 @@ ghost use Rattle.std.specs.Prelude.{◌≡◌, ◌<◌, ◌^◌, IfOk, IsSome, O
 ghost use Rattle.vcard_text.specs.Cards.{uid_of};
 ghost use Rattle.sync_core.specs.Books.{empty_book, live_at, stored_behind, with_change};
 ghost use Rattle.sync_core.specs.Counting.{live_count};
+ghost use Rattle.sync_core.specs.Removing.{remove_number};
 ghost use Rattle.sync_core.specs.Putting.{put_answer, answer_over, found_in, next_number, reason_for};
 
 use crate::answers::{ImportTally, PutAnswer};
@@ -82,7 +83,7 @@ impl PlainBook {
     }
 
     /// The live card of the UID, with its version.
-    fn live(&self, uid: &str) -> Option<(u64, &Card)>
+    pub(crate) fn live(&self, uid: &str) -> Option<(u64, &Card)>
         ensures { stored_behind result ≡ live_at self.now uid.now }
     {
         let row = self.members.get(uid)?;
@@ -158,6 +159,27 @@ impl PlainBook {
             return Err(Refusal::VersionMismatch { has });
         }
         self.answer_over(limits, card, live)
+    }
+
+    /// The number of the removal of the UID's card, where it is live. It changes nothing.
+    pub(crate) fn number_of_removal(
+        &self,
+        limits: Limits,
+        uid: &str,
+        expect: Option<u64>,
+    ) -> Result<u64, Refusal>
+        ensures number { result ≡ remove_number limits (found_in self.now uid.now) expect }
+        ensures room { OnOk result (self.now.number < 2 ^ 63) }
+    {
+        let Some((version, _)) = self.live(uid) else {
+            return Err(Refusal::NoSuchCard);
+        };
+        if let Some(expect) = expect
+            && expect != version
+        {
+            return Err(Refusal::VersionMismatch { has: version });
+        }
+        self.next_number(limits)
     }
 
     /// The change takes the next number. An `Err` leaves the book as it was.

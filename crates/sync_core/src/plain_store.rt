@@ -6,13 +6,15 @@ ghost use Rattle.sync_core.specs.BookNames.{is_legal_name, is_name_octet};
 ghost use Rattle.sync_core.specs.Books.{Books, with_change, empty_book};
 ghost use Rattle.sync_core.specs.Creating.{new_id, create_step};
 ghost use Rattle.sync_core.specs.NamedBooks.{named_books, IsPlaceOf};
-ghost use Rattle.sync_core.specs.Outcomes.{Does, Reads, HasNoStoreFault};
+ghost use Rattle.sync_core.specs.Outcomes.{Does, Reads, Tells, HasNoStoreFault};
 ghost use Rattle.sync_core.specs.Pages.{IsReport, report_step};
 ghost use Rattle.sync_core.specs.Putting.{put_step, reason_for};
+ghost use Rattle.sync_core.specs.Reading.{book_line_step, get_step};
+ghost use Rattle.sync_core.specs.Removing.{remove_step};
 
-use crate::answers::PutAnswer;
+use crate::answers::{BookLine, PutAnswer, Stored};
 use crate::book::PlainBook;
-use crate::change::{Change, StoreReason};
+use crate::change::{Change, RemovalReason, StoreReason};
 use crate::denied::Denied;
 use crate::limits::Limits;
 use crate::page::Page;
@@ -176,6 +178,59 @@ impl BookStore for PlainStore {
         let card = card.try_copy()?;
         apply_at(&mut self.books, i, uid, Change::Stores(card, reason))?;
         Ok(answer)
+    }
+
+    fn remove(&mut self, book: &str, uid: &str, expect: Option<u64>) -> Result<u64, Denied>
+        ensures limits { self.new.limits ≡ self.old.limits }
+        ensures does { Does result (remove_step self.old.limits self.old.books book.now uid.now expect) self.old.books self.new.books }
+        ensures no_store_fault { HasNoStoreFault result }
+    {
+        let Some(i) = place_of(self.books.as_slice(), book) else {
+            return Err(Denied::Refused(Refusal::NoSuchBook));
+        };
+        let number = self.books[i]
+            .book
+            .number_of_removal(self.limits, uid, expect)?;
+        let uid = String::from_str(self.alloc, uid)?;
+        apply_at(
+            &mut self.books,
+            i,
+            uid,
+            Change::TakesAway(RemovalReason::Deletion),
+        )?;
+        Ok(number)
+    }
+
+    fn get(&mut self, book: &str, uid: &str) -> Result<Stored, Denied>
+        ensures limits { self.new.limits ≡ self.old.limits }
+        ensures does { Tells result (get_step self.old.books book.now uid.now) self.old.books self.new.books }
+        ensures no_store_fault { HasNoStoreFault result }
+    {
+        let Some(i) = place_of(self.books.as_slice(), book) else {
+            return Err(Denied::Refused(Refusal::NoSuchBook));
+        };
+        let Some((version, card)) = self.books[i].book.live(uid) else {
+            return Err(Denied::Refused(Refusal::NoSuchCard));
+        };
+        let card = card.try_copy()?;
+        Ok(Stored { version, card })
+    }
+
+    fn book(&mut self, name: &str) -> Result<BookLine, Denied>
+        ensures limits { self.new.limits ≡ self.old.limits }
+        ensures does { Tells result (book_line_step self.old.books name.now) self.old.books self.new.books }
+        ensures no_store_fault { HasNoStoreFault result }
+    {
+        let Some(i) = place_of(self.books.as_slice(), name) else {
+            return Err(Denied::Refused(Refusal::NoSuchBook));
+        };
+        let book = &self.books[i].book;
+        Ok(BookLine {
+            name: Text::copy_of(self.alloc, name)?,
+            id: book.id(),
+            number: book.number(),
+            horizon: book.horizon(),
+        })
     }
 
     fn report(

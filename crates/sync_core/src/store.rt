@@ -2,12 +2,14 @@
 ghost use Rattle.sync_core.specs.Bounds.{Bounds};
 ghost use Rattle.sync_core.specs.Books.{Books};
 ghost use Rattle.sync_core.specs.Creating.{create_step};
-ghost use Rattle.sync_core.specs.Outcomes.{Does, Reads};
+ghost use Rattle.sync_core.specs.Outcomes.{Does, Reads, Tells};
 ghost use Rattle.sync_core.specs.Pages.{IsReport, report_step};
 ghost use Rattle.sync_core.specs.Putting.{put_step};
+ghost use Rattle.sync_core.specs.Reading.{book_line_step, get_step};
+ghost use Rattle.sync_core.specs.Removing.{remove_step};
 ghost use Rattle.std.specs.Prelude.{◌≡◌, ◌≤◌};
 
-use crate::answers::PutAnswer;
+use crate::answers::{BookLine, PutAnswer, Stored};
 use crate::denied::Denied;
 use crate::page::Page;
 use crate::token::Token;
@@ -47,6 +49,30 @@ pub trait BookStore {
         ensures premise { premise self.new → premise self.old }
         ensures limits { limits self.new ≡ limits self.old }
         ensures does { premise self.new → Does result (put_step (limits self.old) (books self.old) book.now card.now expect) (books self.old) (books self.new) };
+
+    /// Takes the live card of the UID away, and answers the number of its removal (RFC 6578, section 3.5.2).
+    ///
+    /// `expect` is the version that the card must have, and `None` where it doesn't matter. Refused, by the first that
+    /// holds, with `NoSuchBook`; `NoSuchCard` where no card of the UID is live; `VersionMismatch` with what is live;
+    /// `ChangesSpent` where the book took as many changes as its limit.
+    fn remove(&mut self, book: &str, uid: &str, expect: Option<u64>) -> Result<u64, Denied>
+        ensures premise { premise self.new → premise self.old }
+        ensures limits { limits self.new ≡ limits self.old }
+        ensures does { premise self.new → Does result (remove_step (limits self.old) (books self.old) book.now uid.now expect) (books self.old) (books self.new) };
+
+    /// The live card of the UID, with its version.
+    ///
+    /// Refused with `NoSuchBook`, and with `NoSuchCard` where no card of the UID is live.
+    fn get(&mut self, book: &str, uid: &str) -> Result<Stored, Denied>
+        ensures premise { premise self.new → premise self.old }
+        ensures limits { limits self.new ≡ limits self.old }
+        ensures does { premise self.new → Tells result (get_step (books self.old) book.now uid.now) (books self.old) (books self.new) };
+
+    /// The book without its cards: its name, id, number and horizon. Refused with `NoSuchBook`.
+    fn book(&mut self, name: &str) -> Result<BookLine, Denied>
+        ensures premise { premise self.new → premise self.old }
+        ensures limits { limits self.new ≡ limits self.old }
+        ensures does { premise self.new → Tells result (book_line_step (books self.old) name.now) (books self.old) (books self.new) };
 
     /// The first members that changed or went since the token, in the order of their last changes (RFC 6578,
     /// sections 3.2 to 3.7), at most `limit` and at most a page of them. Without a token it is a first report.
