@@ -21,7 +21,7 @@ use Rattle.sync_core.specs.Books.{Books, with_change}
 use Rattle.sync_core.specs.ChangeLaws.{RemovingFollows, MovingFollows}
 use Rattle.sync_core.specs.Histories.{BookEvent, same_uid, changed, live}
 use Rattle.sync_core.specs.Lawful.{MayHappen, IsLawful}
-use Rattle.sync_core.specs.Moving.{Moving, move_answer, books_after_move}
+use Rattle.sync_core.specs.Moving.{Moving, move_numbers, move_answer, books_after_move}
 use Rattle.sync_core.specs.Outcomes.{◌>>=◌, provided}
 use Rattle.sync_core.specs.Putting.{Found, found_in, is_expected}
 use Rattle.sync_core.specs.Removing.{live_card, remove_number}
@@ -88,17 +88,16 @@ pub record FoundToMove (source target : Found) (moving : Moving) : Type 0 where
   pub free : target.live ≡ None
   pub card : moving.card ≡ stored.card
 
-numbered : (from version : ℕ) → Moved
-numbered from version = record { from = from; version = version }
+abbrev with_card : List Line → Moved → Moving
+with_card card numbers = record { card = card; numbers = numbers }
 
-moved_card : (expected room left right : Bool) (has n m : ℕ) (card : List Line) (moving : Moving)
-    → (provided expected (VersionMismatch has) >>= λ _. provided room BookFull >>= λ _. (provided left ChangesSpent >>= λ _. Ok n) >>= λ from. (provided right ChangesSpent >>= λ _. Ok m) >>= λ version. Ok (record { card = card; numbers = record { from = from; version = version } })) ≡ Ok moving
-    → moving.card ≡ card
-moved_card true true true true has n m card moving e = ap (λ (x : Moving). x.card) (sym (same_answer _ _ e))
-moved_card true true true false has n m card moving e = absurd (no_answer ChangesSpent moving e)
-moved_card true true false right has n m card moving e = absurd (no_answer ChangesSpent moving e)
-moved_card true false left right has n m card moving e = absurd (no_answer BookFull moving e)
-moved_card false room left right has n m card moving e = absurd (no_answer (VersionMismatch has) moving e)
+-- past the test of the version
+pub expected_first : (expected : Bool) (has : ℕ) (card : List Line) (numbers : Result Moved Refusal) (moving : Moving)
+    → (provided expected (VersionMismatch has) >>= λ _. numbers >>= λ n. Ok (record { card = card; numbers = n })) ≡ Ok moving
+    → (numbers ≡ Ok moving.numbers) × (moving.card ≡ card)
+expected_first true has card (Ok n) moving e = let is = same_answer (with_card card n) moving e in (ap (λ (x : Moving). Ok x.numbers) is, ap (λ (x : Moving). x.card) (sym is))
+expected_first true has card (Err refusal) moving e = absurd (no_answer refusal moving e)
+expected_first false has card numbers moving e = absurd (no_answer (VersionMismatch has) moving e)
 
 pub free_first : (target : Option Stored) (rest : Result Moving Refusal) (moving : Moving) → (provided (not (is_some target)) UidTaken >>= λ _. rest) ≡ Ok moving → (target ≡ None) × (rest ≡ Ok moving)
 free_first None rest moving e = (refl, e)
@@ -112,7 +111,7 @@ found_to_move limits source target expect moving e =
       stored = l.0;
       live = l.1;
       free = f.0;
-      card = moved_card (is_expected expect l.0.version) (nat_lt target.cards limits.cards_max) (nat_lt source.number limits.changes_max) (nat_lt target.number limits.changes_max) l.0.version (source.number + 1) (target.number + 1) l.0.card moving f.1;
+      card = (expected_first (is_expected expect l.0.version) l.0.version l.0.card (move_numbers limits target.cards source.number target.number) moving f.1).1;
     }
 
 -- both stories of a move go on soundly

@@ -27,3 +27,4 @@ pub mod DeviceLemmas
 pub mod PagingLemmas
 pub mod DeviceRunLemmas
 pub mod RemoveLemmas
+pub mod MovedLemmas

@@ -21,14 +21,14 @@ use Rattle.sync_core.specs.Bounds.{Bounds}
 use Rattle.sync_core.specs.Books.{same_name}
 use Rattle.sync_core.specs.Histories.{LiveCards, live}
 use Rattle.sync_core.specs.MoveLaws.{cards_in, TakesOneCard, MovesTakeOneCard}
-use Rattle.sync_core.specs.Moving.{Moving, move_answer}
+use Rattle.sync_core.specs.Moving.{Moving, move_numbers, move_answer}
 use Rattle.sync_core.specs.Outcomes.{◌>>=◌, provided}
 use Rattle.sync_core.specs.Putting.{Found, is_expected}
 use Rattle.sync_core.specs.Worlds.{Story, Stories}
 use Rattle.sync_core.specs.WorldChanges.{event, stories_after_move}
 use Rattle.sync_core.specs.WorldSteps.{with_event, story_named, found_of}
 use Rattle.sync_core.proofs.BasicLemmas.{T_parts, T_both}
-use Rattle.sync_core.proofs.ChangeLemmas.{found_to_move, live_first, free_first}
+use Rattle.sync_core.proofs.ChangeLemmas.{found_to_move, live_first, free_first, expected_first}
 use Rattle.sync_core.proofs.CountLemmas.{len-removed}
 use Rattle.sync_core.proofs.FollowLemmas.{same_answer, no_answer}
 use Rattle.sync_core.proofs.TextLemmas.{text_total, same_self, same_equiv, get-insert_here}
@@ -83,14 +83,13 @@ module _ {X : Type 0} (weight : X → ℕ) where
 
 -- ---- what a move that was answered found
 
-numbers_are : (expected room left right : Bool) (has n m : ℕ) (card : List Line) (moving : Moving)
-    → (provided expected (VersionMismatch has) >>= λ _. provided room BookFull >>= λ _. (provided left ChangesSpent >>= λ _. Ok n) >>= λ from. (provided right ChangesSpent >>= λ _. Ok m) >>= λ version. Ok (record { card = card; numbers = record { from = from; version = version } })) ≡ Ok moving
-    → moving.numbers ≡ record { from = n; version = m }
-numbers_are true true true true has n m card moving e = ap (λ (x : Moving). x.numbers) (sym (same_answer _ moving e))
-numbers_are true true true false has n m card moving e = absurd (no_answer ChangesSpent moving e)
-numbers_are true true false right has n m card moving e = absurd (no_answer ChangesSpent moving e)
-numbers_are true false left right has n m card moving e = absurd (no_answer BookFull moving e)
-numbers_are false room left right has n m card moving e = absurd (no_answer (VersionMismatch has) moving e)
+numbers_are : (room left right : Bool) (n m : ℕ) (moved : Moved)
+    → (provided room BookFull >>= λ _. (provided left ChangesSpent >>= λ _. Ok n) >>= λ from. (provided right ChangesSpent >>= λ _. Ok m) >>= λ version. Ok (record { from = from; version = version })) ≡ Ok moved
+    → moved ≡ record { from = n; version = m }
+numbers_are true true true n m moved e = sym (same_answer _ moved e)
+numbers_are true true false n m moved e = absurd (no_answer ChangesSpent moved e)
+numbers_are true false right n m moved e = absurd (no_answer ChangesSpent moved e)
+numbers_are false left right n m moved e = absurd (no_answer BookFull moved e)
 
 -- both books of a move that was answered, and what was answered
 record Moves (limits : Bounds) (stories : Stories) (from to uid : List ℕ) (expect : Option ℕ) (moved : Moved) (after : Stories) : Type 0 where
@@ -211,4 +210,5 @@ moves_take_one_card world from to uid expect moved after e =
     moved_numbers limits a b expect moving given =
         let l = live_first a.live _ moving given in
         let f = free_first b.live _ moving l.2 in
-        numbers_are (is_expected expect l.0.version) (nat_lt b.cards limits.cards_max) (nat_lt a.number limits.changes_max) (nat_lt b.number limits.changes_max) l.0.version (a.number + 1) (b.number + 1) l.0.card moving f.1
+        let g = expected_first (is_expected expect l.0.version) l.0.version l.0.card (move_numbers limits b.cards a.number b.number) moving f.1 in
+        numbers_are (nat_lt b.cards limits.cards_max) (nat_lt a.number limits.changes_max) (nat_lt b.number limits.changes_max) (a.number + 1) (b.number + 1) moving.numbers g.0

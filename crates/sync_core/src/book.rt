@@ -1,12 +1,14 @@
 //! A book that is kept in memory.
-ghost use Rattle.std.specs.Prelude.{◌≡◌, ◌<◌, ◌^◌, IfOk, IsSome, OnOk, OnErr, string_bytes};
+ghost use Rattle.std.specs.Prelude.{◌≡◌, ◌<◌, ◌^◌, IfOk, IfErr, IsSome, OnOk, OnErr, Ok, Err, None, string_bytes};
+ghost use Rattle.std.specs.FinMap as finite;
+ghost use Rattle.sync_core.specs.Moving.{move_numbers, move_answer};
 ghost use Rattle.vcard_text.specs.Cards.{uid_of};
 ghost use Rattle.sync_core.specs.Books.{empty_book, live_at, stored_behind, with_change};
 ghost use Rattle.sync_core.specs.Counting.{live_count};
 ghost use Rattle.sync_core.specs.Removing.{remove_number};
 ghost use Rattle.sync_core.specs.Putting.{put_answer, answer_over, found_in, next_number, reason_for};
 
-use crate::answers::{ImportTally, PutAnswer};
+use crate::answers::{ImportTally, Moved, PutAnswer};
 use crate::change::Change;
 use crate::counts::Counts;
 use crate::limits::Limits;
@@ -182,11 +184,52 @@ impl PlainBook {
         self.next_number(limits)
     }
 
-    /// The change takes the next number. An `Err` leaves the book as it was.
+    /// The numbers of a move from this book to the other, where both and the other's limit on cards leave room.
+    fn numbers_of_move(&self, target: &PlainBook, limits: Limits) -> Result<Moved, Refusal>
+        ensures numbers { result ≡ move_numbers limits (live_count target.now.counts) self.now.number target.now.number }
+        ensures room { OnOk result ((self.now.number < 2 ^ 63) × (target.now.number < 2 ^ 63)) }
+    {
+        if target.cards() >= limits.cards_max() {
+            return Err(Refusal::BookFull);
+        }
+        let from = self.next_number(limits)?;
+        let version = target.next_number(limits)?;
+        Ok(Moved { from, version })
+    }
+
+    /// The card that moves from this book to the other, and the numbers that the move takes. It changes nothing.
+    pub(crate) fn answer_to_move<'a>(
+        &'a self,
+        target: &PlainBook,
+        limits: Limits,
+        uid: &str,
+        expect: Option<u64>,
+    ) -> Result<(&'a Card, Moved), Refusal>
+        ensures answer { IfOk result (λ p. move_answer limits (found_in self.now uid.now) (found_in target.now uid.now) expect ≡ Ok (record { card = p.0.now; numbers = p.1 })) }
+        ensures refusal { IfErr result (λ refusal. move_answer limits (found_in self.now uid.now) (found_in target.now uid.now) expect ≡ Err refusal) }
+        ensures room { OnOk result ((self.now.number < 2 ^ 63) × (target.now.number < 2 ^ 63)) }
+    {
+        let Some((version, card)) = self.live(uid) else {
+            return Err(Refusal::NoSuchCard);
+        };
+        if target.live(uid).is_some() {
+            return Err(Refusal::UidTaken);
+        }
+        if let Some(expect) = expect
+            && expect != version
+        {
+            return Err(Refusal::VersionMismatch { has: version });
+        }
+        let numbers = self.numbers_of_move(target, limits)?;
+        Ok((card, numbers))
+    }
+
+    /// The change takes the next number. An `Err` leaves the book as it was, and comes only where it has no row of the UID.
     pub(crate) fn apply(&mut self, uid: String, change: Change) -> Result<(), NoMemory>
         requires { self.old.number < 2 ^ 63 }
         ensures ok { OnOk result (self.new ≡ with_change self.old (string_bytes uid) change) }
         ensures err { OnErr result (self.new ≡ self.old) }
+        ensures absent { OnErr result (finite.get self.old.members (string_bytes uid) ≡ None) }
     {
         let changed = self.number + 1;
         let mut counts = self.counts;

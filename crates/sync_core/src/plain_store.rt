@@ -1,18 +1,21 @@
 //! A store that keeps its books in memory.
-ghost use Rattle.std.specs.Prelude.{◌≡◌, ◌<◌, ◌≤◌, ◌^◌, ◌∷◌, IfNone, IfSome, OnOk, OnErr, Some, None, length, slice_get, slice_set, string_bytes};
+ghost use Rattle.std.specs.Prelude.{◌≡◌, ◌<◌, ◌≤◌, ◌^◌, ◌∷◌, IfNone, IfSome, IsSomeAnd, OnOk, OnErr, Some, None, length, slice_get, slice_set, string_bytes};
 ghost use Rattle.std.specs.FinMap as finite;
 ghost use Rattle.sync_core.specs.declared.plain_store.Named.{Named};
 ghost use Rattle.sync_core.specs.BookNames.{is_legal_name, is_name_octet};
 ghost use Rattle.sync_core.specs.Books.{Books, with_change, empty_book};
 ghost use Rattle.sync_core.specs.Creating.{new_id, create_step};
-ghost use Rattle.sync_core.specs.NamedBooks.{named_books, IsPlaceOf};
+ghost use Rattle.sync_core.specs.Moving.{HasRow, move_step};
+ghost use Rattle.sync_core.specs.NamedBooks.{named_books, IsPlaceOf, AreApart};
+ghost use Rattle.sync_core.specs.declared.change.Change.TheVariants.{TakesAway};
+ghost use Rattle.sync_core.specs.declared.change.RemovalReason.TheVariants.{MoveOut};
 ghost use Rattle.sync_core.specs.Outcomes.{Does, Reads, Tells, HasNoStoreFault};
 ghost use Rattle.sync_core.specs.Pages.{IsReport, report_step};
 ghost use Rattle.sync_core.specs.Putting.{put_step, reason_for};
 ghost use Rattle.sync_core.specs.Reading.{book_line_step, get_step};
 ghost use Rattle.sync_core.specs.Removing.{remove_step};
 
-use crate::answers::{BookLine, PutAnswer, Stored};
+use crate::answers::{BookLine, Moved, PutAnswer, Stored};
 use crate::book::PlainBook;
 use crate::change::{Change, RemovalReason, StoreReason};
 use crate::denied::Denied;
@@ -138,9 +141,27 @@ fn apply_at(books: &mut Vec<Named>, i: usize, uid: String, change: Change) -> Re
     ensures ok { OnOk result ((b : Named) → slice_get books.old.items i ≡ Some b →
         books.new.items ≡ slice_set books.old.items i (record { name = b.name; book = with_change b.book (string_bytes uid) change })) }
     ensures err { OnErr result (books.new.items ≡ books.old.items) }
+    ensures absent { OnErr result ((b : Named) → slice_get books.old.items i ≡ Some b → finite.get b.book.members (string_bytes uid) ≡ None) }
 {
     let named = &mut books[i];
     named.book.apply(uid, change)
+}
+
+/// The card of the UID leaves the book of the name for another. Its row is there and is written over, so that it takes no
+/// memory and can't fail: where a card moves, this is done last.
+fn move_out(books: &mut Vec<Named>, name: &str, uid: String)
+    requires { IsSomeAnd (finite.get (named_books books.old.items) name.now) (HasRow (string_bytes uid)) }
+    ensures written { IfSome (finite.get (named_books books.old.items) name.now) (λ b.
+        named_books books.new.items ≡ finite.insert (named_books books.old.items) name.now (with_change b (string_bytes uid) (TakesAway MoveOut))) }
+    ensures apart { AreApart books.old.items → AreApart books.new.items }
+{
+    let Some(i) = place_of(books.as_slice(), name) else {
+        unreachable!();
+    };
+    match apply_at(books, i, uid, Change::TakesAway(RemovalReason::MoveOut)) {
+        Ok(()) => (),
+        Err(_) => unreachable!(),
+    }
 }
 
 impl BookStore for PlainStore {
@@ -199,6 +220,43 @@ impl BookStore for PlainStore {
             Change::TakesAway(RemovalReason::Deletion),
         )?;
         Ok(number)
+    }
+
+    fn move_card(
+        &mut self,
+        from: &str,
+        to: &str,
+        uid: &str,
+        expect: Option<u64>,
+    ) -> Result<Moved, Denied>
+        ensures limits { self.new.limits ≡ self.old.limits }
+        ensures does { Does result (move_step self.old.limits self.old.books from.now to.now uid.now expect) self.old.books self.new.books }
+        ensures no_store_fault { HasNoStoreFault result }
+    {
+        let Some(i) = place_of(self.books.as_slice(), from) else {
+            return Err(Denied::Refused(Refusal::NoSuchBook));
+        };
+        let Some(j) = place_of(self.books.as_slice(), to) else {
+            return Err(Denied::Refused(Refusal::NoSuchBook));
+        };
+        if from == to {
+            return Err(Denied::Refused(Refusal::SameBook));
+        }
+        let target = &self.books[j].book;
+        let (card, moved) = self.books[i]
+            .book
+            .answer_to_move(target, self.limits, uid, expect)?;
+        let card = card.try_copy()?;
+        let came = String::from_str(self.alloc, uid)?;
+        let left = String::from_str(self.alloc, uid)?;
+        apply_at(
+            &mut self.books,
+            j,
+            came,
+            Change::Stores(card, StoreReason::MoveIn),
+        )?;
+        move_out(&mut self.books, from, left);
+        Ok(moved)
     }
 
     fn get(&mut self, book: &str, uid: &str) -> Result<Stored, Denied>

@@ -2,6 +2,7 @@
 ghost use Rattle.sync_core.specs.Bounds.{Bounds};
 ghost use Rattle.sync_core.specs.Books.{Books};
 ghost use Rattle.sync_core.specs.Creating.{create_step};
+ghost use Rattle.sync_core.specs.Moving.{move_step};
 ghost use Rattle.sync_core.specs.Outcomes.{Does, Reads, Tells};
 ghost use Rattle.sync_core.specs.Pages.{IsReport, report_step};
 ghost use Rattle.sync_core.specs.Putting.{put_step};
@@ -9,7 +10,7 @@ ghost use Rattle.sync_core.specs.Reading.{book_line_step, get_step};
 ghost use Rattle.sync_core.specs.Removing.{remove_step};
 ghost use Rattle.std.specs.Prelude.{◌≡◌, ◌≤◌};
 
-use crate::answers::{BookLine, PutAnswer, Stored};
+use crate::answers::{BookLine, Moved, PutAnswer, Stored};
 use crate::denied::Denied;
 use crate::page::Page;
 use crate::token::Token;
@@ -59,6 +60,25 @@ pub trait BookStore {
         ensures premise { premise self.new → premise self.old }
         ensures limits { limits self.new ≡ limits self.old }
         ensures does { premise self.new → Does result (remove_step (limits self.old) (books self.old) book.now uid.now expect) (books self.old) (books self.new) };
+
+    /// Moves the live card of the UID from the one book to the other, and answers the numbers that it takes in both: it is
+    /// a removed member of the one and a changed member of the other (RFC 6578, section 3.5).
+    ///
+    /// `expect` is the version that the card must have in the book that it leaves, and `None` where it doesn't matter.
+    /// Refused, by the first that holds, with `NoSuchBook` for the book that it leaves and then for the other; `SameBook`;
+    /// `NoSuchCard` where no card of the UID is live; `UidTaken` where one is live in the other book; `VersionMismatch`
+    /// with what is live; `BookFull` where the other book has as many cards as its limit; `ChangesSpent` where either took
+    /// as many changes as its limit.
+    fn move_card(
+        &mut self,
+        from: &str,
+        to: &str,
+        uid: &str,
+        expect: Option<u64>,
+    ) -> Result<Moved, Denied>
+        ensures premise { premise self.new → premise self.old }
+        ensures limits { limits self.new ≡ limits self.old }
+        ensures does { premise self.new → Does result (move_step (limits self.old) (books self.old) from.now to.now uid.now expect) (books self.old) (books self.new) };
 
     /// The live card of the UID, with its version.
     ///
