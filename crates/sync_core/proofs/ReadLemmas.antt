@@ -2,8 +2,9 @@
 use Rattle.std.proofs.Common.{◌≡◌, ℕ, true, false, cond, not, ◌&&◌, ◌||◌, T, List, [], ◌∷◌, ◌++◌, map, flat_map, length, filter, Option, Some, None, Result, Ok, Err, is_some, nat_lt, ◌<◌, Ordering, Less, Equal, Greater, refl, sym, ap, ◌∙◌, subst}
 use Rattle.std.specs.Option.{option_map, option_map_or, option_and_then}
 use Rattle.std.specs.FinMap as finite
-use Rattle.std.specs.FinMap.{get-from_entries, same_map}
-use Rattle.std.specs.FinMap.Entries.{find, below_all, is_sorted}
+use Rattle.std.specs.FinMap.{get-retain_keys, get-from_entries, same_map, entries-from_sorted}
+use Rattle.std.specs.FinMap.Entries.{find, below_all, is_sorted, where_key, is_sorted-where_key, find-where_key, same_entries}
+use Rattle.std.specs.List.{AllByRecursion}
 use Rattle.std.specs.Ordering.{is_lt, is_eq}
 use Rattle.std.proofs.lemmas.Bool.{cond-true, cond-false}
 use Rattle.std.proofs.lemmas.Map.Lookups.{exact_bytes}
@@ -25,7 +26,8 @@ use Rattle.sync_core.specs.WorldReads.{story_line, is_remembered_of, tally_of_st
 use Rattle.sync_core.specs.WorldSteps.{story_named}
 use Rattle.sync_core.proofs.BasicLemmas.{T_parts, is_some-map}
 use Rattle.sync_core.proofs.CountLemmas.{live_count_is}
-use Rattle.sync_core.proofs.ForgetLemmas.{len_retained, retained_rows}
+use Rattle.sync_core.proofs.ForgetLemmas.{at_row, len_retained, retained_rows}
+use Rattle.sync_core.proofs.ReportLemmas.{each_found}
 use Rattle.sync_core.proofs.RowLemmas.{row_at, live_by_row}
 use Rattle.sync_core.proofs.TextLemmas.{text_total, same-equal}
 use Rattle.sync_core.proofs.WorldLemmas.{get-rows, entries-rows}
@@ -111,6 +113,28 @@ kept_imports_follow world name key = told_named world name _ _ (λ story sound. 
 
 -- ---- a book in numbers
 
+-- the entries of the rows that pass a test
+module _ (m : finite.FinMap text_cmp Row) (test : Row → Bool) where
+  abbrev by_key : List ℕ → Bool
+  by_key = at_row test m
+
+  -- on entries of the map the test of the key is that of the row
+  same_passing : (es : Members) → AllByRecursion (λ e. finite.get m e.0 ≡ Some e.1) es → where_key text_cmp by_key es ≡ filter (λ (e : List ℕ × Row). test e.1) es
+  same_passing [] a = refl
+  same_passing (e ∷ es) a =
+      ap (λ b. cond b (e ∷ where_key text_cmp by_key es) (where_key text_cmp by_key es)) (ap (λ (o : Option Row). option_map_or test o false) a.0)
+      ∙ ap (λ (ds : Members). cond (test e.1) (e ∷ ds) ds) (same_passing es a.1)
+
+  pub entries-retained : finite.entries (finite.retain_keys m by_key) ≡ filter (λ (e : List ℕ × Row). test e.1) (finite.entries m)
+  entries-retained =
+      same_entries text_cmp text_total exact_bytes (finite.entries (finite.retain_keys m by_key)) (where_key text_cmp by_key (finite.entries m))
+      (finite.entries_sorted (finite.retain_keys m by_key)) (is_sorted-where_key text_cmp by_key (finite.entries m) (finite.entries_sorted m))
+      (λ q. sym (finite.get-entries (finite.retain_keys m by_key) q) ∙ get-retain_keys m by_key q (alike q) ∙ ap (λ (o : Option Row). cond (by_key q) o None) (finite.get-entries m q) ∙ sym (find-where_key text_cmp by_key q (alike q) (finite.entries m)))
+      ∙ same_passing (finite.entries m) (each_found m)
+    where
+      alike : (q x : List ℕ) → text_cmp q x ≡ Equal → by_key x ≡ by_key q
+      alike q x e = ap by_key (sym (exact_bytes q x e))
+
 module _ (story : Story) where
   removed_after : (uid : List ℕ) → 0 < last story.history uid → (is_kept story.history story.horizon uid && is_removed_after story.horizon (row_at story.history uid)) ≡ is_remembered_of story uid
   removed_after uid some =
@@ -122,7 +146,9 @@ module _ (story : Story) where
 
   remembered_is : remembered_in (book_of story) ≡ length (filter (is_remembered_of story) (touched story.history))
   remembered_is =
-      ap finite.len (retained_rows story.history story.horizon (is_removed_after story.horizon) (is_remembered_of story) removed_after)
+      ap length (sym (entries-retained (kept_rows story.history story.horizon) (is_removed_after story.horizon)))
+      ∙ sym (finite.len-entries (finite.retain_keys (kept_rows story.history story.horizon) (at_row (is_removed_after story.horizon) (kept_rows story.history story.horizon))))
+      ∙ ap finite.len (retained_rows story.history story.horizon (is_removed_after story.horizon) (is_remembered_of story) removed_after)
       ∙ len_retained story.history (is_remembered_of story)
 
   tally_is : IsSound story → tally_of (book_of story) ≡ tally_of_story story

@@ -1,7 +1,8 @@
 -- What the calls that change nothing tell of a book's rows. This project's own.
-use Rattle.std.specs.Prelude.{ℕ, Bool, false, not, ◌&&◌, nat_lt, List, [], ◌∷◌, map, flat_map, is_some, Result, Ok}
+use Rattle.std.specs.Prelude.{ℕ, Bool, not, ◌&&◌, nat_lt, List, [], ◌∷◌, ◌++◌, map, flat_map, filter, length, is_some, Option, Result, Ok, Err}
 use Rattle.std.specs.Option.{option_map_or}
 use Rattle.std.specs.FinMap as finite
+use Rattle.vcard_text.specs.TextMaps.{text_cmp}
 use Rattle.sync_core.specs.declared.answers.BookLine.{BookLine}
 use Rattle.sync_core.specs.declared.answers.Stored.{Stored}
 use Rattle.sync_core.specs.declared.answers.Tally.{Tally}
@@ -72,9 +73,13 @@ tally_with number horizon cards counts remembered = record {
 abbrev pub is_removed_after : ℕ → Row → Bool
 is_removed_after horizon row = not (is_some row.card) && nat_lt horizon row.changed
 
+-- how many members were removed after the horizon
+abbrev pub removed_after : finite.FinMap text_cmp Row → ℕ → ℕ
+removed_after members horizon = length (filter (λ member. is_removed_after horizon member.1) (finite.entries members))
+
 -- the removed members that a book remembers
 abbrev pub remembered_in : Book → ℕ
-remembered_in book = finite.len (finite.retain_keys book.members (λ uid. option_map_or (is_removed_after book.horizon) (finite.get book.members uid) false))
+remembered_in book = removed_after book.members book.horizon
 
 abbrev pub tally_of : Book → Tally
 tally_of book = tally_with book.number book.horizon (live_count book.counts) book.counts (remembered_in book)

@@ -6,9 +6,10 @@ ghost use Rattle.vcard_text.specs.Cards.{uid_of};
 ghost use Rattle.sync_core.specs.Books.{empty_book, live_at, stored_behind, with_change};
 ghost use Rattle.sync_core.specs.Counting.{live_count};
 ghost use Rattle.sync_core.specs.Removing.{remove_number};
+ghost use Rattle.sync_core.specs.Reading.{is_removed_after, removed_after, tally_of};
 ghost use Rattle.sync_core.specs.Putting.{put_answer, answer_over, found_in, next_number, reason_for};
 
-use crate::answers::{ImportTally, Moved, PutAnswer};
+use crate::answers::{ImportTally, Moved, PutAnswer, Tally};
 use crate::change::Change;
 use crate::counts::Counts;
 use crate::limits::Limits;
@@ -43,6 +44,22 @@ impl Model for PlainBook {
 
     // The counts can't pass the number, so none of them overflows.
     ghost invariant = { λ b. total b.counts ≡ b.number };
+}
+
+/// Whether the row is of a member that was removed after the horizon.
+fn is_removed_after(row: &Row, horizon: u64) -> bool
+    ensures { result ≡ is_removed_after horizon row.now }
+{
+    row.card.is_none() && row.changed > horizon
+}
+
+/// How many members were removed after the horizon.
+fn count_removed(alloc: Global, members: &TextMap<Row>, horizon: u64) -> Result<u64, NoMemory>
+    ensures { IfOk result (λ count. count ≡ removed_after members.now horizon) }
+{
+    let mut removed = members.entries(alloc)?;
+    removed.retain(|member| is_removed_after(member.1, horizon));
+    Ok(removed.len() as u64)
 }
 
 impl PlainBook {
@@ -182,6 +199,35 @@ impl PlainBook {
             return Err(Refusal::VersionMismatch { has: version });
         }
         self.next_number(limits)
+    }
+
+    /// The book in numbers. The rows are gone through for the removed members; all else is at hand.
+    pub(crate) fn tally(&self, alloc: Global) -> Result<Tally, NoMemory>
+        ensures { IfOk result (λ tally. tally ≡ tally_of self.now) }
+    {
+        let remembered = count_removed(alloc, &self.members, self.horizon)?;
+        let Counts {
+            created,
+            edited,
+            imported,
+            import_edited,
+            moved_in,
+            deleted,
+            moved_out,
+        } = self.counts;
+        Ok(Tally {
+            number: self.number,
+            horizon: self.horizon,
+            cards: self.cards(),
+            created,
+            edited,
+            imported,
+            import_edited,
+            moved_in,
+            deleted,
+            moved_out,
+            remembered,
+        })
     }
 
     /// The numbers of a move from this book to the other, where both and the other's limit on cards leave room.

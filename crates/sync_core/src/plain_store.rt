@@ -12,10 +12,10 @@ ghost use Rattle.sync_core.specs.declared.change.RemovalReason.TheVariants.{Move
 ghost use Rattle.sync_core.specs.Outcomes.{Does, Reads, Tells, HasNoStoreFault};
 ghost use Rattle.sync_core.specs.Pages.{IsReport, report_step};
 ghost use Rattle.sync_core.specs.Putting.{put_step, reason_for};
-ghost use Rattle.sync_core.specs.Reading.{book_line_step, get_step};
+ghost use Rattle.sync_core.specs.Reading.{book_line_step, get_step, tally_step};
 ghost use Rattle.sync_core.specs.Removing.{remove_step};
 
-use crate::answers::{BookLine, Moved, PutAnswer, Stored};
+use crate::answers::{BookLine, Moved, PutAnswer, Stored, Tally};
 use crate::book::PlainBook;
 use crate::change::{Change, RemovalReason, StoreReason};
 use crate::denied::Denied;
@@ -289,6 +289,17 @@ impl BookStore for PlainStore {
             number: book.number(),
             horizon: book.horizon(),
         })
+    }
+
+    fn tally(&mut self, book: &str) -> Result<Tally, Denied>
+        ensures limits { self.new.limits ≡ self.old.limits }
+        ensures does { Tells result (tally_step self.old.books book.now) self.old.books self.new.books }
+        ensures no_store_fault { HasNoStoreFault result }
+    {
+        let Some(i) = place_of(self.books.as_slice(), book) else {
+            return Err(Denied::Refused(Refusal::NoSuchBook));
+        };
+        Ok(self.books[i].book.tally(self.alloc)?)
     }
 
     fn report(

@@ -6,11 +6,11 @@ ghost use Rattle.sync_core.specs.Moving.{move_step};
 ghost use Rattle.sync_core.specs.Outcomes.{Does, Reads, Tells};
 ghost use Rattle.sync_core.specs.Pages.{IsReport, report_step};
 ghost use Rattle.sync_core.specs.Putting.{put_step};
-ghost use Rattle.sync_core.specs.Reading.{book_line_step, get_step};
+ghost use Rattle.sync_core.specs.Reading.{book_line_step, get_step, tally_step};
 ghost use Rattle.sync_core.specs.Removing.{remove_step};
 ghost use Rattle.std.specs.Prelude.{◌≡◌, ◌≤◌};
 
-use crate::answers::{BookLine, Moved, PutAnswer, Stored};
+use crate::answers::{BookLine, Moved, PutAnswer, Stored, Tally};
 use crate::denied::Denied;
 use crate::page::Page;
 use crate::token::Token;
@@ -93,6 +93,13 @@ pub trait BookStore {
         ensures premise { premise self.new → premise self.old }
         ensures limits { limits self.new ≡ limits self.old }
         ensures does { premise self.new → Tells result (book_line_step (books self.old) name.now) (books self.old) (books self.new) };
+
+    /// The book in numbers: its live cards, its changes by their reasons, and the removed members that it remembers.
+    /// Refused with `NoSuchBook`.
+    fn tally(&mut self, book: &str) -> Result<Tally, Denied>
+        ensures premise { premise self.new → premise self.old }
+        ensures limits { limits self.new ≡ limits self.old }
+        ensures does { premise self.new → Tells result (tally_step (books self.old) book.now) (books self.old) (books self.new) };
 
     /// The first members that changed or went since the token, in the order of their last changes (RFC 6578,
     /// sections 3.2 to 3.7), at most `limit` and at most a page of them. Without a token it is a first report.
