@@ -1,3 +1,4 @@
+mod changing;
 mod limits;
 mod numbers;
 mod reports;

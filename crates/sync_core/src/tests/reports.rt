@@ -55,47 +55,33 @@ fn a_first_report_has_the_live_cards_in_the_order_of_their_changes(
 fn a_truncated_page_stands_for_the_part_that_it_has(rt: HostRuntime) -> Result<(), Fail> {
     let alloc = rt.alloc();
     let mut store = store_after_puts(alloc)?;
-    is_told(
-        &rt,
-        alloc,
-        &mut store,
-        None,
-        Some(1),
-        "b 2 Bob\nhttp://contacts.invalid/sync/1/2/4 and more",
-    )?;
-    is_told(
-        &rt,
-        alloc,
-        &mut store,
-        token(1, 2, 4),
-        Some(1),
-        "c 3 Cy\nhttp://contacts.invalid/sync/1/3/4 and more",
-    )?;
-    is_told(
-        &rt,
-        alloc,
-        &mut store,
-        token(1, 3, 4),
-        Some(1),
-        "a 4 Anna\nhttp://contacts.invalid/sync/1/4/4",
-    )?;
+    for (token, wanted) in [
+        (None, "b 2 Bob\nhttp://contacts.invalid/sync/1/2/4 and more"),
+        (
+            token(1, 2, 4),
+            "c 3 Cy\nhttp://contacts.invalid/sync/1/3/4 and more",
+        ),
+        (
+            token(1, 3, 4),
+            "a 4 Anna\nhttp://contacts.invalid/sync/1/4/4",
+        ),
+    ] {
+        is_told(&rt, alloc, &mut store, token, Some(1), wanted)?;
+    }
     store.put("staff", &card(alloc, "c", "Cyd")?, None)?;
-    is_told(
-        &rt,
-        alloc,
-        &mut store,
-        token(1, 2, 4),
-        Some(1),
-        "a 4 Anna\nhttp://contacts.invalid/sync/1/4/4 and more",
-    )?;
-    is_told(
-        &rt,
-        alloc,
-        &mut store,
-        token(1, 4, 4),
-        Some(1),
-        "c 5 Cyd\nhttp://contacts.invalid/sync/1/5/5",
-    )
+    for (token, wanted) in [
+        (
+            token(1, 2, 4),
+            "a 4 Anna\nhttp://contacts.invalid/sync/1/4/4 and more",
+        ),
+        (
+            token(1, 4, 4),
+            "c 5 Cyd\nhttp://contacts.invalid/sync/1/5/5",
+        ),
+    ] {
+        is_told(&rt, alloc, &mut store, token, Some(1), wanted)?;
+    }
+    Ok(())
 }
 
 #[test]
