@@ -1,8 +1,8 @@
 -- What the rows tell of a book, beside what its history tells.
-use Rattle.std.proofs.Common.{◌≡◌, ℕ, true, false, cond, not, ◌&&◌, ◌||◌, T, List, [], ◌∷◌, ◌++◌, map, flat_map, length, filter, Option, Some, None, Result, Ok, Err, is_some, nat_lt, ◌<◌, Ordering, Less, Equal, Greater, refl, sym, ap, ◌∙◌, subst}
-use Rattle.std.specs.Option.{option_map, option_map_or, option_and_then}
+use Rattle.std.proofs.Common.{◌≡◌, ℕ, Bool, true, false, cond, not, ◌&&◌, ◌||◌, T, List, [], ◌∷◌, ◌++◌, map, flat_map, length, filter, fold, Option, Some, None, Result, Ok, Err, is_some, nat_lt, ◌<◌, Ordering, Less, Equal, Greater, refl, sym, ap, ◌∙◌, subst, ⊎_elim}
+use Rattle.std.specs.Option.{option_map, option_map_or, option_and_then, option_or}
 use Rattle.std.specs.FinMap as finite
-use Rattle.std.specs.FinMap.{get-retain_keys, get-from_entries, same_map, entries-from_sorted}
+use Rattle.std.specs.FinMap.{get-empty, get-insert, get-retain_keys, get-from_entries, same_map, entries-from_sorted}
 use Rattle.std.specs.FinMap.Entries.{find, below_all, is_sorted, where_key, is_sorted-where_key, find-where_key, same_entries}
 use Rattle.std.specs.List.{AllByRecursion}
 use Rattle.std.specs.Ordering.{is_lt, is_eq}
@@ -13,12 +13,13 @@ use Rattle.sync_core.specs.declared.answers.Stored.{Stored}
 use Rattle.sync_core.specs.declared.refusal.Refusal.{Refusal}
 use Rattle.sync_core.specs.declared.refusal.Refusal.TheVariants.{NoSuchBook}
 use Rattle.sync_core.specs.declared.row.Row.{Row}
-use Rattle.sync_core.specs.Books.{Book, book_named, stored_in}
-use Rattle.sync_core.specs.Counting.{counts_of}
-use Rattle.sync_core.specs.Histories.{same_uid, live, last, touched}
-use Rattle.sync_core.specs.Outcomes.{◌>>=◌}
+use Rattle.sync_core.specs.Books.{Book, book_named, stored_in, live_at}
+use Rattle.sync_core.specs.Counting.{counts_of, live_count}
+use Rattle.sync_core.specs.Histories.{LiveCards, same_uid, live, last, touched}
+use Rattle.sync_core.specs.Importing.{is_legal_key}
+use Rattle.sync_core.specs.Outcomes.{◌>>=◌, provided}
 use Rattle.sync_core.specs.ReadLaws.{BooksFollow, BookLinesFollow, GettingFollows, CardsFollow, KeptImportsFollow, TalliesFollow}
-use Rattle.sync_core.specs.Reading.{book_line, live_entry, live_cards, tally_with, is_removed_after, remembered_in, tally_of}
+use Rattle.sync_core.specs.Reading.{book_line, with_live, live_entry, live_cards, tally_with, is_removed_after, remembered_in, tally_of}
 use Rattle.sync_core.specs.Removing.{live_card}
 use Rattle.sync_core.specs.Rows.{is_kept, kept_rows}
 use Rattle.sync_core.specs.Worlds.{Story, World, IsSound, book_of, rows}
@@ -94,6 +95,35 @@ find_live q (e ∷ es) h =
         | None ↦ rest
       ]
     ] refl
+
+-- cards that are put in one after another
+folded : (q : List ℕ) (es : Members) → T (is_sorted text_cmp es) → (cards : LiveCards) → finite.get (fold with_live cards es) q ≡ option_or (find text_cmp q (flat_map live_entry es)) (finite.get cards q)
+folded q [] h cards = refl
+folded q (e ∷ es) h cards =
+    let parts = T_parts _ _ h in
+    folded q es parts.1 (with_live cards e)
+    ∙ elim (stored_in e.1) as (λ (o : Option Stored). option_or (find text_cmp q (flat_map live_entry es)) (finite.get (option_map_or (λ s. finite.insert cards e.0 s) o cards) q)
+    ≡ option_or (find text_cmp q (option_map_or (λ (s : Stored). (e.0, s) ∷ []) o [] ++ flat_map live_entry es)) (finite.get cards q)) [
+      | Some s ↦
+          ap (option_or (find text_cmp q (flat_map live_entry es))) (get-insert text_total cards e.0 s q)
+          ∙ elim (same_uid q e.0) as (λ b. same_uid q e.0 ≡ b → option_or (find text_cmp q (flat_map live_entry es)) (cond b (Some s) (finite.get cards q)) ≡ option_or (cond b (Some s) (find text_cmp q (flat_map live_entry es))) (finite.get cards q)) [
+            | true ↦ λ here. ap (λ o. option_or o (Some s)) (no_live_below q es (subst (λ (u : List ℕ). T (below_all text_cmp u es)) (sym (same-equal q e.0 here)) parts.0))
+            | false ↦ λ there. refl
+          ] refl
+      | None ↦ refl
+    ]
+
+-- are all live cards of the rows
+pub folded_live : (members : finite.FinMap text_cmp Row) → fold with_live finite.empty (finite.entries members) ≡ finite.from_entries (flat_map live_entry (finite.entries members))
+folded_live members = same_map text_total exact_bytes _ _ (λ q.
+    folded q (finite.entries members) (finite.entries_sorted members) finite.empty
+    ∙ ap (option_or (find text_cmp q (flat_map live_entry (finite.entries members)))) (get-empty text_cmp q)
+    ∙ or_none (find text_cmp q (flat_map live_entry (finite.entries members)))
+    ∙ sym (get-from_entries text_total (flat_map live_entry (finite.entries members)) q))
+  where
+    or_none : (o : Option Stored) → option_or o None ≡ o
+    or_none (Some s) = refl
+    or_none None = refl
 
 pub live_cards_are : (story : Story) → live_cards (book_of story) ≡ live story.history
 live_cards_are story = same_map text_total exact_bytes _ _ (λ q.

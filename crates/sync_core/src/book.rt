@@ -1,15 +1,16 @@
 //! A book that is kept in memory.
-ghost use Rattle.std.specs.Prelude.{◌≡◌, ◌<◌, ◌^◌, IfOk, IfErr, IsSome, OnOk, OnErr, Ok, Err, None, string_bytes};
+ghost use Rattle.std.specs.Prelude.{◌≡◌, ◌<◌, ◌^◌, IfOk, IfErr, IsSome, OnOk, OnErr, Ok, Err, None, string_bytes, map, fold};
+ghost use Rattle.std.specs.Map.Iter.{deref_pair};
 ghost use Rattle.std.specs.FinMap as finite;
 ghost use Rattle.sync_core.specs.Moving.{move_numbers, move_answer};
 ghost use Rattle.vcard_text.specs.Cards.{uid_of};
 ghost use Rattle.sync_core.specs.Books.{empty_book, live_at, stored_behind, with_change};
 ghost use Rattle.sync_core.specs.Counting.{live_count};
 ghost use Rattle.sync_core.specs.Removing.{remove_number};
-ghost use Rattle.sync_core.specs.Reading.{is_removed_after, removed_after, tally_of};
+ghost use Rattle.sync_core.specs.Reading.{is_removed_after, removed_after, tally_of, with_live, live_cards};
 ghost use Rattle.sync_core.specs.Putting.{put_answer, answer_over, found_in, next_number, reason_for};
 
-use crate::answers::{ImportTally, Moved, PutAnswer, Tally};
+use crate::answers::{ImportTally, Moved, PutAnswer, Stored, Tally};
 use crate::change::Change;
 use crate::counts::Counts;
 use crate::limits::Limits;
@@ -60,6 +61,34 @@ fn count_removed(alloc: Global, members: &TextMap<Row>, horizon: u64) -> Result<
     let mut removed = members.entries(alloc)?;
     removed.retain(|member| is_removed_after(member.1, horizon));
     Ok(removed.len() as u64)
+}
+
+/// Puts a copy of the member's card under its UID, where it is live.
+fn put_live(
+    alloc: Global,
+    cards: &mut TextMap<Stored>,
+    uid: &str,
+    row: &Row,
+) -> Result<(), NoMemory>
+    ensures { OnOk result (cards.new ≡ with_live cards.old (uid.now, row.now)) }
+{
+    let Some(card) = &row.card else {
+        return Ok(());
+    };
+    let card = card.try_copy()?;
+    let version = row.changed;
+    cards.insert(String::from_str(alloc, uid)?, Stored { version, card })
+}
+
+/// Copies of the live cards among the members, by UID.
+fn live_among(alloc: Global, members: &[(&str, &Row)]) -> Result<TextMap<Stored>, NoMemory>
+    ensures { IfOk result (λ cards. cards ≡ fold with_live finite.empty (map deref_pair members.now)) }
+{
+    let mut cards = TextMap::new(alloc);
+    for member in members {
+        put_live(alloc, &mut cards, member.0, member.1)?;
+    }
+    Ok(cards)
 }
 
 impl PlainBook {
@@ -228,6 +257,14 @@ impl PlainBook {
             moved_out,
             remembered,
         })
+    }
+
+    /// Copies of all live cards by UID.
+    pub(crate) fn live_cards(&self, alloc: Global) -> Result<TextMap<Stored>, NoMemory>
+        ensures { IfOk result (λ cards. cards ≡ live_cards self.now) }
+    {
+        let members = self.members.entries(alloc)?;
+        live_among(alloc, members.as_slice())
     }
 
     /// The numbers of a move from this book to the other, where both and the other's limit on cards leave room.

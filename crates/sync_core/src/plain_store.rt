@@ -1,6 +1,7 @@
 //! A store that keeps its books in memory.
 ghost use Rattle.std.specs.Prelude.{◌≡◌, ◌<◌, ◌≤◌, ◌^◌, ◌∷◌, IfNone, IfSome, IsSomeAnd, OnOk, OnErr, Some, None, length, slice_get, slice_set, string_bytes};
 ghost use Rattle.std.specs.FinMap as finite;
+ghost use Rattle.vcard_text.specs.TextMaps.{texts};
 ghost use Rattle.sync_core.specs.declared.plain_store.Named.{Named};
 ghost use Rattle.sync_core.specs.BookNames.{is_legal_name, is_name_octet};
 ghost use Rattle.sync_core.specs.Books.{Books, with_change, empty_book};
@@ -12,7 +13,7 @@ ghost use Rattle.sync_core.specs.declared.change.RemovalReason.TheVariants.{Move
 ghost use Rattle.sync_core.specs.Outcomes.{Does, Reads, Tells, HasNoStoreFault};
 ghost use Rattle.sync_core.specs.Pages.{IsReport, report_step};
 ghost use Rattle.sync_core.specs.Putting.{put_step, reason_for};
-ghost use Rattle.sync_core.specs.Reading.{book_line_step, get_step, tally_step};
+ghost use Rattle.sync_core.specs.Reading.{book_line_step, get_step, cards_step, tally_step};
 ghost use Rattle.sync_core.specs.Removing.{remove_step};
 
 use crate::answers::{BookLine, Moved, PutAnswer, Stored, Tally};
@@ -26,6 +27,7 @@ use crate::report;
 use crate::store::BookStore;
 use crate::token::Token;
 use std::alloc::Global;
+use std::collections::BTreeMap;
 use std::marker::Model;
 use vcard_text::{Card, NoMemory, Text};
 
@@ -289,6 +291,18 @@ impl BookStore for PlainStore {
             number: book.number(),
             horizon: book.horizon(),
         })
+    }
+
+    fn cards(&mut self, book: &str) -> Result<BTreeMap<String, Stored>, Denied>
+        ensures limits { self.new.limits ≡ self.old.limits }
+        ensures does { Reads (λ told cards. texts cards ≡ told) result (cards_step self.old.books book.now) self.old.books self.new.books }
+        ensures no_store_fault { HasNoStoreFault result }
+    {
+        let Some(i) = place_of(self.books.as_slice(), book) else {
+            return Err(Denied::Refused(Refusal::NoSuchBook));
+        };
+        let cards = self.books[i].book.live_cards(self.alloc)?;
+        Ok(cards.into_map())
     }
 
     fn tally(&mut self, book: &str) -> Result<Tally, Denied>

@@ -6,14 +6,16 @@ ghost use Rattle.sync_core.specs.Moving.{move_step};
 ghost use Rattle.sync_core.specs.Outcomes.{Does, Reads, Tells};
 ghost use Rattle.sync_core.specs.Pages.{IsReport, report_step};
 ghost use Rattle.sync_core.specs.Putting.{put_step};
-ghost use Rattle.sync_core.specs.Reading.{book_line_step, get_step, tally_step};
+ghost use Rattle.sync_core.specs.Reading.{book_line_step, get_step, cards_step, tally_step};
 ghost use Rattle.sync_core.specs.Removing.{remove_step};
 ghost use Rattle.std.specs.Prelude.{◌≡◌, ◌≤◌};
+ghost use Rattle.vcard_text.specs.TextMaps.{texts};
 
 use crate::answers::{BookLine, Moved, PutAnswer, Stored, Tally};
 use crate::denied::Denied;
 use crate::page::Page;
 use crate::token::Token;
+use std::collections::BTreeMap;
 use vcard_text::Card;
 
 /// Books by name, of cards by UID. After a refusal and after a fault the books are as before.
@@ -93,6 +95,12 @@ pub trait BookStore {
         ensures premise { premise self.new → premise self.old }
         ensures limits { limits self.new ≡ limits self.old }
         ensures does { premise self.new → Tells result (book_line_step (books self.old) name.now) (books self.old) (books self.new) };
+
+    /// All live cards of the book by UID, each with its version. Refused with `NoSuchBook`.
+    fn cards(&mut self, book: &str) -> Result<BTreeMap<String, Stored>, Denied>
+        ensures premise { premise self.new → premise self.old }
+        ensures limits { limits self.new ≡ limits self.old }
+        ensures does { premise self.new → Reads (λ told cards. texts cards ≡ told) result (cards_step (books self.old) book.now) (books self.old) (books self.new) };
 
     /// The book in numbers: its live cards, its changes by their reasons, and the removed members that it remembers.
     /// Refused with `NoSuchBook`.

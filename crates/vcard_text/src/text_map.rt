@@ -50,11 +50,19 @@ impl<V: Drop> TextMap<V> {
         TextMap { inner: map }
     }
 
-    /// The `BTreeMap` itself, which takes no memory.
+    /// The `BTreeMap` itself, borrowed.
     pub fn as_map(&self) -> &BTreeMap<String, V>
         ensures { texts result.now ≡ self.now }
     {
         &self.inner
+    }
+
+    /// The `BTreeMap` itself, which takes no memory.
+    pub fn into_map(self) -> BTreeMap<String, V>
+        ensures { texts result ≡ self }
+    {
+        let TextMap { inner } = self;
+        inner
     }
 
     /// Takes every entry out.
