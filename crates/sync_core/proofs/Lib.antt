@@ -28,3 +28,4 @@ pub mod PagingLemmas
 pub mod DeviceRunLemmas
 pub mod RemoveLemmas
 pub mod MovedLemmas
+pub mod NamedLineLemmas

@@ -1,5 +1,5 @@
 //! A store that keeps its books in memory.
-ghost use Rattle.std.specs.Prelude.{◌≡◌, ◌<◌, ◌≤◌, ◌^◌, ◌∷◌, IfNone, IfSome, IsSomeAnd, OnOk, OnErr, Some, None, length, slice_get, slice_set, string_bytes};
+ghost use Rattle.std.specs.Prelude.{◌≡◌, ◌<◌, ◌≤◌, ◌^◌, ◌∷◌, IfNone, IfOk, IfSome, IsSomeAnd, Ok, OnOk, OnErr, Some, None, length, slice_get, slice_set, string_bytes};
 ghost use Rattle.std.specs.FinMap as finite;
 ghost use Rattle.vcard_text.specs.TextMaps.{texts};
 ghost use Rattle.sync_core.specs.declared.plain_store.Named.{Named};
@@ -7,13 +7,13 @@ ghost use Rattle.sync_core.specs.BookNames.{is_legal_name, is_name_octet};
 ghost use Rattle.sync_core.specs.Books.{Books, with_change, empty_book};
 ghost use Rattle.sync_core.specs.Creating.{new_id, create_step};
 ghost use Rattle.sync_core.specs.Moving.{HasRow, move_step};
-ghost use Rattle.sync_core.specs.NamedBooks.{named_books, IsPlaceOf, AreApart};
+ghost use Rattle.sync_core.specs.NamedBooks.{named_books, named_lines, IsPlaceOf, AreApart};
 ghost use Rattle.sync_core.specs.declared.change.Change.TheVariants.{TakesAway};
 ghost use Rattle.sync_core.specs.declared.change.RemovalReason.TheVariants.{MoveOut};
 ghost use Rattle.sync_core.specs.Outcomes.{Does, Reads, Tells, HasNoStoreFault};
 ghost use Rattle.sync_core.specs.Pages.{IsReport, report_step};
 ghost use Rattle.sync_core.specs.Putting.{put_step, reason_for};
-ghost use Rattle.sync_core.specs.Reading.{book_line_step, get_step, cards_step, tally_step};
+ghost use Rattle.sync_core.specs.Reading.{book_line, book_lines, book_line_step, get_step, cards_step, tally_step};
 ghost use Rattle.sync_core.specs.Removing.{remove_step};
 
 use crate::answers::{BookLine, Moved, PutAnswer, Stored, Tally};
@@ -29,7 +29,7 @@ use crate::token::Token;
 use std::alloc::Global;
 use std::collections::BTreeMap;
 use std::marker::Model;
-use vcard_text::{Card, NoMemory, Text};
+use vcard_text::{Card, NoMemory, Text, TextMap};
 
 #[derive(Drop)]
 pub(crate) struct Named {
@@ -123,6 +123,33 @@ fn id_for(books: &[Named], limits: Limits, name: &str) -> Result<u64, Refusal>
         return Err(Refusal::TooManyBooks);
     }
     Ok(count + 1)
+}
+
+/// Puts the book's line under its name.
+fn put_line(alloc: Global, lines: &mut TextMap<BookLine>, named: &Named) -> Result<(), NoMemory>
+    ensures { OnOk result (lines.new ≡ finite.insert lines.old named.now.name (book_line (named.now.name, named.now.book))) }
+{
+    let name = String::from_str(alloc, named.name.as_str())?;
+    let line = BookLine {
+        name: named.name.try_copy()?,
+        id: named.book.id(),
+        number: named.book.number(),
+        horizon: named.book.horizon(),
+    };
+    lines.insert(name, line)
+}
+
+/// The books' lines by their names. The last book comes first, since of two under one name the first would count.
+fn lines_of(alloc: Global, books: &[Named]) -> Result<TextMap<BookLine>, NoMemory>
+    ensures { IfOk result (λ lines. lines ≡ named_lines books.now) }
+{
+    let mut lines = TextMap::new(alloc);
+    let mut i = books.len();
+    while i > 0 {
+        i -= 1;
+        put_line(alloc, &mut lines, &books[i])?;
+    }
+    Ok(lines)
 }
 
 /// Why the card is stored, where it is.
@@ -274,6 +301,15 @@ impl BookStore for PlainStore {
         };
         let card = card.try_copy()?;
         Ok(Stored { version, card })
+    }
+
+    fn books(&mut self) -> Result<Vec<BookLine>, Denied>
+        ensures limits { self.new.limits ≡ self.old.limits }
+        ensures does { Reads (λ told lines. lines.items ≡ told) result (Ok (book_lines self.old.books)) self.old.books self.new.books }
+        ensures no_store_fault { HasNoStoreFault result }
+    {
+        let lines = lines_of(self.alloc, self.books.as_slice())?;
+        Ok(lines.into_values(self.alloc)?)
     }
 
     fn book(&mut self, name: &str) -> Result<BookLine, Denied>

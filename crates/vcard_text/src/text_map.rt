@@ -65,6 +65,18 @@ impl<V: Drop> TextMap<V> {
         inner
     }
 
+    /// The values, by the octets of their keys.
+    pub fn into_values(self, alloc: Global) -> Result<Vec<V>, NoMemory>
+        ensures { IfOk result (λ values. values.items ≡ finite.values self) }
+    {
+        let TextMap { inner } = self;
+        let mut values = Vec::with_capacity(alloc, inner.len())?;
+        for (_, value) in inner {
+            values.push(value)?;
+        }
+        Ok(values)
+    }
+
     /// Takes every entry out.
     pub fn clear(&mut self)
         ensures { self.new ≡ finite.empty }
