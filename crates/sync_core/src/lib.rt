@@ -6,6 +6,7 @@ mod book;
 pub mod change;
 pub mod counts;
 pub mod denied;
+pub mod device;
 pub mod laws;
 pub mod limits;
 pub mod page;
@@ -20,6 +21,7 @@ pub mod token;
 
 pub use answers::{BookLine, ImportTally, Moved, PutAnswer, Stored, Tally};
 pub use denied::{Denied, Fault};
+pub use device::Device;
 pub use limits::Limits;
 pub use page::{Entry, Page};
 pub use plain_store::PlainStore;

@@ -1,4 +1,5 @@
 mod changing;
+mod devices;
 mod limits;
 mod numbers;
 mod reports;
