@@ -4,6 +4,7 @@ mod limits;
 mod numbers;
 mod reports;
 mod storing;
+mod tokens;
 
 use crate::denied::Denied;
 use crate::limits::Limits;
