@@ -139,7 +139,7 @@ fn removals_are_refused_in_order(rt: HostRuntime) -> Result<(), Fail> {
         Err(Denied::Refused(Refusal::VersionMismatch { has: 4 }))
     );
     assert_eq!(rt; store.remove("staff", "a", Some(4)), Ok(6));
-    let mut store = PlainStore::new(alloc, Limits::small(10, 2, 1));
+    let mut store = PlainStore::new(alloc, Limits::new(100, 10, 2, 1).ok_or("limits")?);
     store.create_book("staff")?;
     for uid in ["a", "b"] {
         store.put("staff", &card(alloc, uid, "Ann")?, None)?;
@@ -167,6 +167,42 @@ fn books_and_cards_are_told(rt: HostRuntime) -> Result<(), Fail> {
     is_got(&rt, &mut store, "staff", "a", Some((4, "Anna")))?;
     is_got(&rt, &mut store, "staff", "b", None)?;
     is_got(&rt, &mut store, "staff", "e", None)
+}
+
+#[test]
+fn all_cards_are_told(rt: HostRuntime) -> Result<(), Fail> {
+    let mut store = store_after_removal(rt.alloc())?;
+    let cards = store.cards("staff")?;
+    assert_eq!(rt; cards.len(), 2);
+    for ((uid, stored), wanted) in cards.iter().zip([("a", 4), ("c", 3)]) {
+        assert_eq!(rt; (uid.as_str(), stored.version), wanted);
+        assert_eq!(rt; stored.card.uid(), uid.as_str());
+    }
+    assert_eq!(rt; store.cards("clients").err(), Some(REFUSED_BOOK));
+    Ok(())
+}
+
+#[test]
+fn all_books_are_told_by_name(rt: HostRuntime) -> Result<(), Fail> {
+    let mut store = store_after_removal(rt.alloc())?;
+    for (name, id) in [("clients", 2), ("z", 3), ("-", 4), ("staff-2", 5)] {
+        assert_eq!(rt; store.create_book(name), Ok(id));
+    }
+    let lines = store.books()?;
+    assert_eq!(rt; lines.len(), 5);
+    for (line, wanted) in lines.iter().zip([
+        ("-", 4, 0),
+        ("clients", 2, 0),
+        ("staff", 1, 5),
+        ("staff-2", 5, 0),
+        ("z", 3, 0),
+    ]) {
+        assert_eq!(rt; (line.name.as_str(), line.id, line.number), wanted);
+        assert_eq!(rt; line.horizon, 0);
+    }
+    let mut empty = PlainStore::new(rt.alloc(), Limits::standard());
+    assert_eq!(rt; empty.books()?.is_empty(), true);
+    Ok(())
 }
 
 #[test]
@@ -255,7 +291,7 @@ fn moves_are_refused_in_order(rt: HostRuntime) -> Result<(), Fail> {
 #[test]
 fn moves_meet_the_limits_of_both_books(rt: HostRuntime) -> Result<(), Fail> {
     let alloc = rt.alloc();
-    let mut store = PlainStore::new(alloc, Limits::small(1, 3, 2));
+    let mut store = PlainStore::new(alloc, Limits::new(100, 1, 3, 2).ok_or("limits")?);
     store.create_book("staff")?;
     store.create_book("clients")?;
     store.put("staff", &card(alloc, "a", "Ann")?, None)?;
