@@ -61,8 +61,8 @@ impl<V: Drop> TextMap<V> {
     pub fn into_map(self) -> BTreeMap<String, V>
         ensures { texts result ≡ self }
     {
-        let TextMap { inner } = self;
-        inner
+        let TextMap { inner: map } = self;
+        map
     }
 
     /// The values, by the octets of their keys.
