@@ -14,6 +14,21 @@ const REFUSED_CARD: Denied = Denied::Refused(Refusal::NoSuchCard);
 
 const REFUSED_BOOK: Denied = Denied::Refused(Refusal::NoSuchBook);
 
+/// A book to which nothing happened, in numbers.
+const NO_CHANGES: Tally = Tally {
+    number: 0,
+    horizon: 0,
+    cards: 0,
+    created: 0,
+    edited: 0,
+    imported: 0,
+    import_edited: 0,
+    moved_in: 0,
+    deleted: 0,
+    moved_out: 0,
+    remembered: 0,
+};
+
 /// `staff` after five changes: Ann, Bob, Cy, Ann again as Anna, and the removal of b.
 fn store_after_removal(alloc: Global) -> Result<PlainStore, Fail> {
     let mut store = store_after_puts(alloc)?;
@@ -220,19 +235,6 @@ fn a_card_moves(rt: HostRuntime) -> Result<(), Fail> {
     is_got(&rt, &mut store, "staff", "a", None)?;
     is_got(&rt, &mut store, "clients", "a", Some((1, "Anna")))?;
     is_got(&rt, &mut store, "staff", "b", Some((7, "Bob")))?;
-    let none = Tally {
-        number: 0,
-        horizon: 0,
-        cards: 0,
-        created: 0,
-        edited: 0,
-        imported: 0,
-        import_edited: 0,
-        moved_in: 0,
-        deleted: 0,
-        moved_out: 0,
-        remembered: 0,
-    };
     let staff = Tally {
         number: 10,
         cards: 1,
@@ -241,14 +243,14 @@ fn a_card_moves(rt: HostRuntime) -> Result<(), Fail> {
         deleted: 3,
         moved_out: 1,
         remembered: 3,
-        ..none
+        ..NO_CHANGES
     };
     assert_eq!(rt; store.tally("staff"), Ok(staff));
     let clients = Tally {
         number: 1,
         cards: 1,
         moved_in: 1,
-        ..none
+        ..NO_CHANGES
     };
     assert_eq!(rt; store.tally("clients"), Ok(clients));
     assert_eq!(rt; store.tally("friends"), Err(REFUSED_BOOK));

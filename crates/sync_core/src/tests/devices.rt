@@ -47,17 +47,42 @@ fn removed(alloc: Global, uid: &str) -> Result<Entry, Fail> {
     })
 }
 
-/// A whole page of book 1 up to the number.
-fn page_up_to(number: u64, entries: Vec<Entry>) -> Page {
-    Page {
-        book: 1,
-        entries: Items::from_vec(entries),
-        mark: Mark {
-            at: number,
-            base: number,
-        },
-        truncated: false,
+/// A whole page of book 1 up to the number. A member with a version and a name is changed, and any other removed.
+fn page_up_to(
+    alloc: Global,
+    number: u64,
+    members: &[(&str, Option<(u64, &str)>)],
+) -> Result<Page, Fail> {
+    let mut entries = Items::new(alloc);
+    for (uid, change) in members {
+        let entry = match change {
+            Some((version, name)) => changed(alloc, uid, *version, name)?,
+            None => removed(alloc, uid)?,
+        };
+        entries.push(entry)?;
     }
+    let mark = Mark {
+        at: number,
+        base: number,
+    };
+    Ok(Page {
+        book: 1,
+        entries,
+        mark,
+        truncated: false,
+    })
+}
+
+/// Applies such a page.
+fn told(
+    alloc: Global,
+    device: &mut Device,
+    number: u64,
+    members: &[(&str, Option<(u64, &str)>)],
+) -> Result<(), Fail> {
+    let page = page_up_to(alloc, number, members)?;
+    device.apply(&page)?;
+    Ok(())
 }
 
 #[test]
@@ -102,28 +127,18 @@ fn a_device_of_an_empty_book_has_nothing_but_a_token(rt: HostRuntime) -> Result<
 fn entries_are_written_in_their_order(rt: HostRuntime) -> Result<(), Fail> {
     let alloc = rt.alloc();
     let mut device = Device::new(alloc, "staff")?;
-    let first = page_up_to(
-        2,
-        vec![in alloc;
-            changed(alloc, "a", 1, "Ann")?,
-            changed(alloc, "b", 2, "Bob")?,
-        ]?,
-    );
-    device.apply(&first)?;
+    let first = [("a", Some((1, "Ann"))), ("b", Some((2, "Bob")))];
+    told(alloc, &mut device, 2, &first)?;
     assert_eq!(rt; held(alloc, device.copy())?.as_str(), "a 1 Ann\nb 2 Bob\n");
-    let second = page_up_to(
-        5,
-        vec![in alloc;
-            removed(alloc, "a")?,
-            changed(alloc, "b", 4, "Rob")?,
-            changed(alloc, "a", 5, "Anna")?,
-            removed(alloc, "z")?,
-        ]?,
-    );
-    device.apply(&second)?;
+    let second = [
+        ("a", None),
+        ("b", Some((4, "Rob"))),
+        ("a", Some((5, "Anna"))),
+        ("z", None),
+    ];
+    told(alloc, &mut device, 5, &second)?;
     assert_eq!(rt; held(alloc, device.copy())?.as_str(), "a 5 Anna\nb 4 Rob\n");
-    let third = page_up_to(6, vec![in alloc; removed(alloc, "b")?]?);
-    device.apply(&third)?;
+    told(alloc, &mut device, 6, &[("b", None)])?;
     assert_eq!(rt; device.token(), token(1, 6, 6));
     assert_eq!(rt; held(alloc, device.copy())?.as_str(), "a 5 Anna\n");
     Ok(())
@@ -133,14 +148,12 @@ fn entries_are_written_in_their_order(rt: HostRuntime) -> Result<(), Fail> {
 fn without_a_token_a_page_empties_the_copy(rt: HostRuntime) -> Result<(), Fail> {
     let alloc = rt.alloc();
     let mut device = Device::new(alloc, "staff")?;
-    let first = page_up_to(1, vec![in alloc; changed(alloc, "a", 1, "Ann")?]?);
-    device.apply(&first)?;
+    told(alloc, &mut device, 1, &[("a", Some((1, "Ann")))])?;
     device.restart();
     assert_eq!(rt; device.book(), "staff");
     assert_eq!(rt; device.token(), None);
     assert_eq!(rt; held(alloc, device.copy())?.as_str(), "a 1 Ann\n");
-    let second = page_up_to(3, vec![in alloc; changed(alloc, "b", 3, "Bob")?]?);
-    device.apply(&second)?;
+    told(alloc, &mut device, 3, &[("b", Some((3, "Bob")))])?;
     assert_eq!(rt; device.token(), token(1, 3, 3));
     assert_eq!(rt; held(alloc, device.copy())?.as_str(), "b 3 Bob\n");
     Ok(())
