@@ -1,0 +1,3 @@
+pub mod PerformLemmas
+pub mod CallLemmas
+pub mod TextLemmas

@@ -1,0 +1,46 @@
+-- What is read of a card's text where it is denied.
+use Rattle.std.proofs.Common.{◌≡◌, ◌≢◌, ◌↔◌, ℕ, Bool, true, false, List, Option, Some, None, Result, Ok, Err, bytes_eq, refl, inl, inr}
+use Rattle.std.proofs.lemmas.Bool.{both_ways}
+use Rattle.std.proofs.lemmas.Slice.Eq.{bytes_eq-Decides}
+use Rattle.vcard_text.specs.declared.fault.CardFault.{CardFault}
+use Rattle.vcard_text.specs.declared.fault.CardFault.TheVariants.{TooLong, NotUtf8, BadChar, BadLine, NoBegin, BadVersion, NoEnd, NoName, NoUid, BadUid, Twice, MemberOutsideGroup, Memory as NoRoom}
+use Rattle.vcard_text.specs.declared.line.Line.{Line}
+use Rattle.vcard_text.specs.Cards.{uid_of}
+use Rattle.vcard_text.specs.Faults.{first_fault}
+use Rattle.vcard_text.specs.Spelling.{Spells}
+use Rattle.sync_core.specs.declared.refusal.Refusal.{Refusal}
+use Rattle.sync_core.specs.declared.refusal.Refusal.TheVariants.{BadCard, UidMismatch}
+use Rattle.sync_core.specs.Outcomes.{denied_card}
+use Rattle.book_service.specs.Texts.{ReadsCard, IsReadAs}
+
+-- a text is to be read in some way
+some_read : ((text : List ℕ) → ((lines : List Line) × Spells text lines) ↔ (first_fault text ≡ None)) → (uid text : List ℕ) → (read : Result (List Line) Refusal) × ReadsCard uid text read
+some_read law uid text = by_fault (first_fault text) refl
+  where
+    by_uid : (card : List Line) → Spells text card → (same : Bool) → bytes_eq (uid_of card) uid ≡ same → (read : Result (List Line) Refusal) × ReadsCard uid text read
+    by_uid card spelled true is = (Ok card, (spelled, (bytes_eq-Decides (uid_of card) uid).0 is))
+    by_uid card spelled false is = (Err UidMismatch, inr (record { card = card; spelled = spelled; other = λ same. both_ways _ is ((bytes_eq-Decides (uid_of card) uid).1 same); refusal_is = refl }))
+
+    by_fault : (fault : Option CardFault) → first_fault text ≡ fault → (read : Result (List Line) Refusal) × ReadsCard uid text read
+    by_fault (Some fault) is = (Err (BadCard fault), inl (record { fault = fault; first = is; refusal_is = refl }))
+    by_fault None is = let found = (law text).1 is in by_uid found.0 found.1 (bytes_eq (uid_of found.0) uid) refl
+
+-- a reader that answers a fault for memory alone is right where it answers one
+module _ (law : (text : List ℕ) → ((lines : List Line) × Spells text lines) ↔ (first_fault text ≡ None)) (uid text : List ℕ) where
+  bad : (fault : CardFault) → (fault ≢ NoRoom → first_fault text ≡ Some fault) → fault ≢ NoRoom → ReadsCard uid text (Err (BadCard fault))
+  bad fault first other = inl (record { fault = fault; first = first other; refusal_is = refl })
+
+  pub denied_for : (fault : CardFault) → (fault ≢ NoRoom → first_fault text ≡ Some fault) → IsReadAs {A = List Line} (ReadsCard uid text) (Err (denied_card fault))
+  denied_for TooLong first = bad TooLong first (λ e. cc)
+  denied_for NotUtf8 first = bad NotUtf8 first (λ e. cc)
+  denied_for BadChar first = bad BadChar first (λ e. cc)
+  denied_for BadLine first = bad BadLine first (λ e. cc)
+  denied_for NoBegin first = bad NoBegin first (λ e. cc)
+  denied_for BadVersion first = bad BadVersion first (λ e. cc)
+  denied_for NoEnd first = bad NoEnd first (λ e. cc)
+  denied_for NoName first = bad NoName first (λ e. cc)
+  denied_for NoUid first = bad NoUid first (λ e. cc)
+  denied_for BadUid first = bad BadUid first (λ e. cc)
+  denied_for Twice first = bad Twice first (λ e. cc)
+  denied_for MemberOutsideGroup first = bad MemberOutsideGroup first (λ e. cc)
+  denied_for NoRoom first = some_read law uid text

@@ -1,0 +1,3 @@
+pub mod Texts
+pub mod Replies
+pub mod Commands

@@ -1,0 +1,44 @@
+-- What is read of the texts in commands: cards and tokens. This project's own.
+use Rattle.std.specs.Prelude.{ℕ, ◌≡◌, ◌≢◌, ◌⊎◌, List, [], Option, Some, None, Result, Ok, Err}
+use Rattle.vcard_text.specs.declared.fault.CardFault.{CardFault}
+use Rattle.vcard_text.specs.declared.line.Line.{Line}
+use Rattle.vcard_text.specs.Cards.{uid_of}
+use Rattle.vcard_text.specs.Faults.{first_fault}
+use Rattle.vcard_text.specs.Spelling.{Spells}
+use Rattle.sync_core.specs.declared.denied.Denied.{Denied}
+use Rattle.sync_core.specs.declared.denied.Denied.TheVariants.{Refused, Fault}
+use Rattle.sync_core.specs.declared.refusal.Refusal.{Refusal}
+use Rattle.sync_core.specs.declared.refusal.Refusal.TheVariants.{BadCard, UidMismatch, BadToken}
+use Rattle.sync_core.specs.declared.refusal.TokenCause.TheVariants.{Malformed}
+use Rattle.sync_core.specs.declared.token.Token.{Token}
+use Rattle.sync_core.specs.TokenTexts.{IsToken}
+
+-- the text is no card, and the refusal says why
+pub record IsBadCard (text : List ℕ) (refusal : Refusal) : Type 0 where
+  pub fault : CardFault
+  pub first : first_fault text ≡ Some fault
+  pub refusal_is : refusal ≡ BadCard fault
+
+-- the text is a card of another UID
+pub record IsOthersCard (uid text : List ℕ) (refusal : Refusal) : Type 0 where
+  pub card : List Line
+  pub spelled : Spells text card
+  pub other : uid_of card ≢ uid
+  pub refusal_is : refusal ≡ UidMismatch
+
+-- what is read of a text that is to be the UID's card: the card, or the first thing that is wrong
+abbrev pub ReadsCard : List ℕ → List ℕ → Result (List Line) Refusal → Type 0
+ReadsCard uid text (Ok card) = Spells text card × (uid_of card ≡ uid)
+ReadsCard uid text (Err refusal) = IsBadCard text refusal ⊎ IsOthersCard uid text refusal
+
+-- what is read of a token's text: no token of the empty text, else the token that it is, or that it is none
+abbrev pub ReadsToken : List ℕ → Result (Option Token) Refusal → Type 0
+ReadsToken text (Ok None) = text ≡ []
+ReadsToken text (Ok (Some token)) = IsToken text token
+ReadsToken text (Err refusal) = (text ≢ []) × ((token : Token) → IsToken text token → ⊥) × (refusal ≡ BadToken Malformed)
+
+-- a reader answered what is to be read, or there was a fault, and something is to be read all the same
+abbrev pub IsReadAs : {A : Type 0} → (Result A Refusal → Type 0) → Result A Denied → Type 0
+IsReadAs reads (Ok read) = reads (Ok read)
+IsReadAs {A = A} reads (Err (Refused refusal)) = reads (Err refusal)
+IsReadAs {A = A} reads (Err (Fault fault)) = (read : Result A Refusal) × reads read
