@@ -1,3 +1,9 @@
 pub mod PerformLemmas
 pub mod CallLemmas
 pub mod TextLemmas
+pub mod AskLemmas
+pub mod RunLemmas
+pub mod EventLemmas
+pub mod DriveLemmas
+pub mod LawLemmas
+pub mod MirrorLemmas

@@ -1,3 +1,7 @@
 pub mod Texts
 pub mod Replies
 pub mod Commands
+pub mod Asks
+pub mod Drives
+pub mod EventLaws
+pub mod Mirrors

@@ -1,0 +1,30 @@
+-- What holds through all events. This project's own.
+use Rattle.std.specs.Prelude.{ℕ, ◌≡◌, ◌≢◌, List, All, Option, Some, Ok, Err}
+use Rattle.std.specs.FinMap as finite
+use Rattle.sync_core.specs.declared.page.Page.{Page}
+use Rattle.sync_core.specs.declared.refusal.Refusal.TheVariants.{BadToken}
+use Rattle.sync_core.specs.declared.refusal.TokenCause.{TokenCause}
+use Rattle.sync_core.specs.declared.token.Token.{Token}
+use Rattle.sync_core.specs.Devices.{Holding, IsRight}
+use Rattle.sync_core.specs.RunLaws.{GoesOn}
+use Rattle.sync_core.specs.TokenLaws.{token_of}
+use Rattle.sync_core.specs.Worlds.{Story, Stories, World}
+use Rattle.sync_core.specs.WorldSteps.{report_meaning}
+use Rattle.book_service.specs.declared.event.Event.{Event}
+use Rattle.book_service.specs.declared.reply.Reply.{Reply}
+use Rattle.book_service.specs.Drives.{Drives}
+
+-- the book that gave a page takes the page's token, whatever happened since
+abbrev pub PageTokensStayGood : Type 0
+PageTokensStayGood = (world : World) (devices after : List Holding) (events : List Event) (replies : List Reply) (end : Stories)
+    (name : List ℕ) (token : Option Token) (limit again : Option ℕ) (page : Page) (cause : TokenCause) →
+    report_meaning world.limits world.books name token limit ≡ Ok page →
+    Drives (All (IsRight world.books) devices) world.limits world.books devices events replies end after →
+    report_meaning world.limits end name (Some (token_of page)) again ≢ Err (BadToken cause)
+
+-- a book is still there, with all that happened to it
+abbrev pub BooksGoOnThroughEvents : Type 0
+BooksGoOnThroughEvents = (world : World) (devices after : List Holding) (events : List Event) (replies : List Reply) (end : Stories)
+    (name : List ℕ) (story : Story) → finite.get world.books name ≡ Some story →
+    Drives (All (IsRight world.books) devices) world.limits world.books devices events replies end after →
+    (new : Story) × (finite.get end name ≡ Some new) × GoesOn story new
