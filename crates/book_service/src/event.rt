@@ -1,5 +1,5 @@
 //! Commands, and devices that ask for pages between them.
-ghost use Rattle.std.specs.Prelude.{◌≡◌, length, All, IfOk, OnErr};
+ghost use Rattle.std.specs.Prelude.{◌≡◌, ◌↔◌, length, All, IfOk, IsTrue, OnErr};
 ghost use Rattle.sync_core.specs.Worlds.{Stories};
 ghost use Rattle.sync_core.specs.WorldSteps.{IsWorldOf};
 ghost use Rattle.book_service.specs.Drives.{NamesDevice, IsHappened, IsDriven};
@@ -21,6 +21,18 @@ pub enum Event {
     /// The device with this place in the list, from 0, asks for its next page with at most `limit` entries, and applies
     /// it.
     Ask { device: usize, limit: Option<u64> },
+}
+
+impl Event {
+    /// Whether the event names no device beyond so many.
+    pub fn is_within(&self, devices: usize) -> bool
+        ensures { IsTrue result ↔ NamesDevice devices self.now }
+    {
+        match self {
+            Event::Do(_) => true,
+            Event::Ask { device, .. } => *device < devices,
+        }
+    }
 }
 
 /// Does one event.
@@ -50,7 +62,7 @@ fn do_event<S: BookStore>(
 /// Does the events in their order, and answers the reply to each. A device whose token is refused loses it, so that its
 /// next ask is for a first report.
 ///
-/// The caller sees to it that each device number is below the number of devices. `NoMemory` comes before any event, where
+/// The caller sees to it that each device number is below the number of devices, which `Event::is_within` tells. `NoMemory` comes before any event, where
 /// there is no room for all replies. Where memory is wanting later, an event's reply is a fault.
 pub fn drive<S: BookStore>(
     alloc: Global,

@@ -8,6 +8,8 @@ pub mod event;
 pub mod laws;
 pub mod mirrored;
 pub mod reply;
+#[cfg(test)]
+mod tests;
 mod texts;
 
 pub use command::{Command, perform};

@@ -1,0 +1,58 @@
+mod commands;
+mod devices;
+mod mirrors;
+mod replies;
+mod scripts;
+
+use crate::event::{Event, drive};
+use crate::reply::Reply;
+use replies::told;
+use scripts::{command_in, event_in};
+use std::alloc::Global;
+use std::test::Fail;
+use sync_core::{Device, PlainStore};
+
+/// Performs a script's commands, a line each, and tells the replies, a line each.
+fn performed(alloc: Global, store: &mut PlainStore, script: &str) -> Result<String, Fail> {
+    let mut text = String::new(alloc);
+    for line in script.lines() {
+        let command = command_in(alloc, line)?;
+        let reply = crate::command::perform(alloc, store, &command);
+        text.push_str(told(alloc, &reply)?.as_str())?;
+    }
+    Ok(text)
+}
+
+/// The events of a script, a line each.
+fn events_in(alloc: Global, script: &str) -> Result<Vec<Event>, Fail> {
+    let mut events = Vec::new(alloc);
+    for line in script.lines() {
+        events.push(event_in(alloc, line)?)?;
+    }
+    Ok(events)
+}
+
+/// The replies, a line each.
+fn all_told(alloc: Global, replies: &[Reply]) -> Result<String, Fail> {
+    let mut text = String::new(alloc);
+    for reply in replies {
+        text.push_str(told(alloc, reply)?.as_str())?;
+    }
+    Ok(text)
+}
+
+/// Drives a script's events, and tells the replies. Nothing is driven where a device is named that isn't there.
+fn driven(
+    alloc: Global,
+    store: &mut PlainStore,
+    devices: &mut Vec<Device>,
+    script: &str,
+) -> Result<String, Fail> {
+    let events = events_in(alloc, script)?;
+    let count = devices.len();
+    if !events.iter().all(|event| event.is_within(count)) {
+        return Ok(String::new(alloc));
+    }
+    let replies = drive(alloc, store, devices, events.as_slice())?;
+    all_told(alloc, replies.as_slice())
+}

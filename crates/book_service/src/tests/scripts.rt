@@ -1,0 +1,157 @@
+//! Commands and events, written as lines of words.
+//!
+//! An optional number that is left out, or is no number, is `None`. A token is written `book/at/base`, and `-` is the empty
+//! text.
+use crate::command::Command;
+use crate::event::Event;
+use std::alloc::Global;
+use std::test::Fail;
+use vcard_text::{Items, Text};
+
+/// The word at the place, and an empty one behind the last.
+fn word<'a>(words: &[&'a str], place: usize) -> &'a str {
+    match words.get(place) {
+        Some(word) => *word,
+        None => "",
+    }
+}
+
+fn number(words: &[&str], place: usize) -> Option<u64> {
+    word(words, place).parse::<u64>().ok()
+}
+
+fn text(alloc: Global, words: &[&str], place: usize) -> Result<Text, Fail> {
+    Ok(Text::copy_of(alloc, word(words, place))?)
+}
+
+/// The octets of the five-line card of the UID and name.
+fn card_text(alloc: Global, uid: &str, name: &str) -> Result<Items<u8>, Fail> {
+    let card = format!(in alloc;
+        "BEGIN:VCARD\r\nVERSION:4.0\r\nUID:{uid}\r\nFN:{name}\r\nEND:VCARD\r\n"
+    )?;
+    Ok(Items::from_vec(card.into_bytes()))
+}
+
+/// `put BOOK UID NAME EXPECT` puts the card of the UID and name.
+fn put(alloc: Global, words: &[&str]) -> Result<Command, Fail> {
+    Ok(Command::Put {
+        book: text(alloc, words, 1)?,
+        uid: text(alloc, words, 2)?,
+        expect: number(words, 4),
+        text: card_text(alloc, word(words, 2), word(words, 3))?,
+    })
+}
+
+/// `swap BOOK UID OTHER EXPECT` puts a card of the other UID under the UID.
+fn swap(alloc: Global, words: &[&str]) -> Result<Command, Fail> {
+    Ok(Command::Put {
+        book: text(alloc, words, 1)?,
+        uid: text(alloc, words, 2)?,
+        expect: number(words, 4),
+        text: card_text(alloc, word(words, 3), "Other")?,
+    })
+}
+
+/// `garble BOOK UID EXPECT` puts a text that ends too early.
+fn garble(alloc: Global, words: &[&str]) -> Result<Command, Fail> {
+    let text_octets = String::from_str(alloc, "BEGIN:VCARD\r\n")?.into_bytes();
+    Ok(Command::Put {
+        book: text(alloc, words, 1)?,
+        uid: text(alloc, words, 2)?,
+        expect: number(words, 3),
+        text: Items::from_vec(text_octets),
+    })
+}
+
+/// `get BOOK UID`
+fn get(alloc: Global, words: &[&str]) -> Result<Command, Fail> {
+    Ok(Command::Get {
+        book: text(alloc, words, 1)?,
+        uid: text(alloc, words, 2)?,
+    })
+}
+
+/// `remove BOOK UID EXPECT`
+fn remove(alloc: Global, words: &[&str]) -> Result<Command, Fail> {
+    Ok(Command::Remove {
+        book: text(alloc, words, 1)?,
+        uid: text(alloc, words, 2)?,
+        expect: number(words, 3),
+    })
+}
+
+/// `move BOOK UID TO EXPECT`
+fn move_card(alloc: Global, words: &[&str]) -> Result<Command, Fail> {
+    Ok(Command::MoveCard {
+        book: text(alloc, words, 1)?,
+        uid: text(alloc, words, 2)?,
+        to: text(alloc, words, 3)?,
+        expect: number(words, 4),
+    })
+}
+
+/// The text of a token that is written by its numbers.
+fn token_text(alloc: Global, numbers: &str) -> Result<Text, Fail> {
+    if numbers == "-" {
+        return Ok(Text::copy_of(alloc, "")?);
+    }
+    let token = format!(in alloc; "http://contacts.invalid/sync/{numbers}")?;
+    Ok(Text::new(token))
+}
+
+/// `report BOOK TOKEN LIMIT`
+fn report(alloc: Global, words: &[&str]) -> Result<Command, Fail> {
+    Ok(Command::Report {
+        book: text(alloc, words, 1)?,
+        token: token_text(alloc, word(words, 2))?,
+        limit: number(words, 3),
+    })
+}
+
+/// `create BOOK`, `tally BOOK`, and `books` for any other word.
+fn plain(alloc: Global, words: &[&str]) -> Result<Command, Fail> {
+    let book = text(alloc, words, 1)?;
+    match word(words, 0) {
+        "create" => Ok(Command::CreateBook { book }),
+        "tally" => Ok(Command::TallyOf { book }),
+        _ => Ok(Command::Books),
+    }
+}
+
+fn command_of(alloc: Global, words: &[&str]) -> Result<Command, Fail> {
+    match word(words, 0) {
+        "put" => put(alloc, words),
+        "swap" => swap(alloc, words),
+        "garble" => garble(alloc, words),
+        "get" => get(alloc, words),
+        "remove" => remove(alloc, words),
+        "move" => move_card(alloc, words),
+        "report" => report(alloc, words),
+        _ => plain(alloc, words),
+    }
+}
+
+fn words_in(alloc: Global, line: &str) -> Result<Vec<&str>, Fail> {
+    let mut words = Vec::new(alloc);
+    for word in line.split(' ') {
+        words.push(word)?;
+    }
+    Ok(words)
+}
+
+/// The command that a line says.
+pub(super) fn command_in(alloc: Global, line: &str) -> Result<Command, Fail> {
+    let words = words_in(alloc, line)?;
+    command_of(alloc, words.as_slice())
+}
+
+/// The event that a line says: `ask DEVICE LIMIT`, or a command.
+pub(super) fn event_in(alloc: Global, line: &str) -> Result<Event, Fail> {
+    let words = words_in(alloc, line)?;
+    if word(words.as_slice(), 0) != "ask" {
+        return Ok(Event::Do(command_of(alloc, words.as_slice())?));
+    }
+    let device = word(words.as_slice(), 1).parse::<usize>()?;
+    let limit = number(words.as_slice(), 2);
+    Ok(Event::Ask { device, limit })
+}
