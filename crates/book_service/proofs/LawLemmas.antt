@@ -1,15 +1,15 @@
 -- What holds through all events follows from what holds of the calls that they come to.
-use Rattle.std.proofs.Common.{◌≡◌, ℕ, true, false, List, [], ◌∷◌, ◌++◌, Some, Err, ap, ◌∙◌, subst}
+use Rattle.std.proofs.Common.{◌≡◌, ℕ, true, false, List, [], ◌∷◌, ◌++◌, Some, None, Err, sym, ap, ◌∙◌, subst}
 use Rattle.std.specs.List.{All, AllByRecursion}
 use Rattle.std.specs.FinMap as finite
 use Rattle.sync_core.specs.declared.refusal.Refusal.TheVariants.{BadToken}
 use Rattle.sync_core.specs.Calls.{Call, Forgets}
-use Rattle.sync_core.specs.Devices.{IsRight}
+use Rattle.sync_core.specs.Devices.{IsRight, IsRightWith, IsRightUnder}
 use Rattle.sync_core.specs.RunLaws.{BooksGoOn}
 use Rattle.sync_core.specs.TokenLaws.{TokensStayGood, token_of}
 use Rattle.sync_core.specs.Worlds.{Stories}
 use Rattle.sync_core.specs.WorldSteps.{report_meaning}
-use Rattle.book_service.specs.EventLaws.{PageTokensStayGood, BooksGoOnThroughEvents}
+use Rattle.book_service.specs.EventLaws.{DevicesStartRight, PageTokensStayGood, BooksGoOnThroughEvents}
 use Rattle.book_service.proofs.DriveLemmas.{drives_lead}
 use Rattle.book_service.proofs.RunLemmas.{forgets}
 
@@ -34,3 +34,10 @@ books_go_on_through go world devices after events replies end name story found r
     let leads = drives_lead (All (IsRight world.books) devices) world.limits world.books end devices after events replies run in
     let on = go world.limits world.books leads.calls name story found in
     (on.0, ap (λ (s : Stories). finite.get s name) leads.new_is ∙ on.1, on.2)
+
+pub devices_start_right : DevicesStartRight
+devices_start_right stories device none =
+    elim (finite.get stories device.book) as (λ o. IsRightWith o device) [
+      | None ↦ none
+      | Some story ↦ subst (IsRightUnder story device.copy) (sym none) tt
+    ]

@@ -1,5 +1,5 @@
 -- What holds through all events. This project's own.
-use Rattle.std.specs.Prelude.{ℕ, ◌≡◌, ◌≢◌, List, All, Option, Some, Ok, Err}
+use Rattle.std.specs.Prelude.{ℕ, ◌≡◌, ◌≢◌, List, All, Option, Some, None, Ok, Err}
 use Rattle.std.specs.FinMap as finite
 use Rattle.sync_core.specs.declared.page.Page.{Page}
 use Rattle.sync_core.specs.declared.refusal.Refusal.TheVariants.{BadToken}
@@ -28,3 +28,7 @@ BooksGoOnThroughEvents = (world : World) (devices after : List Holding) (events 
     (name : List ℕ) (story : Story) → finite.get world.books name ≡ Some story →
     Drives (All (IsRight world.books) devices) world.limits world.books devices events replies end after →
     (new : Story) × (finite.get end name ≡ Some new) × GoesOn story new
+
+-- a device without a token, such as a new one, is right, whether its book is there or not
+abbrev pub DevicesStartRight : Type 0
+DevicesStartRight = (stories : Stories) (device : Holding) → device.token ≡ None → IsRight stories device
