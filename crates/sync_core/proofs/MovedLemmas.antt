@@ -11,6 +11,7 @@ use Rattle.sync_core.specs.declared.answers.Stored.{Stored}
 use Rattle.sync_core.specs.declared.change.Change.TheVariants.{Stores, TakesAway}
 use Rattle.sync_core.specs.declared.change.StoreReason.TheVariants.{MoveIn}
 use Rattle.sync_core.specs.declared.change.RemovalReason.TheVariants.{MoveOut}
+use Rattle.sync_core.specs.declared.denied.Denied.{Denied}
 use Rattle.sync_core.specs.declared.denied.Denied.TheVariants.{Refused}
 use Rattle.sync_core.specs.declared.plain_store.Named.{Named}
 use Rattle.sync_core.specs.declared.refusal.Refusal.{Refusal}
@@ -20,7 +21,7 @@ use Rattle.sync_core.specs.Bounds.{Bounds}
 use Rattle.sync_core.specs.Books.{Book, Books, same_name, stored_in, with_change}
 use Rattle.sync_core.specs.Moving.{Moving, HasRow, move_answer, books_after_move, move_step}
 use Rattle.sync_core.specs.NamedBooks.{named_books, IsPlaceOf}
-use Rattle.sync_core.specs.Outcomes.{Does, ◌>>=◌, provided}
+use Rattle.sync_core.specs.Outcomes.{Does, RefusesFirst, ◌>>=◌, provided}
 use Rattle.sync_core.specs.Putting.{found_in}
 use Rattle.sync_core.proofs.BasicLemmas.{some_at}
 use Rattle.sync_core.proofs.ChangeLemmas.{found_to_move}
@@ -92,6 +93,21 @@ module _ (limits : Bounds) (bs : List Named) (from to uid : List ℕ) (expect : 
   refused refusal e r =
       subst (λ (step : Result (Moved × Books) Refusal). Does {A = Moved} (Err (Refused refusal)) step (named_books bs) (named_books bs))
       (sym (by_test false e ∙ ap (λ m. m >>= answered source.book target.book) r)) (refl, refl)
+
+  pub refuses_same : bytes_eq from to ≡ true → RefusesFirst {A = Moved} (Err (Refused SameBook)) (move_step limits (named_books bs) from to uid expect)
+  refuses_same e = subst (λ (step : Result (Moved × Books) Refusal). RefusesFirst {A = Moved} (Err (Refused SameBook)) step) (sym (by_test true e)) refl
+
+  pub refuses : (refusal : Refusal) → bytes_eq from to ≡ false → move_answer limits (found_in source.book uid) (found_in target.book uid) expect ≡ Err refusal
+      → RefusesFirst {A = Moved} (Err (Refused refusal)) (move_step limits (named_books bs) from to uid expect)
+  refuses refusal e r =
+      subst (λ (step : Result (Moved × Books) Refusal). RefusesFirst {A = Moved} (Err (Refused refusal)) step)
+      (sym (by_test false e ∙ ap (λ m. m >>= answered source.book target.book) r)) refl
+
+  pub refuses_nothing : (result : Result Moved Denied) (moving : Moving) → bytes_eq from to ≡ false → move_answer limits (found_in source.book uid) (found_in target.book uid) expect ≡ Ok moving
+      → RefusesFirst result (move_step limits (named_books bs) from to uid expect)
+  refuses_nothing result moving e is =
+      subst (λ (step : Result (Moved × Books) Refusal). RefusesFirst result step)
+      (sym (by_test false e ∙ ap (λ m. m >>= answered source.book target.book) is)) tt
 
   module _ (ws : List Named) (card : List Line) (apart : bytes_eq from to ≡ false) (came : WroteAt bs ws j uid (Stores card MoveIn)) where
     abbrev first : Books

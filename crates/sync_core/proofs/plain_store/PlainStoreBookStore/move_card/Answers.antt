@@ -14,10 +14,10 @@ use Rattle.sync_core.specs.StoreStates.{StoreState}
 use Rattle.sync_core.specs.Books.{with_change}
 use Rattle.sync_core.specs.Moving.{HasRow, move_answer, move_step}
 use Rattle.sync_core.specs.NamedBooks.{named_books, IsPlaceOf}
-use Rattle.sync_core.specs.Outcomes.{Does}
+use Rattle.sync_core.specs.Outcomes.{Does, RefusesFirst}
 use Rattle.sync_core.specs.Putting.{found_in}
 use Rattle.sync_core.proofs.BasicLemmas.{some_at, same_Some_at}
-use Rattle.sync_core.proofs.MovedLemmas.{moving_of, row_of_moving, refused_same, refused, row_stays, moves}
+use Rattle.sync_core.proofs.MovedLemmas.{moving_of, row_of_moving, refused_same, refused, refuses_same, refuses, refuses_nothing, row_stays, moves}
 use Rattle.sync_core.proofs.PutLemmas.{WroteAt, apart_still}
 use Rattle.sync_core.proofs.plain_store.PlainStoreBookStore.move_card.Goals as goal
 
@@ -104,3 +104,88 @@ returns-clause-does c =
     subst (λ (s : StoreState). Does {A = Moved} (Ok c.in_ok-card.moved) (move_step s.limits s.books c.args.from.now c.args.to.now c.args.uid.now c.args.expect) s.books (named_books c.move_out.new.books.items)) c.self.view_is
     (moves c.self.inside.limits bs c.args.from.now c.args.to.now c.args.uid.now c.args.expect c.in-Some.i c.in-Some-place_of.j c.index-2.result.now c.index.result.now pi pj ei ej c.apply_at.new.books.items c.in_ok-card.card.now (sym c.eq.ensures ∙ c.if-eq.false) came c.move_out.new.books.items c.in_ok-card.moved answered
     (subst (λ (u : List ℕ). IfSome (finite.get (named_books c.apply_at.new.books.items) c.args.from.now) (λ b. named_books c.move_out.new.books.items ≡ finite.insert (named_books c.apply_at.new.books.items) c.args.from.now (with_change b u (TakesAway MoveOut)))) c.in_ok-left.ensures.ok c.move_out.ensures.written))
+
+pub returns-then-eq-clause-refuses : goal.returns-then-eq-clause-refuses
+returns-then-eq-clause-refuses c =
+    let bs = c.self.inside.books.items in
+    let li : c.in-Some.i < length bs = subst (λ (xs : List Named). c.in-Some.i < length xs) c.as_slice.ensures.value c.in-Some.ensures.within in
+    let lj : c.in-Some-place_of.j < length bs = subst (λ (xs : List Named). c.in-Some-place_of.j < length xs) c.as_slice-2.ensures.value c.in-Some-place_of.ensures.within in
+    let pi : IsPlaceOf bs c.args.from.now c.in-Some.i = subst (λ (xs : List Named). IsPlaceOf xs c.args.from.now c.in-Some.i) c.as_slice.ensures.value c.in-Some.ensures.some in
+    let pj : IsPlaceOf bs c.args.to.now c.in-Some-place_of.j = subst (λ (xs : List Named). IsPlaceOf xs c.args.to.now c.in-Some-place_of.j) c.as_slice-2.ensures.value c.in-Some-place_of.ensures.some in
+    let source = some_at bs c.in-Some.i li in
+    let target = some_at bs c.in-Some-place_of.j lj in
+    subst (λ (s : StoreState). RefusesFirst {A = Moved} (Err (Refused SameBook)) (move_step s.limits s.books c.args.from.now c.args.to.now c.args.uid.now c.args.expect)) c.self.view_is
+    (refuses_same c.self.inside.limits bs c.args.from.now c.args.to.now c.args.uid.now c.args.expect c.in-Some.i c.in-Some-place_of.j source.0 target.0 pi pj source.1 target.1 (sym c.eq.ensures ∙ c.if-eq.true))
+
+pub returns-in_err-card-clause-refuses : goal.returns-in_err-card-clause-refuses
+returns-in_err-card-clause-refuses c =
+    let bs = c.self.inside.books.items in
+    let li : c.in-Some.i < length bs = subst (λ (xs : List Named). c.in-Some.i < length xs) c.as_slice.ensures.value c.in-Some.ensures.within in
+    let lj : c.in-Some-place_of.j < length bs = subst (λ (xs : List Named). c.in-Some-place_of.j < length xs) c.as_slice-2.ensures.value c.in-Some-place_of.ensures.within in
+    let pi : IsPlaceOf bs c.args.from.now c.in-Some.i = subst (λ (xs : List Named). IsPlaceOf xs c.args.from.now c.in-Some.i) c.as_slice.ensures.value c.in-Some.ensures.some in
+    let pj : IsPlaceOf bs c.args.to.now c.in-Some-place_of.j = subst (λ (xs : List Named). IsPlaceOf xs c.args.to.now c.in-Some-place_of.j) c.as_slice-2.ensures.value c.in-Some-place_of.ensures.some in
+    let ej = slice_get_read bs (length bs) c.in-Some-place_of.j c.index.result.now refl lj c.index.ensures in
+    let ei = slice_get_read bs (length bs) c.in-Some.i c.index-2.result.now refl li c.index-2.ensures in
+    let p = err_from_is_err_and c.from_residual.result c.from_residual.ensures.1 in
+    rw (p.1, p.2) (subst (λ (s : StoreState). RefusesFirst {A = Moved} (Err (Refused c.in_err-card.field-0.0)) (move_step s.limits s.books c.args.from.now c.args.to.now c.args.uid.now c.args.expect)) c.self.view_is
+    (refuses c.self.inside.limits bs c.args.from.now c.args.to.now c.args.uid.now c.args.expect c.in-Some.i c.in-Some-place_of.j c.index-2.result.now c.index.result.now pi pj ei ej c.in_err-card.field-0.0 (sym c.eq.ensures ∙ c.if-eq.false) c.in_err-card.ensures.refusal))
+
+pub returns-in_err-card-2-clause-refuses : goal.returns-in_err-card-2-clause-refuses
+returns-in_err-card-2-clause-refuses c =
+    let bs = c.self.inside.books.items in
+    let li : c.in-Some.i < length bs = subst (λ (xs : List Named). c.in-Some.i < length xs) c.as_slice.ensures.value c.in-Some.ensures.within in
+    let lj : c.in-Some-place_of.j < length bs = subst (λ (xs : List Named). c.in-Some-place_of.j < length xs) c.as_slice-2.ensures.value c.in-Some-place_of.ensures.within in
+    let pi : IsPlaceOf bs c.args.from.now c.in-Some.i = subst (λ (xs : List Named). IsPlaceOf xs c.args.from.now c.in-Some.i) c.as_slice.ensures.value c.in-Some.ensures.some in
+    let pj : IsPlaceOf bs c.args.to.now c.in-Some-place_of.j = subst (λ (xs : List Named). IsPlaceOf xs c.args.to.now c.in-Some-place_of.j) c.as_slice-2.ensures.value c.in-Some-place_of.ensures.some in
+    let ej = slice_get_read bs (length bs) c.in-Some-place_of.j c.index.result.now refl lj c.index.ensures in
+    let ei = slice_get_read bs (length bs) c.in-Some.i c.index-2.result.now refl li c.index-2.ensures in
+    subst (λ (s : StoreState). RefusesFirst {A = Moved} c.from_residual-in_err-card-2.result (move_step s.limits s.books c.args.from.now c.args.to.now c.args.uid.now c.args.expect)) c.self.view_is
+    (refuses_nothing c.self.inside.limits bs c.args.from.now c.args.to.now c.args.uid.now c.args.expect c.in-Some.i c.in-Some-place_of.j c.index-2.result.now c.index.result.now pi pj ei ej c.from_residual-in_err-card-2.result (moving_of c.in_ok-card.card.now c.in_ok-card.moved) (sym c.eq.ensures ∙ c.if-eq.false) c.in_ok-card.ensures.answer)
+
+pub returns-in_err-came-clause-refuses : goal.returns-in_err-came-clause-refuses
+returns-in_err-came-clause-refuses c =
+    let bs = c.self.inside.books.items in
+    let li : c.in-Some.i < length bs = subst (λ (xs : List Named). c.in-Some.i < length xs) c.as_slice.ensures.value c.in-Some.ensures.within in
+    let lj : c.in-Some-place_of.j < length bs = subst (λ (xs : List Named). c.in-Some-place_of.j < length xs) c.as_slice-2.ensures.value c.in-Some-place_of.ensures.within in
+    let pi : IsPlaceOf bs c.args.from.now c.in-Some.i = subst (λ (xs : List Named). IsPlaceOf xs c.args.from.now c.in-Some.i) c.as_slice.ensures.value c.in-Some.ensures.some in
+    let pj : IsPlaceOf bs c.args.to.now c.in-Some-place_of.j = subst (λ (xs : List Named). IsPlaceOf xs c.args.to.now c.in-Some-place_of.j) c.as_slice-2.ensures.value c.in-Some-place_of.ensures.some in
+    let ej = slice_get_read bs (length bs) c.in-Some-place_of.j c.index.result.now refl lj c.index.ensures in
+    let ei = slice_get_read bs (length bs) c.in-Some.i c.index-2.result.now refl li c.index-2.ensures in
+    subst (λ (s : StoreState). RefusesFirst {A = Moved} c.from_residual-in_err-came.result (move_step s.limits s.books c.args.from.now c.args.to.now c.args.uid.now c.args.expect)) c.self.view_is
+    (refuses_nothing c.self.inside.limits bs c.args.from.now c.args.to.now c.args.uid.now c.args.expect c.in-Some.i c.in-Some-place_of.j c.index-2.result.now c.index.result.now pi pj ei ej c.from_residual-in_err-came.result (moving_of c.in_ok-card.card.now c.in_ok-card.moved) (sym c.eq.ensures ∙ c.if-eq.false) c.in_ok-card.ensures.answer)
+
+pub returns-in_err-left-clause-refuses : goal.returns-in_err-left-clause-refuses
+returns-in_err-left-clause-refuses c =
+    let bs = c.self.inside.books.items in
+    let li : c.in-Some.i < length bs = subst (λ (xs : List Named). c.in-Some.i < length xs) c.as_slice.ensures.value c.in-Some.ensures.within in
+    let lj : c.in-Some-place_of.j < length bs = subst (λ (xs : List Named). c.in-Some-place_of.j < length xs) c.as_slice-2.ensures.value c.in-Some-place_of.ensures.within in
+    let pi : IsPlaceOf bs c.args.from.now c.in-Some.i = subst (λ (xs : List Named). IsPlaceOf xs c.args.from.now c.in-Some.i) c.as_slice.ensures.value c.in-Some.ensures.some in
+    let pj : IsPlaceOf bs c.args.to.now c.in-Some-place_of.j = subst (λ (xs : List Named). IsPlaceOf xs c.args.to.now c.in-Some-place_of.j) c.as_slice-2.ensures.value c.in-Some-place_of.ensures.some in
+    let ej = slice_get_read bs (length bs) c.in-Some-place_of.j c.index.result.now refl lj c.index.ensures in
+    let ei = slice_get_read bs (length bs) c.in-Some.i c.index-2.result.now refl li c.index-2.ensures in
+    subst (λ (s : StoreState). RefusesFirst {A = Moved} c.from_residual-in_err-left.result (move_step s.limits s.books c.args.from.now c.args.to.now c.args.uid.now c.args.expect)) c.self.view_is
+    (refuses_nothing c.self.inside.limits bs c.args.from.now c.args.to.now c.args.uid.now c.args.expect c.in-Some.i c.in-Some-place_of.j c.index-2.result.now c.index.result.now pi pj ei ej c.from_residual-in_err-left.result (moving_of c.in_ok-card.card.now c.in_ok-card.moved) (sym c.eq.ensures ∙ c.if-eq.false) c.in_ok-card.ensures.answer)
+
+pub returns-in_err-apply_at-clause-refuses : goal.returns-in_err-apply_at-clause-refuses
+returns-in_err-apply_at-clause-refuses c =
+    let bs = c.self.inside.books.items in
+    let li : c.in-Some.i < length bs = subst (λ (xs : List Named). c.in-Some.i < length xs) c.as_slice.ensures.value c.in-Some.ensures.within in
+    let lj : c.in-Some-place_of.j < length bs = subst (λ (xs : List Named). c.in-Some-place_of.j < length xs) c.as_slice-2.ensures.value c.in-Some-place_of.ensures.within in
+    let pi : IsPlaceOf bs c.args.from.now c.in-Some.i = subst (λ (xs : List Named). IsPlaceOf xs c.args.from.now c.in-Some.i) c.as_slice.ensures.value c.in-Some.ensures.some in
+    let pj : IsPlaceOf bs c.args.to.now c.in-Some-place_of.j = subst (λ (xs : List Named). IsPlaceOf xs c.args.to.now c.in-Some-place_of.j) c.as_slice-2.ensures.value c.in-Some-place_of.ensures.some in
+    let ej = slice_get_read bs (length bs) c.in-Some-place_of.j c.index.result.now refl lj c.index.ensures in
+    let ei = slice_get_read bs (length bs) c.in-Some.i c.index-2.result.now refl li c.index-2.ensures in
+    subst (λ (s : StoreState). RefusesFirst {A = Moved} c.from_residual-in_err-apply_at.result (move_step s.limits s.books c.args.from.now c.args.to.now c.args.uid.now c.args.expect)) c.self.view_is
+    (refuses_nothing c.self.inside.limits bs c.args.from.now c.args.to.now c.args.uid.now c.args.expect c.in-Some.i c.in-Some-place_of.j c.index-2.result.now c.index.result.now pi pj ei ej c.from_residual-in_err-apply_at.result (moving_of c.in_ok-card.card.now c.in_ok-card.moved) (sym c.eq.ensures ∙ c.if-eq.false) c.in_ok-card.ensures.answer)
+
+pub returns-clause-refuses : goal.returns-clause-refuses
+returns-clause-refuses c =
+    let bs = c.self.inside.books.items in
+    let li : c.in-Some.i < length bs = subst (λ (xs : List Named). c.in-Some.i < length xs) c.as_slice.ensures.value c.in-Some.ensures.within in
+    let lj : c.in-Some-place_of.j < length bs = subst (λ (xs : List Named). c.in-Some-place_of.j < length xs) c.as_slice-2.ensures.value c.in-Some-place_of.ensures.within in
+    let pi : IsPlaceOf bs c.args.from.now c.in-Some.i = subst (λ (xs : List Named). IsPlaceOf xs c.args.from.now c.in-Some.i) c.as_slice.ensures.value c.in-Some.ensures.some in
+    let pj : IsPlaceOf bs c.args.to.now c.in-Some-place_of.j = subst (λ (xs : List Named). IsPlaceOf xs c.args.to.now c.in-Some-place_of.j) c.as_slice-2.ensures.value c.in-Some-place_of.ensures.some in
+    let ej = slice_get_read bs (length bs) c.in-Some-place_of.j c.index.result.now refl lj c.index.ensures in
+    let ei = slice_get_read bs (length bs) c.in-Some.i c.index-2.result.now refl li c.index-2.ensures in
+    subst (λ (s : StoreState). RefusesFirst {A = Moved} (Ok c.in_ok-card.moved) (move_step s.limits s.books c.args.from.now c.args.to.now c.args.uid.now c.args.expect)) c.self.view_is
+    (refuses_nothing c.self.inside.limits bs c.args.from.now c.args.to.now c.args.uid.now c.args.expect c.in-Some.i c.in-Some-place_of.j c.index-2.result.now c.index.result.now pi pj ei ej (Ok c.in_ok-card.moved) (moving_of c.in_ok-card.card.now c.in_ok-card.moved) (sym c.eq.ensures ∙ c.if-eq.false) c.in_ok-card.ensures.answer)
