@@ -6,13 +6,16 @@ mod reports;
 mod storing;
 mod tokens;
 
+use crate::answers::{PutAnswer, Stored};
 use crate::denied::Denied;
+use crate::device::Device;
 use crate::limits::Limits;
 use crate::page::{Entry, Page};
 use crate::plain_store::PlainStore;
 use crate::store::BookStore;
 use crate::token::{Mark, Token, token_text};
 use std::alloc::Global;
+use std::collections::BTreeMap;
 use std::process::Abort;
 use std::test::Fail;
 use vcard_text::{Card, read_card};
@@ -32,13 +35,81 @@ fn store_with_staff(alloc: Global, limits: Limits) -> Result<PlainStore, Fail> {
     Ok(store)
 }
 
+/// The answer to a put of the five-line card of the UID and name.
+fn put_expecting(
+    store: &mut PlainStore,
+    alloc: Global,
+    book: &str,
+    uid: &str,
+    name: &str,
+    expect: Option<u64>,
+) -> Result<Result<PutAnswer, Denied>, Fail> {
+    let card = card(alloc, uid, name)?;
+    Ok(store.put(book, &card, expect))
+}
+
+/// The answer to such a put that expects nothing.
+fn put(
+    store: &mut PlainStore,
+    alloc: Global,
+    book: &str,
+    uid: &str,
+    name: &str,
+) -> Result<Result<PutAnswer, Denied>, Fail> {
+    put_expecting(store, alloc, book, uid, name, None)
+}
+
+/// Such a put is answered so.
+fn is_put(
+    rt: &impl Abort,
+    alloc: Global,
+    store: &mut PlainStore,
+    book: &str,
+    uid: &str,
+    name: &str,
+    wanted: PutAnswer,
+) -> Result<(), Fail> {
+    let answer = put(store, alloc, book, uid, name)?;
+    assert_eq!(rt; answer, Ok(wanted), "{book} {uid} {name}");
+    Ok(())
+}
+
+/// A put that has to be taken.
+fn put_well(
+    store: &mut PlainStore,
+    alloc: Global,
+    book: &str,
+    uid: &str,
+    name: &str,
+) -> Result<(), Fail> {
+    put(store, alloc, book, uid, name)??;
+    Ok(())
+}
+
 /// The book `staff` after four puts: Ann, Bob, Cy, and Ann again as Anna.
 fn store_after_puts(alloc: Global) -> Result<PlainStore, Fail> {
     let mut store = store_with_staff(alloc, Limits::standard())?;
-    store.put("staff", &card(alloc, "a", "Ann")?, None)?;
-    store.put("staff", &card(alloc, "b", "Bob")?, None)?;
-    store.put("staff", &card(alloc, "c", "Cy")?, None)?;
-    store.put("staff", &card(alloc, "a", "Anna")?, None)?;
+    put_well(&mut store, alloc, "staff", "a", "Ann")?;
+    put_well(&mut store, alloc, "staff", "b", "Bob")?;
+    put_well(&mut store, alloc, "staff", "c", "Cy")?;
+    put_well(&mut store, alloc, "staff", "a", "Anna")?;
+    Ok(store)
+}
+
+/// `staff` after five changes: Ann, Bob, Cy, Ann again as Anna, and the removal of b.
+fn store_after_removal(alloc: Global) -> Result<PlainStore, Fail> {
+    let mut store = store_after_puts(alloc)?;
+    store.remove("staff", "b", None)?;
+    Ok(store)
+}
+
+/// `staff` after nine changes: then c is removed, b comes again, and d comes and goes.
+fn store_after_nine(alloc: Global) -> Result<PlainStore, Fail> {
+    let mut store = store_after_removal(alloc)?;
+    store.remove("staff", "c", None)?;
+    put_well(&mut store, alloc, "staff", "b", "Bob")?;
+    put_well(&mut store, alloc, "staff", "d", "Dee")?;
+    store.remove("staff", "d", None)?;
     Ok(store)
 }
 
@@ -49,21 +120,38 @@ fn token(book: u64, at: u64, base: u64) -> Option<Token> {
     })
 }
 
+fn name_of(card: &Card) -> &str {
+    match card.first("FN") {
+        Some(line) => line.value.as_str(),
+        None => "",
+    }
+}
+
+/// A member and its card, told in a line.
+fn told_live(alloc: Global, uid: &str, version: u64, card: &Card) -> Result<String, Fail> {
+    let name = name_of(card);
+    Ok(format!(in alloc; "{uid} {version} {name}\n")?)
+}
+
+fn told_entry(alloc: Global, entry: &Entry) -> Result<String, Fail> {
+    match entry {
+        Entry::Changed { uid, version, card } => told_live(alloc, uid.as_str(), *version, card),
+        Entry::Removed { uid } => Ok(format!(in alloc; "{} gone\n", uid.as_str())?),
+    }
+}
+
+/// Adds what a page says of one member.
+fn tell_entry(alloc: Global, text: &mut String, entry: &Entry) -> Result<(), Fail> {
+    let line = told_entry(alloc, entry)?;
+    text.push_str(line.as_str())?;
+    Ok(())
+}
+
 /// What a page says, a line for each entry and one for its token.
 fn told(alloc: Global, page: &Page) -> Result<String, Fail> {
     let mut text = String::new(alloc);
     for entry in page.entries.as_slice() {
-        let line = match entry {
-            Entry::Changed { uid, version, card } => {
-                let name = match card.first("FN") {
-                    Some(line) => line.value.as_str(),
-                    None => "",
-                };
-                format!(in alloc; "{} {version} {name}\n", uid.as_str())?
-            }
-            Entry::Removed { uid } => format!(in alloc; "{} gone\n", uid.as_str())?,
-        };
-        text.push_str(line.as_str())?;
+        tell_entry(alloc, &mut text, entry)?;
     }
     let Page { book, mark, .. } = *page;
     let line = token_text(alloc, &Token { book, mark })?;
@@ -74,19 +162,39 @@ fn told(alloc: Global, page: &Page) -> Result<String, Fail> {
     Ok(text)
 }
 
-/// The report of `staff`, as it is told.
-fn report_of_staff<S: BookStore>(
-    alloc: Global,
-    store: &mut S,
-    token: Option<Token>,
-    limit: Option<u64>,
-) -> Result<Result<String, Denied>, Fail> {
-    match store.report("staff", token, limit) {
-        Ok(page) => Ok(Ok(told(alloc, &page)?)),
-        Err(denied) => Ok(Err(denied)),
-    }
+/// Adds what a copy has of one member.
+fn tell_stored(alloc: Global, text: &mut String, uid: &str, stored: &Stored) -> Result<(), Fail> {
+    let line = told_live(alloc, uid, stored.version, &stored.card)?;
+    text.push_str(line.as_str())?;
+    Ok(())
 }
 
+/// A copy, a line for each card.
+fn held(alloc: Global, copy: &BTreeMap<String, Stored>) -> Result<String, Fail> {
+    let mut text = String::new(alloc);
+    for (uid, stored) in copy.iter() {
+        tell_stored(alloc, &mut text, uid.as_str(), stored)?;
+    }
+    Ok(text)
+}
+
+/// The copy is told so.
+fn holds(
+    rt: &impl Abort,
+    alloc: Global,
+    copy: &BTreeMap<String, Stored>,
+    wanted: &str,
+) -> Result<(), Fail> {
+    let text = held(alloc, copy)?;
+    assert_eq!(rt; text.as_str(), wanted);
+    Ok(())
+}
+
+fn has_token(rt: &impl Abort, device: &Device, wanted: Option<Token>) {
+    assert_eq!(rt; device.token(), wanted);
+}
+
+/// The report of `staff` is told so.
 fn is_told<S: BookStore>(
     rt: &impl Abort,
     alloc: Global,
@@ -95,9 +203,8 @@ fn is_told<S: BookStore>(
     limit: Option<u64>,
     wanted: &str,
 ) -> Result<(), Fail> {
-    match report_of_staff(alloc, store, token, limit)? {
-        Ok(text) => assert_eq!(rt; text.as_str(), wanted),
-        Err(denied) => assert!(rt; false, "{denied}: {wanted}"),
-    }
+    let page = store.report("staff", token, limit)?;
+    let text = told(alloc, &page)?;
+    assert_eq!(rt; text.as_str(), wanted);
     Ok(())
 }
