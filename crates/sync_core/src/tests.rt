@@ -5,6 +5,7 @@ mod numbers;
 mod reports;
 mod storing;
 mod tokens;
+mod two_books;
 
 use crate::answers::{PutAnswer, Stored};
 use crate::denied::Denied;

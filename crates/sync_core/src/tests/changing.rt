@@ -19,7 +19,7 @@ const REFUSED_CARD: Denied = Denied::Refused(Refusal::NoSuchCard);
 const REFUSED_BOOK: Denied = Denied::Refused(Refusal::NoSuchBook);
 
 /// A book to which nothing happened, in numbers.
-const NO_CHANGES: Tally = Tally {
+pub(super) const NO_CHANGES: Tally = Tally {
     number: 0,
     horizon: 0,
     cards: 0,
@@ -295,7 +295,7 @@ fn a_card_moves(rt: HostRuntime) -> Result<(), Fail> {
 }
 
 /// `staff` in numbers after its ten changes.
-const STAFF_AFTER_MOVE: Tally = Tally {
+pub(super) const STAFF_AFTER_MOVE: Tally = Tally {
     number: 10,
     cards: 1,
     created: 5,
@@ -307,7 +307,7 @@ const STAFF_AFTER_MOVE: Tally = Tally {
 };
 
 /// `clients` in numbers after a came.
-const CLIENTS_AFTER_MOVE: Tally = Tally {
+pub(super) const CLIENTS_AFTER_MOVE: Tally = Tally {
     number: 1,
     cards: 1,
     moved_in: 1,
@@ -323,7 +323,7 @@ fn moves_are_counted(rt: HostRuntime) -> Result<(), Fail> {
     Ok(())
 }
 
-fn move_is_refused(
+pub(super) fn move_is_refused(
     rt: &impl Abort,
     store: &mut PlainStore,
     from: &str,
