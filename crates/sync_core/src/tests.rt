@@ -60,6 +60,18 @@ fn put(
     put_expecting(store, alloc, book, uid, name, None)
 }
 
+fn created(version: u64) -> PutAnswer {
+    PutAnswer::Created { version }
+}
+
+fn edited(version: u64) -> PutAnswer {
+    PutAnswer::Edited { version }
+}
+
+fn unchanged(version: u64) -> PutAnswer {
+    PutAnswer::Unchanged { version }
+}
+
 /// Such a put is answered so.
 fn is_put(
     rt: &impl Abort,

@@ -1,9 +1,9 @@
 //! Removals, moves, and what a store tells of books and cards.
 use super::{
-    holds, is_put, is_told, put_well, store_after_nine, store_after_removal, store_with_staff,
-    token,
+    created, holds, is_put, is_told, put_well, store_after_nine, store_after_removal,
+    store_with_staff, token,
 };
-use crate::answers::{BookLine, Moved, PutAnswer, Stored, Tally};
+use crate::answers::{BookLine, Moved, Stored, Tally};
 use crate::denied::Denied;
 use crate::limits::Limits;
 use crate::plain_store::PlainStore;
@@ -91,15 +91,7 @@ fn change_between_pages(
     store: &mut PlainStore,
 ) -> Result<(), Fail> {
     assert_eq!(rt; store.remove("staff", "c", None), Ok(6));
-    is_put(
-        rt,
-        alloc,
-        store,
-        "staff",
-        "b",
-        "Bob",
-        PutAnswer::Created { version: 7 },
-    )
+    is_put(rt, alloc, store, "staff", "b", "Bob", created(7))
 }
 
 fn is_told_of_changes(rt: &impl Abort, alloc: Global, store: &mut PlainStore) -> Result<(), Fail> {
@@ -336,48 +328,23 @@ pub(super) fn move_is_refused(
     assert_eq!(rt; answer, Err(Denied::Refused(wanted)), "{from} {to} {uid}");
 }
 
-/// Moves that are refused after nine changes of `staff`, where `clients` has b.
-fn moves_are_refused(rt: &impl Abort, store: &mut PlainStore) {
-    move_is_refused(
-        rt,
-        store,
-        "friends",
-        "friends",
-        "b",
-        None,
-        Refusal::NoSuchBook,
-    );
-    move_is_refused(
-        rt,
-        store,
-        "staff",
-        "friends",
-        "b",
-        None,
-        Refusal::NoSuchBook,
-    );
+/// Moves that no card could make, after nine changes of `staff`.
+fn books_refuse_moves(rt: &impl Abort, store: &mut PlainStore) {
+    let no_book = Refusal::NoSuchBook;
+    move_is_refused(rt, store, "friends", "friends", "b", None, no_book);
+    move_is_refused(rt, store, "staff", "friends", "b", None, no_book);
     move_is_refused(rt, store, "staff", "staff", "x", None, Refusal::SameBook);
-    move_is_refused(
-        rt,
-        store,
-        "staff",
-        "clients",
-        "c",
-        Some(1),
-        Refusal::NoSuchCard,
-    );
-    move_is_refused(
-        rt,
-        store,
-        "staff",
-        "clients",
-        "b",
-        Some(1),
-        Refusal::UidTaken,
-    );
+}
+
+/// Moves that these cards can't make, where `clients` has b.
+fn cards_refuse_moves(rt: &impl Abort, store: &mut PlainStore) {
+    let no_card = Refusal::NoSuchCard;
+    move_is_refused(rt, store, "staff", "clients", "c", Some(1), no_card);
+    let taken = Refusal::UidTaken;
+    move_is_refused(rt, store, "staff", "clients", "b", Some(1), taken);
     let mismatch = Refusal::VersionMismatch { has: 4 };
     move_is_refused(rt, store, "staff", "clients", "a", Some(1), mismatch);
-    move_is_refused(rt, store, "clients", "staff", "b", None, Refusal::UidTaken);
+    move_is_refused(rt, store, "clients", "staff", "b", None, taken);
 }
 
 #[test]
@@ -386,7 +353,8 @@ fn moves_are_refused_in_order(rt: HostRuntime) -> Result<(), Fail> {
     let mut store = store_after_nine(alloc)?;
     store.create_book("clients")?;
     put_well(&mut store, alloc, "clients", "b", "Bob")?;
-    moves_are_refused(&rt, &mut store);
+    books_refuse_moves(&rt, &mut store);
+    cards_refuse_moves(&rt, &mut store);
     has_line(&rt, &mut store, "staff", 1, 9)?;
     has_line(&rt, &mut store, "clients", 2, 1)
 }

@@ -1,7 +1,10 @@
 //! The books `staff` and `clients`, and a device of each that hears of them page by page.
 use super::changing::{CLIENTS_AFTER_MOVE, NO_CHANGES, STAFF_AFTER_MOVE, move_is_refused};
-use super::{has_token, holds, is_put, is_told, put_expecting, store_with_staff, token, told};
-use crate::answers::{Moved, PutAnswer, Tally};
+use super::{
+    created, edited, has_token, holds, is_put, is_told, put_expecting, store_with_staff, token,
+    told, unchanged,
+};
+use crate::answers::{Moved, Tally};
 use crate::denied::Denied;
 use crate::device::Device;
 use crate::limits::Limits;
@@ -79,42 +82,10 @@ fn clients_hear(
 
 /// Ann, Bob and Cy come to `staff`, Ann is written again as Anna, and Bob goes.
 fn five_changes(rt: &impl Abort, alloc: Global, store: &mut PlainStore) -> Result<(), Fail> {
-    is_put(
-        rt,
-        alloc,
-        store,
-        "staff",
-        "a",
-        "Ann",
-        PutAnswer::Created { version: 1 },
-    )?;
-    is_put(
-        rt,
-        alloc,
-        store,
-        "staff",
-        "b",
-        "Bob",
-        PutAnswer::Created { version: 2 },
-    )?;
-    is_put(
-        rt,
-        alloc,
-        store,
-        "staff",
-        "c",
-        "Cy",
-        PutAnswer::Created { version: 3 },
-    )?;
-    is_put(
-        rt,
-        alloc,
-        store,
-        "staff",
-        "a",
-        "Anna",
-        PutAnswer::Edited { version: 4 },
-    )?;
+    is_put(rt, alloc, store, "staff", "a", "Ann", created(1))?;
+    is_put(rt, alloc, store, "staff", "b", "Bob", created(2))?;
+    is_put(rt, alloc, store, "staff", "c", "Cy", created(3))?;
+    is_put(rt, alloc, store, "staff", "a", "Anna", edited(4))?;
     assert_eq!(rt; store.remove("staff", "b", None), Ok(5));
     Ok(())
 }
@@ -122,28 +93,12 @@ fn five_changes(rt: &impl Abort, alloc: Global, store: &mut PlainStore) -> Resul
 /// Then Cy goes, and Bob comes again.
 fn two_more_changes(rt: &impl Abort, alloc: Global, store: &mut PlainStore) -> Result<(), Fail> {
     assert_eq!(rt; store.remove("staff", "c", None), Ok(6));
-    is_put(
-        rt,
-        alloc,
-        store,
-        "staff",
-        "b",
-        "Bob",
-        PutAnswer::Created { version: 7 },
-    )
+    is_put(rt, alloc, store, "staff", "b", "Bob", created(7))
 }
 
 /// Then Dee comes and goes.
 fn dee_comes_and_goes(rt: &impl Abort, alloc: Global, store: &mut PlainStore) -> Result<(), Fail> {
-    is_put(
-        rt,
-        alloc,
-        store,
-        "staff",
-        "d",
-        "Dee",
-        PutAnswer::Created { version: 8 },
-    )?;
+    is_put(rt, alloc, store, "staff", "d", "Dee", created(8))?;
     assert_eq!(rt; store.remove("staff", "d", None), Ok(9));
     Ok(())
 }
@@ -279,15 +234,7 @@ fn bob_stays(rt: &impl Abort, alloc: Global, store: &mut PlainStore) -> Result<(
         None,
         Refusal::NoSuchCard,
     );
-    is_put(
-        rt,
-        alloc,
-        store,
-        "clients",
-        "b",
-        "Bob",
-        PutAnswer::Created { version: 2 },
-    )?;
+    is_put(rt, alloc, store, "clients", "b", "Bob", created(2))?;
     move_is_refused(rt, store, "staff", "clients", "b", None, Refusal::UidTaken);
     move_is_refused(rt, store, "staff", "staff", "b", None, Refusal::SameBook);
     Ok(())
@@ -319,15 +266,7 @@ fn devices_hear_nothing_of_moves_that_are_refused(rt: HostRuntime) -> Result<(),
 
 /// A put of the card that is live, and one that expects another version.
 fn bob_is_put_again(rt: &impl Abort, alloc: Global, store: &mut PlainStore) -> Result<(), Fail> {
-    is_put(
-        rt,
-        alloc,
-        store,
-        "staff",
-        "b",
-        "Bob",
-        PutAnswer::Unchanged { version: 7 },
-    )?;
+    is_put(rt, alloc, store, "staff", "b", "Bob", unchanged(7))?;
     assert_eq!(rt;
         put_expecting(store, alloc, "staff", "b", "Rob", Some(6))?,
         Err(Denied::Refused(Refusal::VersionMismatch { has: 7 }))
