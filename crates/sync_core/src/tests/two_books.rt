@@ -1,10 +1,12 @@
 //! The books `staff` and `clients`, and a device of each that hears of them page by page.
-use super::changing::{CLIENTS_AFTER_MOVE, NO_CHANGES, STAFF_AFTER_MOVE, move_is_refused};
-use super::{
-    created, edited, has_token, holds, is_put, is_told, put_expecting, store_with_staff, token,
-    told, unchanged,
+use super::changing::{
+    CLIENTS_AFTER_MOVE, NO_CHANGES, STAFF_AFTER_MOVE, anna_moves, move_is_refused,
 };
-use crate::answers::{Moved, Tally};
+use super::{
+    created, edited, has_tally, has_token, holds, is_put, is_removal, is_told, put_expecting,
+    store_with_staff, token, told, unchanged,
+};
+use crate::answers::Tally;
 use crate::denied::Denied;
 use crate::device::Device;
 use crate::limits::Limits;
@@ -36,8 +38,8 @@ fn new_office(alloc: Global) -> Result<Office, Fail> {
     })
 }
 
-/// The device asks for a page of at most so many entries. The page is told so, and once it is applied the device has the
-/// page's token and this copy.
+/// The device asks for a page of at most so many entries. The page is told so, and once it is applied, the device has
+/// the page's token and this copy.
 fn hears(
     rt: &impl Abort,
     alloc: Global,
@@ -86,78 +88,66 @@ fn five_changes(rt: &impl Abort, alloc: Global, store: &mut PlainStore) -> Resul
     is_put(rt, alloc, store, "staff", "b", "Bob", created(2))?;
     is_put(rt, alloc, store, "staff", "c", "Cy", created(3))?;
     is_put(rt, alloc, store, "staff", "a", "Anna", edited(4))?;
-    assert_eq!(rt; store.remove("staff", "b", None), Ok(5));
+    is_removal(rt, store, "b", 5);
     Ok(())
 }
 
 /// Then Cy goes, and Bob comes again.
 fn two_more_changes(rt: &impl Abort, alloc: Global, store: &mut PlainStore) -> Result<(), Fail> {
-    assert_eq!(rt; store.remove("staff", "c", None), Ok(6));
+    is_removal(rt, store, "c", 6);
     is_put(rt, alloc, store, "staff", "b", "Bob", created(7))
 }
 
 /// Then Dee comes and goes.
 fn dee_comes_and_goes(rt: &impl Abort, alloc: Global, store: &mut PlainStore) -> Result<(), Fail> {
     is_put(rt, alloc, store, "staff", "d", "Dee", created(8))?;
-    assert_eq!(rt; store.remove("staff", "d", None), Ok(9));
+    is_removal(rt, store, "d", 9);
     Ok(())
 }
 
-/// Then Anna moves to the new book `clients`.
-fn anna_moves(rt: &impl Abort, store: &mut PlainStore) {
-    assert_eq!(rt; store.create_book("clients"), Ok(2));
-    assert_eq!(rt;
-        store.move_card("staff", "clients", "a", None),
-        Ok(Moved {
-            from: 10,
-            version: 1
-        })
-    );
-}
-
 /// After five changes, the device of `staff` hears the first of two pages of one entry.
-fn office_at_first_page(rt: &impl Abort, alloc: Global) -> Result<Office, Fail> {
-    let mut office = new_office(alloc)?;
+fn first_page(rt: &impl Abort, alloc: Global, office: &mut Office) -> Result<(), Fail> {
     five_changes(rt, alloc, &mut office.store)?;
     let page = "c 3 Cy\nhttp://contacts.invalid/sync/1/3/5 and more";
-    staff_hears(rt, alloc, &mut office, Some(1), page, "c 3 Cy\n")?;
-    Ok(office)
+    staff_hears(rt, alloc, office, Some(1), page, "c 3 Cy\n")
 }
 
 /// After two more changes, it hears the page that was the last one before them.
-fn office_at_second_page(rt: &impl Abort, alloc: Global) -> Result<Office, Fail> {
-    let mut office = office_at_first_page(rt, alloc)?;
+fn second_page(rt: &impl Abort, alloc: Global, office: &mut Office) -> Result<(), Fail> {
+    first_page(rt, alloc, office)?;
     two_more_changes(rt, alloc, &mut office.store)?;
     let page = "a 4 Anna\nhttp://contacts.invalid/sync/1/4/5 and more";
-    staff_hears(rt, alloc, &mut office, Some(1), page, "a 4 Anna\nc 3 Cy\n")?;
-    Ok(office)
+    staff_hears(rt, alloc, office, Some(1), page, "a 4 Anna\nc 3 Cy\n")
 }
 
 /// Then it hears of those two changes.
-fn office_at_last_page(rt: &impl Abort, alloc: Global) -> Result<Office, Fail> {
-    let mut office = office_at_second_page(rt, alloc)?;
+fn last_page(rt: &impl Abort, alloc: Global, office: &mut Office) -> Result<(), Fail> {
+    second_page(rt, alloc, office)?;
     let page = "c gone\nb 7 Bob\nhttp://contacts.invalid/sync/1/7/7";
-    staff_hears(rt, alloc, &mut office, Some(2), page, "a 4 Anna\nb 7 Bob\n")?;
-    Ok(office)
+    staff_hears(rt, alloc, office, Some(2), page, "a 4 Anna\nb 7 Bob\n")
 }
 
 /// After Dee came and went, it hears that she is gone.
-fn office_without_dee(rt: &impl Abort, alloc: Global) -> Result<Office, Fail> {
-    let mut office = office_at_last_page(rt, alloc)?;
+fn page_without_dee(rt: &impl Abort, alloc: Global, office: &mut Office) -> Result<(), Fail> {
+    last_page(rt, alloc, office)?;
     dee_comes_and_goes(rt, alloc, &mut office.store)?;
     let page = "d gone\nhttp://contacts.invalid/sync/1/9/9";
-    staff_hears(rt, alloc, &mut office, None, page, "a 4 Anna\nb 7 Bob\n")?;
-    Ok(office)
+    staff_hears(rt, alloc, office, None, page, "a 4 Anna\nb 7 Bob\n")
 }
 
-/// After Anna moved, both devices hear of it.
-fn office_after_move(rt: &impl Abort, alloc: Global) -> Result<Office, Fail> {
-    let mut office = office_without_dee(rt, alloc)?;
+/// After Anna moved to the new book `clients`, both devices hear of it.
+fn pages_of_move(rt: &impl Abort, alloc: Global, office: &mut Office) -> Result<(), Fail> {
+    page_without_dee(rt, alloc, office)?;
     anna_moves(rt, &mut office.store);
     let page = "a gone\nhttp://contacts.invalid/sync/1/10/10";
-    staff_hears(rt, alloc, &mut office, None, page, "b 7 Bob\n")?;
+    staff_hears(rt, alloc, office, None, page, "b 7 Bob\n")?;
     let page = "a 1 Anna\nhttp://contacts.invalid/sync/2/1/1";
-    clients_hear(rt, alloc, &mut office, page, "a 1 Anna\n")?;
+    clients_hear(rt, alloc, office, page, "a 1 Anna\n")
+}
+
+fn office_after_move(rt: &impl Abort, alloc: Global) -> Result<Office, Fail> {
+    let mut office = new_office(alloc)?;
+    pages_of_move(rt, alloc, &mut office)?;
     Ok(office)
 }
 
@@ -178,40 +168,43 @@ fn the_first_changes_are_counted(rt: HostRuntime) -> Result<(), Fail> {
     let alloc = rt.alloc();
     let mut store = store_with_staff(alloc, Limits::standard())?;
     five_changes(&rt, alloc, &mut store)?;
-    assert_eq!(rt; store.tally("staff"), Ok(STAFF_AFTER_FIVE));
+    has_tally(&rt, &mut store, "staff", STAFF_AFTER_FIVE);
     Ok(())
+}
+
+fn second_page_is_full(rt: &impl Abort, alloc: Global, office: &mut Office) -> Result<(), Fail> {
+    first_page(rt, alloc, office)?;
+    let page = "a 4 Anna\nhttp://contacts.invalid/sync/1/5/5";
+    staff_hears(rt, alloc, office, Some(1), page, "a 4 Anna\nc 3 Cy\n")
 }
 
 #[test]
 fn a_page_that_is_just_full_is_the_last(rt: HostRuntime) -> Result<(), Fail> {
     let alloc = rt.alloc();
-    let mut office = office_at_first_page(&rt, alloc)?;
-    let page = "a 4 Anna\nhttp://contacts.invalid/sync/1/5/5";
-    staff_hears(&rt, alloc, &mut office, Some(1), page, "a 4 Anna\nc 3 Cy\n")
+    let mut office = new_office(alloc)?;
+    second_page_is_full(&rt, alloc, &mut office)
+}
+
+fn pages_of_one(rt: &impl Abort, alloc: Global, office: &mut Office) -> Result<(), Fail> {
+    second_page(rt, alloc, office)?;
+    let page = "c gone\nhttp://contacts.invalid/sync/1/6/6 and more";
+    staff_hears(rt, alloc, office, Some(1), page, "a 4 Anna\n")?;
+    let page = "b 7 Bob\nhttp://contacts.invalid/sync/1/7/7";
+    staff_hears(rt, alloc, office, Some(1), page, "a 4 Anna\nb 7 Bob\n")
 }
 
 #[test]
 fn two_changes_between_pages_make_two_more_pages(rt: HostRuntime) -> Result<(), Fail> {
     let alloc = rt.alloc();
-    let mut office = office_at_second_page(&rt, alloc)?;
-    let page = "c gone\nhttp://contacts.invalid/sync/1/6/6 and more";
-    staff_hears(&rt, alloc, &mut office, Some(1), page, "a 4 Anna\n")?;
-    let page = "b 7 Bob\nhttp://contacts.invalid/sync/1/7/7";
-    staff_hears(
-        &rt,
-        alloc,
-        &mut office,
-        Some(1),
-        page,
-        "a 4 Anna\nb 7 Bob\n",
-    )
+    let mut office = new_office(alloc)?;
+    pages_of_one(&rt, alloc, &mut office)
 }
 
 #[test]
 fn a_card_leaves_one_device_and_comes_to_the_other(rt: HostRuntime) -> Result<(), Fail> {
     let mut office = office_after_move(&rt, rt.alloc())?;
-    assert_eq!(rt; office.store.tally("staff"), Ok(STAFF_AFTER_MOVE));
-    assert_eq!(rt; office.store.tally("clients"), Ok(CLIENTS_AFTER_MOVE));
+    has_tally(&rt, &mut office.store, "staff", STAFF_AFTER_MOVE);
+    has_tally(&rt, &mut office.store, "clients", CLIENTS_AFTER_MOVE);
     Ok(())
 }
 
@@ -251,17 +244,25 @@ fn has_number(
     Ok(())
 }
 
+fn pages_after_refused_moves(
+    rt: &impl Abort,
+    alloc: Global,
+    office: &mut Office,
+) -> Result<(), Fail> {
+    bob_stays(rt, alloc, &mut office.store)?;
+    has_number(rt, &mut office.store, "staff", 10)?;
+    has_number(rt, &mut office.store, "clients", 2)?;
+    let page = "http://contacts.invalid/sync/1/10/10";
+    staff_hears(rt, alloc, office, None, page, "b 7 Bob\n")?;
+    let page = "b 2 Bob\nhttp://contacts.invalid/sync/2/2/2";
+    clients_hear(rt, alloc, office, page, "a 1 Anna\nb 2 Bob\n")
+}
+
 #[test]
 fn devices_hear_nothing_of_moves_that_are_refused(rt: HostRuntime) -> Result<(), Fail> {
     let alloc = rt.alloc();
     let mut office = office_after_move(&rt, alloc)?;
-    bob_stays(&rt, alloc, &mut office.store)?;
-    has_number(&rt, &mut office.store, "staff", 10)?;
-    has_number(&rt, &mut office.store, "clients", 2)?;
-    let page = "http://contacts.invalid/sync/1/10/10";
-    staff_hears(&rt, alloc, &mut office, None, page, "b 7 Bob\n")?;
-    let page = "b 2 Bob\nhttp://contacts.invalid/sync/2/2/2";
-    clients_hear(&rt, alloc, &mut office, page, "a 1 Anna\nb 2 Bob\n")
+    pages_after_refused_moves(&rt, alloc, &mut office)
 }
 
 /// A put of the card that is live, and one that expects another version.
@@ -300,25 +301,26 @@ fn is_bad_token(
     Ok(())
 }
 
+fn are_bad_tokens(rt: &impl Abort, store: &mut PlainStore) -> Result<(), Fail> {
+    let other_book = TokenCause::OtherBook;
+    is_bad_token(rt, store, "http://contacts.invalid/sync/2/1/1", other_book)?;
+    let too_new = TokenCause::TooNew;
+    is_bad_token(rt, store, "http://contacts.invalid/sync/1/99/99", too_new)?;
+    assert_eq!(rt; read_token("http://contacts.invalid/sync/1/07/7"), None);
+    assert_eq!(rt; read_token("http://contacts.invalid/sync/1/5/4"), None);
+    Ok(())
+}
+
 #[test]
 fn tokens_from_elsewhere_are_refused(rt: HostRuntime) -> Result<(), Fail> {
     let mut office = office_after_move(&rt, rt.alloc())?;
-    let store = &mut office.store;
-    is_bad_token(
-        &rt,
-        store,
-        "http://contacts.invalid/sync/2/1/1",
-        TokenCause::OtherBook,
-    )?;
-    is_bad_token(
-        &rt,
-        store,
-        "http://contacts.invalid/sync/1/99/99",
-        TokenCause::TooNew,
-    )?;
-    assert_eq!(rt; read_token("http://contacts.invalid/sync/1/07/7"), None);
-    assert_eq!(rt; read_token("http://contacts.invalid/sync/1/5/4"), None);
-    let refused = store.report("staff", None, Some(0)).err();
+    are_bad_tokens(&rt, &mut office.store)
+}
+
+#[test]
+fn no_page_is_of_no_entries(rt: HostRuntime) -> Result<(), Fail> {
+    let mut office = office_after_move(&rt, rt.alloc())?;
+    let refused = office.store.report("staff", None, Some(0)).err();
     assert_eq!(rt; refused, Some(Denied::Refused(Refusal::BadLimit)));
     Ok(())
 }
@@ -331,19 +333,19 @@ fn an_old_token_is_taken(rt: HostRuntime) -> Result<(), Fail> {
     is_told(&rt, alloc, &mut office.store, token(1, 3, 5), None, wanted)
 }
 
-/// All changes after the first page, of which no device hears.
-fn five_more_changes(rt: &impl Abort, alloc: Global, store: &mut PlainStore) -> Result<(), Fail> {
-    two_more_changes(rt, alloc, store)?;
-    dee_comes_and_goes(rt, alloc, store)?;
-    anna_moves(rt, store);
-    Ok(())
+/// After the first page, no device hears of the changes up to the move. Then it hears of all of them.
+fn late_page(rt: &impl Abort, alloc: Global, office: &mut Office) -> Result<(), Fail> {
+    first_page(rt, alloc, office)?;
+    two_more_changes(rt, alloc, &mut office.store)?;
+    dee_comes_and_goes(rt, alloc, &mut office.store)?;
+    anna_moves(rt, &mut office.store);
+    let page = "c gone\nb 7 Bob\nd gone\na gone\nhttp://contacts.invalid/sync/1/10/10";
+    staff_hears(rt, alloc, office, None, page, "b 7 Bob\n")
 }
 
 #[test]
 fn a_device_that_was_long_away_hears_all_at_once(rt: HostRuntime) -> Result<(), Fail> {
     let alloc = rt.alloc();
-    let mut office = office_at_first_page(&rt, alloc)?;
-    five_more_changes(&rt, alloc, &mut office.store)?;
-    let page = "c gone\nb 7 Bob\nd gone\na gone\nhttp://contacts.invalid/sync/1/10/10";
-    staff_hears(&rt, alloc, &mut office, None, page, "b 7 Bob\n")
+    let mut office = new_office(alloc)?;
+    late_page(&rt, alloc, &mut office)
 }
