@@ -244,14 +244,19 @@ fn has_number(
     Ok(())
 }
 
+/// After moves that were refused, the books have the numbers that they had.
+fn refused_moves(rt: &impl Abort, alloc: Global, store: &mut PlainStore) -> Result<(), Fail> {
+    bob_stays(rt, alloc, store)?;
+    has_number(rt, store, "staff", 10)?;
+    has_number(rt, store, "clients", 2)
+}
+
 fn pages_after_refused_moves(
     rt: &impl Abort,
     alloc: Global,
     office: &mut Office,
 ) -> Result<(), Fail> {
-    bob_stays(rt, alloc, &mut office.store)?;
-    has_number(rt, &mut office.store, "staff", 10)?;
-    has_number(rt, &mut office.store, "clients", 2)?;
+    refused_moves(rt, alloc, &mut office.store)?;
     let page = "http://contacts.invalid/sync/1/10/10";
     staff_hears(rt, alloc, office, None, page, "b 7 Bob\n")?;
     let page = "b 2 Bob\nhttp://contacts.invalid/sync/2/2/2";
