@@ -1,6 +1,7 @@
 mod commands;
 mod devices;
 mod mirrors;
+mod refused;
 mod replies;
 mod scripts;
 
@@ -9,11 +10,11 @@ use crate::reply::Reply;
 use replies::told;
 use scripts::{command_in, event_in};
 use std::alloc::Global;
-use std::test::Fail;
 use sync_core::{Device, PlainStore};
+use vcard_text::NoMemory;
 
 /// Performs a script's commands, a line each, and tells the replies, a line each.
-fn performed(alloc: Global, store: &mut PlainStore, script: &str) -> Result<String, Fail> {
+fn performed(alloc: Global, store: &mut PlainStore, script: &str) -> Result<String, NoMemory> {
     let mut text = String::new(alloc);
     for line in script.lines() {
         let command = command_in(alloc, line)?;
@@ -24,7 +25,7 @@ fn performed(alloc: Global, store: &mut PlainStore, script: &str) -> Result<Stri
 }
 
 /// The events of a script, a line each.
-fn events_in(alloc: Global, script: &str) -> Result<Vec<Event>, Fail> {
+fn events_in(alloc: Global, script: &str) -> Result<Vec<Event>, NoMemory> {
     let mut events = Vec::new(alloc);
     for line in script.lines() {
         events.push(event_in(alloc, line)?)?;
@@ -33,7 +34,7 @@ fn events_in(alloc: Global, script: &str) -> Result<Vec<Event>, Fail> {
 }
 
 /// The replies, a line each.
-fn all_told(alloc: Global, replies: &[Reply]) -> Result<String, Fail> {
+fn all_told(alloc: Global, replies: &[Reply]) -> Result<String, NoMemory> {
     let mut text = String::new(alloc);
     for reply in replies {
         text.push_str(told(alloc, reply)?.as_str())?;
@@ -47,7 +48,7 @@ fn driven(
     store: &mut PlainStore,
     devices: &mut Vec<Device>,
     script: &str,
-) -> Result<String, Fail> {
+) -> Result<String, NoMemory> {
     let events = events_in(alloc, script)?;
     let count = devices.len();
     if !events.iter().all(|event| event.is_within(count)) {

@@ -4,16 +4,17 @@ use std::alloc::Global;
 use std::process::Abort;
 use std::test::Fail;
 use sync_core::{Device, Limits, PlainStore, Token, token_text};
+use vcard_text::NoMemory;
 
 /// A store, two devices of its book `staff`, and one of its book `clients`.
 #[derive(Drop)]
-struct Office {
-    store: PlainStore,
-    devices: Vec<Device>,
+pub(super) struct Office {
+    pub(super) store: PlainStore,
+    pub(super) devices: Vec<Device>,
 }
 
 /// Nothing happened, and nobody has heard anything.
-fn new_office(alloc: Global) -> Result<Office, Fail> {
+pub(super) fn new_office(alloc: Global) -> Result<Office, NoMemory> {
     let store = PlainStore::new(alloc, Limits::standard());
     let mut devices = Vec::new(alloc);
     for book in ["staff", "clients", "staff"] {
@@ -23,7 +24,7 @@ fn new_office(alloc: Global) -> Result<Office, Fail> {
 }
 
 /// The replies to the script's events.
-fn happens(alloc: Global, office: &mut Office, script: &str) -> Result<String, Fail> {
+fn happens(alloc: Global, office: &mut Office, script: &str) -> Result<String, NoMemory> {
     let Office { store, devices } = office;
     driven(alloc, store, devices, script)
 }
@@ -53,7 +54,7 @@ const A_MOVE: &str = "create clients
 move staff a clients";
 
 /// The replies to the last of the scripts, which happen one after another, and then the copy and token of the device.
-fn last_replies(alloc: Global, scripts: &[&str], device: usize) -> Result<String, Fail> {
+fn last_replies(alloc: Global, scripts: &[&str], device: usize) -> Result<String, NoMemory> {
     let mut office = new_office(alloc)?;
     let mut text = String::new(alloc);
     for script in scripts {
@@ -66,13 +67,13 @@ fn last_replies(alloc: Global, scripts: &[&str], device: usize) -> Result<String
 }
 
 /// The copy of a device by UIDs, and its token's text.
-pub(super) fn device_told(alloc: Global, device: &Device) -> Result<String, Fail> {
+pub(super) fn device_told(alloc: Global, device: &Device) -> Result<String, NoMemory> {
     let mut text = entries_told(alloc, device.copy())?;
     text.push_str(token_told(alloc, device.token())?.as_str())?;
     Ok(text)
 }
 
-fn token_told(alloc: Global, token: Option<Token>) -> Result<String, Fail> {
+fn token_told(alloc: Global, token: Option<Token>) -> Result<String, NoMemory> {
     match token {
         Some(token) => Ok(token_text(alloc, &token)?),
         None => Ok(String::from_str(alloc, "no token")?),

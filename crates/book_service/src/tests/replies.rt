@@ -2,9 +2,8 @@
 use crate::reply::Reply;
 use std::alloc::Global;
 use std::collections::BTreeMap;
-use std::test::Fail;
 use sync_core::{BookLine, Entry, Page, PutAnswer, Refusal, Stored, Tally};
-use vcard_text::Card;
+use vcard_text::{Card, NoMemory};
 
 /// The value of a card's FN line.
 fn name_of(card: &Card) -> &str {
@@ -15,7 +14,7 @@ fn name_of(card: &Card) -> &str {
 }
 
 /// `books`, and behind it each book's name, id, number and horizon.
-fn books_told(alloc: Global, lines: &[BookLine]) -> Result<String, Fail> {
+fn books_told(alloc: Global, lines: &[BookLine]) -> Result<String, NoMemory> {
     let mut text = String::from_str(alloc, "books")?;
     for line in lines {
         let BookLine {
@@ -31,7 +30,7 @@ fn books_told(alloc: Global, lines: &[BookLine]) -> Result<String, Fail> {
     Ok(text)
 }
 
-fn put_told(alloc: Global, answer: &PutAnswer) -> Result<String, Fail> {
+fn put_told(alloc: Global, answer: &PutAnswer) -> Result<String, NoMemory> {
     let text = match answer {
         PutAnswer::Created { version } => format!(in alloc; "created {version}\n")?,
         PutAnswer::Edited { version } => format!(in alloc; "edited {version}\n")?,
@@ -40,7 +39,7 @@ fn put_told(alloc: Global, answer: &PutAnswer) -> Result<String, Fail> {
     Ok(text)
 }
 
-fn entry_told(alloc: Global, entry: &Entry) -> Result<String, Fail> {
+fn entry_told(alloc: Global, entry: &Entry) -> Result<String, NoMemory> {
     let text = match entry {
         Entry::Changed { uid, version, card } => {
             format!(in alloc; "{} {version} {}, ", uid.as_str(), name_of(card))?
@@ -54,7 +53,7 @@ fn entry_told(alloc: Global, entry: &Entry) -> Result<String, Fail> {
 pub(super) fn entries_told(
     alloc: Global,
     cards: &BTreeMap<String, Stored>,
-) -> Result<String, Fail> {
+) -> Result<String, NoMemory> {
     let mut text = String::new(alloc);
     for (uid, stored) in cards.iter() {
         let version = stored.version;
@@ -65,7 +64,7 @@ pub(super) fn entries_told(
 }
 
 /// The page's entries, its token's three numbers, and whether there is more.
-fn page_told(alloc: Global, page: &Page) -> Result<String, Fail> {
+fn page_told(alloc: Global, page: &Page) -> Result<String, NoMemory> {
     let mut text = String::new(alloc);
     for entry in page.entries.as_slice() {
         text.push_str(entry_told(alloc, entry)?.as_str())?;
@@ -78,7 +77,7 @@ fn page_told(alloc: Global, page: &Page) -> Result<String, Fail> {
 }
 
 /// The numbers of a tally in the order of its fields.
-fn tally_told(alloc: Global, tally: &Tally) -> Result<String, Fail> {
+fn tally_told(alloc: Global, tally: &Tally) -> Result<String, NoMemory> {
     let Tally {
         number,
         horizon,
@@ -98,7 +97,7 @@ fn tally_told(alloc: Global, tally: &Tally) -> Result<String, Fail> {
 }
 
 /// The refusal's number, and its cause or the version that there is.
-fn refusal_told(alloc: Global, refusal: &Refusal) -> Result<String, Fail> {
+fn refusal_told(alloc: Global, refusal: &Refusal) -> Result<String, NoMemory> {
     let number = refusal.number();
     let text = match refusal {
         Refusal::BadToken(cause) => {
@@ -114,7 +113,7 @@ fn refusal_told(alloc: Global, refusal: &Refusal) -> Result<String, Fail> {
 }
 
 /// A reply as a line.
-pub(super) fn told(alloc: Global, reply: &Reply) -> Result<String, Fail> {
+pub(super) fn told(alloc: Global, reply: &Reply) -> Result<String, NoMemory> {
     match reply {
         Reply::Created { id } => Ok(format!(in alloc; "book {id}\n")?),
         Reply::Books(lines) => books_told(alloc, lines.as_slice()),

@@ -5,8 +5,7 @@
 use crate::command::Command;
 use crate::event::Event;
 use std::alloc::Global;
-use std::test::Fail;
-use vcard_text::{Items, Text};
+use vcard_text::{Items, NoMemory, Text};
 
 /// The word at the place, and an empty one behind the last.
 fn word<'a>(words: &[&'a str], place: usize) -> &'a str {
@@ -20,12 +19,12 @@ fn number(words: &[&str], place: usize) -> Option<u64> {
     word(words, place).parse::<u64>().ok()
 }
 
-fn text(alloc: Global, words: &[&str], place: usize) -> Result<Text, Fail> {
+fn text(alloc: Global, words: &[&str], place: usize) -> Result<Text, NoMemory> {
     Ok(Text::copy_of(alloc, word(words, place))?)
 }
 
 /// The octets of the five-line card of the UID and name.
-fn card_text(alloc: Global, uid: &str, name: &str) -> Result<Items<u8>, Fail> {
+fn card_text(alloc: Global, uid: &str, name: &str) -> Result<Items<u8>, NoMemory> {
     let card = format!(in alloc;
         "BEGIN:VCARD\r\nVERSION:4.0\r\nUID:{uid}\r\nFN:{name}\r\nEND:VCARD\r\n"
     )?;
@@ -33,7 +32,7 @@ fn card_text(alloc: Global, uid: &str, name: &str) -> Result<Items<u8>, Fail> {
 }
 
 /// `put BOOK UID NAME EXPECT` puts the card of the UID and name.
-fn put(alloc: Global, words: &[&str]) -> Result<Command, Fail> {
+fn put(alloc: Global, words: &[&str]) -> Result<Command, NoMemory> {
     Ok(Command::Put {
         book: text(alloc, words, 1)?,
         uid: text(alloc, words, 2)?,
@@ -43,7 +42,7 @@ fn put(alloc: Global, words: &[&str]) -> Result<Command, Fail> {
 }
 
 /// `swap BOOK UID OTHER EXPECT` puts a card of the other UID under the UID.
-fn swap(alloc: Global, words: &[&str]) -> Result<Command, Fail> {
+fn swap(alloc: Global, words: &[&str]) -> Result<Command, NoMemory> {
     Ok(Command::Put {
         book: text(alloc, words, 1)?,
         uid: text(alloc, words, 2)?,
@@ -53,7 +52,7 @@ fn swap(alloc: Global, words: &[&str]) -> Result<Command, Fail> {
 }
 
 /// `garble BOOK UID EXPECT` puts a text that ends too early.
-fn garble(alloc: Global, words: &[&str]) -> Result<Command, Fail> {
+fn garble(alloc: Global, words: &[&str]) -> Result<Command, NoMemory> {
     let text_octets = String::from_str(alloc, "BEGIN:VCARD\r\n")?.into_bytes();
     Ok(Command::Put {
         book: text(alloc, words, 1)?,
@@ -64,7 +63,7 @@ fn garble(alloc: Global, words: &[&str]) -> Result<Command, Fail> {
 }
 
 /// `get BOOK UID`
-fn get(alloc: Global, words: &[&str]) -> Result<Command, Fail> {
+fn get(alloc: Global, words: &[&str]) -> Result<Command, NoMemory> {
     Ok(Command::Get {
         book: text(alloc, words, 1)?,
         uid: text(alloc, words, 2)?,
@@ -72,7 +71,7 @@ fn get(alloc: Global, words: &[&str]) -> Result<Command, Fail> {
 }
 
 /// `remove BOOK UID EXPECT`
-fn remove(alloc: Global, words: &[&str]) -> Result<Command, Fail> {
+fn remove(alloc: Global, words: &[&str]) -> Result<Command, NoMemory> {
     Ok(Command::Remove {
         book: text(alloc, words, 1)?,
         uid: text(alloc, words, 2)?,
@@ -81,7 +80,7 @@ fn remove(alloc: Global, words: &[&str]) -> Result<Command, Fail> {
 }
 
 /// `move BOOK UID TO EXPECT`
-fn move_card(alloc: Global, words: &[&str]) -> Result<Command, Fail> {
+fn move_card(alloc: Global, words: &[&str]) -> Result<Command, NoMemory> {
     Ok(Command::MoveCard {
         book: text(alloc, words, 1)?,
         uid: text(alloc, words, 2)?,
@@ -91,7 +90,7 @@ fn move_card(alloc: Global, words: &[&str]) -> Result<Command, Fail> {
 }
 
 /// The text of a token that is written by its numbers.
-fn token_text(alloc: Global, numbers: &str) -> Result<Text, Fail> {
+fn token_text(alloc: Global, numbers: &str) -> Result<Text, NoMemory> {
     if numbers == "-" {
         return Ok(Text::copy_of(alloc, "")?);
     }
@@ -100,7 +99,7 @@ fn token_text(alloc: Global, numbers: &str) -> Result<Text, Fail> {
 }
 
 /// `report BOOK TOKEN LIMIT`
-fn report(alloc: Global, words: &[&str]) -> Result<Command, Fail> {
+fn report(alloc: Global, words: &[&str]) -> Result<Command, NoMemory> {
     Ok(Command::Report {
         book: text(alloc, words, 1)?,
         token: token_text(alloc, word(words, 2))?,
@@ -109,7 +108,7 @@ fn report(alloc: Global, words: &[&str]) -> Result<Command, Fail> {
 }
 
 /// `create BOOK`, `tally BOOK`, and `books` for any other word.
-fn plain(alloc: Global, words: &[&str]) -> Result<Command, Fail> {
+fn plain(alloc: Global, words: &[&str]) -> Result<Command, NoMemory> {
     let book = text(alloc, words, 1)?;
     match word(words, 0) {
         "create" => Ok(Command::CreateBook { book }),
@@ -118,7 +117,7 @@ fn plain(alloc: Global, words: &[&str]) -> Result<Command, Fail> {
     }
 }
 
-fn command_of(alloc: Global, words: &[&str]) -> Result<Command, Fail> {
+fn command_of(alloc: Global, words: &[&str]) -> Result<Command, NoMemory> {
     match word(words, 0) {
         "put" => put(alloc, words),
         "swap" => swap(alloc, words),
@@ -131,7 +130,7 @@ fn command_of(alloc: Global, words: &[&str]) -> Result<Command, Fail> {
     }
 }
 
-fn words_in(alloc: Global, line: &str) -> Result<Vec<&str>, Fail> {
+fn words_in(alloc: Global, line: &str) -> Result<Vec<&str>, NoMemory> {
     let mut words = Vec::new(alloc);
     for word in line.split(' ') {
         words.push(word)?;
@@ -139,19 +138,27 @@ fn words_in(alloc: Global, line: &str) -> Result<Vec<&str>, Fail> {
     Ok(words)
 }
 
+/// The place that a word says, and one behind all others where it is no number.
+fn place(word: &str) -> usize {
+    match word.parse::<usize>() {
+        Ok(place) => place,
+        Err(_) => usize::MAX,
+    }
+}
+
 /// The command that a line says.
-pub(super) fn command_in(alloc: Global, line: &str) -> Result<Command, Fail> {
+pub(super) fn command_in(alloc: Global, line: &str) -> Result<Command, NoMemory> {
     let words = words_in(alloc, line)?;
     command_of(alloc, words.as_slice())
 }
 
 /// The event that a line says: `ask DEVICE LIMIT`, or a command.
-pub(super) fn event_in(alloc: Global, line: &str) -> Result<Event, Fail> {
+pub(super) fn event_in(alloc: Global, line: &str) -> Result<Event, NoMemory> {
     let words = words_in(alloc, line)?;
     if word(words.as_slice(), 0) != "ask" {
         return Ok(Event::Do(command_of(alloc, words.as_slice())?));
     }
-    let device = word(words.as_slice(), 1).parse::<usize>()?;
+    let device = place(word(words.as_slice(), 1));
     let limit = number(words.as_slice(), 2);
     Ok(Event::Ask { device, limit })
 }
