@@ -62,8 +62,9 @@ fn do_event<S: BookStore>(
 /// Does the events in their order, and answers the reply to each. A device whose token is refused loses it, so that its
 /// next ask is for a first report.
 ///
-/// The caller sees to it that each device number is below the number of devices, which `Event::is_within` tells. `NoMemory` comes before any event, where
-/// there is no room for all replies. Where memory is wanting later, an event's reply is a fault.
+/// The caller sees to it that each device number is below the number of devices, which `Event::is_within` tells.
+/// `NoMemory` comes before any event, where there is no room for all replies. Where memory is wanting later, an event's
+/// reply is a fault.
 pub fn drive<S: BookStore>(
     alloc: Global,
     store: &mut S,
