@@ -1,6 +1,8 @@
 mod commands;
 mod devices;
 mod mirrors;
+mod plain;
+mod plain_replies;
 mod refused;
 mod replies;
 mod scripts;
