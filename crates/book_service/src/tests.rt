@@ -1,5 +1,6 @@
 mod commands;
 mod devices;
+mod long_run;
 mod mirrors;
 mod plain;
 mod plain_replies;
