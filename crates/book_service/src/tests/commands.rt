@@ -1,4 +1,4 @@
-use super::performed;
+use super::{driven, performed};
 use std::alloc::Global;
 use std::process::Abort;
 use std::test::Fail;
@@ -32,9 +32,23 @@ fn last_replies(alloc: Global, limits: Limits, scripts: &[&str]) -> Result<Strin
     Ok(replies)
 }
 
-/// The last of the scripts is replied so, on a store with the standard limits.
+/// The same of scripts that are driven, with no devices.
+fn last_replies_driven(alloc: Global, limits: Limits, scripts: &[&str]) -> Result<String, Fail> {
+    let mut store = PlainStore::new(alloc, limits);
+    let mut devices = Vec::new(alloc);
+    let mut replies = String::new(alloc);
+    for script in scripts {
+        replies = driven(alloc, &mut store, &mut devices, script)?;
+    }
+    Ok(replies)
+}
+
+/// The last of the scripts is replied so, on a store with the standard limits, whether its commands are performed one by
+/// one or driven.
 fn is_replied(rt: &impl Abort, alloc: Global, scripts: &[&str], wanted: &str) -> Result<(), Fail> {
     let replies = last_replies(alloc, Limits::standard(), scripts)?;
+    assert_eq!(rt; replies.as_str(), wanted);
+    let replies = last_replies_driven(alloc, Limits::standard(), scripts)?;
     assert_eq!(rt; replies.as_str(), wanted);
     Ok(())
 }

@@ -203,6 +203,26 @@ http://contacts.invalid/sync/2/2/2";
 }
 
 #[test]
+fn a_new_device_hears_of_both_cards_at_once(rt: HostRuntime) -> Result<(), Fail> {
+    let script = "put clients b Bob
+ask 1
+ask 0";
+    let wanted = "created 2
+a 1 Anna, b 2 Bob, 2/2/2
+a gone, 1/10/10
+a 1 Anna
+b 2 Bob
+http://contacts.invalid/sync/2/2/2";
+    is_replied(
+        &rt,
+        rt.alloc(),
+        &[FIVE_CHANGES, TWO_MORE, DEE, A_MOVE, script],
+        1,
+        wanted,
+    )
+}
+
+#[test]
 fn an_old_token_is_taken(rt: HostRuntime) -> Result<(), Fail> {
     let late = "ask 2 1";
     let wanted = "c gone, b 7 Bob, d gone, a gone, 1/10/10
