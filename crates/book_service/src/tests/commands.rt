@@ -93,12 +93,14 @@ fn reports_come_in_pages(rt: HostRuntime) -> Result<(), Fail> {
 report staff 1/3/5 1
 report staff -
 report staff 1/2/2
-report staff 1/4/4";
+report staff 1/4/4
+report staff 1/5/6";
     let wanted = "c 3 Cy, 1/3/5 and more
 a 4 Anna, 1/5/5
 c 3 Cy, a 4 Anna, 1/5/5
 c 3 Cy, a 4 Anna, b gone, 1/5/5
 b gone, 1/5/5
+refused 10 cause 3
 ";
     is_replied(&rt, rt.alloc(), &[FIVE_CHANGES, script], wanted)
 }
@@ -241,6 +243,8 @@ swap nobody a z 7
 garble staff a 7
 swap staff a z 7
 put staff a Ann 7
+put staff b Bob 5
+remove staff b
 put staff z Zoe 7
 put staff z Zoe 0
 get nobody a
@@ -254,6 +258,8 @@ refused 1
 refused 5 fault 6
 refused 6
 refused 7 has 4
+refused 7 has 0
+refused 4
 refused 7 has 0
 created 6
 refused 1
