@@ -1,30 +1,34 @@
 -- What a device makes of what a store reported.
 use Rattle.std.proofs.Common.{◌≡◌, ℕ, ◌≤◌, Option, Some, None, Result, Ok, Err, refl, sym, ap, ◌∙◌, subst, inr, arith}
 use Rattle.std.specs.FinMap as finite
-use Rattle.sync_core.specs.declared.denied.Denied.TheVariants.{Refused}
-use Rattle.sync_core.specs.declared.denied.Fault.TheVariants.{Memory}
-use Rattle.sync_core.specs.declared.page.Page.{Page}
-use Rattle.sync_core.specs.declared.refusal.Refusal.{Refusal}
-use Rattle.sync_core.specs.declared.refusal.Refusal.TheVariants.{NoSuchBook, BookExists, BadBookName, NoSuchCard, BadCard, UidMismatch, VersionMismatch, UidTaken, SameBook, BadToken, BadLimit, BookFull, ChangesSpent, BadImport, BadKey, BadForget, NotGroup, TooManyBooks}
-use Rattle.sync_core.specs.Bounds.{Bounds}
-use Rattle.sync_core.specs.Books.{Books}
-use Rattle.sync_core.specs.Devices.{Holding, AppliesFirst, IsComplete, IsRight, IsRightWith, after_page, restarted, PartsKeepAllRight, WholePagesKeepAllRight, LastPagesCompleteAll}
-use Rattle.sync_core.specs.Outcomes.{Reads}
-use Rattle.sync_core.specs.Pages.{Asked, IsReport, report_step}
-use Rattle.sync_core.specs.Worlds.{Stories}
-use Rattle.sync_core.specs.WorldSteps.{IsWorldOf, Reports, report_meaning, ReportsFollow}
+use Rattle.book_model.specs.declared.denied.Denied.TheVariants.{Refused}
+use Rattle.book_model.specs.declared.denied.Fault.TheVariants.{Memory}
+use Rattle.book_model.specs.declared.page.Page.{Page}
+use Rattle.book_model.specs.declared.refusal.Refusal.{Refusal}
+use Rattle.book_model.specs.declared.refusal.Refusal.TheVariants.{NoSuchBook, BookExists, BadBookName, NoSuchCard, BadCard, UidMismatch, VersionMismatch, UidTaken, SameBook, BadToken, BadLimit, BookFull, ChangesSpent, BadImport, BadKey, BadForget, NotGroup, TooManyBooks}
+use Rattle.book_model.specs.Bounds.{Bounds}
+use Rattle.book_model.specs.Books.{Books}
+use Rattle.book_model.specs.Devices.{Holding, AppliesFirst, after_page, restarted}
+use Rattle.book_laws.specs.RightDevices.{IsComplete, IsRight, IsRightWith}
+use Rattle.book_laws.specs.DeviceLaws.{PartsKeepAllRight, WholePagesKeepAllRight, LastPagesCompleteAll}
+use Rattle.book_model.specs.Outcomes.{Reads}
+use Rattle.book_model.specs.Pages.{Asked, IsReport, report_step}
+use Rattle.book_laws.specs.Worlds.{Stories}
+use Rattle.book_laws.specs.Following.{IsWorldOf, PagesFollow}
+use Rattle.book_laws.specs.WorldSteps.{report_meaning}
+use Rattle.book_laws.specs.ReadLaws.{ReportsFollow}
 use Rattle.book_service.specs.declared.reply.Reply.TheVariants as reply
 use Rattle.book_service.specs.Asks.{IsAnswered, after_refusal}
 use Rattle.book_service.proofs.PerformLemmas.{of_world}
 
 -- ---- what was reported is what is meant
 
-page_meant : (asked : Result Asked Refusal) (meant : Result Page Refusal) (page : Page) (old new : Books) → Reports asked meant → Reads IsReport (Ok page) asked old new → meant ≡ Ok page
+page_meant : (asked : Result Asked Refusal) (meant : Result Page Refusal) (page : Page) (old new : Books) → PagesFollow asked meant → Reads IsReport (Ok page) asked old new → meant ≡ Ok page
 page_meant (Ok asked) (Ok meant) page old new follows reads = ap (λ p. Ok p) (sym (follows page reads.0))
 page_meant (Ok asked) (Err refusal) page old new follows reads = absurd follows
 page_meant (Err refusal) meant page old new follows reads = absurd reads
 
-refusal_meant : (asked : Result Asked Refusal) (meant : Result Page Refusal) (refusal : Refusal) (old new : Books) → Reports asked meant → Reads {A = Page} IsReport (Err (Refused refusal)) asked old new → meant ≡ Err refusal
+refusal_meant : (asked : Result Asked Refusal) (meant : Result Page Refusal) (refusal : Refusal) (old new : Books) → PagesFollow asked meant → Reads {A = Page} IsReport (Err (Refused refusal)) asked old new → meant ≡ Err refusal
 refusal_meant (Ok asked) meant refusal old new follows reads = absurd reads
 refusal_meant (Err wanted) (Ok meant) refusal old new follows reads = absurd follows
 refusal_meant (Err wanted) (Err other) refusal old new follows reads = ap (λ r. Err r) (sym (reads.0 ∙ follows))
@@ -63,8 +67,8 @@ module _ (limits : Bounds) (books after : Books) (law : ReportsFollow) (old new 
   abbrev meant : Stories → Result Page Refusal
   meant stories = report_meaning limits stories old.book old.token limit
 
-  follows : (stories : Stories) → IsWorldOf limits stories books → Reports step (meant stories)
-  follows stories w = of_world (λ l s b. Reports (report_step l b old.book old.token limit) (report_meaning l s old.book old.token limit)) w (law w.world old.book old.token limit)
+  follows : (stories : Stories) → IsWorldOf limits stories books → PagesFollow step (meant stories)
+  follows stories w = of_world (λ l s b. PagesFollow (report_step l b old.book old.token limit) (report_meaning l s old.book old.token limit)) w (law w.world old.book old.token limit)
 
   -- the page was applied whole
   pub told_whole : WholePagesKeepAllRight → LastPagesCompleteAll → 1 ≤ limits.page_max → (page : Page) → Reads IsReport (Ok page) step books after → new ≡ after_page old page

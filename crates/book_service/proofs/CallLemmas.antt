@@ -2,34 +2,35 @@
 use Rattle.std.proofs.Common.{◌≡◌, ℕ, List, Option, Result, Ok, Err, length, refl, sym, ap, ◌∙◌, subst, inl, inr, ◌⊎◌}
 use Rattle.vcard_text.specs.declared.line.Line.{Line}
 use Rattle.vcard_text.specs.Cards.{uid_of}
-use Rattle.sync_core.specs.declared.answers.BookLine.{BookLine}
-use Rattle.sync_core.specs.declared.answers.Moved.{Moved}
-use Rattle.sync_core.specs.declared.answers.PutAnswer.{PutAnswer}
-use Rattle.sync_core.specs.declared.answers.Stored.{Stored}
-use Rattle.sync_core.specs.declared.answers.Tally.{Tally}
-use Rattle.sync_core.specs.declared.denied.Denied.{Denied}
-use Rattle.sync_core.specs.declared.denied.Denied.TheVariants.{Refused, Fault}
-use Rattle.sync_core.specs.declared.denied.Fault.{Fault as StoreFault}
-use Rattle.sync_core.specs.declared.page.Page.{Page}
-use Rattle.sync_core.specs.declared.refusal.Refusal.{Refusal}
-use Rattle.sync_core.specs.declared.token.Token.{Token}
-use Rattle.sync_core.specs.Bounds.{Bounds}
-use Rattle.sync_core.specs.Books.{Books}
-use Rattle.sync_core.specs.Calls.{with_answer, with_reading}
-use Rattle.sync_core.specs.ChangeLaws.{RemovingFollows, MovingFollows}
-use Rattle.sync_core.specs.Creating.{create_step}
-use Rattle.sync_core.specs.Moving.{move_step}
-use Rattle.sync_core.specs.Outcomes.{◌>>=◌, Does, Reads, Tells}
-use Rattle.sync_core.specs.Pages.{Asked, IsReport, mark_asked, page_size, report_step}
-use Rattle.sync_core.specs.Putting.{put_answer, reason_for, put_step}
-use Rattle.sync_core.specs.Reading.{book_lines, book_line_step, get_step, tally_step}
-use Rattle.sync_core.specs.ReadLaws.{BooksFollow, BookLinesFollow, GettingFollows, TalliesFollow}
-use Rattle.sync_core.specs.Removing.{remove_step}
-use Rattle.sync_core.specs.Reports.{report, page_of}
-use Rattle.sync_core.specs.Worlds.{Stories}
-use Rattle.sync_core.specs.WorldChanges.{remove_meaning, move_meaning}
-use Rattle.sync_core.specs.WorldReads.{books_meaning, book_line_meaning, get_meaning, tally_meaning}
-use Rattle.sync_core.specs.WorldSteps.{IsWorldOf, Follows, Reports, story_named, create_meaning, found_of, stories_after_put, put_meaning, report_meaning, CreatingFollows, PuttingFollows, ReportsFollow}
+use Rattle.book_model.specs.declared.answers.BookLine.{BookLine}
+use Rattle.book_model.specs.declared.answers.Moved.{Moved}
+use Rattle.book_model.specs.declared.answers.PutAnswer.{PutAnswer}
+use Rattle.book_model.specs.declared.answers.Stored.{Stored}
+use Rattle.book_model.specs.declared.answers.Tally.{Tally}
+use Rattle.book_model.specs.declared.denied.Denied.{Denied}
+use Rattle.book_model.specs.declared.denied.Denied.TheVariants.{Refused, Fault}
+use Rattle.book_model.specs.declared.denied.Fault.{Fault as StoreFault}
+use Rattle.book_model.specs.declared.page.Page.{Page}
+use Rattle.book_model.specs.declared.refusal.Refusal.{Refusal}
+use Rattle.book_model.specs.declared.token.Token.{Token}
+use Rattle.book_model.specs.Bounds.{Bounds}
+use Rattle.book_model.specs.Books.{Books}
+use Rattle.book_laws.specs.Calls.{with_answer, with_reading}
+use Rattle.book_laws.specs.ChangeLaws.{RemovingFollows, MovingFollows, CreatingFollows, PuttingFollows}
+use Rattle.book_model.specs.Creating.{create_step}
+use Rattle.book_model.specs.Moving.{move_step}
+use Rattle.book_model.specs.Outcomes.{◌>>=◌, Does, Reads, Tells}
+use Rattle.book_model.specs.Pages.{Asked, IsReport, mark_asked, page_size, report_step, page_of}
+use Rattle.book_model.specs.Putting.{put_answer, reason_for, put_step}
+use Rattle.book_model.specs.Reading.{book_lines, book_line_step, get_step, tally_step}
+use Rattle.book_laws.specs.ReadLaws.{BooksFollow, BookLinesFollow, GettingFollows, TalliesFollow, ReportsFollow}
+use Rattle.book_model.specs.Removing.{remove_step}
+use Rattle.book_laws.specs.Reports.{report}
+use Rattle.book_laws.specs.Worlds.{Stories}
+use Rattle.book_laws.specs.WorldChanges.{remove_meaning, move_meaning}
+use Rattle.book_laws.specs.WorldReads.{books_meaning, book_line_meaning, get_meaning, tally_meaning}
+use Rattle.book_laws.specs.Following.{IsWorldOf, Follows, PagesFollow}
+use Rattle.book_laws.specs.WorldSteps.{story_named, create_meaning, found_of, stories_after_put, put_meaning, report_meaning}
 use Rattle.book_service.specs.declared.command.Command.{Command}
 use Rattle.book_service.specs.declared.command.Command.TheVariants.{CreateBook, Books as ListBooks, Get, Put, Remove, MoveCard, Report, TallyOf}
 use Rattle.book_service.specs.declared.reply.Reply.{Reply}
@@ -104,7 +105,7 @@ module _ (limits : Bounds) (old new : Books) where
         performed = λ stories w. record { next = stories; performs = inr (record { fault = fault; reply_is = refl }, refl); world = subst (IsWorldOf limits stories) (sym d) w };
       }
 
-  page_follows : (asked : Result Asked Refusal) (meant : Result Page Refusal) → Reports asked meant → ReadFollows IsReport asked meant
+  page_follows : (asked : Result Asked Refusal) (meant : Result Page Refusal) → PagesFollow asked meant → ReadFollows IsReport asked meant
   page_follows (Ok asked) (Ok meant) follows = follows
   page_follows (Ok asked) (Err refusal) follows = follows
   page_follows (Err refusal) (Ok meant) follows = follows
@@ -114,7 +115,7 @@ module _ (limits : Bounds) (old new : Books) where
       → DoesCommand limits old (Report book text limit) (reply_to reply.Page outcome) new
   reports law book token text limit outcome reads d =
       told reply.Page IsReport limits old new (Report book text limit) outcome (report_step limits old book token limit) (λ stories. report_meaning limits stories book token limit)
-      (λ stories w. page_follows (report_step limits old book token limit) (report_meaning limits stories book token limit) (of_world (λ l s b. Reports (report_step l b book token limit) (report_meaning l s book token limit)) w (law w.world book token limit)))
+      (λ stories w. page_follows (report_step limits old book token limit) (report_meaning limits stories book token limit) (of_world (λ l s b. PagesFollow (report_step l b book token limit) (report_meaning l s book token limit)) w (law w.world book token limit)))
       (λ stories r replied. (Ok token, reads, subst (λ (m : Meaning). Replies r m stories stories) (sym (twice stories)) replied)) d
     where
       twice : (stories : Stories) → report_read limits stories book (Ok token) limit ≡ with_reading reply.Page stories (report_meaning limits stories book token limit)

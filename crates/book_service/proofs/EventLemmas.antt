@@ -4,13 +4,14 @@ use Rattle.std.specs.List.{All}
 use Rattle.std.specs.FinMap as finite
 use Rattle.std.proofs.lemmas.List.Elements.{All-weaker, All-set, All-get_or}
 use Rattle.std.proofs.lemmas.Option.{slice_get_within, get_or_from_slice_get}
-use Rattle.sync_core.specs.Bounds.{Bounds}
-use Rattle.sync_core.specs.Books.{Books}
-use Rattle.sync_core.specs.Counting.{EventsAreCounted, LiveAreCounted}
-use Rattle.sync_core.specs.Devices.{Holding, IsRight}
-use Rattle.sync_core.specs.RunLaws.{CallsKeepAllRight}
-use Rattle.sync_core.specs.Worlds.{Stories}
-use Rattle.sync_core.specs.WorldSteps.{IsWorldOf}
+use Rattle.book_model.specs.Bounds.{Bounds}
+use Rattle.book_model.specs.Books.{Books}
+use Rattle.book_laws.specs.CountLaws.{EventsAreCounted, LiveAreCounted}
+use Rattle.book_model.specs.Devices.{Holding}
+use Rattle.book_laws.specs.RightDevices.{IsRight}
+use Rattle.book_laws.specs.RunLaws.{CallsKeepAllRight}
+use Rattle.book_laws.specs.Worlds.{Stories}
+use Rattle.book_laws.specs.Following.{IsWorldOf}
 use Rattle.book_service.specs.declared.command.Command.{Command}
 use Rattle.book_service.specs.declared.event.Event.TheVariants.{Do, Ask}
 use Rattle.book_service.specs.declared.reply.Reply.{Reply}

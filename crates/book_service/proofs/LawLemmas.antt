@@ -2,13 +2,13 @@
 use Rattle.std.proofs.Common.{◌≡◌, ℕ, true, false, List, [], ◌∷◌, ◌++◌, Some, None, Err, sym, ap, ◌∙◌, subst}
 use Rattle.std.specs.List.{All, AllByRecursion}
 use Rattle.std.specs.FinMap as finite
-use Rattle.sync_core.specs.declared.refusal.Refusal.TheVariants.{BadToken}
-use Rattle.sync_core.specs.Calls.{Call, Forgets}
-use Rattle.sync_core.specs.Devices.{IsRight, IsRightWith, IsRightUnder}
-use Rattle.sync_core.specs.RunLaws.{BooksGoOn}
-use Rattle.sync_core.specs.TokenLaws.{TokensStayGood, token_of}
-use Rattle.sync_core.specs.Worlds.{Stories}
-use Rattle.sync_core.specs.WorldSteps.{report_meaning}
+use Rattle.book_model.specs.declared.refusal.Refusal.TheVariants.{BadToken}
+use Rattle.book_laws.specs.Calls.{Call, Forgets}
+use Rattle.book_laws.specs.RightDevices.{IsRight, IsRightWith, IsRightUnder}
+use Rattle.book_laws.specs.RunLaws.{BooksGoOn}
+use Rattle.book_laws.specs.TokenLaws.{TokensStayGood, token_of}
+use Rattle.book_laws.specs.Worlds.{Stories}
+use Rattle.book_laws.specs.WorldSteps.{report_meaning}
 use Rattle.book_service.specs.EventLaws.{DevicesStartRight, PageTokensStayGood, BooksGoOnThroughEvents}
 use Rattle.book_service.proofs.DriveLemmas.{drives_lead}
 use Rattle.book_service.proofs.RunLemmas.{forgets}

@@ -3,25 +3,27 @@ use Rattle.std.proofs.Common.{◌≡◌, ℕ, zero, suc, ◌+◌, ◌<◌, ◌==
 use Rattle.std.specs.Option.{option_map_or}
 use Rattle.std.specs.FinMap as finite
 use Rattle.std.proofs.Math.Numerals.{add-one}
-use Rattle.sync_core.specs.declared.denied.Denied.{Denied}
-use Rattle.sync_core.specs.declared.denied.Denied.TheVariants.{Refused, Fault}
-use Rattle.sync_core.specs.declared.page.Page.{Page}
-use Rattle.sync_core.specs.declared.refusal.Refusal.{Refusal}
-use Rattle.sync_core.specs.declared.refusal.Refusal.TheVariants.{NoSuchBook, BadToken}
-use Rattle.sync_core.specs.declared.refusal.TokenCause.{TokenCause}
-use Rattle.sync_core.specs.declared.refusal.TokenCause.TheVariants.{OtherBook, TooNew, TooOld}
-use Rattle.sync_core.specs.declared.token.Mark.{Mark}
-use Rattle.sync_core.specs.declared.token.Token.{Token}
-use Rattle.sync_core.specs.Bounds.{Bounds}
-use Rattle.sync_core.specs.Books.{Books}
-use Rattle.sync_core.specs.Calls.{Call, Forgets}
-use Rattle.sync_core.specs.Devices.{Holding, IsRight, IsRightWith}
-use Rattle.sync_core.specs.Outcomes.{◌>>=◌, provided}
-use Rattle.sync_core.specs.Pages.{mark_asked, page_size}
-use Rattle.sync_core.specs.Reports.{report, page_of}
-use Rattle.sync_core.specs.TokenLaws.{TokensStayGood, token_of}
-use Rattle.sync_core.specs.Worlds.{Story, Stories}
-use Rattle.sync_core.specs.WorldSteps.{IsWorldOf, report_meaning}
+use Rattle.book_model.specs.declared.denied.Denied.{Denied}
+use Rattle.book_model.specs.declared.denied.Denied.TheVariants.{Refused, Fault}
+use Rattle.book_model.specs.declared.page.Page.{Page}
+use Rattle.book_model.specs.declared.refusal.Refusal.{Refusal}
+use Rattle.book_model.specs.declared.refusal.Refusal.TheVariants.{NoSuchBook, BadToken}
+use Rattle.book_model.specs.declared.refusal.TokenCause.{TokenCause}
+use Rattle.book_model.specs.declared.refusal.TokenCause.TheVariants.{OtherBook, TooNew, TooOld}
+use Rattle.book_model.specs.declared.token.Mark.{Mark}
+use Rattle.book_model.specs.declared.token.Token.{Token}
+use Rattle.book_model.specs.Bounds.{Bounds}
+use Rattle.book_model.specs.Books.{Books}
+use Rattle.book_laws.specs.Calls.{Call, Forgets}
+use Rattle.book_model.specs.Devices.{Holding}
+use Rattle.book_laws.specs.RightDevices.{IsRight, IsRightWith}
+use Rattle.book_model.specs.Outcomes.{◌>>=◌, provided}
+use Rattle.book_model.specs.Pages.{mark_asked, page_size, page_of}
+use Rattle.book_laws.specs.Reports.{report}
+use Rattle.book_laws.specs.TokenLaws.{TokensStayGood, token_of}
+use Rattle.book_laws.specs.Worlds.{Story, Stories}
+use Rattle.book_laws.specs.Following.{IsWorldOf}
+use Rattle.book_laws.specs.WorldSteps.{report_meaning}
 use Rattle.book_service.specs.declared.reply.Reply.{Reply}
 use Rattle.book_service.specs.declared.reply.Reply.TheVariants as reply
 use Rattle.book_service.specs.Asks.{IsAnswered}

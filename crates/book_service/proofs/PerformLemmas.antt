@@ -1,15 +1,16 @@
 -- What a store's call did for a command, on rows and so on histories.
 use Rattle.std.proofs.Common.{◌≡◌, ℕ, List, Result, Ok, Err, refl, sym, ap, ◌∙◌, subst, ⊎_elim, inl, inr, ◌⊎◌}
-use Rattle.sync_core.specs.declared.denied.Denied.{Denied}
-use Rattle.sync_core.specs.declared.denied.Denied.TheVariants.{Refused, Fault}
-use Rattle.sync_core.specs.declared.refusal.Refusal.{Refusal}
-use Rattle.sync_core.specs.Bounds.{Bounds}
-use Rattle.sync_core.specs.Books.{Books}
-use Rattle.sync_core.specs.Calls.{with_answer, with_reading}
-use Rattle.sync_core.specs.Outcomes.{◌>>=◌, Does, Reads}
-use Rattle.sync_core.specs.Worlds.{Story, Stories, rows}
-use Rattle.sync_core.specs.WorldReads.{book_line_meaning, story_line}
-use Rattle.sync_core.specs.WorldSteps.{IsWorldOf, Follows, story_named}
+use Rattle.book_model.specs.declared.denied.Denied.{Denied}
+use Rattle.book_model.specs.declared.denied.Denied.TheVariants.{Refused, Fault}
+use Rattle.book_model.specs.declared.refusal.Refusal.{Refusal}
+use Rattle.book_model.specs.Bounds.{Bounds}
+use Rattle.book_model.specs.Books.{Books}
+use Rattle.book_laws.specs.Calls.{with_answer, with_reading}
+use Rattle.book_model.specs.Outcomes.{◌>>=◌, Does, Reads}
+use Rattle.book_laws.specs.Worlds.{Story, Stories, rows}
+use Rattle.book_laws.specs.WorldReads.{book_line_meaning, story_line}
+use Rattle.book_laws.specs.Following.{IsWorldOf, Follows}
+use Rattle.book_laws.specs.WorldSteps.{story_named}
 use Rattle.book_service.specs.declared.command.Command.{Command}
 use Rattle.book_service.specs.declared.reply.Reply.{Reply}
 use Rattle.book_service.specs.declared.reply.Reply.TheVariants as reply

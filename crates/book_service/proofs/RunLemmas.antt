@@ -2,15 +2,15 @@
 use Rattle.std.proofs.Common.{◌≡◌, ℕ, Bool, true, false, List, [], ◌∷◌, ◌++◌, Option, Result, Ok, Err, refl, sym, ap, ◌∙◌, ⊎_elim, inl, inr, ◌⊎◌}
 use Rattle.std.specs.List.{AllByRecursion}
 use Rattle.vcard_text.specs.declared.line.Line.{Line}
-use Rattle.sync_core.specs.declared.refusal.Refusal.{Refusal}
-use Rattle.sync_core.specs.declared.token.Token.{Token}
-use Rattle.sync_core.specs.Bounds.{Bounds}
-use Rattle.sync_core.specs.Calls.{Call, CreatesBook, Puts, Removes, Moves, Imports, Forgets, Reports, AsksImport, ListsBooks, ShowsBook, Gets, ListsCards, Tallies, Returned, MadeBook, DidPut, DidRemove, DidMove, with_answer, with_reading, meaning, left_by, after, after_all}
-use Rattle.sync_core.specs.Outcomes.{◌>>=◌}
-use Rattle.sync_core.specs.Worlds.{Story, Stories}
-use Rattle.sync_core.specs.WorldChanges.{remove_meaning, move_meaning}
-use Rattle.sync_core.specs.WorldReads.{get_meaning, tally_meaning}
-use Rattle.sync_core.specs.WorldSteps.{story_named, create_meaning, put_meaning, report_meaning}
+use Rattle.book_model.specs.declared.refusal.Refusal.{Refusal}
+use Rattle.book_model.specs.declared.token.Token.{Token}
+use Rattle.book_model.specs.Bounds.{Bounds}
+use Rattle.book_laws.specs.Calls.{Call, CreatesBook, Puts, Removes, Moves, Imports, Forgets, Reports, AsksImport, ListsBooks, ShowsBook, Gets, ListsCards, Tallies, Returned, MadeBook, DidPut, DidRemove, DidMove, with_answer, with_reading, meaning, left_by, after, after_all}
+use Rattle.book_model.specs.Outcomes.{◌>>=◌}
+use Rattle.book_laws.specs.Worlds.{Story, Stories}
+use Rattle.book_laws.specs.WorldChanges.{remove_meaning, move_meaning}
+use Rattle.book_laws.specs.WorldReads.{get_meaning, tally_meaning}
+use Rattle.book_laws.specs.WorldSteps.{story_named, create_meaning, put_meaning, report_meaning}
 use Rattle.book_service.specs.declared.command.Command.{Command}
 use Rattle.book_service.specs.declared.command.Command.TheVariants.{CreateBook, Books as ListBooks, Get, Put, Remove, MoveCard, Report, TallyOf}
 use Rattle.book_service.specs.declared.reply.Reply.{Reply}

@@ -8,9 +8,9 @@ use Rattle.vcard_text.specs.declared.line.Line.{Line}
 use Rattle.vcard_text.specs.Cards.{uid_of}
 use Rattle.vcard_text.specs.Faults.{first_fault}
 use Rattle.vcard_text.specs.Spelling.{Spells}
-use Rattle.sync_core.specs.declared.refusal.Refusal.{Refusal}
-use Rattle.sync_core.specs.declared.refusal.Refusal.TheVariants.{BadCard, UidMismatch}
-use Rattle.sync_core.specs.Outcomes.{denied_card}
+use Rattle.book_model.specs.declared.refusal.Refusal.{Refusal}
+use Rattle.book_model.specs.declared.refusal.Refusal.TheVariants.{BadCard, UidMismatch}
+use Rattle.book_model.specs.Outcomes.{denied_card}
 use Rattle.book_service.specs.Texts.{ReadsCard, IsReadAs}
 
 -- a text is to be read in some way

@@ -1,14 +1,15 @@
 -- What a device makes of the page that it asks for (RFC 6578, sections 3.2 to 3.6). This project's own.
 use Rattle.std.specs.Prelude.{ℕ, ◌≡◌, ◌⊎◌, false, Option, Result, Ok, Err}
-use Rattle.sync_core.specs.declared.denied.Fault.{Fault}
-use Rattle.sync_core.specs.declared.denied.Fault.TheVariants.{Memory}
-use Rattle.sync_core.specs.declared.page.Page.{Page}
-use Rattle.sync_core.specs.declared.refusal.Refusal.{Refusal}
-use Rattle.sync_core.specs.declared.refusal.Refusal.TheVariants.{BadToken}
-use Rattle.sync_core.specs.Bounds.{Bounds}
-use Rattle.sync_core.specs.Devices.{Holding, AppliesFirst, IsComplete, IsRight, after_page, restarted}
-use Rattle.sync_core.specs.Worlds.{Stories}
-use Rattle.sync_core.specs.WorldSteps.{report_meaning}
+use Rattle.book_model.specs.declared.denied.Fault.{Fault}
+use Rattle.book_model.specs.declared.denied.Fault.TheVariants.{Memory}
+use Rattle.book_model.specs.declared.page.Page.{Page}
+use Rattle.book_model.specs.declared.refusal.Refusal.{Refusal}
+use Rattle.book_model.specs.declared.refusal.Refusal.TheVariants.{BadToken}
+use Rattle.book_model.specs.Bounds.{Bounds}
+use Rattle.book_model.specs.Devices.{Holding, AppliesFirst, after_page, restarted}
+use Rattle.book_laws.specs.RightDevices.{IsComplete, IsRight}
+use Rattle.book_laws.specs.Worlds.{Stories}
+use Rattle.book_laws.specs.WorldSteps.{report_meaning}
 use Rattle.book_service.specs.declared.reply.Reply.{Reply}
 use Rattle.book_service.specs.declared.reply.Reply.TheVariants as reply
 

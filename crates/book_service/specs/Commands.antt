@@ -1,19 +1,20 @@
 -- What each command does to books with their whole histories. This project's own.
 use Rattle.std.specs.Prelude.{ℕ, ◌≡◌, ◌⊎◌, List, Option, Result, Ok, Err}
 use Rattle.vcard_text.specs.declared.line.Line.{Line}
-use Rattle.sync_core.specs.declared.answers.BookLine.{BookLine}
-use Rattle.sync_core.specs.declared.denied.Denied.{Denied}
-use Rattle.sync_core.specs.declared.refusal.Refusal.{Refusal}
-use Rattle.sync_core.specs.declared.token.Token.{Token}
-use Rattle.sync_core.specs.Bounds.{Bounds}
-use Rattle.sync_core.specs.Books.{Books}
-use Rattle.sync_core.specs.Calls.{with_answer, with_reading}
-use Rattle.sync_core.specs.Outcomes.{◌>>=◌}
-use Rattle.sync_core.specs.Reading.{book_line_step}
-use Rattle.sync_core.specs.Worlds.{Stories}
-use Rattle.sync_core.specs.WorldChanges.{remove_meaning, move_meaning}
-use Rattle.sync_core.specs.WorldReads.{books_meaning, get_meaning, tally_meaning}
-use Rattle.sync_core.specs.WorldSteps.{story_named, create_meaning, put_meaning, report_meaning, IsWorldOf}
+use Rattle.book_model.specs.declared.answers.BookLine.{BookLine}
+use Rattle.book_model.specs.declared.denied.Denied.{Denied}
+use Rattle.book_model.specs.declared.refusal.Refusal.{Refusal}
+use Rattle.book_model.specs.declared.token.Token.{Token}
+use Rattle.book_model.specs.Bounds.{Bounds}
+use Rattle.book_model.specs.Books.{Books}
+use Rattle.book_laws.specs.Calls.{with_answer, with_reading}
+use Rattle.book_model.specs.Outcomes.{◌>>=◌}
+use Rattle.book_model.specs.Reading.{book_line_step}
+use Rattle.book_laws.specs.Worlds.{Stories}
+use Rattle.book_laws.specs.WorldChanges.{remove_meaning, move_meaning}
+use Rattle.book_laws.specs.WorldReads.{books_meaning, get_meaning, tally_meaning}
+use Rattle.book_laws.specs.WorldSteps.{story_named, create_meaning, put_meaning, report_meaning}
+use Rattle.book_laws.specs.Following.{IsWorldOf}
 use Rattle.book_service.specs.declared.command.Command.{Command}
 use Rattle.book_service.specs.declared.command.Command.TheVariants.{CreateBook, Books as ListBooks, Get, Put, Remove, MoveCard, Report, TallyOf}
 use Rattle.book_service.specs.declared.reply.Reply.{Reply}

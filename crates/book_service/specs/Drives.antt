@@ -1,14 +1,16 @@
 -- Commands and asks, one after another, and what holds after each of them. This project's own.
 use Rattle.std.specs.Prelude.{ℕ, ◌+◌, ◌≡◌, ◌<◌, List, [], ◌∷◌, length, slice_get, slice_set, All, Option, Some}
 use Rattle.std.specs.FinMap as finite
-use Rattle.sync_core.specs.Bounds.{Bounds}
-use Rattle.sync_core.specs.Books.{Books}
-use Rattle.sync_core.specs.Counting.{counts_of, total, arrivals, departures}
-use Rattle.sync_core.specs.Devices.{Holding, IsRight}
-use Rattle.sync_core.specs.Histories.{live}
-use Rattle.sync_core.specs.Lawful.{IsLawful}
-use Rattle.sync_core.specs.Worlds.{Story, Stories}
-use Rattle.sync_core.specs.WorldSteps.{IsWorldOf}
+use Rattle.book_model.specs.Bounds.{Bounds}
+use Rattle.book_model.specs.Books.{Books}
+use Rattle.book_laws.specs.HistoryCounts.{counts_of}
+use Rattle.book_model.specs.Counting.{total, arrivals, departures}
+use Rattle.book_model.specs.Devices.{Holding}
+use Rattle.book_laws.specs.RightDevices.{IsRight}
+use Rattle.book_laws.specs.Histories.{live}
+use Rattle.book_laws.specs.Lawful.{IsLawful}
+use Rattle.book_laws.specs.Worlds.{Story, Stories}
+use Rattle.book_laws.specs.Following.{IsWorldOf}
 use Rattle.book_service.specs.declared.event.Event.{Event}
 use Rattle.book_service.specs.declared.event.Event.TheVariants.{Do, Ask}
 use Rattle.book_service.specs.declared.reply.Reply.{Reply}

@@ -1,15 +1,16 @@
 -- What holds through all events. This project's own.
 use Rattle.std.specs.Prelude.{ℕ, ◌≡◌, ◌≢◌, List, All, Option, Some, None, Ok, Err}
 use Rattle.std.specs.FinMap as finite
-use Rattle.sync_core.specs.declared.page.Page.{Page}
-use Rattle.sync_core.specs.declared.refusal.Refusal.TheVariants.{BadToken}
-use Rattle.sync_core.specs.declared.refusal.TokenCause.{TokenCause}
-use Rattle.sync_core.specs.declared.token.Token.{Token}
-use Rattle.sync_core.specs.Devices.{Holding, IsRight}
-use Rattle.sync_core.specs.RunLaws.{GoesOn}
-use Rattle.sync_core.specs.TokenLaws.{token_of}
-use Rattle.sync_core.specs.Worlds.{Story, Stories, World}
-use Rattle.sync_core.specs.WorldSteps.{report_meaning}
+use Rattle.book_model.specs.declared.page.Page.{Page}
+use Rattle.book_model.specs.declared.refusal.Refusal.TheVariants.{BadToken}
+use Rattle.book_model.specs.declared.refusal.TokenCause.{TokenCause}
+use Rattle.book_model.specs.declared.token.Token.{Token}
+use Rattle.book_model.specs.Devices.{Holding}
+use Rattle.book_laws.specs.RightDevices.{IsRight}
+use Rattle.book_laws.specs.RunLaws.{GoesOn}
+use Rattle.book_laws.specs.TokenLaws.{token_of}
+use Rattle.book_laws.specs.Worlds.{Story, Stories, World}
+use Rattle.book_laws.specs.WorldSteps.{report_meaning}
 use Rattle.book_service.specs.declared.event.Event.{Event}
 use Rattle.book_service.specs.declared.reply.Reply.{Reply}
 use Rattle.book_service.specs.Drives.{Drives}

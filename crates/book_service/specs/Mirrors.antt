@@ -1,13 +1,14 @@
 -- Copies of whole books: a new device that asks until a page isn't truncated (RFC 6578, section 3.6). This project's own.
 use Rattle.std.specs.Prelude.{ℕ, zero, suc, ◌≡◌, ◌<◌, ◌≤◌, Bool, true, false, not, List, Some, None, Ok, Err}
 use Rattle.std.specs.FinMap as finite
-use Rattle.sync_core.specs.declared.denied.Denied.{Denied}
-use Rattle.sync_core.specs.declared.denied.Denied.TheVariants.{Refused, Fault}
-use Rattle.sync_core.specs.declared.page.Page.{Page}
-use Rattle.sync_core.specs.Bounds.{Bounds}
-use Rattle.sync_core.specs.Devices.{Holding, IsComplete, after_page}
-use Rattle.sync_core.specs.Worlds.{Stories}
-use Rattle.sync_core.specs.WorldSteps.{report_meaning}
+use Rattle.book_model.specs.declared.denied.Denied.{Denied}
+use Rattle.book_model.specs.declared.denied.Denied.TheVariants.{Refused, Fault}
+use Rattle.book_model.specs.declared.page.Page.{Page}
+use Rattle.book_model.specs.Bounds.{Bounds}
+use Rattle.book_model.specs.Devices.{Holding, after_page}
+use Rattle.book_laws.specs.RightDevices.{IsComplete}
+use Rattle.book_laws.specs.Worlds.{Stories}
+use Rattle.book_laws.specs.WorldSteps.{report_meaning}
 use Rattle.book_service.specs.declared.mirrored.Mirrored.{Mirrored}
 
 -- a device that has heard nothing

@@ -1,12 +1,12 @@
 -- How commands are replied to. This project's own.
 use Rattle.std.specs.Prelude.{ℕ, ◌≡◌, ◌⊎◌, List, Result, Ok, Err}
-use Rattle.sync_core.specs.declared.answers.Stored.{Stored}
-use Rattle.sync_core.specs.declared.denied.Denied.{Denied}
-use Rattle.sync_core.specs.declared.denied.Denied.TheVariants.{Refused, Fault}
-use Rattle.sync_core.specs.declared.denied.Fault.{Fault as StoreFault}
-use Rattle.sync_core.specs.declared.refusal.Refusal.{Refusal}
-use Rattle.sync_core.specs.Calls.{left_by}
-use Rattle.sync_core.specs.Worlds.{Stories}
+use Rattle.book_model.specs.declared.answers.Stored.{Stored}
+use Rattle.book_model.specs.declared.denied.Denied.{Denied}
+use Rattle.book_model.specs.declared.denied.Denied.TheVariants.{Refused, Fault}
+use Rattle.book_model.specs.declared.denied.Fault.{Fault as StoreFault}
+use Rattle.book_model.specs.declared.refusal.Refusal.{Refusal}
+use Rattle.book_laws.specs.Calls.{left_by}
+use Rattle.book_laws.specs.Worlds.{Stories}
 use Rattle.book_service.specs.declared.reply.Reply.{Reply}
 use Rattle.book_service.specs.declared.reply.Reply.TheVariants as reply
 

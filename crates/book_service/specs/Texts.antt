@@ -5,12 +5,12 @@ use Rattle.vcard_text.specs.declared.line.Line.{Line}
 use Rattle.vcard_text.specs.Cards.{uid_of}
 use Rattle.vcard_text.specs.Faults.{first_fault}
 use Rattle.vcard_text.specs.Spelling.{Spells}
-use Rattle.sync_core.specs.declared.denied.Denied.{Denied}
-use Rattle.sync_core.specs.declared.denied.Denied.TheVariants.{Refused, Fault}
-use Rattle.sync_core.specs.declared.refusal.Refusal.{Refusal}
-use Rattle.sync_core.specs.declared.refusal.Refusal.TheVariants.{BadCard, UidMismatch, BadToken}
-use Rattle.sync_core.specs.declared.refusal.TokenCause.TheVariants.{Malformed}
-use Rattle.sync_core.specs.declared.token.Token.{Token}
+use Rattle.book_model.specs.declared.denied.Denied.{Denied}
+use Rattle.book_model.specs.declared.denied.Denied.TheVariants.{Refused, Fault}
+use Rattle.book_model.specs.declared.refusal.Refusal.{Refusal}
+use Rattle.book_model.specs.declared.refusal.Refusal.TheVariants.{BadCard, UidMismatch, BadToken}
+use Rattle.book_model.specs.declared.refusal.TokenCause.TheVariants.{Malformed}
+use Rattle.book_model.specs.declared.token.Token.{Token}
 use Rattle.sync_core.specs.TokenTexts.{IsToken}
 
 -- the text is no card, and the refusal says why

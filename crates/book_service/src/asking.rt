@@ -1,13 +1,13 @@
 //! A device that asks for its next page.
 ghost use Rattle.std.specs.Prelude.{◌≡◌};
-ghost use Rattle.sync_core.specs.Worlds.{Stories};
-ghost use Rattle.sync_core.specs.WorldSteps.{IsWorldOf};
+ghost use Rattle.book_laws.specs.Worlds.{Stories};
+ghost use Rattle.book_laws.specs.Following.{IsWorldOf};
 ghost use Rattle.book_service.specs.declared.reply.Reply.{Reply};
 ghost use Rattle.book_service.specs.Asks.{IsAnswered, after_refusal};
 ghost use Rattle.book_service.specs.Replies.{reply_to};
 
-use sync_core::laws::devices::{devices_stay_right_among_books, last_pages_complete_copies};
-use sync_core::laws::reports_follow_histories;
+use book_laws::devices::{devices_stay_right_among_books, last_pages_complete_copies};
+use book_laws::following::reports_follow_histories;
 use sync_core::{BookStore, Denied, Device, Fault, Page, Refusal};
 
 /// Takes a token that was refused away.

@@ -5,12 +5,12 @@ ghost use Rattle.book_service.specs.Commands.{DoesCommand, DeniesIn};
 
 use crate::reply::{Reply, created, denied, gone, moved, reported, shown, stored, tallied};
 use crate::texts::{card_for, token_in};
-use std::alloc::Global;
-use sync_core::laws::{
+use book_laws::following::{
     book_lines_follow_histories, cards_follow_histories, creating_follows_histories,
     moving_follows_histories, putting_follows_histories, removing_follows_histories,
     reports_follow_histories, tallies_follow_histories,
 };
+use std::alloc::Global;
 use sync_core::{BookStore, Denied, Fault};
 use vcard_text::{Items, Text};
 

@@ -1,15 +1,15 @@
 //! Commands, and devices that ask for pages between them.
 ghost use Rattle.std.specs.Prelude.{◌≡◌, ◌↔◌, length, All, IfOk, IsTrue, OnErr};
-ghost use Rattle.sync_core.specs.Worlds.{Stories};
-ghost use Rattle.sync_core.specs.WorldSteps.{IsWorldOf};
+ghost use Rattle.book_laws.specs.Worlds.{Stories};
+ghost use Rattle.book_laws.specs.Following.{IsWorldOf};
 ghost use Rattle.book_service.specs.Drives.{NamesDevice, IsHappened, IsDriven};
 
 use crate::asking::next_page;
 use crate::command::{Command, perform};
 use crate::reply::{Reply, reported};
+use book_laws::devices::devices_stay_right_over_calls;
+use book_laws::histories::changes_are_counted;
 use std::alloc::Global;
-use sync_core::laws::changes_are_counted;
-use sync_core::laws::devices::devices_stay_right_over_calls;
 use sync_core::{BookStore, Device};
 use vcard_text::NoMemory;
 

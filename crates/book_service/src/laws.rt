@@ -1,7 +1,7 @@
 //! What holds through all events. Each law is a function that does nothing.
 ghost use Rattle.book_service.specs.EventLaws.{DevicesStartRight, PageTokensStayGood, BooksGoOnThroughEvents};
 
-use sync_core::laws::{books_go_on, tokens_stay_good};
+use book_laws::runs::{books_go_on, tokens_stay_good};
 
 /// A device without a token, such as a new one, is right, whether its book is there or not.
 pub fn devices_start_right()

@@ -1,12 +1,12 @@
 //! Copies of whole books.
 ghost use Rattle.std.specs.Prelude.{◌≡◌, IfOk, IfErr};
-ghost use Rattle.sync_core.specs.Worlds.{Stories};
-ghost use Rattle.sync_core.specs.WorldSteps.{IsWorldOf};
+ghost use Rattle.book_laws.specs.Worlds.{Stories};
+ghost use Rattle.book_laws.specs.Following.{IsWorldOf};
 ghost use Rattle.book_service.specs.Mirrors.{IsMirrored, IsMirrorDenied};
 
 use crate::asking::next_page;
+use book_laws::runs::tokens_stay_good;
 use std::alloc::Global;
-use sync_core::laws::tokens_stay_good;
 use sync_core::{BookStore, Denied, Device};
 
 /// A device that asked for page after page, how many pages it applied, and whether the last one told all that was left.

@@ -11,24 +11,27 @@ use Rattle.vcard_text.specs.declared.line.Line.{Line}
 use Rattle.vcard_text.specs.Cards.{uid_of}
 use Rattle.vcard_text.specs.Faults.{first_fault}
 use Rattle.vcard_text.specs.TextMaps.{text_cmp}
-use Rattle.sync_core.specs.declared.answers.PutAnswer.{PutAnswer}
-use Rattle.sync_core.specs.declared.answers.PutAnswer.TheVariants.{Created}
-use Rattle.sync_core.specs.declared.answers.Stored.{Stored}
-use Rattle.sync_core.specs.declared.denied.Denied.{Denied}
-use Rattle.sync_core.specs.declared.denied.Denied.TheVariants.{Refused, Fault}
-use Rattle.sync_core.specs.declared.denied.Fault.TheVariants.{Store, Memory}
-use Rattle.sync_core.specs.declared.page.Page.{Page}
-use Rattle.sync_core.specs.declared.refusal.Refusal.{Refusal}
-use Rattle.sync_core.specs.declared.refusal.Refusal.TheVariants.{NoSuchBook, BookFull, ChangesSpent, TooManyBooks}
-use Rattle.sync_core.specs.Bounds.{Bounds}
-use Rattle.sync_core.specs.Books.{Books}
-use Rattle.sync_core.specs.Creating.{new_id, create_step}
-use Rattle.sync_core.specs.Outcomes.{◌>>=◌, provided, Does, Reads, HasNoStoreFault, no_memory, denied_card}
-use Rattle.sync_core.specs.Pages.{Asked, IsReport, mark_asked, page_size, report_step}
-use Rattle.sync_core.specs.Putting.{answer_over, put_answer, next_number, reason_for, put_step}
-use Rattle.sync_core.specs.Reports.{report, page_of}
-use Rattle.sync_core.specs.Worlds.{Story, Stories, World, rows}
-use Rattle.sync_core.specs.WorldSteps.{empty_story, story_named, create_meaning, found_of, stories_after_put, put_meaning, report_meaning, IsWorldOf, Follows, Reports, NothingFollows, CreatingFollows, PuttingFollows, ReportsFollow}
+use Rattle.book_model.specs.declared.answers.PutAnswer.{PutAnswer}
+use Rattle.book_model.specs.declared.answers.PutAnswer.TheVariants.{Created}
+use Rattle.book_model.specs.declared.answers.Stored.{Stored}
+use Rattle.book_model.specs.declared.denied.Denied.{Denied}
+use Rattle.book_model.specs.declared.denied.Denied.TheVariants.{Refused, Fault}
+use Rattle.book_model.specs.declared.denied.Fault.TheVariants.{Store, Memory}
+use Rattle.book_model.specs.declared.page.Page.{Page}
+use Rattle.book_model.specs.declared.refusal.Refusal.{Refusal}
+use Rattle.book_model.specs.declared.refusal.Refusal.TheVariants.{NoSuchBook, BookFull, ChangesSpent, TooManyBooks}
+use Rattle.book_model.specs.Bounds.{Bounds}
+use Rattle.book_model.specs.Books.{Books}
+use Rattle.book_model.specs.Creating.{new_id, create_step}
+use Rattle.book_model.specs.Outcomes.{◌>>=◌, provided, Does, Reads, HasNoStoreFault, no_memory, denied_card}
+use Rattle.book_model.specs.Pages.{Asked, IsReport, mark_asked, page_size, report_step, page_of}
+use Rattle.book_model.specs.Putting.{answer_over, put_answer, next_number, reason_for, put_step}
+use Rattle.book_laws.specs.Reports.{report}
+use Rattle.book_laws.specs.Worlds.{Story, Stories, World, rows}
+use Rattle.book_laws.specs.WorldSteps.{empty_story, story_named, create_meaning, found_of, stories_after_put, put_meaning, report_meaning}
+use Rattle.book_laws.specs.Following.{IsWorldOf, Follows, PagesFollow}
+use Rattle.book_laws.specs.ChangeLaws.{NothingFollows, CreatingFollows, PuttingFollows}
+use Rattle.book_laws.specs.ReadLaws.{ReportsFollow}
 use Rattle.contacts.specs.FirstPaths.{one_creation, first_page, IsDeniedFor}
 
 -- the limits that the program's store has
@@ -106,11 +109,11 @@ did {A} limits result step meaning answer stories old new does follows is sound 
     by_result (Err (Fault Memory)) done d f n = refl
 
 pub gave : (result : Result Page Denied) (step : Result Asked Refusal) (meaning : Result Page Refusal) (page : Page) (old new : Books)
-    → Reads IsReport result step old new → Reports step meaning → meaning ≡ Ok page → HasNoStoreFault result → MatchResult result (λ p. p ≡ page) (λ denied. denied ≡ no_memory)
+    → Reads IsReport result step old new → PagesFollow step meaning → meaning ≡ Ok page → HasNoStoreFault result → MatchResult result (λ p. p ≡ page) (λ denied. denied ≡ no_memory)
 gave result step meaning page old new reads reports is sound =
-    by_result result step reads (subst (Reports step) is reports) sound
+    by_result result step reads (subst (PagesFollow step) is reports) sound
   where
-    by_result : (r : Result Page Denied) (asked : Result Asked Refusal) → Reads IsReport r asked old new → Reports asked (Ok page) → HasNoStoreFault r → MatchResult r (λ p. p ≡ page) (λ denied. denied ≡ no_memory)
+    by_result : (r : Result Page Denied) (asked : Result Asked Refusal) → Reads IsReport r asked old new → PagesFollow asked (Ok page) → HasNoStoreFault r → MatchResult r (λ p. p ≡ page) (λ denied. denied ≡ no_memory)
     by_result (Ok p) (Ok asked) d f n = f p d.0
     by_result (Ok p) (Err refusal) d f n = absurd d
     by_result (Err (Refused refusal)) (Ok asked) d f n = absurd d
@@ -143,9 +146,9 @@ module _ (limits : Bounds) (s : AreStandard limits) where
       → Reads IsReport result (report_step limits old name None None) old new → HasNoStoreFault result → MatchResult result (λ p. p ≡ first_page card) (λ denied. denied ≡ no_memory)
   page_given reporting card result old new w reads sound =
       gave result (report_step limits old name None None) (report_meaning limits (with_card card) name None None) (first_page card) old new reads
-      (subst (λ (books : Books). Reports (report_step limits books name None None) (report_meaning limits (with_card card) name None None)) w.rows_are
-      (subst (λ (stories : Stories). Reports (report_step limits (rows stories) name None None) (report_meaning limits stories name None None)) w.stories_are
-      (subst (λ (l : Bounds). Reports (report_step l (rows w.world.books) name None None) (report_meaning l w.world.books name None None)) w.limits_are
+      (subst (λ (books : Books). PagesFollow (report_step limits books name None None) (report_meaning limits (with_card card) name None None)) w.rows_are
+      (subst (λ (stories : Stories). PagesFollow (report_step limits (rows stories) name None None) (report_meaning limits stories name None None)) w.stories_are
+      (subst (λ (l : Bounds). PagesFollow (report_step l (rows w.world.books) name None None) (report_meaning l w.world.books name None None)) w.limits_are
       (reporting w.world name None None))))
       (reported limits s card) sound
 

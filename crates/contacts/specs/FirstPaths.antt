@@ -5,17 +5,18 @@ use Rattle.vcard_text.specs.declared.line.Line.{Line}
 use Rattle.vcard_text.specs.Cards.{uid_of}
 use Rattle.vcard_text.specs.Spelling.{Spells}
 use Rattle.vcard_text.specs.Faults.{first_fault}
-use Rattle.sync_core.specs.declared.answers.PutAnswer.TheVariants.{Created}
-use Rattle.sync_core.specs.declared.change.Change.TheVariants.{Stores}
-use Rattle.sync_core.specs.declared.change.StoreReason.TheVariants.{Creation}
-use Rattle.sync_core.specs.declared.denied.Denied.{Denied}
-use Rattle.sync_core.specs.declared.denied.Denied.TheVariants.{Refused, Fault}
-use Rattle.sync_core.specs.declared.denied.Fault.TheVariants.{Store, Memory}
-use Rattle.sync_core.specs.declared.page.Page.{Page}
-use Rattle.sync_core.specs.declared.refusal.Refusal.{Refusal}
-use Rattle.sync_core.specs.declared.refusal.Refusal.TheVariants.{BadCard}
-use Rattle.sync_core.specs.Histories.{BookEvent}
-use Rattle.sync_core.specs.Reports.{report, page_of}
+use Rattle.book_model.specs.declared.answers.PutAnswer.TheVariants.{Created}
+use Rattle.book_model.specs.declared.change.Change.TheVariants.{Stores}
+use Rattle.book_model.specs.declared.change.StoreReason.TheVariants.{Creation}
+use Rattle.book_model.specs.declared.denied.Denied.{Denied}
+use Rattle.book_model.specs.declared.denied.Denied.TheVariants.{Refused, Fault}
+use Rattle.book_model.specs.declared.denied.Fault.TheVariants.{Store, Memory}
+use Rattle.book_model.specs.declared.page.Page.{Page}
+use Rattle.book_model.specs.declared.refusal.Refusal.{Refusal}
+use Rattle.book_model.specs.declared.refusal.Refusal.TheVariants.{BadCard}
+use Rattle.book_laws.specs.Histories.{BookEvent}
+use Rattle.book_laws.specs.Reports.{report}
+use Rattle.book_model.specs.Pages.{page_of}
 use Rattle.contacts.specs.declared.first_path.FirstPath.{FirstPath}
 
 -- the history of a book in which one card was created

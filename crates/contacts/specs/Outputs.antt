@@ -2,11 +2,11 @@
 use Rattle.std.specs.Prelude.{ℕ, Bool, List, [], ◌∷◌, ◌++◌, length, flat_map, codes, decimal, Option, if◌then◌else◌}
 use Rattle.std.specs.Io.KnownBytes.{Appends}
 use Rattle.vcard_text.specs.Cards.{canonical_text}
-use Rattle.sync_core.specs.declared.answers.PutAnswer.{PutAnswer}
-use Rattle.sync_core.specs.declared.answers.PutAnswer.TheVariants.{Created, Edited, Unchanged}
-use Rattle.sync_core.specs.declared.page.Entry.{Entry}
-use Rattle.sync_core.specs.declared.page.Entry.TheVariants.{Changed, Removed}
-use Rattle.sync_core.specs.declared.page.Page.{Page}
+use Rattle.book_model.specs.declared.answers.PutAnswer.{PutAnswer}
+use Rattle.book_model.specs.declared.answers.PutAnswer.TheVariants.{Created, Edited, Unchanged}
+use Rattle.book_model.specs.declared.page.Entry.{Entry}
+use Rattle.book_model.specs.declared.page.Entry.TheVariants.{Changed, Removed}
+use Rattle.book_model.specs.declared.page.Page.{Page}
 use Rattle.sync_core.specs.TokenTexts.{token_octets}
 use Rattle.contacts.specs.declared.first_path.FirstPath.{FirstPath}
 use Rattle.contacts.specs.FirstPaths.{IsFirstPath}

@@ -1,9 +1,9 @@
 -- How the program ends without its output. This project's own.
 use Rattle.std.specs.Prelude.{ℕ, List, ◌∷◌, ◌++◌, codes, decimal}
-use Rattle.sync_core.specs.declared.denied.Denied.{Denied}
-use Rattle.sync_core.specs.declared.denied.Denied.TheVariants.{Refused as WasRefused, Fault as WasFault}
-use Rattle.sync_core.specs.declared.denied.Fault.TheVariants.{Store, Memory}
-use Rattle.sync_core.specs.RefusalNumbers.{refusal_number, refusal_text, fault_number, fault_text}
+use Rattle.book_model.specs.declared.denied.Denied.{Denied}
+use Rattle.book_model.specs.declared.denied.Denied.TheVariants.{Refused as WasRefused, Fault as WasFault}
+use Rattle.book_model.specs.declared.denied.Fault.TheVariants.{Store, Memory}
+use Rattle.book_model.specs.RefusalNumbers.{refusal_number, refusal_text, fault_number, fault_text}
 use Rattle.contacts.specs.declared.stop.Stop.{Stop}
 use Rattle.contacts.specs.declared.stop.Stop.TheVariants.{Refused, Fault, Device}
 use Rattle.contacts.specs.FirstPaths.{IsRefusedFor}

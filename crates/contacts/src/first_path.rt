@@ -2,14 +2,14 @@
 ghost use Rattle.std.specs.Prelude.{◌≡◌, List, IfOk, IfErr};
 ghost use Rattle.vcard_text.specs.declared.line.Line.{Line};
 ghost use Rattle.vcard_text.specs.Spelling.{Spells};
-ghost use Rattle.sync_core.specs.Outcomes.{no_memory};
+ghost use Rattle.book_model.specs.Outcomes.{no_memory};
 ghost use Rattle.contacts.specs.FirstPaths.{IsPathOf, IsFirstPath, IsDeniedFor};
 
-use std::alloc::Global;
-use sync_core::laws::{
+use book_laws::following::{
     creating_follows_histories, empty_stores_have_no_history, putting_follows_histories,
     reports_follow_histories,
 };
+use std::alloc::Global;
 use sync_core::{BookStore, Denied, Limits, Page, PlainStore, PutAnswer};
 use vcard_text::{Card, read_card};
 

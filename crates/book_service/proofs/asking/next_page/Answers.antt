@@ -1,11 +1,11 @@
 use Rattle.std.proofs.Common.{ℕ, ◌≤◌, List, Option, Ok, Err, Result, subst}
-use Rattle.sync_core.specs.declared.denied.Denied.{Denied}
-use Rattle.sync_core.specs.declared.denied.Denied.TheVariants.{Refused}
-use Rattle.sync_core.specs.declared.page.Page.{Page}
-use Rattle.sync_core.specs.declared.token.Token.{Token}
-use Rattle.sync_core.specs.Bounds.{Bounds}
-use Rattle.sync_core.specs.Outcomes.{Reads}
-use Rattle.sync_core.specs.Pages.{IsReport, report_step}
+use Rattle.book_model.specs.declared.denied.Denied.{Denied}
+use Rattle.book_model.specs.declared.denied.Denied.TheVariants.{Refused}
+use Rattle.book_model.specs.declared.page.Page.{Page}
+use Rattle.book_model.specs.declared.token.Token.{Token}
+use Rattle.book_model.specs.Bounds.{Bounds}
+use Rattle.book_model.specs.Outcomes.{Reads}
+use Rattle.book_model.specs.Pages.{IsReport, report_step}
 use Rattle.book_service.proofs.AskLemmas.{told_whole, told_part, told_refusal}
 use Rattle.book_service.proofs.asking.next_page.Goals as goal
 use Rattle.book_service.proofs.asking.next_page.Goals.{After-report}

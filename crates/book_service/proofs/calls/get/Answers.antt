@@ -1,7 +1,7 @@
 use Rattle.std.proofs.Common.{List, ℕ, refl, sym, subst, inr, ◌≡◌}
-use Rattle.sync_core.specs.declared.denied.Fault.TheVariants.{Memory}
-use Rattle.sync_core.specs.Outcomes.{Tells}
-use Rattle.sync_core.specs.Reading.{get_step}
+use Rattle.book_model.specs.declared.denied.Fault.TheVariants.{Memory}
+use Rattle.book_model.specs.Outcomes.{Tells}
+use Rattle.book_model.specs.Reading.{get_step}
 use Rattle.book_service.specs.declared.command.Command.TheVariants.{Get}
 use Rattle.book_service.specs.declared.reply.Reply.{Reply}
 use Rattle.book_service.specs.Commands.{DoesCommand}

@@ -1,7 +1,7 @@
 use Rattle.std.proofs.Common.{List, ℕ, Ok, Err, sym, subst}
 use Rattle.vcard_text.specs.declared.line.Line.{Line}
-use Rattle.sync_core.specs.Outcomes.{Does}
-use Rattle.sync_core.specs.Putting.{put_step}
+use Rattle.book_model.specs.Outcomes.{Does}
+use Rattle.book_model.specs.Putting.{put_step}
 use Rattle.book_service.specs.declared.command.Command.TheVariants.{Put}
 use Rattle.book_service.specs.declared.reply.Reply.{Reply}
 use Rattle.book_service.specs.Commands.{DoesCommand, DeniesIn}

@@ -1,6 +1,6 @@
 use Rattle.std.proofs.Common.{List, ℕ, sym, subst}
-use Rattle.sync_core.specs.Outcomes.{Does}
-use Rattle.sync_core.specs.Removing.{remove_step}
+use Rattle.book_model.specs.Outcomes.{Does}
+use Rattle.book_model.specs.Removing.{remove_step}
 use Rattle.book_service.specs.declared.command.Command.TheVariants.{Remove}
 use Rattle.book_service.specs.declared.reply.Reply.{Reply}
 use Rattle.book_service.specs.Commands.{DoesCommand}

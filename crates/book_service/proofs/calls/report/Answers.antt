@@ -1,7 +1,7 @@
 use Rattle.std.proofs.Common.{List, ℕ, Ok, Err, sym, subst}
-use Rattle.sync_core.specs.declared.denied.Denied.TheVariants.{Refused}
-use Rattle.sync_core.specs.Outcomes.{Reads}
-use Rattle.sync_core.specs.Pages.{IsReport, report_step}
+use Rattle.book_model.specs.declared.denied.Denied.TheVariants.{Refused}
+use Rattle.book_model.specs.Outcomes.{Reads}
+use Rattle.book_model.specs.Pages.{IsReport, report_step}
 use Rattle.book_service.specs.declared.command.Command.TheVariants.{Report}
 use Rattle.book_service.specs.declared.reply.Reply.{Reply}
 use Rattle.book_service.specs.Commands.{DoesCommand, DeniesIn}

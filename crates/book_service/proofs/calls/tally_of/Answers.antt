@@ -1,6 +1,6 @@
 use Rattle.std.proofs.Common.{List, ℕ, sym, subst}
-use Rattle.sync_core.specs.Outcomes.{Tells}
-use Rattle.sync_core.specs.Reading.{tally_step}
+use Rattle.book_model.specs.Outcomes.{Tells}
+use Rattle.book_model.specs.Reading.{tally_step}
 use Rattle.book_service.specs.declared.command.Command.TheVariants.{TallyOf}
 use Rattle.book_service.specs.declared.reply.Reply.{Reply}
 use Rattle.book_service.specs.Commands.{DoesCommand}

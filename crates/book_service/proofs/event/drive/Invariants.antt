@@ -1,6 +1,6 @@
 use Rattle.std.proofs.Common.{◌≡◌, ◌≤◌, length, take, vec_capacity}
-use Rattle.sync_core.specs.Worlds.{Stories}
-use Rattle.sync_core.specs.WorldSteps.{IsWorldOf}
+use Rattle.book_laws.specs.Worlds.{Stories}
+use Rattle.book_laws.specs.Following.{IsWorldOf}
 use Rattle.book_service.specs.Drives.{IsDriven}
 use Rattle.book_service.proofs.event.drive.Given as goal
 

@@ -1,6 +1,6 @@
 use Rattle.std.proofs.Common.{◌≡◌}
-use Rattle.sync_core.specs.Worlds.{Stories}
-use Rattle.sync_core.specs.WorldSteps.{IsWorldOf}
+use Rattle.book_laws.specs.Worlds.{Stories}
+use Rattle.book_laws.specs.Following.{IsWorldOf}
 use Rattle.book_service.proofs.MirrorLemmas.{IsMirroring}
 use Rattle.book_service.proofs.mirrored.mirror.Given as goal
 

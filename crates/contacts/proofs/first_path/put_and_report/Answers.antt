@@ -1,15 +1,15 @@
 use Rattle.std.proofs.Common.{Ok, Err, None, Result, sym, subst, ◌∙◌, ◌≡◌}
 use Rattle.std.proofs.lemmas.Result.{err_from_is_err_and}
 use Rattle.std.specs.Prelude.{codes, MatchResult}
-use Rattle.sync_core.specs.declared.answers.PutAnswer.{PutAnswer}
-use Rattle.sync_core.specs.declared.answers.PutAnswer.TheVariants.{Created}
-use Rattle.sync_core.specs.declared.denied.Denied.{Denied}
-use Rattle.sync_core.specs.declared.page.Page.{Page}
-use Rattle.sync_core.specs.Bounds.{Bounds}
-use Rattle.sync_core.specs.Outcomes.{Does, Reads, HasNoStoreFault, no_memory}
-use Rattle.sync_core.specs.Pages.{IsReport, report_step}
-use Rattle.sync_core.specs.Putting.{put_step}
-use Rattle.sync_core.specs.WorldSteps.{IsWorldOf}
+use Rattle.book_model.specs.declared.answers.PutAnswer.{PutAnswer}
+use Rattle.book_model.specs.declared.answers.PutAnswer.TheVariants.{Created}
+use Rattle.book_model.specs.declared.denied.Denied.{Denied}
+use Rattle.book_model.specs.declared.page.Page.{Page}
+use Rattle.book_model.specs.Bounds.{Bounds}
+use Rattle.book_model.specs.Outcomes.{Does, Reads, HasNoStoreFault, no_memory}
+use Rattle.book_model.specs.Pages.{IsReport, report_step}
+use Rattle.book_model.specs.Putting.{put_step}
+use Rattle.book_laws.specs.Following.{IsWorldOf}
 use Rattle.contacts.specs.FirstPaths.{first_page}
 use Rattle.contacts.proofs.FirstPathLemmas.{AreStandard, Did, with_book, with_card, book_made, card_put, page_given}
 use Rattle.contacts.proofs.first_path.put_and_report.Goals as goal

@@ -1,0 +1,46 @@
+-- How the steps on rows are led beside their meanings on histories, test by test.
+use Rattle.std.proofs.Common.{◌≡◌, ℕ, Bool, true, false, List, Option, Some, None, Result, Ok, Err, refl, sym, subst, arith}
+use Rattle.std.specs.Option.{option_map, option_map_or}
+use Rattle.std.specs.FinMap as finite
+use Rattle.book_model.specs.declared.refusal.Refusal.{Refusal}
+use Rattle.book_model.specs.declared.refusal.Refusal.TheVariants.{NoSuchBook}
+use Rattle.book_model.specs.Bounds.{Bounds}
+use Rattle.book_model.specs.Books.{Book, Books, book_named}
+use Rattle.book_laws.specs.Histories.{BookEvent}
+use Rattle.book_laws.specs.Lawful.{MayFollow}
+use Rattle.book_model.specs.Outcomes.{◌>>=◌, provided}
+use Rattle.book_laws.specs.Worlds.{Story, Stories, World, IsSound, book_of, rows}
+use Rattle.book_laws.specs.WorldSteps.{with_event, story_named}
+use Rattle.book_laws.specs.Following.{Follows}
+use Rattle.book_laws.proofs.WorldLemmas.{get-rows}
+
+-- an answer is the same answer
+module _ {A : Type 0} where
+  -- the book of a name, where there is one
+  pub follow_named : (world : World) (name : List ℕ) (f : Book → Result (A × Books) Refusal) (g : Story → Result (A × Stories) Refusal)
+      → ((story : Story) → finite.get world.books name ≡ Some story → IsSound story → Follows world.limits (f (book_of story)) (g story))
+      → Follows world.limits (book_named (rows world.books) name >>= f) (story_named world.books name >>= g)
+  follow_named world name f g each =
+      subst (λ (o : Option Book). Follows world.limits (option_map_or Ok o (Err NoSuchBook) >>= f) (story_named world.books name >>= g)) (sym (get-rows world.books name))
+      (by_story (finite.get world.books name) (λ story e. each story e (world.sound name story e)))
+    where
+      by_story : (o : Option Story) → ((story : Story) → o ≡ Some story → Follows world.limits (f (book_of story)) (g story))
+          → Follows world.limits (option_map_or Ok (option_map book_of o) (Err NoSuchBook) >>= f) (option_map_or Ok o (Err NoSuchBook) >>= g)
+      by_story None each = refl
+      by_story (Some story) each = each story refl
+
+  -- the same test on both sides
+  pub follow_test : (limits : Bounds) (test : Bool) (refusal : Refusal) (f : Result (A × Books) Refusal) (g : Result (A × Stories) Refusal) → (test ≡ true → Follows limits f g)
+      → Follows limits (provided test refusal >>= λ _. f) (provided test refusal >>= λ _. g)
+  follow_test limits true refusal f g h = h refl
+  follow_test limits false refusal f g h = refl
+
+  -- the same answer on both sides
+  pub follow_given : {B : Type 0} (limits : Bounds) (given : Result B Refusal) (f : B → Result (A × Books) Refusal) (g : B → Result (A × Stories) Refusal) → ((x : B) → given ≡ Ok x → Follows limits (f x) (g x))
+      → Follows limits (given >>= f) (given >>= g)
+  follow_given limits (Ok x) f g h = h x refl
+  follow_given limits (Err refusal) f g h = refl
+
+-- a story goes on soundly by an event that may come next
+pub sound_with : (story : Story) (e : BookEvent) → IsSound story → MayFollow story.history e → IsSound (with_event story e)
+sound_with story e sound may = record { lawful = (may, sound.lawful); past = let before = sound.past in omega (arith, before) }

@@ -1,0 +1,241 @@
+-- Forgetting in the rows: which rows stay, and how many there are.
+use Rattle.std.proofs.Common.{◌≡◌, ℕ, ◌+◌, ◌-◌, ◌<◌, ◌≤◌, Bool, true, false, cond, not, ◌&&◌, ◌||◌, List, [], ◌∷◌, ◌++◌, length, filter, Option, Some, None, is_some, nat_lt, nat_le, refl, sym, ap, ◌∙◌, ⊎_elim, arith}
+use Rattle.std.specs.Option.{option_map_or}
+use Rattle.std.specs.FinMap as finite
+use Rattle.std.specs.FinMap.{get-empty, get-insert, get-retain_keys, len-insert, len-empty, same_map}
+use Rattle.std.proofs.lemmas.Bool.{cases_Bool, cases_lt, cond-true, cond-false, and_parts, leb-true, le-leb, lt-ltb, false_from_ne_true, ltb-true}
+use Rattle.std.proofs.lemmas.List.{length-append}
+use Rattle.std.proofs.lemmas.Map.Lookups.{exact_bytes}
+use Rattle.vcard_text.specs.TextMaps.{text_cmp}
+use Rattle.book_model.specs.declared.answers.Stored.{Stored}
+use Rattle.book_model.specs.declared.row.Row.{Row}
+use Rattle.book_model.specs.declared.refusal.Refusal.TheVariants.{BadForget}
+use Rattle.book_model.specs.Books.{Book, card_after}
+use Rattle.book_laws.specs.ChangeLaws.{ForgettingFollows}
+use Rattle.book_laws.specs.HistoryCounts.{counts_of}
+use Rattle.book_model.specs.Forgetting.{is_remembered, forgotten, may_forget}
+use Rattle.book_laws.specs.Histories.{BookEvent, same_uid, live, last, touched}
+use Rattle.book_laws.specs.Rows.{all_rows, is_kept, kept_rows}
+use Rattle.book_laws.specs.Worlds.{Story, book_of}
+use Rattle.book_laws.specs.WorldChanges.{is_forgotten, with_horizon}
+use Rattle.book_model.proofs.BasicLemmas.{is_some-map}
+use Rattle.book_laws.proofs.FollowLemmas.{follow_named, follow_test}
+use Rattle.book_laws.proofs.RowLemmas.{row_at, get-kept_rows, get-all_rows}
+use Rattle.book_model.proofs.TextLemmas.{text_total, same_self, same-equal}
+use Rattle.book_laws.proofs.WorldLemmas.{wrote_world}
+
+abbrev Rows : Type 0
+Rows = finite.FinMap text_cmp Row
+
+abbrev one_if : Bool → ℕ
+one_if b = cond b 1 0
+
+-- ---- how many rows there are
+
+filter-append : (p : List ℕ → Bool) (us vs : List (List ℕ)) → filter p (us ++ vs) ≡ filter p us ++ filter p vs
+filter-append p [] vs = refl
+filter-append p (u ∷ us) vs = elim (p u) as (λ b. cond b (u ∷ filter p (us ++ vs)) (filter p (us ++ vs)) ≡ cond b (u ∷ filter p us) (filter p us) ++ filter p vs) [
+  | true ↦ ap (λ t. u ∷ t) (filter-append p us vs)
+  | false ↦ filter-append p us vs
+]
+
+-- those that pass two tests
+filter-filter : (p q : List ℕ → Bool) (us : List (List ℕ)) → filter p (filter q us) ≡ filter (λ u. q u && p u) us
+filter-filter p q [] = refl
+filter-filter p q (u ∷ us) = elim (q u) as (λ b. filter p (cond b (u ∷ filter q us) (filter q us)) ≡ cond (b && p u) (u ∷ filter (λ v. q v && p v) us) (filter (λ v. q v && p v) us)) [
+  | true ↦ ap (λ t. cond (p u) (u ∷ t) t) (filter-filter p q us)
+  | false ↦ filter-filter p q us
+]
+
+module _ (m : finite.FinMap text_cmp Row) (k : List ℕ) (v : Row) (p : List ℕ → Bool) where
+  abbrev others : List ℕ → Bool
+  others q = not (same_uid q k) && p q
+
+  get-retained : (n : finite.FinMap text_cmp Row) (r : List ℕ → Bool) (q : List ℕ) → finite.get (finite.retain_keys n r) q ≡ cond (r q) (finite.get n q) None
+  get-retained n r q = get-retain_keys n r q (λ x e. ap r (sym (exact_bytes q x e)))
+
+  at : (q : List ℕ) → finite.get (finite.retain_keys (finite.insert m k v) p) q ≡ cond (p q) (cond (same_uid q k) (Some v) (finite.get m q)) None
+  at q = get-retained (finite.insert m k v) p q ∙ ap (λ o. cond (p q) o None) (get-insert text_total m k v q)
+
+  retained_in : p k ≡ true → finite.retain_keys (finite.insert m k v) p ≡ finite.insert (finite.retain_keys m others) k v
+  retained_in e = same_map text_total exact_bytes _ _ (λ q. at q ∙ by q ∙ sym (get-insert text_total (finite.retain_keys m others) k v q ∙ ap (cond (same_uid q k) (Some v)) (get-retained m others q)))
+    where
+      by : (q : List ℕ) → cond (p q) (cond (same_uid q k) (Some v) (finite.get m q)) None ≡ cond (same_uid q k) (Some v) (cond (others q) (finite.get m q) None)
+      by q = elim (same_uid q k) as (λ b. same_uid q k ≡ b → cond (p q) (cond b (Some v) (finite.get m q)) None ≡ cond b (Some v) (cond (not b && p q) (finite.get m q) None)) [
+        | true ↦ λ s. cond-true (p q) (Some v) None (ap p (same-equal q k s) ∙ e)
+        | false ↦ λ s. refl
+      ] refl
+
+  retained_out : p k ≡ false → finite.retain_keys (finite.insert m k v) p ≡ finite.retain_keys m others
+  retained_out e = same_map text_total exact_bytes _ _ (λ q. at q ∙ by q ∙ sym (get-retained m others q))
+    where
+      by : (q : List ℕ) → cond (p q) (cond (same_uid q k) (Some v) (finite.get m q)) None ≡ cond (others q) (finite.get m q) None
+      by q = elim (same_uid q k) as (λ b. same_uid q k ≡ b → cond (p q) (cond b (Some v) (finite.get m q)) None ≡ cond (not b && p q) (finite.get m q) None) [
+        | true ↦ λ s. cond-false (p q) (Some v) None (ap p (same-equal q k s) ∙ e)
+        | false ↦ λ s. refl
+      ] refl
+
+  none_there : finite.contains_key (finite.retain_keys m others) k ≡ false
+  none_there = ap is_some (get-retained m others k ∙ ap (λ b. cond (not b && p k) (finite.get m k) None) (same_self k))
+
+  len-retained_in : p k ≡ true → finite.len (finite.retain_keys (finite.insert m k v) p) ≡ finite.len (finite.retain_keys m others) + 1
+  len-retained_in e = ap finite.len (retained_in e) ∙ len-insert text_total (finite.retain_keys m others) k v ∙ cond-false _ _ _ none_there
+
+abbrev no_rows : Rows
+no_rows = finite.empty
+
+empty_still : (p : List ℕ → Bool) → finite.retain_keys no_rows p ≡ no_rows
+empty_still p = same_map text_total exact_bytes _ _ (λ q. get-retain_keys no_rows p q (λ x e. ap p (sym (exact_bytes q x e))) ∙ ap (λ o. cond (p q) o None) (get-empty text_cmp q) ∙ none (p q) ∙ sym (get-empty text_cmp q))
+  where
+    none : (b : Bool) → ◌≡◌ {A = Option Row} (cond b None None) None
+    none true = refl
+    none false = refl
+
+-- the rows whose UIDs pass are as many as the touched UIDs that pass
+pub len_retained : (h : List BookEvent) (p : List ℕ → Bool) → finite.len (finite.retain_keys (all_rows h) p) ≡ length (filter p (touched h))
+len_retained [] p = ap finite.len (empty_still p) ∙ len-empty text_cmp Row
+len_retained (e ∷ h) p =
+    let row : Row = record { changed = length h + 1; card = card_after e.change } in
+    let rest = len_retained h (λ u. not (same_uid u e.uid) && p u) in
+    let seen = filter-append p (filter (λ u. not (same_uid u e.uid)) (touched h)) (e.uid ∷ []) ∙ ap (λ us. us ++ filter p (e.uid ∷ [])) (filter-filter p (λ u. not (same_uid u e.uid)) (touched h)) in
+    ⊎_elim
+    (λ passes.
+    let one = len-retained_in (all_rows h) e.uid row p passes in
+    let last_one : filter p (e.uid ∷ []) ≡ e.uid ∷ [] = cond-true (p e.uid) (e.uid ∷ []) [] passes in
+    let total = ap length seen ∙ length-append (filter (λ u. not (same_uid u e.uid) && p u) (touched h)) (filter p (e.uid ∷ [])) in
+    let one_more = ap length last_one in
+    omega (arith, one, rest, total, one_more))
+    (λ fails.
+    let none : filter p (e.uid ∷ []) ≡ [] = cond-false (p e.uid) (e.uid ∷ []) [] fails in
+    let total = ap length seen ∙ length-append (filter (λ u. not (same_uid u e.uid) && p u) (touched h)) (filter p (e.uid ∷ [])) in
+    let no_more = ap length none in
+    let same = ap finite.len (retained_out (all_rows h) e.uid row p fails) in
+    omega (arith, same, rest, total, no_more))
+    (cases_Bool (p e.uid))
+
+-- ---- which rows stay
+
+-- a test of the row at a UID
+abbrev pub at_row : (Row → Bool) → finite.FinMap text_cmp Row → List ℕ → Bool
+at_row test members uid = option_map_or test (finite.get members uid) false
+
+-- the rows that pass a test, of those that were kept, are the rows whose UIDs pass it on the history
+pub retained_rows : (h : List BookEvent) (horizon : ℕ) (test : Row → Bool) (wanted : List ℕ → Bool)
+    → ((uid : List ℕ) → 0 < last h uid → (is_kept h horizon uid && test (row_at h uid)) ≡ wanted uid)
+    → finite.retain_keys (kept_rows h horizon) (at_row test (kept_rows h horizon)) ≡ finite.retain_keys (all_rows h) wanted
+retained_rows h horizon test wanted agree = same_map text_total exact_bytes _ _ (λ q.
+    get-retain_keys (kept_rows h horizon) (at_row test (kept_rows h horizon)) q (λ x e. ap (at_row test (kept_rows h horizon)) (sym (exact_bytes q x e)))
+    ∙ ap (λ (o : Option Row). cond (option_map_or test o false) o None) (get-kept_rows h horizon q ∙ ap (λ o. cond (is_kept h horizon q) o None) (get-all_rows h q))
+    ∙ by q
+    ∙ sym (get-retain_keys (all_rows h) wanted q (λ x e. ap wanted (sym (exact_bytes q x e))) ∙ ap (λ o. cond (wanted q) o None) (get-all_rows h q)))
+  where
+    chosen : (kept passes : Bool) (row : Row) → test row ≡ passes → cond (option_map_or test (cond kept (Some row) None) false) (cond kept (Some row) None) None ≡ cond (kept && passes) (Some row) None
+    chosen true passes row e = ap (λ b. cond b (Some row) None) e
+    chosen false passes row e = refl
+
+    none : Option Row
+    none = None
+
+    nothing : (kept b : Bool) → cond (option_map_or test (cond kept none none) false) (cond kept none none) none ≡ cond b none none
+    nothing true true = refl
+    nothing true false = refl
+    nothing false true = refl
+    nothing false false = refl
+
+    by : (q : List ℕ) → cond (option_map_or test (cond (is_kept h horizon q) (cond (nat_lt 0 (last h q)) (Some (row_at h q)) None) None) false) (cond (is_kept h horizon q) (cond (nat_lt 0 (last h q)) (Some (row_at h q)) None) None) None
+        ≡ cond (wanted q) (cond (nat_lt 0 (last h q)) (Some (row_at h q)) None) None
+    by q = elim (nat_lt 0 (last h q)) as (λ b. nat_lt 0 (last h q) ≡ b → cond (option_map_or test (cond (is_kept h horizon q) (cond b (Some (row_at h q)) None) None) false) (cond (is_kept h horizon q) (cond b (Some (row_at h q)) None) None) None
+        ≡ cond (wanted q) (cond b (Some (row_at h q)) None) None) [
+          | true ↦ λ some. chosen (is_kept h horizon q) (test (row_at h q)) (row_at h q) refl ∙ ap (λ b. cond b (Some (row_at h q)) None) (agree q (ltb-true 0 (last h q) some))
+          | false ↦ λ some. nothing (is_kept h horizon q) (wanted q)
+        ] refl
+
+-- ---- a higher horizon
+
+module _ (horizon upto n : ℕ) (rises : horizon ≤ upto) where
+  both_above : (nat_lt horizon n && nat_lt upto n) ≡ nat_lt upto n
+  both_above = ⊎_elim
+      (λ above. ap (λ b. b && nat_lt upto n) (lt-ltb horizon n (omega (arith, rises, above))))
+      (λ below. let none : nat_lt upto n ≡ false = false_from_ne_true _ (λ e. let l = ltb-true upto n e in absurd (omega (arith, l, below))) in
+      ap (λ b. nat_lt horizon n && b) none ∙ and_false (nat_lt horizon n) ∙ sym none)
+      (cases_lt upto n)
+    where
+      and_false : (b : Bool) → (b && false) ≡ false
+      and_false true = refl
+      and_false false = refl
+
+  -- above the old horizon is above the new one, or between them
+  split_above : one_if (nat_lt horizon n) ≡ one_if (nat_lt upto n) + one_if (nat_lt horizon n && nat_le n upto)
+  split_above = ⊎_elim
+      (λ above.
+      let low : one_if (nat_lt horizon n) ≡ 1 = ap one_if (lt-ltb horizon n (omega (arith, rises, above))) in
+      let high : one_if (nat_lt upto n) ≡ 1 = ap one_if (lt-ltb upto n above) in
+      let none : nat_le n upto ≡ false = false_from_ne_true _ (λ e. let l = leb-true n upto e in absurd (omega (arith, l, above))) in
+      let between : one_if (nat_lt horizon n && nat_le n upto) ≡ 0 = ap (λ b. one_if (nat_lt horizon n && b)) none ∙ none_and (nat_lt horizon n) in
+      omega (arith, low, high, between))
+      (λ below.
+      let none : nat_lt upto n ≡ false = false_from_ne_true _ (λ e. let l = ltb-true upto n e in absurd (omega (arith, l, below))) in
+      let high : one_if (nat_lt upto n) ≡ 0 = ap one_if none in
+      let between : one_if (nat_lt horizon n && nat_le n upto) ≡ one_if (nat_lt horizon n) = ap (λ b. one_if (nat_lt horizon n && b)) (le-leb n upto below) ∙ and_true (nat_lt horizon n) in
+      omega (arith, high, between))
+      (cases_lt upto n)
+    where
+      none_and : (b : Bool) → one_if (b && false) ≡ 0
+      none_and true = refl
+      none_and false = refl
+
+      and_true : (b : Bool) → one_if (b && true) ≡ one_if b
+      and_true true = refl
+      and_true false = refl
+
+length-filter-cons : (p : List ℕ → Bool) (u : List ℕ) (us : List (List ℕ)) → length (filter p (u ∷ us)) ≡ one_if (p u) + length (filter p us)
+length-filter-cons p u us = elim (p u) as (λ b. length (cond b (u ∷ filter p us) (filter p us)) ≡ one_if b + length (filter p us)) [ true ↦ omega arith | false ↦ omega arith ]
+
+-- who passes one test passes just one of two others
+split_length : (p q r : List ℕ → Bool) → ((u : List ℕ) → one_if (p u) ≡ one_if (q u) + one_if (r u)) → (us : List (List ℕ)) → length (filter p us) ≡ length (filter q us) + length (filter r us)
+split_length p q r split [] = refl
+split_length p q r split (u ∷ us) =
+    let rest = split_length p q r split us in
+    let a = length-filter-cons p u us in
+    let b = length-filter-cons q u us in
+    let c = length-filter-cons r u us in
+    let one = split u in
+    omega (arith, rest, a, b, c, one)
+
+module _ (story : Story) (upto : ℕ) (rises : story.horizon ≤ upto) where
+  still_kept : (uid : List ℕ) → 0 < last story.history uid → (is_kept story.history story.horizon uid && is_remembered upto (row_at story.history uid)) ≡ is_kept story.history upto uid
+  still_kept uid some =
+      ap (λ b. is_kept story.history story.horizon uid && (b || nat_lt upto (last story.history uid))) (is_some-map (λ (s : Stored). s.card) (finite.get (live story.history) uid))
+      ∙ elim (is_some (finite.get (live story.history) uid)) as (λ b. ((b || nat_lt story.horizon (last story.history uid)) && (b || nat_lt upto (last story.history uid))) ≡ (b || nat_lt upto (last story.history uid))) [
+        | true ↦ refl
+        | false ↦ both_above story.horizon upto (last story.history uid) rises
+      ]
+
+  book_forgotten : book_of (with_horizon story upto) ≡ forgotten (book_of story) upto
+  book_forgotten =
+      let B : finite.FinMap text_cmp Row → Book = λ members. record { id = story.id; number = length story.history; horizon = upto; counts = counts_of story.history; members = members; imports = story.imports } in
+      ap B (sym (retained_rows story.history story.horizon (is_remembered upto) (is_kept story.history upto) still_kept))
+
+  forgotten_or_kept : (uid : List ℕ) → one_if (is_kept story.history story.horizon uid) ≡ one_if (is_kept story.history upto uid) + one_if (is_forgotten story upto uid)
+  forgotten_or_kept uid = elim (is_some (finite.get (live story.history) uid)) as (λ b. one_if (b || nat_lt story.horizon (last story.history uid)) ≡ one_if (b || nat_lt upto (last story.history uid)) + one_if (not b && nat_lt story.horizon (last story.history uid) && nat_le (last story.history uid) upto)) [
+    | true ↦ refl
+    | false ↦ split_above story.horizon upto (last story.history uid) rises
+  ]
+
+  dropped_is : finite.len (kept_rows story.history story.horizon) - finite.len (forgotten (book_of story) upto).members ≡ length (filter (is_forgotten story upto) (touched story.history))
+  dropped_is =
+      let before = len_retained story.history (is_kept story.history story.horizon) in
+      let after = ap (λ (b : Book). finite.len b.members) (sym book_forgotten) ∙ len_retained story.history (is_kept story.history upto) in
+      let all = split_length (is_kept story.history story.horizon) (is_kept story.history upto) (is_forgotten story upto) forgotten_or_kept (touched story.history) in
+      omega (arith, before, after, all)
+
+pub forgetting_follows : ForgettingFollows
+forgetting_follows world name upto =
+    follow_named world name _ _ (λ story at sound.
+    follow_test world.limits (may_forget story.horizon (length story.history) upto) BadForget _ _ (λ allowed.
+    let parts = and_parts _ _ allowed in
+    let rises : story.horizon ≤ upto = leb-true _ _ parts.0 in
+    let past : upto ≤ length story.history = leb-true _ _ parts.1 in (
+      dropped_is story upto rises,
+      wrote_world world.limits world.books name (with_horizon story upto) (forgotten (book_of story) upto) world.sound (record { lawful = sound.lawful; past = past }) (book_forgotten story upto rises),
+    )))

@@ -1,0 +1,262 @@
+-- How many members are due, and how many pages are truncated.
+use Rattle.std.proofs.Common.{◌≡◌, ℕ, zero, suc, ◌+◌, ◌-◌, ◌*◌, ◌<◌, ◌≤◌, max, Bool, true, false, cond, not, ◌||◌, ◌&&◌, List, [], ◌∷◌, ◌++◌, length, map, filter, take, drop, get_or, Some, is_some, nat_lt, refl, sym, ap, ◌∙◌, subst, arith, length-append}
+use Rattle.std.specs.List.{AllByRecursion}
+use Rattle.std.specs.FinMap as finite
+use Rattle.std.proofs.lemmas.Bool.{cond-true, cond-false, and_parts, not-true, ltb-true, ltb-false, lt-ltb, le-ltb, false≢true}
+use Rattle.std.proofs.lemmas.Bool.Decides.{nat_tests}
+use Rattle.std.proofs.lemmas.List.{take_all, length-take, length-drop, length-map}
+use Rattle.std.proofs.lemmas.List.Elements.{filter-append, filter_passes, All-get_or}
+use Rattle.book_model.specs.declared.token.Mark.{Mark}
+use Rattle.book_model.specs.declared.token.Token.{Token}
+use Rattle.book_laws.specs.Histories.{BookEvent, same_uid, live, last, touched}
+use Rattle.book_model.specs.Books.{LiveCards}
+use Rattle.book_model.specs.Pages.{Answer, mark_after}
+use Rattle.book_laws.specs.Reports.{is_due, due, entry_of, cut_page, whole_page, report}
+use Rattle.book_laws.specs.Worlds.{Story}
+use Rattle.book_model.specs.Devices.{Holding, after_page}
+use Rattle.book_laws.specs.RightDevices.{mark_under, page_for, IsRightUnder}
+use Rattle.book_laws.specs.DeviceLaws.{DueRises, EntriesAreFirstDue, PagesFit}
+use Rattle.book_laws.specs.Paging.{Place, with_events, told, after_turn, due_count, one_where, truncated_pages, events_to_last, after_pages}
+use Rattle.book_laws.specs.PagingLaws.{EventsAddAtMostOne, TruncatedPagesLeaveRest, TruncatedPagesLeaveFewer, LastPagesLeaveNobody, TruncatedPagesAreBounded, QuietBooksAreToldWhole, QuietDevicesCatchUp}
+use Rattle.book_laws.proofs.HistoryLemmas.{Rises, last-le, last_other, get-changed}
+use Rattle.book_laws.proofs.DueLemmas.{due-rises}
+use Rattle.book_laws.proofs.DeviceLemmas.{nobody_due_is_complete, whole_pages_keep_devices_right}
+use Rattle.book_laws.specs.Calls.{after}
+use Rattle.vcard_text.specs.Unfolding.{before}
+
+-- ---- which members a report has
+
+at_place : (P : List ℕ → Type 0) (xs : List (List ℕ)) (n : ℕ) → n < length xs → AllByRecursion P xs → P (get_or xs n [])
+at_place P [] n l a = absurd (omega arith)
+at_place P (x ∷ xs) zero l a = a.0
+at_place P (x ∷ xs) (suc n) l a = at_place P xs n (omega arith) a.1
+
+module _ (f : List ℕ → ℕ) where
+  first_above : (n : ℕ) (xs : List (List ℕ)) → AllByRecursion (λ v. n < f v) xs → 0 < length (map f xs) → n < get_or (map f xs) 0 0
+  first_above n [] a l = absurd (omega arith)
+  first_above n (x ∷ xs) a l = a.0
+
+  rises_at : (xs : List (List ℕ)) → Rises f xs → (i : ℕ) → suc i < length (map f xs) → get_or (map f xs) i 0 < get_or (map f xs) (suc i) 0
+  rises_at [] r i l = absurd (omega arith)
+  rises_at (x ∷ xs) r zero l = first_above (f x) xs r.0 (omega arith)
+  rises_at (x ∷ xs) r (suc i) l = rises_at xs r.1 i (omega arith)
+
+pub due_rises : DueRises
+due_rises h mark i l =
+    let next : i + 1 ≡ suc i = omega arith in
+    subst (λ j. get_or (map (last h) (due h mark)) i 0 < get_or (map (last h) (due h mark)) j 0) (sym next) (rises_at (last h) (due h mark) (due-rises h mark) i (omega (arith, l)))
+
+pub entries_are_first_due : EntriesAreFirstDue
+entries_are_first_due h mark k =
+    elim (nat_lt k (length (due h mark))) as (λ b. nat_lt k (length (due h mark)) ≡ b → (cond b (cut_page h mark k) (whole_page h mark)).entries ≡ map (entry_of h) (take k (due h mark))) [
+      | true ↦ λ more. refl
+      | false ↦ λ all. ap (map (entry_of h)) (sym (take_all k (due h mark) (ltb-false _ _ all)))
+    ] refl
+
+pub pages_fit : PagesFit
+pages_fit h mark k = ap length (entries_are_first_due h mark k) ∙ length-map (take k (due h mark)) (entry_of h) ∙ length-take k (due h mark)
+
+-- ---- an event
+
+few_pass : {A : Type 0} (p q r : A → Bool) → ((v : A) → p v ≡ true → q v ≡ true → r v ≡ true) → (xs : List A) → length (filter q (filter p xs)) ≤ length (filter r xs)
+few_pass p q r h [] = omega arith
+few_pass p q r h (x ∷ xs) =
+    let rest = few_pass p q r h xs in
+    elim (p x) as (λ a. p x ≡ a → length (filter q (cond a (x ∷ filter p xs) (filter p xs))) ≤ length (cond (r x) (x ∷ filter r xs) (filter r xs))) [
+      | false ↦ λ _. or_one_more rest
+      | true ↦ λ a. elim (q x) as (λ b. q x ≡ b → length (cond b (x ∷ filter q (filter p xs)) (filter q (filter p xs))) ≤ length (cond (r x) (x ∷ filter r xs) (filter r xs))) [
+        | false ↦ λ _. or_one_more rest
+        | true ↦ λ b. subst (λ t. suc (length (filter q (filter p xs))) ≤ length (cond t (x ∷ filter r xs) (filter r xs))) (sym (h x a b)) (omega (arith, rest))
+      ] refl
+    ] refl
+  where
+    or_one_more : {n : ℕ} → n ≤ length (filter r xs) → n ≤ length (cond (r x) (x ∷ filter r xs) (filter r xs))
+    or_one_more {n} l = elim (r x) as (λ t. n ≤ length (cond t (x ∷ filter r xs) (filter r xs))) [ true ↦ omega (arith, l) | false ↦ l ]
+
+one_at_most : {A : Type 0} (p : A → Bool) (x : A) → length (filter p (x ∷ [])) ≤ 1
+one_at_most p x = elim (p x) as (λ t. length (cond t (x ∷ []) []) ≤ 1) [ true ↦ omega arith | false ↦ omega arith ]
+
+-- nobody else becomes due
+pub events_add_at_most_one : EventsAddAtMostOne
+events_add_at_most_one h e mark =
+    let others = filter (λ v. not (same_uid v e.uid)) (touched h) in
+    let split = ap length (filter-append (is_due (e ∷ h) mark) others (e.uid ∷ [])) ∙ length-append (filter (is_due (e ∷ h) mark) others) (filter (is_due (e ∷ h) mark) (e.uid ∷ [])) in
+    let few = few_pass (λ v. not (same_uid v e.uid)) (is_due (e ∷ h) mark) (is_due h mark) (λ v other d. sym (still v (not-true _ other)) ∙ d) (touched h) in
+    let one = one_at_most (is_due (e ∷ h) mark) e.uid in
+    omega (arith, split, few, one)
+  where
+    still : (v : List ℕ) → same_uid v e.uid ≡ false → is_due (e ∷ h) mark v ≡ is_due h mark v
+    still v other =
+        ap (λ n. nat_lt mark.at n && (is_some (finite.get (live (e ∷ h)) v) || nat_lt mark.base n)) (last_other h e v other)
+        ∙ ap (λ o. nat_lt mark.at (last h v) && (is_some o || nat_lt mark.base (last h v))) (get-changed (live h) e.uid v e.change (length h + 1) other)
+
+events_add : (h : List BookEvent) (events : List BookEvent) (mark : Mark) → length (due (events ++ h) mark) ≤ length (due h mark) + length events
+events_add h [] mark = omega arith
+events_add h (e ∷ events) mark = let one = events_add_at_most_one (events ++ h) e mark in let rest = events_add h events mark in omega (arith, one, rest)
+
+-- ---- a page
+
+tests : (at base m n : ℕ) (b : Bool) → at < m → (nat_lt m n && (b || nat_lt (max m base) n)) ≡ (nat_lt m n && (nat_lt at n && (b || nat_lt base n)))
+tests at base m n b l = grind (arith, nat_tests)
+
+filter_both : {A : Type 0} (p q r : A → Bool) → ((v : A) → r v ≡ (q v && p v)) → (xs : List A) → filter r xs ≡ filter q (filter p xs)
+filter_both p q r h [] = refl
+filter_both p q r h (x ∷ xs) =
+    ap (λ t. cond t (x ∷ filter r xs) (filter r xs)) (h x)
+    ∙ elim (p x) as (λ a. cond (q x && a) (x ∷ filter r xs) (filter r xs) ≡ filter q (cond a (x ∷ filter p xs) (filter p xs))) [
+      | true ↦ elim (q x) as (λ b. cond (b && true) (x ∷ filter r xs) (filter r xs) ≡ cond b (x ∷ filter q (filter p xs)) (filter q (filter p xs))) [
+        | true ↦ ap (λ ys. x ∷ ys) (filter_both p q r h xs)
+        | false ↦ filter_both p q r h xs
+      ]
+      | false ↦ elim (q x) as (λ b. cond (b && false) (x ∷ filter r xs) (filter r xs) ≡ filter q (filter p xs)) [
+        | true ↦ filter_both p q r h xs
+        | false ↦ filter_both p q r h xs
+      ]
+    ]
+
+-- of a list that rises by f, those above the one at a place are those behind it
+module _ (f : List ℕ → ℕ) where
+  all_above : (m : ℕ) (xs : List (List ℕ)) → AllByRecursion (λ v. m < f v) xs → filter (λ v. nat_lt m (f v)) xs ≡ xs
+  all_above m [] a = refl
+  all_above m (x ∷ xs) a = cond-true _ _ _ (lt-ltb _ _ a.0) ∙ ap (λ ys. x ∷ ys) (all_above m xs a.1)
+
+  behind : (xs : List (List ℕ)) (n : ℕ) → n < length xs → Rises f xs → filter (λ v. nat_lt (f (get_or xs n [])) (f v)) xs ≡ drop (suc n) xs
+  behind [] n l r = absurd (omega arith)
+  behind (x ∷ xs) zero l r = cond-false _ _ _ (le-ltb (f x) (f x) (omega arith)) ∙ all_above (f x) xs r.0
+  behind (x ∷ xs) (suc n) l r =
+      let below : f x < f (get_or xs n []) = at_place (λ v. f x < f v) xs n (omega arith) r.0 in
+      cond-false _ _ _ (le-ltb (f (get_or xs n [])) (f x) (omega (arith, below))) ∙ behind xs n (omega arith) r.1
+
+-- after a cut page those are due that stand behind its last entry
+cut_leaves : (h : List BookEvent) (mark : Mark) (k : ℕ) → 0 < k → k < length (due h mark) → due h (mark_after mark (last h (get_or (due h mark) (k - 1) []))) ≡ drop k (due h mark)
+cut_leaves h mark zero some more = absurd (omega arith)
+cut_leaves h mark (suc n) some more =
+    ap (λ m. due h (mark_after mark (last h (get_or (due h mark) m [])))) back
+    ∙ filter_both (is_due h mark) (λ v. nat_lt (last h edge) (last h v)) (is_due h (mark_after mark (last h edge))) (λ v. tests mark.at mark.base (last h edge) (last h v) (is_some (finite.get (live h) v)) since) (touched h)
+    ∙ behind (last h) (due h mark) n (omega arith) (due-rises h mark)
+  where
+    back : suc n - 1 ≡ n
+    back = omega arith
+
+    edge : List ℕ
+    edge = get_or (due h mark) n []
+
+    since : mark.at < last h edge
+    since = ltb-true _ _ (and_parts _ _ (All-get_or (λ v. is_due h mark v ≡ true) (due h mark) n [] (omega arith) (filter_passes (is_due h mark) (touched h)))).0
+
+-- after all events nobody is due
+none_newer : (h : List BookEvent) (uids : List (List ℕ)) → filter (is_due h (record { at = length h; base = length h })) uids ≡ []
+none_newer h [] = refl
+none_newer h (uid ∷ uids) = cond-false _ _ _ (ap (λ t. t && (is_some (finite.get (live h) uid) || nat_lt (length h) (last h uid))) (le-ltb _ _ (last-le h uid))) ∙ none_newer h uids
+
+-- either the page is cut, or it has all that is due
+module _ (h : List BookEvent) (mark : Mark) (k : ℕ) where
+  cut_where : (report h mark k).truncated ≡ true → k < length (due h mark)
+  cut_where = elim (nat_lt k (length (due h mark))) as (λ b. nat_lt k (length (due h mark)) ≡ b → (cond b (cut_page h mark k) (whole_page h mark)).truncated ≡ true → k < length (due h mark)) [
+    | true ↦ λ more t. ltb-true _ _ more
+    | false ↦ λ all t. absurd (false≢true t)
+  ] refl
+
+  whole_where : (report h mark k).truncated ≡ false → nat_lt k (length (due h mark)) ≡ false
+  whole_where = elim (nat_lt k (length (due h mark))) as (λ b. (cond b (cut_page h mark k) (whole_page h mark)).truncated ≡ false → b ≡ false) [
+    | true ↦ λ t. absurd (false≢true (sym t))
+    | false ↦ λ t. refl
+  ]
+
+pub truncated_pages_leave_rest : TruncatedPagesLeaveRest
+truncated_pages_leave_rest h mark k some t =
+    let more = cut_where h mark k t in
+    ap (λ (a : Answer). due h a.mark) (cond-true (nat_lt k (length (due h mark))) (cut_page h mark k) (whole_page h mark) (lt-ltb _ _ more))
+    ∙ cut_leaves h mark k some more
+
+pub truncated_pages_leave_fewer : TruncatedPagesLeaveFewer
+truncated_pages_leave_fewer h mark k some t =
+    let more = cut_where h mark k t in
+    let rest = ap length (truncated_pages_leave_rest h mark k some t) ∙ length-drop k (due h mark) in
+    omega (arith, more, rest)
+
+pub last_pages_leave_nobody : LastPagesLeaveNobody
+last_pages_leave_nobody h mark k t =
+    ap (λ (a : Answer). due h a.mark) (cond-false (nat_lt k (length (due h mark))) (cut_page h mark k) (whole_page h mark) (whole_where h mark k t))
+    ∙ none_newer h (touched h)
+
+-- ---- turns
+
+times_next : (n k : ℕ) → (1 + n) * k ≡ k + n * k
+times_next n k = search arith
+
+-- one page more was truncated, and it had k of those that were due
+one_more : (k t before after w : ℕ) → after + k ≡ before → k < before → (0 < t → t * k < after + w) → (1 + t) * k < before + w
+one_more k zero before after w took more later = let one = times_next 0 k in let none : 0 * k ≡ 0 = search arith in omega (arith, one, none, more)
+one_more k (suc t) before after w took more later = let next = times_next (suc t) k in let rest = later (omega arith) in omega (arith, next, rest, took)
+
+module _ (k : ℕ) (some : 0 < k) where
+  -- after the first ask the rest of the turns adds what it adds
+  first_bounded : (place : Place) (events : List BookEvent) (turns : List (List BookEvent))
+      → (0 < truncated_pages k (after_turn k place events) turns → truncated_pages k (after_turn k place events) turns * k < due_count (after_turn k place events) + events_to_last k (after_turn k place events) turns)
+      → 0 < truncated_pages k place (events ∷ turns)
+      → truncated_pages k place (events ∷ turns) * k < due_count (with_events place events) + events_to_last k (after_turn k place events) turns
+  first_bounded place events turns later =
+      elim (told k (with_events place events)).truncated as (λ b. (told k (with_events place events)).truncated ≡ b → 0 < one_where b + t → (one_where b + t) * k < due_count (with_events place events) + w) [
+        | true ↦ λ cut _. one_more k t (due_count (with_events place events)) (due_count (after_turn k place events)) w
+            (truncated_pages_leave_fewer (events ++ place.history) place.mark k some cut) (cut_where (events ++ place.history) place.mark k cut) later
+        | false ↦ λ all more.
+            let none = ap length (last_pages_leave_nobody (events ++ place.history) place.mark k all) in
+            let same : 0 + t ≡ t = omega arith in
+            let rest = later (omega (arith, more)) in
+            subst (λ n. n * k < due_count (with_events place events) + w) (sym same) (omega (arith, none, rest))
+      ] refl
+    where
+      t : ℕ
+      t = truncated_pages k (after_turn k place events) turns
+
+      w : ℕ
+      w = events_to_last k (after_turn k place events) turns
+
+  turns_bounded : (turns : List (List BookEvent)) (place : Place) → 0 < truncated_pages k place turns → truncated_pages k place turns * k < due_count place + events_to_last k place turns
+  turns_bounded [] place more = absurd (omega arith)
+  turns_bounded (events ∷ turns) place more =
+      let first = first_bounded place events turns (turns_bounded turns (after_turn k place events)) more in
+      let add = events_add place.history events place.mark in
+      let up_to : events_to_last k place (events ∷ turns) ≡ length events + events_to_last k (after_turn k place events) turns = cond-true (nat_lt 0 (truncated_pages k place (events ∷ turns))) _ _ (lt-ltb _ _ more) in
+      omega (arith, first, add, up_to)
+
+pub truncated_pages_bounded : TruncatedPagesAreBounded
+truncated_pages_bounded k place events turns some more = first_bounded k some place events turns (turns_bounded k some turns (after_turn k place events)) more
+
+-- a turn without events leaves k fewer, or none
+quiet_turn : (k : ℕ) (place : Place) (n : ℕ) → 0 < k → due_count place ≤ (1 + n) * k → due_count (after_turn k place []) ≤ n * k
+quiet_turn k place n some le =
+    elim (told k place).truncated as (λ b. (told k place).truncated ≡ b → due_count (after_turn k place []) ≤ n * k) [
+      | true ↦ λ cut. let fewer = truncated_pages_leave_fewer place.history place.mark k some cut in let next = times_next n k in omega (arith, fewer, next, le)
+      | false ↦ λ all. let none = ap length (last_pages_leave_nobody place.history place.mark k all) in omega (arith, none)
+    ] refl
+
+none_left : (uids : List (List ℕ)) → length uids ≤ 0 → uids ≡ []
+none_left [] le = refl
+none_left (uid ∷ uids) le = absurd (omega (arith, le))
+
+pub quiet_books_are_told_whole : QuietBooksAreToldWhole
+quiet_books_are_told_whole k place zero some le = none_left (due place.history place.mark) (let none : 0 * k ≡ 0 = search arith in omega (arith, none, le))
+quiet_books_are_told_whole k place (suc n) some le =
+    quiet_books_are_told_whole k (after_turn k place []) n some
+    (quiet_turn k place n some (let same : suc n ≡ 1 + n = omega arith in subst (λ m. due_count place ≤ m * k) same le))
+
+-- a device with a token
+caught_up : (k : ℕ) (story : Story) (n : ℕ) (book : List ℕ) (copy : LiveCards) (token : Token) → 0 < k → IsRightUnder story copy (Some token)
+    → length (due story.history token.mark) ≤ n * k → (after_pages k story n (record { book = book; copy = copy; token = Some token })).copy ≡ live story.history
+caught_up k story zero book copy token some r le =
+    nobody_due_is_complete copy token.mark story.history r.1 (none_left (due story.history token.mark) (let none : 0 * k ≡ 0 = search arith in omega (arith, none, le)))
+caught_up k story (suc n) book copy token some r le =
+    let holding : Holding = record { book = book; copy = copy; token = Some token } in
+    let next : Token = record { book = story.id; mark = (report story.history token.mark k).mark } in
+    caught_up k story n book (after_page holding (page_for story holding k)).copy next some (whole_pages_keep_devices_right story holding k some r)
+    (quiet_turn k (record { history = story.history; mark = token.mark }) n some (let same : suc n ≡ 1 + n = omega arith in subst (λ m. length (due story.history token.mark) ≤ m * k) same le))
+
+pub quiet_devices_catch_up : QuietDevicesCatchUp
+quiet_devices_catch_up k story zero holding some pages r le = absurd (omega arith)
+quiet_devices_catch_up k story (suc n) holding some pages r le =
+    let mark = mark_under story.history holding.token in
+    let next : Token = record { book = story.id; mark = (report story.history mark k).mark } in
+    caught_up k story n holding.book (after_page holding (page_for story holding k)).copy next some (whole_pages_keep_devices_right story holding k some r)
+    (quiet_turn k (record { history = story.history; mark = mark }) n some (let same : suc n ≡ 1 + n = omega arith in subst (λ m. length (due story.history mark) ≤ m * k) same le))

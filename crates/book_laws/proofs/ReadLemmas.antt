@@ -1,0 +1,125 @@
+-- What the rows tell of a book, beside what its history tells.
+use Rattle.std.proofs.Common.{◌≡◌, ℕ, Bool, true, false, cond, not, ◌&&◌, ◌||◌, List, [], ◌∷◌, map, flat_map, length, filter, Option, Some, None, Result, Ok, Err, is_some, nat_lt, ◌<◌, Equal, refl, sym, ap, ◌∙◌}
+use Rattle.std.specs.Option.{option_map, option_map_or, option_and_then}
+use Rattle.std.specs.FinMap as finite
+use Rattle.std.specs.FinMap.{get-retain_keys, get-from_entries, same_map}
+use Rattle.std.specs.FinMap.Entries.{where_key, is_sorted-where_key, find-where_key, same_entries}
+use Rattle.std.specs.List.{AllByRecursion}
+use Rattle.std.proofs.lemmas.Map.Lookups.{exact_bytes}
+use Rattle.vcard_text.specs.TextMaps.{text_cmp}
+use Rattle.book_model.specs.declared.answers.Stored.{Stored}
+use Rattle.book_model.specs.declared.refusal.Refusal.{Refusal}
+use Rattle.book_model.specs.declared.refusal.Refusal.TheVariants.{NoSuchBook}
+use Rattle.book_model.specs.declared.row.Row.{Row}
+use Rattle.book_model.specs.Books.{Book, book_named, stored_in}
+use Rattle.book_laws.specs.HistoryCounts.{counts_of}
+use Rattle.book_laws.specs.Histories.{live, last, touched}
+use Rattle.book_model.specs.Outcomes.{◌>>=◌}
+use Rattle.book_laws.specs.ReadLaws.{BooksFollow, BookLinesFollow, GettingFollows, CardsFollow, KeptImportsFollow, TalliesFollow}
+use Rattle.book_model.specs.Reading.{book_line, live_entry, live_cards, tally_with, is_removed_after, remembered_in, tally_of}
+use Rattle.book_model.specs.Removing.{live_card}
+use Rattle.book_laws.specs.Rows.{is_kept, kept_rows}
+use Rattle.book_laws.specs.Worlds.{Story, World, IsSound, book_of, rows}
+use Rattle.book_laws.specs.WorldReads.{story_line, is_remembered_of, tally_of_story}
+use Rattle.book_laws.specs.WorldSteps.{story_named}
+use Rattle.book_model.proofs.BasicLemmas.{is_some-map}
+use Rattle.book_laws.proofs.CountLemmas.{live_count_is}
+use Rattle.book_laws.proofs.ForgetLemmas.{at_row, len_retained, retained_rows}
+use Rattle.book_laws.proofs.ReportLemmas.{each_found}
+use Rattle.book_laws.proofs.RowLemmas.{row_at, live_by_row}
+use Rattle.book_model.proofs.TextLemmas.{text_total}
+use Rattle.book_model.proofs.LiveCardLemmas.{find_live, Members}
+use Rattle.book_laws.proofs.WorldLemmas.{get-rows, entries-rows}
+
+-- the same is told of the book of a name and of its story
+told_named : {A : Type 0} (world : World) (name : List ℕ) (f : Book → Result A Refusal) (g : Story → Result A Refusal) → ((story : Story) → IsSound story → f (book_of story) ≡ g story)
+    → (book_named (rows world.books) name >>= f) ≡ (story_named world.books name >>= g)
+told_named {A} world name f g each =
+    ap (λ (o : Option Book). option_map_or Ok o (Err NoSuchBook) >>= f) (get-rows world.books name)
+    ∙ by_story (finite.get world.books name) (λ story e. each story (world.sound name story e))
+  where
+    by_story : (o : Option Story) → ((story : Story) → o ≡ Some story → f (book_of story) ≡ g story)
+        → (option_map_or Ok (option_map book_of o) (Err NoSuchBook) >>= f) ≡ (option_map_or Ok o (Err NoSuchBook) >>= g)
+    by_story None each = refl
+    by_story (Some story) each = each story refl
+
+-- ---- lines of books
+
+lines_are : (named : List (List ℕ × Story)) → map book_line (map (λ (n : List ℕ × Story). (n.0, book_of n.1)) named) ≡ map story_line named
+lines_are [] = refl
+lines_are (n ∷ ns) = ap (λ t. story_line n ∷ t) (lines_are ns)
+
+pub books_follow : BooksFollow
+books_follow world = ap (map book_line) (entries-rows world.books) ∙ lines_are (finite.entries world.books)
+
+pub book_lines_follow : BookLinesFollow
+book_lines_follow world name = told_named world name _ _ (λ story sound. refl)
+
+-- ---- cards
+
+pub getting_follows : GettingFollows
+getting_follows world name uid = told_named world name _ _ (λ story sound. ap live_card (live_by_row story.history story.horizon uid))
+
+pub live_cards_are : (story : Story) → live_cards (book_of story) ≡ live story.history
+live_cards_are story = same_map text_total exact_bytes _ _ (λ q.
+    get-from_entries text_total (flat_map live_entry (finite.entries members)) q
+    ∙ find_live q (finite.entries members) (finite.entries_sorted members)
+    ∙ ap (option_and_then stored_in) (sym (finite.get-entries members q))
+    ∙ live_by_row story.history story.horizon q)
+  where
+    members : finite.FinMap text_cmp Row
+    members = kept_rows story.history story.horizon
+
+pub cards_follow : CardsFollow
+cards_follow world name = told_named world name _ _ (λ story sound. ap Ok (live_cards_are story))
+
+pub kept_imports_follow : KeptImportsFollow
+kept_imports_follow world name key = told_named world name _ _ (λ story sound. refl)
+
+-- ---- a book in numbers
+
+-- the entries of the rows that pass a test
+module _ (m : finite.FinMap text_cmp Row) (test : Row → Bool) where
+  abbrev by_key : List ℕ → Bool
+  by_key = at_row test m
+
+  -- on entries of the map the test of the key is that of the row
+  same_passing : (es : Members) → AllByRecursion (λ e. finite.get m e.0 ≡ Some e.1) es → where_key text_cmp by_key es ≡ filter (λ (e : List ℕ × Row). test e.1) es
+  same_passing [] a = refl
+  same_passing (e ∷ es) a =
+      ap (λ b. cond b (e ∷ where_key text_cmp by_key es) (where_key text_cmp by_key es)) (ap (λ (o : Option Row). option_map_or test o false) a.0)
+      ∙ ap (λ (ds : Members). cond (test e.1) (e ∷ ds) ds) (same_passing es a.1)
+
+  pub entries-retained : finite.entries (finite.retain_keys m by_key) ≡ filter (λ (e : List ℕ × Row). test e.1) (finite.entries m)
+  entries-retained =
+      same_entries text_cmp text_total exact_bytes (finite.entries (finite.retain_keys m by_key)) (where_key text_cmp by_key (finite.entries m))
+      (finite.entries_sorted (finite.retain_keys m by_key)) (is_sorted-where_key text_cmp by_key (finite.entries m) (finite.entries_sorted m))
+      (λ q. sym (finite.get-entries (finite.retain_keys m by_key) q) ∙ get-retain_keys m by_key q (alike q) ∙ ap (λ (o : Option Row). cond (by_key q) o None) (finite.get-entries m q) ∙ sym (find-where_key text_cmp by_key q (alike q) (finite.entries m)))
+      ∙ same_passing (finite.entries m) (each_found m)
+    where
+      alike : (q x : List ℕ) → text_cmp q x ≡ Equal → by_key x ≡ by_key q
+      alike q x e = ap by_key (sym (exact_bytes q x e))
+
+module _ (story : Story) where
+  removed_after : (uid : List ℕ) → 0 < last story.history uid → (is_kept story.history story.horizon uid && is_removed_after story.horizon (row_at story.history uid)) ≡ is_remembered_of story uid
+  removed_after uid some =
+      ap (λ b. is_kept story.history story.horizon uid && (not b && nat_lt story.horizon (last story.history uid))) (is_some-map (λ (s : Stored). s.card) (finite.get (live story.history) uid))
+      ∙ elim (is_some (finite.get (live story.history) uid)) as (λ b. ((b || nat_lt story.horizon (last story.history uid)) && (not b && nat_lt story.horizon (last story.history uid))) ≡ (not b && nat_lt story.horizon (last story.history uid))) [
+        | true ↦ refl
+        | false ↦ elim (nat_lt story.horizon (last story.history uid)) as (λ b. (b && b) ≡ b) [ true ↦ refl | false ↦ refl ]
+      ]
+
+  remembered_is : remembered_in (book_of story) ≡ length (filter (is_remembered_of story) (touched story.history))
+  remembered_is =
+      ap length (sym (entries-retained (kept_rows story.history story.horizon) (is_removed_after story.horizon)))
+      ∙ sym (finite.len-entries (finite.retain_keys (kept_rows story.history story.horizon) (at_row (is_removed_after story.horizon) (kept_rows story.history story.horizon))))
+      ∙ ap finite.len (retained_rows story.history story.horizon (is_removed_after story.horizon) (is_remembered_of story) removed_after)
+      ∙ len_retained story.history (is_remembered_of story)
+
+  tally_is : IsSound story → tally_of (book_of story) ≡ tally_of_story story
+  tally_is sound =
+      ap (λ n. tally_with (length story.history) story.horizon n (counts_of story.history) (remembered_in (book_of story))) (live_count_is story.history sound.lawful)
+      ∙ ap (tally_with (length story.history) story.horizon (finite.len (live story.history)) (counts_of story.history)) remembered_is
+
+pub tallies_follow : TalliesFollow
+tallies_follow world name = told_named world name _ _ (λ story sound. ap Ok (tally_is story sound))

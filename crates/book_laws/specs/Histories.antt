@@ -1,0 +1,47 @@
+-- What happened to a book: the changes of a collection's members (RFC 6578, sections 3.1 and 3.5). A history is the
+-- list of its events, the newest first, so the number of an event is the length of the history that ends with it.
+use Rattle.std.specs.Prelude.{ℕ, ◌+◌, ◌≡◌, Bool, not, List, [], ◌∷◌, ◌++◌, length, filter, if◌then◌else◌}
+use Rattle.std.specs.Ordering.{eq_by_cmp}
+use Rattle.std.specs.FinMap as finite
+use Rattle.vcard_text.specs.TextMaps.{text_cmp}
+use Rattle.book_model.specs.declared.change.Change.{Change}
+use Rattle.book_model.specs.declared.change.Change.TheVariants.{Stores, TakesAway}
+use Rattle.book_model.specs.Books.{LiveCards}
+
+-- a change of one member
+pub record BookEvent : Type 0 where
+  pub uid : List ℕ
+  pub change : Change
+
+-- two UIDs are one where their octets are
+abbrev pub same_uid : List ℕ → List ℕ → Bool
+same_uid a b = eq_by_cmp text_cmp a b
+
+-- a card that is stored has the number of its event as its version
+abbrev pub changed : LiveCards → List ℕ → Change → ℕ → LiveCards
+changed cards uid (Stores card why) number = finite.insert cards uid (record { version = number; card = card })
+changed cards uid (TakesAway why) number = finite.remove cards uid
+
+-- the live cards after all events
+abbrev pub live : List BookEvent → LiveCards
+live [] = finite.empty
+live (e ∷ h) = changed (live h) e.uid e.change (length h + 1)
+
+-- the number of the UID's last event, and 0 where it has none
+abbrev pub last : List BookEvent → List ℕ → ℕ
+last [] uid = 0
+last (e ∷ h) uid = if same_uid uid e.uid then length h + 1 else last h uid
+
+-- the UIDs that have events, each once, in the order of their last events
+abbrev pub touched : List BookEvent → List (List ℕ)
+touched [] = []
+touched (e ∷ h) = filter (λ uid. not (same_uid uid e.uid)) (touched h) ++ e.uid ∷ []
+
+-- the history's event of this number is of the UID
+pub record IsEventOf (h : List BookEvent) (number : ℕ) (uid : List ℕ) : Type 0 where
+  pub later : List BookEvent
+  pub event : BookEvent
+  pub earlier : List BookEvent
+  pub parts : h ≡ later ++ event ∷ earlier
+  pub number_is : number ≡ length earlier + 1
+  pub uid_is : event.uid ≡ uid

@@ -1,0 +1,64 @@
+-- How many pages of a book's report are truncated, as events come and pages are taken (RFC 6578, section 3.6). The
+-- bound is this project's own.
+use Rattle.std.specs.Prelude.{ℕ, zero, suc, ◌+◌, Bool, nat_lt, List, [], ◌∷◌, ◌++◌, length, fold, if◌then◌else◌}
+use Rattle.book_model.specs.declared.token.Mark.{Mark}
+use Rattle.book_laws.specs.Histories.{BookEvent}
+use Rattle.book_model.specs.Pages.{Answer}
+use Rattle.book_laws.specs.Reports.{due, report}
+use Rattle.book_laws.specs.Worlds.{Story}
+use Rattle.book_model.specs.Devices.{Holding, after_page}
+use Rattle.book_laws.specs.RightDevices.{page_for}
+
+-- ---- turns
+
+-- a book as a device sees it: what happened to the book, and the mark of the device
+pub record Place : Type 0 where
+  pub history : List BookEvent
+  pub mark : Mark
+
+-- these events come, the newest first
+abbrev pub with_events : Place → List BookEvent → Place
+with_events place events = record place { history = events ++ place.history }
+
+-- what the device is told where it asks for k entries
+abbrev pub told : ℕ → Place → Answer
+told k place = report place.history place.mark k
+
+-- the page was applied whole, so that its mark is the device's
+abbrev pub moved_on : ℕ → Place → Place
+moved_on k place = record place { mark = (told k place).mark }
+
+-- a turn: some events come, and then the device asks once and applies the page
+abbrev pub after_turn : ℕ → Place → List BookEvent → Place
+after_turn k place events = moved_on k (with_events place events)
+
+-- after all turns, the first turn first
+abbrev pub after_turns : ℕ → Place → List (List BookEvent) → Place
+after_turns k place turns = fold (after_turn k) place turns
+
+-- ---- what is counted
+
+-- the members that are still to be told
+abbrev pub due_count : Place → ℕ
+due_count place = length (due place.history place.mark)
+
+abbrev pub one_where : Bool → ℕ
+one_where holds = if holds then 1 else 0
+
+-- how many pages of these turns were truncated
+abbrev pub truncated_pages : ℕ → Place → List (List BookEvent) → ℕ
+truncated_pages k place [] = 0
+truncated_pages k place (events ∷ turns) = one_where (told k (with_events place events)).truncated + truncated_pages k (after_turn k place events) turns
+
+-- how many events came, up to the last page that was truncated
+abbrev pub events_to_last : ℕ → Place → List (List BookEvent) → ℕ
+events_to_last k place [] = 0
+events_to_last k place (events ∷ turns) =
+    if nat_lt 0 (truncated_pages k place (events ∷ turns)) then length events + events_to_last k (after_turn k place events) turns else 0
+
+-- ---- pages while nothing happens
+
+-- a device asks and applies the page, so many times while nothing happens
+abbrev pub after_pages : ℕ → Story → ℕ → Holding → Holding
+after_pages k story zero holding = holding
+after_pages k story (suc n) holding = after_pages k story n (after_page holding (page_for story holding k))

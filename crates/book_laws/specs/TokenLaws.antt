@@ -1,0 +1,34 @@
+-- How long the token of a page is taken (RFC 6578, section 3.2, the precondition valid-sync-token).
+use Rattle.std.specs.Prelude.{ℕ, ◌≡◌, ◌<◌, List, ◌∷◌, ◌++◌, Option, Some, Ok, Err}
+use Rattle.book_model.specs.declared.page.Page.{Page}
+use Rattle.book_model.specs.declared.refusal.Refusal.TheVariants.{BadToken}
+use Rattle.book_model.specs.declared.refusal.TokenCause.{TokenCause}
+use Rattle.book_model.specs.declared.refusal.TokenCause.TheVariants.{TooOld}
+use Rattle.book_model.specs.declared.token.Token.{Token}
+use Rattle.book_model.specs.Bounds.{Bounds}
+use Rattle.book_laws.specs.Calls.{Call, Forgets, after_all}
+use Rattle.book_laws.specs.Worlds.{Stories, World}
+use Rattle.book_laws.specs.WorldChanges.{forget_meaning}
+use Rattle.book_laws.specs.WorldSteps.{report_meaning}
+
+-- the token that a device keeps of a page
+abbrev pub token_of : Page → Token
+token_of page = record { book = page.book; mark = page.mark }
+
+-- Among the calls there was one that made the book forget what was removed up to a number above this one, and it was accepted.
+pub record ForgotAbove (limits : Bounds) (stories : Stories) (calls : List Call) (name : List ℕ) (base : ℕ) : Type 0 where
+  pub earlier : List Call
+  pub later : List Call
+  pub upto : ℕ
+  pub above : base < upto
+  pub calls_are : calls ≡ earlier ++ Forgets name upto ∷ later
+  pub dropped : ℕ
+  pub left : Stories
+  pub accepted : forget_meaning (after_all limits stories earlier) name upto ≡ Ok (dropped, left)
+
+-- A page's own book refuses its token only as too old, and only where it was made to forget above the token's base since.
+abbrev pub TokensStayGood : Type 0
+TokensStayGood = (world : World) (name : List ℕ) (token : Option Token) (limit again : Option ℕ) (page : Page) (calls : List Call) (cause : TokenCause) →
+    report_meaning world.limits world.books name token limit ≡ Ok page →
+    report_meaning world.limits (after_all world.limits world.books calls) name (Some (token_of page)) again ≡ Err (BadToken cause) →
+    (cause ≡ TooOld) × ForgotAbove world.limits world.books calls name page.mark.base

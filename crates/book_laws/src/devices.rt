@@ -1,0 +1,82 @@
+//! What holds of devices that apply the pages that they are told.
+ghost use Rattle.book_laws.specs.DeviceLaws.{EmptyIsRight, RestartedAreRight, LiveAreDueFirst, CopiesStayRight, DevicesStayRight, PartsKeepCopiesRight, PartsKeepDevicesRight, WholePagesKeepCopiesRight, WholePagesKeepDevicesRight, LastPagesCompleteCopies, LastPagesCompleteDevices, LastPagesCompleteAll, NobodyDueIsComplete, RightTokensAreKnown, RightTokensGrowOld, EventsKeepAllRight, NewBooksKeepAllRight, PartsKeepAllRight, WholePagesKeepAllRight, DueRises, EntriesAreFirstDue, PagesFit};
+ghost use Rattle.book_laws.specs.RunLaws.{CallsKeepAllRight};
+ghost use Rattle.book_laws.specs.PagingLaws.{EventsAddAtMostOne, TruncatedPagesLeaveRest, TruncatedPagesLeaveFewer, LastPagesLeaveNobody, TruncatedPagesAreBounded, QuietBooksAreToldWhole, QuietDevicesCatchUp};
+
+/// An empty copy is right for a first report, and that report tells of just the live members.
+pub fn first_reports_start_right()
+    ensures copies { EmptyIsRight }
+    ensures devices { RestartedAreRight }
+    ensures due { LiveAreDueFirst }
+{}
+
+/// A right copy stays right whatever event comes, lawful or not, and so does a right device.
+pub fn copies_stay_right()
+    ensures copies { CopiesStayRight }
+    ensures devices { DevicesStayRight }
+{}
+
+/// A right device that applies only some first entries of its page stays right, with its old token or without one.
+pub fn parts_of_pages_keep_right()
+    ensures copies { PartsKeepCopiesRight }
+    ensures devices { PartsKeepDevicesRight }
+{}
+
+/// A right device that applies its whole page is right with the page's token, whether it had a token or not.
+pub fn whole_pages_keep_right()
+    ensures copies { WholePagesKeepCopiesRight }
+    ensures devices { WholePagesKeepDevicesRight }
+{}
+
+/// A page that isn't truncated makes a right device's copy the live cards, each with its version.
+pub fn last_pages_complete_copies()
+    ensures copies { LastPagesCompleteCopies }
+    ensures devices { LastPagesCompleteDevices }
+    ensures all { LastPagesCompleteAll }
+    ensures due { NobodyDueIsComplete }
+{}
+
+/// A right device's token is refused just where its base is below the horizon, and then for its age.
+pub fn right_tokens_are_known()
+    ensures known { RightTokensAreKnown }
+    ensures old { RightTokensGrowOld }
+{}
+
+/// Among all books, what happens to any of them and what a device is told of its own leave each right device right.
+pub fn devices_stay_right_among_books()
+    ensures events { EventsKeepAllRight }
+    ensures books { NewBooksKeepAllRight }
+    ensures parts { PartsKeepAllRight }
+    ensures pages { WholePagesKeepAllRight }
+{}
+
+/// A report tells of the first k due members in the rising order of their last events, each as it is now.
+pub fn reports_tell_the_first_due()
+    ensures order { DueRises }
+    ensures entries { EntriesAreFirstDue }
+    ensures size { PagesFit }
+{}
+
+/// An event makes at most one more member due; a truncated page leaves just k fewer, and any other page none.
+pub fn due_members_are_counted()
+    ensures event { EventsAddAtMostOne }
+    ensures rest { TruncatedPagesLeaveRest }
+    ensures fewer { TruncatedPagesLeaveFewer }
+    ensures none { LastPagesLeaveNobody }
+{}
+
+/// The entries of all truncated pages are fewer than the members that were due and the events that came meanwhile.
+pub fn truncated_pages_are_bounded()
+    ensures { TruncatedPagesAreBounded }
+{}
+
+/// While nothing happens to a book, as many pages as hold its due members make a right device's copy the live cards.
+pub fn quiet_books_are_told_whole()
+    ensures places { QuietBooksAreToldWhole }
+    ensures devices { QuietDevicesCatchUp }
+{}
+
+/// A right device stays right whatever calls are made, on its own book and on others.
+pub fn devices_stay_right_over_calls()
+    ensures { CallsKeepAllRight }
+{}

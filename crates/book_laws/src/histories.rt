@@ -1,0 +1,28 @@
+//! What holds of all histories of books.
+ghost use Rattle.std.specs.Prelude.{◌≡◌, ◌↔◌, List, true};
+ghost use Rattle.vcard_text.specs.Cards.{IsCard, canonical_text};
+ghost use Rattle.vcard_text.specs.declared.line.Line.{Line};
+ghost use Rattle.book_model.specs.SameCards.{same_card};
+ghost use Rattle.book_laws.specs.CountLaws.{EventsAreCounted, LiveAreCounted};
+ghost use Rattle.book_laws.specs.ReportLaws.{DueHaveEvents};
+
+use vcard_text::laws::equal_texts;
+
+/// The counts of a history add up to its number of events, and tell how many cards are live.
+pub fn changes_are_counted()
+    ensures events { EventsAreCounted }
+    ensures live { LiveAreCounted }
+{}
+
+/// A report tells of the members that have events since the mark.
+pub fn due_members_have_events()
+    ensures { DueHaveEvents }
+{}
+
+/// The test by which a put knows the same card again is equality of cards, and so of their canonical texts.
+pub fn same_cards_are_equal()
+    ensures lines { (a b : List Line) → (same_card a b ≡ true) ↔ (a ≡ b) }
+    ensures texts { (a b : List Line) → IsCard a → IsCard b → (same_card a b ≡ true) ↔ (canonical_text a ≡ canonical_text b) }
+{
+    equal_texts();
+}

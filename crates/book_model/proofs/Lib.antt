@@ -1,0 +1,5 @@
+pub mod BasicLemmas
+pub mod TextLemmas
+pub mod SameCardLemmas
+pub mod LiveCardLemmas
+pub mod AnswerLemmas

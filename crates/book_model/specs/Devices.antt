@@ -1,0 +1,56 @@
+-- What a device makes of the pages that it is told (RFC 6578, sections 3.4 to 3.6).
+use Rattle.std.specs.Prelude.{ℕ, ◌≡◌, ◌≤◌, ◌⊎◌, List, length, take, fold, Option, Some, None}
+use Rattle.std.specs.FinMap as finite
+use Rattle.book_model.specs.declared.page.Entry.{Entry}
+use Rattle.book_model.specs.declared.page.Entry.TheVariants.{Changed, Removed}
+use Rattle.book_model.specs.declared.page.Page.{Page}
+use Rattle.book_model.specs.declared.token.Token.{Token}
+use Rattle.book_model.specs.Books.{LiveCards}
+
+-- ---- a copy
+
+-- what is said of one member is written over what the copy had of it
+abbrev pub applied_one : LiveCards → Entry → LiveCards
+applied_one copy (Changed uid version card) = finite.insert copy uid (record { version = version; card = card })
+applied_one copy (Removed uid) = finite.remove copy uid
+
+-- the copy after the entries, in their order
+abbrev pub applied : LiveCards → List Entry → LiveCards
+applied copy entries = fold applied_one copy entries
+
+-- ---- a device
+
+-- the name of its book, its copy of the book's cards, and perhaps a token
+pub record Holding : Type 0 where
+  pub book : List ℕ
+  pub copy : LiveCards
+  pub token : Option Token
+
+-- the token is taken away, and nothing else
+abbrev pub restarted : Holding → Holding
+restarted holding = record holding { token = None }
+
+-- without a token the copy is emptied before a page is applied
+abbrev pub copy_under : Option Token → LiveCards → LiveCards
+copy_under None copy = finite.empty
+copy_under (Some token) copy = copy
+
+abbrev pub ready_copy : Holding → LiveCards
+ready_copy holding = copy_under holding.token holding.copy
+
+-- the whole page was applied, and its token taken
+abbrev pub after_page : Holding → Page → Holding
+after_page holding page = record holding {
+  copy = applied (ready_copy holding) page.entries;
+  token = Some (record { book = page.book; mark = page.mark });
+}
+
+-- some first entries of the page were applied, and the token is as before
+pub record AppliesFirst (holding : Holding) (page : Page) (after : Holding) : Type 0 where
+  pub count : ℕ
+  pub within : count ≤ length page.entries
+  pub after_is : after ≡ record holding { copy = applied (ready_copy holding) (take count page.entries) }
+
+-- or nothing happened at all
+abbrev pub AppliesInPart : Holding → Page → Holding → Type 0
+AppliesInPart holding page after = (after ≡ holding) ⊎ AppliesFirst holding page after

@@ -1,0 +1,93 @@
+-- Importing cards under a key, which is kept with the answer so that the same import acts once. This project's own.
+use Rattle.std.specs.Prelude.{ℕ, ◌+◌, ◌==◌, Bool, ◌&&◌, ◌||◌, nat_le, List, length, fold, Option, Some, None, Result, Ok, if◌then◌else◌}
+use Rattle.std.specs.List.{list_all}
+use Rattle.std.specs.FinMap as finite
+use Rattle.vcard_text.specs.declared.line.Line.{Line}
+use Rattle.vcard_text.specs.Cards.{uid_of}
+use Rattle.book_model.specs.declared.answers.ImportTally.{ImportTally}
+use Rattle.book_model.specs.declared.answers.Stored.{Stored}
+use Rattle.book_model.specs.declared.change.Change.TheVariants.{Stores}
+use Rattle.book_model.specs.declared.change.StoreReason.{StoreReason}
+use Rattle.book_model.specs.declared.change.StoreReason.TheVariants.{Import, ImportEdit}
+use Rattle.book_model.specs.declared.refusal.Refusal.{Refusal}
+use Rattle.book_model.specs.declared.refusal.Refusal.TheVariants.{BookFull, ChangesSpent, BadKey}
+use Rattle.book_model.specs.Bounds.{Bounds}
+use Rattle.book_model.specs.Books.{Book, Books, book_named, live_at, with_change}
+use Rattle.book_model.specs.Counting.{live_count}
+use Rattle.book_model.specs.Outcomes.{◌>>=◌, provided}
+use Rattle.book_model.specs.SameCards.{same_card}
+
+-- ---- keys
+
+-- A to Z, a to z, 0 to 9, the dot, the underscore and the hyphen
+abbrev pub is_key_octet : ℕ → Bool
+is_key_octet octet =
+    (nat_le 65 octet && nat_le octet 90) || (nat_le 97 octet && nat_le octet 122) || (nat_le 48 octet && nat_le octet 57)
+    || (octet == 46) || (octet == 95) || (octet == 45)
+
+-- 1 to 64 of them
+abbrev pub is_legal_key : List ℕ → Bool
+is_legal_key key = nat_le 1 (length key) && nat_le (length key) 64 && list_all is_key_octet key
+
+-- ---- cards one after another
+
+-- a book as far as the cards are in it, and how many of them were added, edited and the same
+pub record Importing (S : Type 0) : Type 0 where
+  pub book : S
+  pub added : ℕ
+  pub edited : ℕ
+  pub same : ℕ
+
+abbrev pub importing : {S : Type 0} → S → ℕ → ℕ → ℕ → Importing S
+importing book added edited same = record { book = book; added = added; edited = edited; same = same }
+
+-- Of any kind of book, by what is live in it at a UID and what becomes of it when a card is stored for a reason.
+module _ {S : Type 0} (live_in : S → List ℕ → Option Stored) (storing : S → List Line → StoreReason → S) where
+  -- a card is added where its UID isn't live, replaces another one, or is there already
+  abbrev pub import_over : Importing S → List Line → Option Stored → Importing S
+  import_over state card None = importing (storing state.book card Import) (state.added + 1) state.edited state.same
+  import_over state card (Some stored) =
+      if same_card stored.card card then importing state.book state.added state.edited (state.same + 1)
+      else importing (storing state.book card ImportEdit) state.added (state.edited + 1) state.same
+
+  abbrev pub import_card : Importing S → List Line → Importing S
+  import_card state card = import_over state card (live_in state.book (uid_of card))
+
+  abbrev pub import_cards : S → List (List Line) → Importing S
+  import_cards book cards = fold import_card (importing book 0 0 0) cards
+
+-- There is room for what was added and edited: by the live cards and the number of the book as it is then.
+abbrev pub import_tally : {S : Type 0} → Bounds → Importing S → ℕ → ℕ → Result ImportTally Refusal
+import_tally limits state cards number = do
+  room ← provided ((state.added == 0) || nat_le cards limits.cards_max) BookFull
+  left ← provided ((state.added + state.edited == 0) || nat_le number limits.changes_max) ChangesSpent
+  Ok (record { added = state.added; edited = state.edited; same = state.same; number = number })
+
+-- ---- the rows
+
+abbrev pub storing_in : Book → List Line → StoreReason → Book
+storing_in book card why = with_change book (uid_of card) (Stores card why)
+
+-- the book keeps the import's answer under its key
+abbrev pub keeping : Book → List ℕ → ImportTally → Book
+keeping book key tally = record book { imports = finite.insert book.imports key tally }
+
+-- with a kept key the answer is what is kept, and nothing changes
+abbrev pub import_under : Bounds → Books → List ℕ → Book → List ℕ → List (List Line) → Option ImportTally → Result (ImportTally × Books) Refusal
+import_under limits books name book key cards (Some kept) = Ok (kept, books)
+import_under limits books name book key cards None = do
+  tally ← import_tally limits (import_cards live_at storing_in book cards) (live_count (import_cards live_at storing_in book cards).book.counts) (import_cards live_at storing_in book cards).book.number
+  Ok (tally, finite.insert books name (keeping (import_cards live_at storing_in book cards).book key tally))
+
+abbrev pub import_step : Bounds → Books → List ℕ → List ℕ → List (List Line) → Result (ImportTally × Books) Refusal
+import_step limits books name key cards = do
+  book ← book_named books name
+  legal ← provided (is_legal_key key) BadKey
+  import_under limits books name book key cards (finite.get book.imports key)
+
+-- what is kept under a key
+abbrev pub kept_import_step : Books → List ℕ → List ℕ → Result (Option ImportTally) Refusal
+kept_import_step books name key = do
+  book ← book_named books name
+  legal ← provided (is_legal_key key) BadKey
+  Ok (finite.get book.imports key)

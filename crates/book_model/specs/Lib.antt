@@ -1,0 +1,17 @@
+pub mod Bounds
+pub mod BookNames
+pub mod Counting
+pub mod RefusalNumbers
+pub mod Outcomes
+pub mod SameCards
+pub mod Books
+pub mod BookCodes
+pub mod Creating
+pub mod Putting
+pub mod Removing
+pub mod Moving
+pub mod Importing
+pub mod Forgetting
+pub mod Pages
+pub mod Reading
+pub mod Devices

@@ -1,0 +1,59 @@
+//! How many changes of a book had each reason.
+ghost use Rattle.std.specs.Prelude.{◌≡◌, ◌<◌, ◌^◌};
+ghost use Rattle.book_model.specs.Counting.{no_counts, counted, total, live_count};
+
+use crate::change::{Change, RemovalReason, StoreReason};
+
+/// The changes of a book by their reasons.
+#[derive(Clone, Copy, Debug, PartialEq, Eq)]
+pub struct Counts {
+    pub created: u64,
+    pub edited: u64,
+    pub imported: u64,
+    pub import_edited: u64,
+    pub moved_in: u64,
+    pub deleted: u64,
+    pub moved_out: u64,
+}
+
+impl Counts {
+    /// No changes.
+    pub fn none() -> Counts
+        ensures { result ≡ no_counts }
+    {
+        Counts {
+            created: 0,
+            edited: 0,
+            imported: 0,
+            import_edited: 0,
+            moved_in: 0,
+            deleted: 0,
+            moved_out: 0,
+        }
+    }
+
+    /// One more change.
+    pub fn add(&mut self, change: &Change)
+        requires { total self.old < 2 ^ 63 }
+        ensures { self.new ≡ counted change.now self.old }
+    {
+        match change {
+            Change::Stores(_, StoreReason::Creation) => self.created += 1,
+            Change::Stores(_, StoreReason::Edit) => self.edited += 1,
+            Change::Stores(_, StoreReason::Import) => self.imported += 1,
+            Change::Stores(_, StoreReason::ImportEdit) => self.import_edited += 1,
+            Change::Stores(_, StoreReason::MoveIn) => self.moved_in += 1,
+            Change::TakesAway(RemovalReason::Deletion) => self.deleted += 1,
+            Change::TakesAway(RemovalReason::MoveOut) => self.moved_out += 1,
+        }
+    }
+
+    /// How many cards are live after these changes.
+    pub fn live(&self) -> u64
+        requires { total self.now < 2 ^ 64 }
+        ensures { result ≡ live_count self.now }
+    {
+        let arrivals = self.created + self.imported + self.moved_in;
+        arrivals.saturating_sub(self.deleted + self.moved_out)
+    }
+}
