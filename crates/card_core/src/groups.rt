@@ -1,17 +1,15 @@
 //! Whom a group reaches.
 ghost use Rattle.std.specs.Prelude.{◌≡◌, ◌↔◌, IfOk, None};
 ghost use Rattle.std.specs.FinMap as finite;
-ghost use Rattle.vcard_text.specs.TextMaps.{texts};
 ghost use Rattle.card_core.specs.Groups.{IsExpansion, IsOtherCard};
 ghost use Rattle.card_core.specs.declared.fault.GroupFault.TheVariants.{NoSuchCard, NotGroup};
 
 use crate::expansion::Expansion;
 use crate::fault::GroupFault;
+use crate::lookup::CardsByUid;
 use crate::walk::{is_group, walk_from};
 use std::alloc::Global;
-use std::collections::BTreeMap;
 use vcard_text::Card;
-use vcard_text::text_map::value_at;
 
 /// Whom the group of this UID reaches, through its members and those of each group among them, in whatever circles they
 /// lead (RFC 6350, section 6.6.5). Each key of the map is its card's UID.
@@ -20,16 +18,12 @@ use vcard_text::text_map::value_at;
 /// the card whose UID is the rest.
 ///
 /// `NoSuchCard` where no card has the UID, `NotGroup` where its kind isn't group, and `Memory` where a growth was refused.
-pub fn expand(
-    alloc: Global,
-    cards: &BTreeMap<String, Card>,
-    group: &str,
-) -> Result<Expansion, GroupFault>
-    ensures expansion { IfOk result (λ expansion. IsExpansion (texts cards.now) group.now expansion) }
-    ensures no_such_card { (result ≡ Err NoSuchCard) ↔ (finite.get (texts cards.now) group.now ≡ None) }
-    ensures not_group { (result ≡ Err NotGroup) ↔ IsOtherCard (texts cards.now) group.now }
+pub fn expand<C: CardsByUid>(alloc: Global, cards: &C, group: &str) -> Result<Expansion, GroupFault>
+    ensures expansion { IfOk result (λ expansion. IsExpansion (C.cards cards.now) group.now expansion) }
+    ensures no_such_card { (result ≡ Err NoSuchCard) ↔ (finite.get (C.cards cards.now) group.now ≡ None) }
+    ensures not_group { (result ≡ Err NotGroup) ↔ IsOtherCard (C.cards cards.now) group.now }
 {
-    let Some(card) = value_at(cards, group) else {
+    let Some(card) = cards.card_of(group) else {
         return Err(GroupFault::NoSuchCard);
     };
     if !is_group(card) {

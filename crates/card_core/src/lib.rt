@@ -5,6 +5,7 @@ pub mod expansion;
 pub mod fault;
 pub mod groups;
 pub mod laws;
+pub mod lookup;
 mod naming;
 #[cfg(test)]
 mod tests;
@@ -14,3 +15,4 @@ mod walk;
 pub use expansion::Expansion;
 pub use fault::GroupFault;
 pub use groups::expand;
+pub use lookup::CardsByUid;

@@ -1,12 +1,10 @@
 //! What a MEMBER value names.
 ghost use Rattle.std.specs.Prelude.{◌≡◌, MatchOption, option_copied, drop, if◌then◌else◌};
-ghost use Rattle.vcard_text.specs.TextMaps.{texts};
 ghost use Rattle.card_core.specs.Groups.{begins_with_urn, named_by};
 ghost use Rattle.card_core.specs.Naming.{Names};
 
-use std::collections::BTreeMap;
+use crate::lookup::CardsByUid;
 use vcard_text::Card;
-use vcard_text::text_map::value_at;
 
 /// The octets of `urn:uuid:`.
 const URN_LEN: usize = 9;
@@ -24,16 +22,13 @@ fn behind_urn(value: &str) -> Option<&str>
 }
 
 /// The UID that a value names, and the card that has it. The whole value comes first: a UID may itself begin so.
-pub(crate) fn named<'a>(
-    cards: &'a BTreeMap<String, Card>,
-    value: &'a str,
-) -> Option<(&'a str, &'a Card)>
-    ensures { MatchOption result (named_by (texts cards.now) value.now ≡ None) (λ found. Names (texts cards.now) value.now found.0.now found.1.now) }
+pub(crate) fn named<'a, C: CardsByUid>(cards: &'a C, value: &'a str) -> Option<(&'a str, &'a Card)>
+    ensures { MatchOption result (named_by (C.cards cards.now) value.now ≡ None) (λ found. Names (C.cards cards.now) value.now found.0.now found.1.now) }
 {
-    if let Some(card) = value_at(cards, value) {
+    if let Some(card) = cards.card_of(value) {
         return Some((value, card));
     }
     let rest = behind_urn(value)?;
-    let card = value_at(cards, rest)?;
+    let card = cards.card_of(rest)?;
     Some((rest, card))
 }

@@ -1,10 +1,12 @@
 mod examples;
+mod lookups;
 mod passes;
 mod sizes;
 
 use crate::expansion::Expansion;
 use crate::fault::GroupFault;
 use crate::groups::expand;
+use crate::lookup::CardsByUid;
 use std::alloc::Global;
 use std::collections::BTreeMap;
 use std::test::Fail;
@@ -50,7 +52,7 @@ fn joined(alloc: Global, items: &Items<Text>) -> Result<String, Fail> {
 }
 
 /// What is told of whom the UID's card reaches.
-fn told(alloc: Global, cards: &BTreeMap<String, Card>, uid: &str) -> Result<String, Fail> {
+fn told<C: CardsByUid>(alloc: Global, cards: &C, uid: &str) -> Result<String, Fail> {
     match expand(alloc, cards, uid) {
         Ok(Expansion { people, missing }) => {
             let people = joined(alloc, &people)?;

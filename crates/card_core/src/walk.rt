@@ -1,15 +1,14 @@
 //! The walk from a group to all whom it reaches. Groups wait in a list, so that a chain of them may have any length.
 ghost use Rattle.std.specs.Prelude.{◌≡◌, ◌≤◌, ◌↔◌, ℕ, List, [], Some, IsTrue, IfOk, OnOk};
 ghost use Rattle.std.specs.FinMap as finite;
-ghost use Rattle.vcard_text.specs.TextMaps.{texts};
 ghost use Rattle.vcard_text.specs.Cards.{kind_of};
 ghost use Rattle.vcard_text.specs.declared.kind.Kind.TheVariants.{Group};
 ghost use Rattle.card_core.specs.Walks.{MeetsGroup, NotesMember, IsWalk, IsWalkBut, IsWholeWalk, count_left};
 
+use crate::lookup::CardsByUid;
 use crate::naming::named;
 use crate::text_set::TextSet;
 use std::alloc::Global;
-use std::collections::BTreeMap;
 use vcard_text::{Card, Kind, NoMemory};
 
 /// What was found so far. It grows with the members of the groups that were met, and never with all cards.
@@ -49,13 +48,13 @@ fn meet_group<'a>(
 }
 
 /// Notes the card that a member value names, or the value where it names none.
-fn note_member<'a>(
+fn note_member<'a, C: CardsByUid>(
     alloc: Global,
-    cards: &'a BTreeMap<String, Card>,
+    cards: &'a C,
     value: &'a str,
     walk: &mut Walk<'a>,
 ) -> Result<(), NoMemory>
-    ensures { OnOk result (NotesMember (texts cards.now) value.now walk.old walk.new) }
+    ensures { OnOk result (NotesMember (C.cards cards.now) value.now walk.old walk.new) }
 {
     let Some((uid, card)) = named(cards, value) else {
         return walk.missing.insert(alloc, value);
@@ -68,14 +67,14 @@ fn note_member<'a>(
 }
 
 /// Notes each member of a group that was met.
-fn note_members<'a>(
+fn note_members<'a, C: CardsByUid>(
     alloc: Global,
-    cards: &'a BTreeMap<String, Card>,
+    cards: &'a C,
     card: &'a Card,
     walk: &mut Walk<'a>,
 ) -> Result<(), NoMemory>
-    ensures goes_on { OnOk result ((group : List ℕ) → IsWalkBut (texts cards.now) group card.now walk.old → IsWalk (texts cards.now) group walk.new) }
-    ensures ends { OnOk result (count_left (texts cards.now) walk.new ≤ count_left (texts cards.now) walk.old) }
+    ensures goes_on { OnOk result ((group : List ℕ) → IsWalkBut (C.cards cards.now) group card.now walk.old → IsWalk (C.cards cards.now) group walk.new) }
+    ensures ends { OnOk result (count_left (C.cards cards.now) walk.new ≤ count_left (C.cards cards.now) walk.old) }
 {
     for line in card.lines() {
         if line.name.as_str() == "MEMBER" {
@@ -86,12 +85,12 @@ fn note_members<'a>(
 }
 
 /// Notes the members of each group that waits, and of those that they lead to.
-fn note_waiting<'a>(
+fn note_waiting<'a, C: CardsByUid>(
     alloc: Global,
-    cards: &'a BTreeMap<String, Card>,
+    cards: &'a C,
     walk: &mut Walk<'a>,
 ) -> Result<(), NoMemory>
-    ensures goes_on { OnOk result ((group : List ℕ) → IsWalk (texts cards.now) group walk.old → IsWalk (texts cards.now) group walk.new) }
+    ensures goes_on { OnOk result ((group : List ℕ) → IsWalk (C.cards cards.now) group walk.old → IsWalk (C.cards cards.now) group walk.new) }
     ensures none_waits { OnOk result (walk.new.waiting.items ≡ []) }
 {
     while let Some(card) = walk.waiting.pop() {
@@ -101,15 +100,15 @@ fn note_waiting<'a>(
 }
 
 /// The walk from a group to its end.
-pub(crate) fn walk_from<'a>(
+pub(crate) fn walk_from<'a, C: CardsByUid>(
     alloc: Global,
-    cards: &'a BTreeMap<String, Card>,
+    cards: &'a C,
     group: &str,
     card: &'a Card,
 ) -> Result<Walk<'a>, NoMemory>
-    requires found { finite.get (texts cards.now) group.now ≡ Some card.now }
+    requires found { finite.get (C.cards cards.now) group.now ≡ Some card.now }
     requires is_group { kind_of card.now ≡ Group }
-    ensures { IfOk result (IsWholeWalk (texts cards.now) group.now) }
+    ensures { IfOk result (IsWholeWalk (C.cards cards.now) group.now) }
 {
     let mut walk = Walk {
         people: TextSet::new(alloc),

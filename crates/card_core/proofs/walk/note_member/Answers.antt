@@ -5,11 +5,11 @@ use Rattle.card_core.specs.Walks.{finds_group, finds_other}
 use Rattle.card_core.proofs.walk.note_member.Goals as goal
 
 pub returns-then-is_group : goal.returns-then-is_group
-returns-then-is_group c =
+returns-then-is_group g c =
     on_ok_weaker c.meet_group.result (λ meets. finds_group c.in-Some.uid.now c.in-Some.card.now c.in-Some.ensures (c.if-is_group.ensures.0 refl) meets) c.meet_group.ensures
 
 pub returns-else-is_group : goal.returns-else-is_group
-returns-else-is_group c =
+returns-else-is_group g c =
     on_ok_weaker c.insert-else-is_group.result
     (λ gains. finds_other c.in-Some.uid.now c.in-Some.card.now c.in-Some.ensures (λ is. false≢true (c.if-is_group.ensures.1 is)) gains refl (record { groups = refl; waiting = refl }))
     c.insert-else-is_group.ensures

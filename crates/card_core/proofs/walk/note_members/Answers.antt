@@ -1,7 +1,6 @@
 use Rattle.std.proofs.Common.{◌≡◌, ◌<◌, ◌∙◌, length, get_or, codes, sym, ap, arith}
 use Rattle.std.specs.Str.{bytes_eq}
 use Rattle.vcard_text.specs.Cards.{is_named}
-use Rattle.vcard_text.specs.TextMaps.{texts}
 use Rattle.card_core.specs.Walks.{NotesMember}
 use Rattle.card_core.proofs.MemberLemmas.{noted_one, noted_no_more, noted_all}
 use Rattle.card_core.proofs.CountLemmas.{step_left}
@@ -9,8 +8,8 @@ use Rattle.card_core.proofs.walk.note_members.Goals as goal
 use Rattle.card_core.proofs.walk.note_members.Goals.{then-eq+in_ok-note_member, else-eq}
 
 pub loop-line-preserved : goal.loop-line-preserved
-loop-line-preserved c =
-    let cards = texts c.args.cards.now in
+loop-line-preserved g c =
+    let cards = g.C.CardsByUid.cards c.args.cards.now in
     let lines = c.args.card.now in
     let line = c.line-item.result in
     let within : c.loop-line.line-index < length lines = omega (arith, ap length c.lines-line-items.ensures.lines) in
@@ -31,6 +30,6 @@ loop-line-preserved c =
     ]
 
 pub returns-clause-goes_on : goal.returns-clause-goes_on
-returns-clause-goes_on c =
-    noted_all (texts c.args.cards.now) c.args.card.now c.args.walk.now c.loop-line.walk c.loop-line.line-index
+returns-clause-goes_on g c =
+    noted_all (g.C.CardsByUid.cards c.args.cards.now) c.args.card.now c.args.walk.now c.loop-line.walk c.loop-line.line-index
     (omega (arith, ap length c.lines-line-items.ensures.lines)) c.loop-line.invariant.noted

@@ -1,38 +1,38 @@
 use Rattle.std.proofs.Common.{◌≡◌, ◌+◌, ◌≤◌, List, [], ◌∷◌, ◌++◌, map, Bor, refl, sym, ap, ◌∙◌, arith}
 use Rattle.std.proofs.lemmas.List.{map-append, append-nil}
-use Rattle.vcard_text.specs.TextMaps.{texts}
 use Rattle.vcard_text.specs.declared.line.Line.{Line}
 use Rattle.card_core.specs.declared.walk.Walk.{Walk}
 use Rattle.card_core.specs.Walks.{count_left}
 use Rattle.card_core.proofs.CountLemmas.{taking_left}
 use Rattle.card_core.proofs.WalkLemmas.{takes_out, takes_none}
+use Rattle.card_core.proofs.walk.note_waiting.Given as given
 use Rattle.card_core.proofs.walk.note_waiting.Goals as goal
 
 taken_out : (old new : List (Bor (List Line))) (card : Bor (List Line)) → old ≡ new ++ card ∷ [] → map (λ c. c.now) old ≡ map (λ c. c.now) new ++ card.now ∷ []
 taken_out old new card is = ap (map (λ c. c.now)) is ∙ map-append (λ c. c.now) new (card ∷ [])
 
 -- the walk once a group was taken out
-abbrev rest_of : goal.In_ok-note_members → Walk
-rest_of c = record c.loop-card.walk { waiting = c.pop.new.self }
+abbrev rest_of : (g : given.Over) → goal.In_ok-note_members g → Walk
+rest_of g c = record c.loop-card.walk { waiting = c.pop.new.self }
 
 pub loop-card-preserved : goal.loop-card-preserved
-loop-card-preserved c = λ group before.
+loop-card-preserved g c = λ group before.
     c.in_ok-note_members.ensures.goes_on group
-    (takes_out (texts c.args.cards.now) group c.in-Some.card.now c.loop-card.walk (rest_of c)
+    (takes_out (g.C.CardsByUid.cards c.args.cards.now) group c.in-Some.card.now c.loop-card.walk (rest_of g c)
     (taken_out c.loop-card.walk.waiting.items c.pop.new.self.items c.in-Some.card c.in-Some.ensures.items)
     (record { people = refl; missing = refl }) refl
     (c.loop-card.invariant group before))
 
 pub loop-card-smaller : goal.loop-card-smaller
-loop-card-smaller c =
-    let fewer : count_left (texts c.args.cards.now) (rest_of c) + 1 ≤ count_left (texts c.args.cards.now) c.loop-card.walk =
-    taking_left (texts c.args.cards.now) c.in-Some.card.now c.loop-card.walk (rest_of c) (taken_out c.loop-card.walk.waiting.items c.pop.new.self.items c.in-Some.card c.in-Some.ensures.items) refl in
-    let no_more : count_left (texts c.args.cards.now) c.note_members.new.walk ≤ count_left (texts c.args.cards.now) (rest_of c) = c.in_ok-note_members.ensures.ends in
+loop-card-smaller g c =
+    let fewer : count_left (g.C.CardsByUid.cards c.args.cards.now) (rest_of g c) + 1 ≤ count_left (g.C.CardsByUid.cards c.args.cards.now) c.loop-card.walk =
+    taking_left (g.C.CardsByUid.cards c.args.cards.now) c.in-Some.card.now c.loop-card.walk (rest_of g c) (taken_out c.loop-card.walk.waiting.items c.pop.new.self.items c.in-Some.card c.in-Some.ensures.items) refl in
+    let no_more : count_left (g.C.CardsByUid.cards c.args.cards.now) c.note_members.new.walk ≤ count_left (g.C.CardsByUid.cards c.args.cards.now) (rest_of g c) = c.in_ok-note_members.ensures.ends in
     omega arith
 
 pub returns-clause-goes_on : goal.returns-clause-goes_on
-returns-clause-goes_on c = λ group before.
-    takes_none (texts c.args.cards.now) group c.loop-card.walk (record c.loop-card.walk { waiting = c.pop.new.self })
+returns-clause-goes_on g c = λ group before.
+    takes_none (g.C.CardsByUid.cards c.args.cards.now) group c.loop-card.walk (record c.loop-card.walk { waiting = c.pop.new.self })
     (record { people = refl; missing = refl })
     (record { groups = refl; waiting = ap (map (λ c. c.now)) (sym (c.in_default.ensures.items ∙ append-nil c.pop.new.self.items)) })
     (c.loop-card.invariant group before)
