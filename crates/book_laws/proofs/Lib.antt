@@ -1,6 +1,7 @@
 pub mod PutLemmas
 pub mod CountLemmas
 pub mod HistoryLemmas
+pub mod LiveLemmas
 pub mod DueLemmas
 pub mod RowLemmas
 pub mod ReportLemmas

@@ -1,6 +1,7 @@
 pub mod Histories
 pub mod Lawful
 pub mod HistoryCounts
+pub mod LiveLaws
 pub mod CountLaws
 pub mod Reports
 pub mod ReportLaws

@@ -3,10 +3,16 @@ ghost use Rattle.std.specs.Prelude.{◌≡◌, ◌↔◌, List, true};
 ghost use Rattle.vcard_text.specs.Cards.{IsCard, canonical_text};
 ghost use Rattle.vcard_text.specs.declared.line.Line.{Line};
 ghost use Rattle.book_model.specs.SameCards.{same_card};
+ghost use Rattle.book_laws.specs.LiveLaws.{LiveAreStoredLast};
 ghost use Rattle.book_laws.specs.CountLaws.{EventsAreCounted, LiveAreCounted};
 ghost use Rattle.book_laws.specs.ReportLaws.{DueHaveEvents};
 
 use vcard_text::laws::equal_texts;
+
+/// A card is live where the last change of its UID stored it, and that change's number is its version.
+pub fn live_cards_are_stored_last()
+    ensures { LiveAreStoredLast }
+{}
 
 /// The counts of a history add up to its number of events, and tell how many cards are live.
 pub fn changes_are_counted()

@@ -1,0 +1,31 @@
+-- That the live cards of a book are what its last events stored. This project's own.
+use Rattle.std.specs.Prelude.{ℕ, ◌≡◌, ◌≢◌, ◌+◌, ◌↔◌, List, ◌∷◌, ◌++◌, length, All, Some}
+use Rattle.std.specs.FinMap as finite
+use Rattle.book_model.specs.declared.answers.Stored.{Stored}
+use Rattle.book_model.specs.declared.change.Change.{Change}
+use Rattle.book_model.specs.declared.change.Change.TheVariants.{Stores}
+use Rattle.book_model.specs.declared.change.StoreReason.{StoreReason}
+use Rattle.book_laws.specs.Histories.{BookEvent, live}
+
+-- the event is of another member
+abbrev pub IsOfAnother : List ℕ → BookEvent → Type 0
+IsOfAnother uid event = event.uid ≢ uid
+
+-- This is the last change of the UID, and it is the event with this number.
+pub record IsLastChange (h : List BookEvent) (uid : List ℕ) (number : ℕ) (change : Change)
+    : Type 0 where
+  pub later : List BookEvent
+  pub earlier : List BookEvent
+  pub parts : h ≡ later ++ record { uid = uid; change = change } ∷ earlier
+  pub number_is : number ≡ length earlier + 1
+  pub others : All (IsOfAnother uid) later
+
+-- the UID's last change stored the card, as which version
+pub record IsStoredLast (h : List BookEvent) (uid : List ℕ) (stored : Stored) : Type 0 where
+  pub why : StoreReason
+  pub change : IsLastChange h uid stored.version (Stores stored.card why)
+
+-- a card is live where the last change of its UID stored it, with that change's number as its version
+abbrev pub LiveAreStoredLast : Type 0
+LiveAreStoredLast = (h : List BookEvent) (uid : List ℕ) (stored : Stored) →
+    (finite.get (live h) uid ≡ Some stored) ↔ IsStoredLast h uid stored
