@@ -1,4 +1,4 @@
-//! A chain of 10,000 groups, and a group of 10,000 members.
+//! A chain of 10,000 groups, a group of 10,000 members, and 20,000 members that name one large card.
 use super::card_of;
 use crate::groups::expand;
 use std::alloc::Global;
@@ -75,5 +75,31 @@ fn lists_many_members(rt: HostRuntime) -> Result<(), Fail> {
         number = number.saturating_add(1);
     }
     assert_eq!(rt; expansion.missing.as_slice().len(), 1_000);
+    Ok(())
+}
+
+/// All members name one card, which has as many lines: none of its lines is looked at for its kind.
+#[test]
+fn names_one_large_card_often(rt: HostRuntime) -> Result<(), Fail> {
+    let alloc = rt.alloc();
+    let mut members = String::new(alloc);
+    let mut notes = String::new(alloc);
+    for _ in 0..20_000 {
+        members.push_str("MEMBER:x\r\n")?;
+        notes.push_str("NOTE:1\r\n")?;
+    }
+    let mut cards = BTreeMap::new(alloc);
+    cards.insert(
+        String::from_str(alloc, "g")?,
+        card_of(alloc, "g", "group", members.as_str())?,
+    )?;
+    cards.insert(
+        String::from_str(alloc, "x")?,
+        card_of(alloc, "x", "org", notes.as_str())?,
+    )?;
+
+    let expansion = expand(alloc, &cards, "g")?;
+    assert_eq!(rt; expansion.people.as_slice().len(), 1);
+    assert_eq!(rt; expansion.missing.as_slice().len(), 0);
     Ok(())
 }
