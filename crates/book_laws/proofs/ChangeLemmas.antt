@@ -25,15 +25,15 @@ use Rattle.book_model.specs.Moving.{Moving, move_answer, books_after_move}
 use Rattle.book_model.specs.Outcomes.{◌>>=◌}
 use Rattle.book_model.specs.Putting.{Found, found_in}
 use Rattle.book_model.specs.Removing.{remove_number}
-use Rattle.book_laws.specs.Worlds.{Story, Stories, World, IsSound, book_of, rows}
+use Rattle.book_laws.specs.Worlds.{Story, Stories, IsSound, AreSound, book_of, rows}
 use Rattle.book_laws.specs.WorldChanges.{event, stories_after_move}
 use Rattle.book_laws.specs.WorldSteps.{with_event, found_of}
-use Rattle.book_laws.specs.Following.{IsWorldOf, Follows}
+use Rattle.book_laws.specs.Following.{AreStoriesOf, Follows}
 use Rattle.book_laws.proofs.FollowLemmas.{follow_named, follow_test, follow_given, sound_with}
 use Rattle.book_laws.proofs.HistoryLemmas.{get-changed}
 use Rattle.book_model.proofs.TextLemmas.{text_total, same-equal}
 use Rattle.book_model.proofs.AnswerLemmas.{live_first, found_to_move, FoundToMove}
-use Rattle.book_laws.proofs.WorldLemmas.{rows-insert, sound-insert, wrote_world, book_of-with_event, found_is}
+use Rattle.book_laws.proofs.WorldLemmas.{rows-insert, sound-insert, wrote_story, book_of-with_event, found_is}
 
 -- ---- taking a card away
 
@@ -44,15 +44,15 @@ pub removed_is_live : (limits : Bounds) (found : Found) (expect : Option ℕ) (n
 removed_is_live limits found expect number e = let l = live_first found.live _ number e in some_is found.live l.0 l.1
 
 pub removing_follows : RemovingFollows
-removing_follows world name uid expect = follow_named world name _ _ (λ story at sound.
+removing_follows world name uid expect all = follow_named world.books name _ _ all (λ story at sound.
     let e = event uid (TakesAway Deletion) in
-    subst (λ (found : Found). Follows world.limits
+    subst (λ (found : Found). Follows
     (remove_number world.limits found expect >>= λ number. Ok (number, finite.insert (rows world.books) name (with_change (book_of story) uid (TakesAway Deletion))))
     (remove_number world.limits (found_of story.history uid) expect >>= λ number. Ok (number, finite.insert world.books name (with_event story e))))
     (sym (found_is story uid sound))
-    (follow_given world.limits (remove_number world.limits (found_of story.history uid) expect) _ _ (λ number is. (
+    (follow_given (remove_number world.limits (found_of story.history uid) expect) _ _ (λ number is. (
       refl,
-      wrote_world world.limits world.books name (with_event story e) (with_change (book_of story) uid (TakesAway Deletion)) world.sound
+      wrote_story world.books name (with_event story e) (with_change (book_of story) uid (TakesAway Deletion)) all
           (sound_with story e sound (removed_is_live world.limits (found_of story.history uid) expect number is))
           (book_of-with_event story e sound.past),
     ))))
@@ -90,33 +90,33 @@ moves_soundly source target uid moving s t f = record {
   came = sound_with target (event uid (Stores moving.card MoveIn)) t (ap uid_of f.card ∙ live_uid source.history uid f.stored s.lawful f.live, f.free);
 }
 
-wrote_both : (world : World) (from to uid : List ℕ) (source target : Story) (card : List Line) → IsSound source → IsSound target → MovesSoundly source target uid card
-    → IsWorldOf world.limits (stories_after_move world.books from to uid source target card) (books_after_move (rows world.books) from to uid (book_of source) (book_of target) card)
-wrote_both world from to uid source target card s t m =
+wrote_both : (stories : Stories) (from to uid : List ℕ) (source target : Story) (card : List Line) → AreSound stories → IsSound source → IsSound target → MovesSoundly source target uid card
+    → AreStoriesOf (books_after_move (rows stories) from to uid (book_of source) (book_of target) card) (stories_after_move stories from to uid source target card)
+wrote_both stories from to uid source target card sound s t m =
     let came : BookEvent = event uid (Stores card MoveIn) in
     let left : BookEvent = event uid (TakesAway MoveOut) in
-    let first : Stories = finite.insert world.books to (with_event target came) in
-    subst (λ (books : Books). IsWorldOf world.limits (finite.insert first from (with_event source left)) (finite.insert books from (with_change (book_of source) uid (TakesAway MoveOut))))
-    (rows-insert world.books to (with_event target came) ∙ ap (finite.insert (rows world.books) to) (book_of-with_event target came t.past))
-    (wrote_world world.limits first from (with_event source left) (with_change (book_of source) uid (TakesAway MoveOut))
-    (sound-insert world.books to (with_event target came) world.sound m.came) m.left (book_of-with_event source left s.past))
+    let first : Stories = finite.insert stories to (with_event target came) in
+    subst (λ (books : Books). AreStoriesOf (finite.insert books from (with_change (book_of source) uid (TakesAway MoveOut))) (finite.insert first from (with_event source left)))
+    (rows-insert stories to (with_event target came) ∙ ap (finite.insert (rows stories) to) (book_of-with_event target came t.past))
+    (wrote_story first from (with_event source left) (with_change (book_of source) uid (TakesAway MoveOut))
+    (sound-insert stories to (with_event target came) sound m.came) m.left (book_of-with_event source left s.past))
 
 pub moving_follows : MovingFollows
-moving_follows world from to uid expect =
-    follow_named world from _ _ (λ source at s.
-    follow_named world to _ _ (λ target at' t.
-    follow_test world.limits (not (same_uid from to)) SameBook _ _ (λ apart.
-    subst (λ (found : Found). Follows world.limits
+moving_follows world from to uid expect all =
+    follow_named world.books from _ _ all (λ source at s.
+    follow_named world.books to _ _ all (λ target at' t.
+    follow_test (not (same_uid from to)) SameBook _ _ (λ apart.
+    subst (λ (found : Found). Follows
     (move_answer world.limits found (found_in (book_of target) uid) expect >>= λ moving. Ok (moving.numbers, books_after_move (rows world.books) from to uid (book_of source) (book_of target) moving.card))
     (meant source target))
     (sym (found_is source uid s))
-    (subst (λ (found : Found). Follows world.limits
+    (subst (λ (found : Found). Follows
     (move_answer world.limits (found_of source.history uid) found expect >>= λ moving. Ok (moving.numbers, books_after_move (rows world.books) from to uid (book_of source) (book_of target) moving.card))
     (meant source target))
     (sym (found_is target uid t))
-    (follow_given world.limits (move_answer world.limits (found_of source.history uid) (found_of target.history uid) expect) _ _ (λ moving is. (
+    (follow_given (move_answer world.limits (found_of source.history uid) (found_of target.history uid) expect) _ _ (λ moving is. (
       refl,
-      wrote_both world from to uid source target moving.card s t (moves_soundly source target uid moving s t (found_to_move world.limits (found_of source.history uid) (found_of target.history uid) expect moving is)),
+      wrote_both world.books from to uid source target moving.card all s t (moves_soundly source target uid moving s t (found_to_move world.limits (found_of source.history uid) (found_of target.history uid) expect moving is)),
     )))))))
   where
     meant : Story → Story → Result (Moved × Stories) Refusal

@@ -4,12 +4,11 @@ use Rattle.std.specs.Option.{option_map, option_map_or}
 use Rattle.std.specs.FinMap as finite
 use Rattle.book_model.specs.declared.refusal.Refusal.{Refusal}
 use Rattle.book_model.specs.declared.refusal.Refusal.TheVariants.{NoSuchBook}
-use Rattle.book_model.specs.Bounds.{Bounds}
 use Rattle.book_model.specs.Books.{Book, Books, book_named}
 use Rattle.book_laws.specs.Histories.{BookEvent}
 use Rattle.book_laws.specs.Lawful.{MayFollow}
 use Rattle.book_model.specs.Outcomes.{◌>>=◌, provided}
-use Rattle.book_laws.specs.Worlds.{Story, Stories, World, IsSound, book_of, rows}
+use Rattle.book_laws.specs.Worlds.{Story, Stories, IsSound, AreSound, book_of, rows}
 use Rattle.book_laws.specs.WorldSteps.{with_event, story_named}
 use Rattle.book_laws.specs.Following.{Follows}
 use Rattle.book_laws.proofs.WorldLemmas.{get-rows}
@@ -17,29 +16,29 @@ use Rattle.book_laws.proofs.WorldLemmas.{get-rows}
 -- an answer is the same answer
 module _ {A : Type 0} where
   -- the book of a name, where there is one
-  pub follow_named : (world : World) (name : List ℕ) (f : Book → Result (A × Books) Refusal) (g : Story → Result (A × Stories) Refusal)
-      → ((story : Story) → finite.get world.books name ≡ Some story → IsSound story → Follows world.limits (f (book_of story)) (g story))
-      → Follows world.limits (book_named (rows world.books) name >>= f) (story_named world.books name >>= g)
-  follow_named world name f g each =
-      subst (λ (o : Option Book). Follows world.limits (option_map_or Ok o (Err NoSuchBook) >>= f) (story_named world.books name >>= g)) (sym (get-rows world.books name))
-      (by_story (finite.get world.books name) (λ story e. each story e (world.sound name story e)))
+  pub follow_named : (stories : Stories) (name : List ℕ) (f : Book → Result (A × Books) Refusal) (g : Story → Result (A × Stories) Refusal) → AreSound stories
+      → ((story : Story) → finite.get stories name ≡ Some story → IsSound story → Follows (f (book_of story)) (g story))
+      → Follows (book_named (rows stories) name >>= f) (story_named stories name >>= g)
+  follow_named stories name f g sound each =
+      subst (λ (o : Option Book). Follows (option_map_or Ok o (Err NoSuchBook) >>= f) (story_named stories name >>= g)) (sym (get-rows stories name))
+      (by_story (finite.get stories name) (λ story e. each story e (sound name story e)))
     where
-      by_story : (o : Option Story) → ((story : Story) → o ≡ Some story → Follows world.limits (f (book_of story)) (g story))
-          → Follows world.limits (option_map_or Ok (option_map book_of o) (Err NoSuchBook) >>= f) (option_map_or Ok o (Err NoSuchBook) >>= g)
+      by_story : (o : Option Story) → ((story : Story) → o ≡ Some story → Follows (f (book_of story)) (g story))
+          → Follows (option_map_or Ok (option_map book_of o) (Err NoSuchBook) >>= f) (option_map_or Ok o (Err NoSuchBook) >>= g)
       by_story None each = refl
       by_story (Some story) each = each story refl
 
   -- the same test on both sides
-  pub follow_test : (limits : Bounds) (test : Bool) (refusal : Refusal) (f : Result (A × Books) Refusal) (g : Result (A × Stories) Refusal) → (test ≡ true → Follows limits f g)
-      → Follows limits (provided test refusal >>= λ _. f) (provided test refusal >>= λ _. g)
-  follow_test limits true refusal f g h = h refl
-  follow_test limits false refusal f g h = refl
+  pub follow_test : (test : Bool) (refusal : Refusal) (f : Result (A × Books) Refusal) (g : Result (A × Stories) Refusal) → (test ≡ true → Follows f g)
+      → Follows (provided test refusal >>= λ _. f) (provided test refusal >>= λ _. g)
+  follow_test true refusal f g h = h refl
+  follow_test false refusal f g h = refl
 
   -- the same answer on both sides
-  pub follow_given : {B : Type 0} (limits : Bounds) (given : Result B Refusal) (f : B → Result (A × Books) Refusal) (g : B → Result (A × Stories) Refusal) → ((x : B) → given ≡ Ok x → Follows limits (f x) (g x))
-      → Follows limits (given >>= f) (given >>= g)
-  follow_given limits (Ok x) f g h = h x refl
-  follow_given limits (Err refusal) f g h = refl
+  pub follow_given : {B : Type 0} (given : Result B Refusal) (f : B → Result (A × Books) Refusal) (g : B → Result (A × Stories) Refusal) → ((x : B) → given ≡ Ok x → Follows (f x) (g x))
+      → Follows (given >>= f) (given >>= g)
+  follow_given (Ok x) f g h = h x refl
+  follow_given (Err refusal) f g h = refl
 
 -- a story goes on soundly by an event that may come next
 pub sound_with : (story : Story) (e : BookEvent) → IsSound story → MayFollow story.history e → IsSound (with_event story e)

@@ -22,7 +22,7 @@ use Rattle.book_model.proofs.BasicLemmas.{is_some-map}
 use Rattle.book_laws.proofs.FollowLemmas.{follow_named, follow_test}
 use Rattle.book_laws.proofs.RowLemmas.{row_at, get-kept_rows, get-all_rows}
 use Rattle.book_model.proofs.TextLemmas.{text_total, same_self, same-equal}
-use Rattle.book_laws.proofs.WorldLemmas.{wrote_world}
+use Rattle.book_laws.proofs.WorldLemmas.{wrote_story}
 
 abbrev Rows : Type 0
 Rows = finite.FinMap text_cmp Row
@@ -230,12 +230,12 @@ module _ (story : Story) (upto : ℕ) (rises : story.horizon ≤ upto) where
       omega (arith, before, after, all)
 
 pub forgetting_follows : ForgettingFollows
-forgetting_follows world name upto =
-    follow_named world name _ _ (λ story at sound.
-    follow_test world.limits (may_forget story.horizon (length story.history) upto) BadForget _ _ (λ allowed.
+forgetting_follows stories name upto all =
+    follow_named stories name _ _ all (λ story at sound.
+    follow_test (may_forget story.horizon (length story.history) upto) BadForget _ _ (λ allowed.
     let parts = and_parts _ _ allowed in
     let rises : story.horizon ≤ upto = leb-true _ _ parts.0 in
     let past : upto ≤ length story.history = leb-true _ _ parts.1 in (
       dropped_is story upto rises,
-      wrote_world world.limits world.books name (with_horizon story upto) (forgotten (book_of story) upto) world.sound (record { lawful = sound.lawful; past = past }) (book_forgotten story upto rises),
+      wrote_story stories name (with_horizon story upto) (forgotten (book_of story) upto) all (record { lawful = sound.lawful; past = past }) (book_forgotten story upto rises),
     )))

@@ -21,14 +21,14 @@ use Rattle.book_model.specs.Importing.{Importing, importing, import_over, import
 use Rattle.book_laws.specs.Lawful.{MayStore}
 use Rattle.book_model.specs.Outcomes.{◌>>=◌}
 use Rattle.book_model.specs.SameCards.{same_card}
-use Rattle.book_laws.specs.Worlds.{Story, Stories, World, IsSound, book_of, rows}
+use Rattle.book_laws.specs.Worlds.{Story, Stories, IsSound, AreSound, World, book_of, rows}
 use Rattle.book_laws.specs.WorldChanges.{event, live_of, storing_event, imported, story_keeping, import_meaning_under}
 use Rattle.book_laws.specs.Following.{Follows}
 use Rattle.book_laws.proofs.CountLemmas.{live_count_is}
 use Rattle.book_laws.proofs.FollowLemmas.{follow_named, follow_test, follow_given, sound_with}
 use Rattle.book_laws.proofs.RowLemmas.{live_by_row}
 use Rattle.book_model.proofs.SameCardLemmas.{card-Decides}
-use Rattle.book_laws.proofs.WorldLemmas.{wrote_world, same_world, book_of-with_event}
+use Rattle.book_laws.proofs.WorldLemmas.{wrote_story, same_stories, book_of-with_event}
 
 -- the rows of an import as far as it came
 abbrev rows_so_far : Importing Story → Importing Book
@@ -104,27 +104,27 @@ module _ (limits : Bounds) (story : Story) (cards : List (List Line)) (sound : I
 pub keeping_sound : (story : Story) (key : List ℕ) (tally : ImportTally) → IsSound story → IsSound (story_keeping story key tally)
 keeping_sound story key tally sound = record { lawful = sound.lawful; past = sound.past }
 
-module _ (world : World) (name key : List ℕ) (cards : List (List Line)) (story : Story) (sound : IsSound story) where
+module _ (world : World) (name key : List ℕ) (cards : List (List Line)) (story : Story) (all : AreSound world.books) (sound : IsSound story) where
   abbrev written : Importing Book → ImportTally → Result (ImportTally × Books) Refusal
   written state tally = Ok (tally, finite.insert (rows world.books) name (keeping state.book key tally))
 
   abbrev meant : ImportTally → Result (ImportTally × Stories) Refusal
   meant tally = Ok (tally, finite.insert world.books name (story_keeping (imported story cards).book key tally))
 
-  under : (kept : Option ImportTally) → Follows world.limits (import_under world.limits (rows world.books) name (book_of story) key cards kept) (import_meaning_under world.limits world.books name story key cards kept)
-  under (Some kept) = (refl, same_world world.limits world.books world.sound)
+  under : (kept : Option ImportTally) → Follows (import_under world.limits (rows world.books) name (book_of story) key cards kept) (import_meaning_under world.limits world.books name story key cards kept)
+  under (Some kept) = (refl, same_stories world.books all)
   under None =
-      subst (λ (state : Importing Book). Follows world.limits (import_tally world.limits state (live_count state.book.counts) state.book.number >>= written state) (import_meaning_under world.limits world.books name story key cards None))
+      subst (λ (state : Importing Book). Follows (import_tally world.limits state (live_count state.book.counts) state.book.number >>= written state) (import_meaning_under world.limits world.books name story key cards None))
       (sym (rows_imported world.limits story cards sound))
-      (subst (λ (given : Result ImportTally Refusal). Follows world.limits (given >>= written (rows_so_far (imported story cards))) (import_meaning_under world.limits world.books name story key cards None))
+      (subst (λ (given : Result ImportTally Refusal). Follows (given >>= written (rows_so_far (imported story cards))) (import_meaning_under world.limits world.books name story key cards None))
       (sym (tally_is world.limits story cards sound))
-      (follow_given world.limits (import_tally world.limits (imported story cards) (finite.len (live (imported story cards).book.history)) (length (imported story cards).book.history)) (written (rows_so_far (imported story cards))) meant (λ tally is. (
+      (follow_given (import_tally world.limits (imported story cards) (finite.len (live (imported story cards).book.history)) (length (imported story cards).book.history)) (written (rows_so_far (imported story cards))) meant (λ tally is. (
         refl,
-        wrote_world world.limits world.books name (story_keeping (imported story cards).book key tally) (keeping (book_of (imported story cards).book) key tally) world.sound
+        wrote_story world.books name (story_keeping (imported story cards).book key tally) (keeping (book_of (imported story cards).book) key tally) all
             (keeping_sound (imported story cards).book key tally (imported_sound story cards sound)) refl,
       ))))
 
 pub importing_follows : ImportingFollows
-importing_follows world name key cards =
-    follow_named world name _ _ (λ story at sound.
-    follow_test world.limits (is_legal_key key) BadKey _ _ (λ legal. under world name key cards story sound (finite.get story.imports key)))
+importing_follows world name key cards all =
+    follow_named world.books name _ _ all (λ story at sound.
+    follow_test (is_legal_key key) BadKey _ _ (λ legal. under world name key cards story all sound (finite.get story.imports key)))

@@ -19,7 +19,7 @@ use Rattle.book_laws.specs.ReadLaws.{BooksFollow, BookLinesFollow, GettingFollow
 use Rattle.book_model.specs.Reading.{book_line, live_entry, live_cards, tally_with, is_removed_after, remembered_in, tally_of}
 use Rattle.book_model.specs.Removing.{live_card}
 use Rattle.book_laws.specs.Rows.{is_kept, kept_rows}
-use Rattle.book_laws.specs.Worlds.{Story, World, IsSound, book_of, rows}
+use Rattle.book_laws.specs.Worlds.{Story, Stories, IsSound, book_of, rows}
 use Rattle.book_laws.specs.WorldReads.{story_line, is_remembered_of, tally_of_story}
 use Rattle.book_laws.specs.WorldSteps.{story_named}
 use Rattle.book_model.proofs.BasicLemmas.{is_some-map}
@@ -32,11 +32,11 @@ use Rattle.book_model.proofs.LiveCardLemmas.{find_live, Members}
 use Rattle.book_laws.proofs.WorldLemmas.{get-rows, entries-rows}
 
 -- the same is told of the book of a name and of its story
-told_named : {A : Type 0} (world : World) (name : List ℕ) (f : Book → Result A Refusal) (g : Story → Result A Refusal) → ((story : Story) → IsSound story → f (book_of story) ≡ g story)
-    → (book_named (rows world.books) name >>= f) ≡ (story_named world.books name >>= g)
-told_named {A} world name f g each =
-    ap (λ (o : Option Book). option_map_or Ok o (Err NoSuchBook) >>= f) (get-rows world.books name)
-    ∙ by_story (finite.get world.books name) (λ story e. each story (world.sound name story e))
+told_named : {A : Type 0} (stories : Stories) (name : List ℕ) (f : Book → Result A Refusal) (g : Story → Result A Refusal) → ((story : Story) → finite.get stories name ≡ Some story → f (book_of story) ≡ g story)
+    → (book_named (rows stories) name >>= f) ≡ (story_named stories name >>= g)
+told_named {A} stories name f g each =
+    ap (λ (o : Option Book). option_map_or Ok o (Err NoSuchBook) >>= f) (get-rows stories name)
+    ∙ by_story (finite.get stories name) each
   where
     by_story : (o : Option Story) → ((story : Story) → o ≡ Some story → f (book_of story) ≡ g story)
         → (option_map_or Ok (option_map book_of o) (Err NoSuchBook) >>= f) ≡ (option_map_or Ok o (Err NoSuchBook) >>= g)
@@ -50,15 +50,15 @@ lines_are [] = refl
 lines_are (n ∷ ns) = ap (λ t. story_line n ∷ t) (lines_are ns)
 
 pub books_follow : BooksFollow
-books_follow world = ap (map book_line) (entries-rows world.books) ∙ lines_are (finite.entries world.books)
+books_follow stories = ap (map book_line) (entries-rows stories) ∙ lines_are (finite.entries stories)
 
 pub book_lines_follow : BookLinesFollow
-book_lines_follow world name = told_named world name _ _ (λ story sound. refl)
+book_lines_follow stories name = told_named stories name _ _ (λ story at. refl)
 
 -- ---- cards
 
 pub getting_follows : GettingFollows
-getting_follows world name uid = told_named world name _ _ (λ story sound. ap live_card (live_by_row story.history story.horizon uid))
+getting_follows stories name uid = told_named stories name _ _ (λ story at. ap live_card (live_by_row story.history story.horizon uid))
 
 pub live_cards_are : (story : Story) → live_cards (book_of story) ≡ live story.history
 live_cards_are story = same_map text_total exact_bytes _ _ (λ q.
@@ -71,10 +71,10 @@ live_cards_are story = same_map text_total exact_bytes _ _ (λ q.
     members = kept_rows story.history story.horizon
 
 pub cards_follow : CardsFollow
-cards_follow world name = told_named world name _ _ (λ story sound. ap Ok (live_cards_are story))
+cards_follow stories name = told_named stories name _ _ (λ story at. ap Ok (live_cards_are story))
 
 pub kept_imports_follow : KeptImportsFollow
-kept_imports_follow world name key = told_named world name _ _ (λ story sound. refl)
+kept_imports_follow stories name key = told_named stories name _ _ (λ story at. refl)
 
 -- ---- a book in numbers
 
@@ -122,4 +122,4 @@ module _ (story : Story) where
       ∙ ap (tally_with (length story.history) story.horizon (finite.len (live story.history)) (counts_of story.history)) remembered_is
 
 pub tallies_follow : TalliesFollow
-tallies_follow world name = told_named world name _ _ (λ story sound. ap Ok (tally_is story sound))
+tallies_follow stories name sound = told_named stories name _ _ (λ story at. ap Ok (tally_is story (sound name story at)))

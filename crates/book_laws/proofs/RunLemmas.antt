@@ -1,11 +1,10 @@
 -- Lists of calls, by the rows.
-use Rattle.std.proofs.Common.{◌≡◌, List, [], ◌∷◌, Result, Ok, Err, refl, sym, ap, ◌∙◌, subst}
-use Rattle.std.specs.FinMap as finite
+use Rattle.std.proofs.Common.{◌≡◌, [], ◌∷◌, Result, Ok, Err, refl, sym, ap, ◌∙◌, subst}
 use Rattle.book_model.specs.declared.page.Page.{Page}
 use Rattle.book_model.specs.declared.refusal.Refusal.{Refusal}
 use Rattle.book_model.specs.Bounds.{Bounds}
 use Rattle.book_model.specs.Books.{Books}
-use Rattle.book_laws.specs.Calls.{Call, CreatesBook, Puts, Removes, Moves, Imports, Forgets, Reports, AsksImport, ListsBooks, ShowsBook, Gets, ListsCards, Tallies, Returned, MadeBook, DidPut, DidRemove, DidMove, DidImport, DidForget, GavePage, GaveImport, GaveBooks, GaveBook, GaveCard, GaveCards, GaveTally, with_answer, with_reading, meaning, told, left_by, after, answers, after_all}
+use Rattle.book_laws.specs.Calls.{Call, CreatesBook, Puts, Removes, Moves, Imports, Forgets, Reports, AsksImport, ListsBooks, ShowsBook, Gets, ListsCards, Tallies, Returned, MadeBook, DidPut, DidRemove, DidMove, DidImport, DidForget, GavePage, GaveImport, GaveBooks, GaveBook, GaveCard, GaveCards, GaveTally, with_answer, with_reading, meaning, told, left_by, after, answers}
 use Rattle.book_model.specs.Creating.{create_step}
 use Rattle.book_model.specs.Forgetting.{forget_step}
 use Rattle.book_model.specs.Importing.{import_step, kept_import_step}
@@ -15,7 +14,7 @@ use Rattle.book_model.specs.Putting.{put_step}
 use Rattle.book_model.specs.Reading.{book_lines, book_line_step, get_step, cards_step, tally_step}
 use Rattle.book_model.specs.Removing.{remove_step}
 use Rattle.book_laws.specs.RunLaws.{StaysSound, RowsAreEnough}
-use Rattle.book_laws.specs.Worlds.{Stories, World, rows}
+use Rattle.book_laws.specs.Worlds.{Stories, AreSound, World, rows}
 use Rattle.book_laws.specs.WorldChanges.{remove_meaning, move_meaning, import_meaning, forget_meaning}
 use Rattle.book_laws.specs.WorldSteps.{create_meaning, put_meaning, report_meaning}
 use Rattle.book_laws.specs.Following.{Follows, PagesFollow}
@@ -29,45 +28,39 @@ use Rattle.vcard_text.specs.TextValues.{meant}
 
 -- ---- one call of a world
 
--- the world that a call leaves: with its limits, and sound
-abbrev Leaves : World → Call → Type 0
-Leaves world call = (next : World) × (next.limits ≡ world.limits) × (next.books ≡ after world.limits world.books call)
+-- a call leaves sound stories
+sound_by : {A : Type 0} (stories : Stories) (f : A → Returned) (step : Result (A × Books) Refusal) (meant : Result (A × Stories) Refusal) → AreSound stories → Follows step meant
+    → AreSound (left_by stories (with_answer f meant))
+sound_by stories f (Ok done) (Ok meant) sound follows = follows.1.sound
+sound_by stories f (Ok done) (Err refusal) sound follows = absurd follows
+sound_by stories f (Err refusal) (Ok meant) sound follows = absurd follows
+sound_by stories f (Err refusal) (Err other) sound follows = sound
 
-same_left : (world : World) → (next : World) × (next.limits ≡ world.limits) × (next.books ≡ world.books)
-same_left world = (world, refl, refl)
+reading_sound : {A : Type 0} (stories : Stories) (f : A → Returned) (reading : Result A Refusal) → AreSound stories → AreSound (left_by stories (with_reading f stories reading))
+reading_sound stories f (Ok told) sound = sound
+reading_sound stories f (Err refusal) sound = sound
 
-leaves_by : {A : Type 0} (world : World) (f : A → Returned) (step : Result (A × Books) Refusal) (meant : Result (A × Stories) Refusal) → Follows world.limits step meant
-    → (next : World) × (next.limits ≡ world.limits) × (next.books ≡ left_by world.books (with_answer f meant))
-leaves_by world f (Ok done) (Ok meant) follows = (follows.1.world, follows.1.limits_are, follows.1.stories_are)
-leaves_by world f (Ok done) (Err refusal) follows = absurd follows
-leaves_by world f (Err refusal) (Ok meant) follows = absurd follows
-leaves_by world f (Err refusal) (Err other) follows = same_left world
+sound_after : (world : World) (call : Call) → AreSound world.books → AreSound (after world.limits world.books call)
+sound_after world (CreatesBook name) sound = sound_by world.books MadeBook _ _ sound (creating_follows world name sound)
+sound_after world (Puts name card expect) sound = sound_by world.books DidPut _ _ sound (putting_follows world name card expect sound)
+sound_after world (Removes name uid expect) sound = sound_by world.books DidRemove _ _ sound (removing_follows world name uid expect sound)
+sound_after world (Moves from to uid expect) sound = sound_by world.books DidMove _ _ sound (moving_follows world from to uid expect sound)
+sound_after world (Imports name key cards) sound = sound_by world.books DidImport _ _ sound (importing_follows world name key cards sound)
+sound_after world (Forgets name upto) sound = sound_by world.books DidForget _ _ sound (forgetting_follows world.books name upto sound)
+sound_after world (Reports name token limit) sound = reading_sound world.books GavePage _ sound
+sound_after world (AsksImport name key) sound = reading_sound world.books GaveImport _ sound
+sound_after world ListsBooks sound = sound
+sound_after world (ShowsBook name) sound = reading_sound world.books GaveBook _ sound
+sound_after world (Gets name uid) sound = reading_sound world.books GaveCard _ sound
+sound_after world (ListsCards name) sound = reading_sound world.books GaveCards _ sound
+sound_after world (Tallies name) sound = reading_sound world.books GaveTally _ sound
 
-reading_left : {A : Type 0} (world : World) (f : A → Returned) (reading : Result A Refusal) → (next : World) × (next.limits ≡ world.limits) × (next.books ≡ left_by world.books (with_reading f world.books reading))
-reading_left world f (Ok told) = same_left world
-reading_left world f (Err refusal) = same_left world
-
-pub leaves : (world : World) (call : Call) → Leaves world call
-leaves world (CreatesBook name) = leaves_by world MadeBook _ _ (creating_follows world name)
-leaves world (Puts name card expect) = leaves_by world DidPut _ _ (putting_follows world name card expect)
-leaves world (Removes name uid expect) = leaves_by world DidRemove _ _ (removing_follows world name uid expect)
-leaves world (Moves from to uid expect) = leaves_by world DidMove _ _ (moving_follows world from to uid expect)
-leaves world (Imports name key cards) = leaves_by world DidImport _ _ (importing_follows world name key cards)
-leaves world (Forgets name upto) = leaves_by world DidForget _ _ (forgetting_follows world name upto)
-leaves world (Reports name token limit) = reading_left world GavePage _
-leaves world (AsksImport name key) = reading_left world GaveImport _
-leaves world ListsBooks = same_left world
-leaves world (ShowsBook name) = reading_left world GaveBook _
-leaves world (Gets name uid) = reading_left world GaveCard _
-leaves world (ListsCards name) = reading_left world GaveCards _
-leaves world (Tallies name) = reading_left world GaveTally _
+abbrev next : World → Call → World
+next world call = record { limits = world.limits; books = after world.limits world.books call }
 
 pub stays_sound : StaysSound
-stays_sound world [] name story e = world.sound name story e
-stays_sound world (call ∷ calls) name story e =
-    let l = leaves world call in
-    let next : World = l.0 in
-    stays_sound next calls name story (ap (λ (stories : Stories). finite.get (after_all next.limits stories calls) name) l.2 ∙ ap (λ (limits : Bounds). finite.get (after_all limits (after world.limits world.books call) calls) name) l.1 ∙ e)
+stays_sound world [] sound = sound
+stays_sound world (call ∷ calls) sound = stays_sound (next world call) calls (sound_after world call sound)
 
 -- ---- one call of two worlds with the same rows
 
@@ -86,13 +79,13 @@ some_page asked =
     )
 
 module _ (a b : World) (same : rows a.books ≡ rows b.books) where
-  change_same : {A : Type 0} (f : A → Returned) (limits : Bounds) (step : Result (A × Books) Refusal) (x y : Result (A × Stories) Refusal) → Follows limits step x → Follows limits step y → SameStep a.books b.books (with_answer f x) (with_answer f y)
-  change_same f limits (Ok done) (Ok x) (Ok y) p q = record { told_same = ap (λ z. Ok (f z)) (sym p.0 ∙ q.0); rows_same = p.1.rows_are ∙ sym q.1.rows_are }
-  change_same f limits (Ok done) (Ok x) (Err r) p q = absurd q
-  change_same f limits (Ok done) (Err r) y p q = absurd p
-  change_same f limits (Err r) (Ok x) y p q = absurd p
-  change_same f limits (Err r) (Err s) (Ok y) p q = absurd q
-  change_same f limits (Err r) (Err s) (Err t) p q = record { told_same = ap (λ z. Err z) (sym p ∙ q); rows_same = same }
+  change_same : {A : Type 0} (f : A → Returned) (step : Result (A × Books) Refusal) (x y : Result (A × Stories) Refusal) → Follows step x → Follows step y → SameStep a.books b.books (with_answer f x) (with_answer f y)
+  change_same f (Ok done) (Ok x) (Ok y) p q = record { told_same = ap (λ z. Ok (f z)) (sym p.0 ∙ q.0); rows_same = p.1.rows_are ∙ sym q.1.rows_are }
+  change_same f (Ok done) (Ok x) (Err r) p q = absurd q
+  change_same f (Ok done) (Err r) y p q = absurd p
+  change_same f (Err r) (Ok x) y p q = absurd p
+  change_same f (Err r) (Err s) (Ok y) p q = absurd q
+  change_same f (Err r) (Err s) (Err t) p q = record { told_same = ap (λ z. Err z) (sym p ∙ q); rows_same = same }
 
   read_same : {A : Type 0} (f : A → Returned) (x y : Result A Refusal) → x ≡ y → SameStep a.books b.books (with_reading f a.books x) (with_reading f b.books y)
   read_same {A = A} f x y e = subst (λ z. SameStep a.books b.books (with_reading f a.books x) (with_reading f b.books z)) e (alone x)
@@ -110,12 +103,12 @@ module _ (a b : World) (same : rows a.books ≡ rows b.books) where
   page_same (Err r) (Err s) (Err t) p q = ap (λ z. Err z) (sym p ∙ q)
 
 -- under the limits of the first, which are those of the second
-module _ (a b : World) (limits_same : a.limits ≡ b.limits) (same : rows a.books ≡ rows b.books) where
+module _ (a b : World) (sound : AreSound a.books) (other_sound : AreSound b.books) (limits_same : a.limits ≡ b.limits) (same : rows a.books ≡ rows b.books) where
   turned : {A : Type 0} (step : Bounds → Books → Result (A × Books) Refusal) (meant : Bounds → Stories → Result (A × Stories) Refusal)
-      → Follows b.limits (step b.limits (rows b.books)) (meant b.limits b.books) → Follows a.limits (step a.limits (rows a.books)) (meant a.limits b.books)
+      → Follows (step b.limits (rows b.books)) (meant b.limits b.books) → Follows (step a.limits (rows a.books)) (meant a.limits b.books)
   turned step meant f =
-      subst (λ (limits : Bounds). Follows limits (step limits (rows a.books)) (meant limits b.books)) (sym limits_same)
-      (subst (λ (books : Books). Follows b.limits (step b.limits books) (meant b.limits b.books)) (sym same) f)
+      subst (λ (limits : Bounds). Follows (step limits (rows a.books)) (meant limits b.books)) (sym limits_same)
+      (subst (λ (books : Books). Follows (step b.limits books) (meant b.limits b.books)) (sym same) f)
 
   turned_page : (step : Bounds → Books → Result Asked Refusal) (meant : Bounds → Stories → Result Page Refusal) → PagesFollow (step b.limits (rows b.books)) (meant b.limits b.books) → PagesFollow (step a.limits (rows a.books)) (meant a.limits b.books)
   turned_page step meant f =
@@ -126,44 +119,33 @@ module _ (a b : World) (limits_same : a.limits ≡ b.limits) (same : rows a.book
   told_alike step x y p q = sym p ∙ ap step same ∙ q
 
   call_alike : (call : Call) → SameStep a.books b.books (meaning a.limits a.books call) (meaning a.limits b.books call)
-  call_alike (CreatesBook name) = change_same a b same MadeBook a.limits (create_step a.limits (rows a.books) name) _ _ (creating_follows a name) (turned (λ limits books. create_step limits books name) (λ limits stories. create_meaning limits stories name) (creating_follows b name))
-  call_alike (Puts name card expect) = change_same a b same DidPut a.limits (put_step a.limits (rows a.books) name card expect) _ _ (putting_follows a name card expect) (turned (λ limits books. put_step limits books name card expect) (λ limits stories. put_meaning limits stories name card expect) (putting_follows b name card expect))
-  call_alike (Removes name uid expect) = change_same a b same DidRemove a.limits (remove_step a.limits (rows a.books) name uid expect) _ _ (removing_follows a name uid expect) (turned (λ limits books. remove_step limits books name uid expect) (λ limits stories. remove_meaning limits stories name uid expect) (removing_follows b name uid expect))
-  call_alike (Moves from to uid expect) = change_same a b same DidMove a.limits (move_step a.limits (rows a.books) from to uid expect) _ _ (moving_follows a from to uid expect) (turned (λ limits books. move_step limits books from to uid expect) (λ limits stories. move_meaning limits stories from to uid expect) (moving_follows b from to uid expect))
-  call_alike (Imports name key cards) = change_same a b same DidImport a.limits (import_step a.limits (rows a.books) name key cards) _ _ (importing_follows a name key cards) (turned (λ limits books. import_step limits books name key cards) (λ limits stories. import_meaning limits stories name key cards) (importing_follows b name key cards))
-  call_alike (Forgets name upto) = change_same a b same DidForget a.limits (forget_step (rows a.books) name upto) _ _ (forgetting_follows a name upto) (turned (λ limits books. forget_step books name upto) (λ limits stories. forget_meaning stories name upto) (forgetting_follows b name upto))
-  call_alike (Reports name token limit) = read_same a b same GavePage _ _ (page_same a b same (report_step a.limits (rows a.books) name token limit) _ _ (reports_follow a name token limit) (turned_page (λ limits books. report_step limits books name token limit) (λ limits stories. report_meaning limits stories name token limit) (reports_follow b name token limit)))
-  call_alike (AsksImport name key) = read_same a b same GaveImport _ _ (told_alike (λ books. kept_import_step books name key) _ _ (kept_imports_follow a name key) (kept_imports_follow b name key))
-  call_alike ListsBooks = record { told_same = ap (λ z. Ok (GaveBooks z)) (told_alike book_lines _ _ (books_follow a) (books_follow b)); rows_same = same }
-  call_alike (ShowsBook name) = read_same a b same GaveBook _ _ (told_alike (λ books. book_line_step books name) _ _ (book_lines_follow a name) (book_lines_follow b name))
-  call_alike (Gets name uid) = read_same a b same GaveCard _ _ (told_alike (λ books. get_step books name uid) _ _ (getting_follows a name uid) (getting_follows b name uid))
-  call_alike (ListsCards name) = read_same a b same GaveCards _ _ (told_alike (λ books. cards_step books name) _ _ (cards_follow a name) (cards_follow b name))
-  call_alike (Tallies name) = read_same a b same GaveTally _ _ (told_alike (λ books. tally_step books name) _ _ (tallies_follow a name) (tallies_follow b name))
+  call_alike (CreatesBook name) = change_same a b same MadeBook (create_step a.limits (rows a.books) name) _ _ (creating_follows a name sound) (turned (λ limits books. create_step limits books name) (λ limits stories. create_meaning limits stories name) (creating_follows b name other_sound))
+  call_alike (Puts name card expect) = change_same a b same DidPut (put_step a.limits (rows a.books) name card expect) _ _ (putting_follows a name card expect sound) (turned (λ limits books. put_step limits books name card expect) (λ limits stories. put_meaning limits stories name card expect) (putting_follows b name card expect other_sound))
+  call_alike (Removes name uid expect) = change_same a b same DidRemove (remove_step a.limits (rows a.books) name uid expect) _ _ (removing_follows a name uid expect sound) (turned (λ limits books. remove_step limits books name uid expect) (λ limits stories. remove_meaning limits stories name uid expect) (removing_follows b name uid expect other_sound))
+  call_alike (Moves from to uid expect) = change_same a b same DidMove (move_step a.limits (rows a.books) from to uid expect) _ _ (moving_follows a from to uid expect sound) (turned (λ limits books. move_step limits books from to uid expect) (λ limits stories. move_meaning limits stories from to uid expect) (moving_follows b from to uid expect other_sound))
+  call_alike (Imports name key cards) = change_same a b same DidImport (import_step a.limits (rows a.books) name key cards) _ _ (importing_follows a name key cards sound) (turned (λ limits books. import_step limits books name key cards) (λ limits stories. import_meaning limits stories name key cards) (importing_follows b name key cards other_sound))
+  call_alike (Forgets name upto) = change_same a b same DidForget (forget_step (rows a.books) name upto) _ _ (forgetting_follows a.books name upto sound) (turned (λ limits books. forget_step books name upto) (λ limits stories. forget_meaning stories name upto) (forgetting_follows b.books name upto other_sound))
+  call_alike (Reports name token limit) = read_same a b same GavePage _ _ (page_same a b same (report_step a.limits (rows a.books) name token limit) _ _ (reports_follow a name token limit sound) (turned_page (λ limits books. report_step limits books name token limit) (λ limits stories. report_meaning limits stories name token limit) (reports_follow b name token limit other_sound)))
+  call_alike (AsksImport name key) = read_same a b same GaveImport _ _ (told_alike (λ books. kept_import_step books name key) _ _ (kept_imports_follow a.books name key) (kept_imports_follow b.books name key))
+  call_alike ListsBooks = record { told_same = ap (λ z. Ok (GaveBooks z)) (told_alike book_lines _ _ (books_follow a.books) (books_follow b.books)); rows_same = same }
+  call_alike (ShowsBook name) = read_same a b same GaveBook _ _ (told_alike (λ books. book_line_step books name) _ _ (book_lines_follow a.books name) (book_lines_follow b.books name))
+  call_alike (Gets name uid) = read_same a b same GaveCard _ _ (told_alike (λ books. get_step books name uid) _ _ (getting_follows a.books name uid) (getting_follows b.books name uid))
+  call_alike (ListsCards name) = read_same a b same GaveCards _ _ (told_alike (λ books. cards_step books name) _ _ (cards_follow a.books name) (cards_follow b.books name))
+  call_alike (Tallies name) = read_same a b same GaveTally _ _ (told_alike (λ books. tally_step books name) _ _ (tallies_follow a.books name sound) (tallies_follow b.books name other_sound))
 
   step_alike : (call : Call) → SameStep a.books b.books (meaning a.limits a.books call) (meaning b.limits b.books call)
   step_alike call = subst (λ (limits : Bounds). SameStep a.books b.books (meaning a.limits a.books call) (meaning limits b.books call)) limits_same (call_alike call)
 
 -- ---- lists of calls
 
--- what calls answer and leave, from a world that a call left
-answers_from : (world next : World) (call : Call) (calls : List Call) → next.limits ≡ world.limits → next.books ≡ after world.limits world.books call
-    → answers next.limits next.books calls ≡ answers world.limits (after world.limits world.books call) calls
-answers_from world next call calls l b = ap (λ (limits : Bounds). answers limits next.books calls) l ∙ ap (λ (stories : Stories). answers world.limits stories calls) b
-
-after_from : (world next : World) (call : Call) (calls : List Call) → next.limits ≡ world.limits → next.books ≡ after world.limits world.books call
-    → after_all next.limits next.books calls ≡ after_all world.limits (after world.limits world.books call) calls
-after_from world next call calls l b = ap (λ (limits : Bounds). after_all limits next.books calls) l ∙ ap (λ (stories : Stories). after_all world.limits stories calls) b
-
 pub rows_are_enough : RowsAreEnough
-rows_are_enough a b [] limits same = record { answers_are = refl; rows_are = same }
-rows_are_enough a b (call ∷ calls) limits same =
-    let x = leaves a call in
-    let y = leaves b call in
-    let now = step_alike a b limits same call in
-    let rest = rows_are_enough x.0 y.0 calls (x.1 ∙ limits ∙ sym y.1) (ap rows x.2 ∙ now.rows_same ∙ ap rows (sym y.2)) in
+rows_are_enough a b [] sound other_sound limits same = record { answers_are = refl; rows_are = same }
+rows_are_enough a b (call ∷ calls) sound other_sound limits same =
+    let now = step_alike a b sound other_sound limits same call in
+    let rest = rows_are_enough (next a call) (next b call) calls (sound_after a call sound) (sound_after b call other_sound) limits now.rows_same in
     record {
       answers_are =
           ap (λ t. t ∷ answers a.limits (after a.limits a.books call) calls) now.told_same
-          ∙ ap (λ ts. told (meaning b.limits b.books call) ∷ ts) (sym (answers_from a x.0 call calls x.1 x.2) ∙ rest.answers_are ∙ answers_from b y.0 call calls y.1 y.2);
-      rows_are = ap rows (sym (after_from a x.0 call calls x.1 x.2)) ∙ rest.rows_are ∙ ap rows (after_from b y.0 call calls y.1 y.2);
+          ∙ ap (λ ts. told (meaning b.limits b.books call) ∷ ts) rest.answers_are;
+      rows_are = rest.rows_are;
     }

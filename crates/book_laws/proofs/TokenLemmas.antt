@@ -20,7 +20,7 @@ use Rattle.book_model.specs.Outcomes.{◌>>=◌, provided}
 use Rattle.book_model.specs.Pages.{mark_asked, page_size, page_of}
 use Rattle.book_laws.specs.Reports.{due, cut_page, whole_page, report}
 use Rattle.book_laws.specs.TokenLaws.{token_of, ForgotAbove, TokensStayGood}
-use Rattle.book_laws.specs.Worlds.{Story, Stories, World, IsSound}
+use Rattle.book_laws.specs.Worlds.{Story, Stories, IsSound, AreSound, World}
 use Rattle.book_laws.specs.WorldSteps.{report_meaning}
 use Rattle.book_model.proofs.AnswerLemmas.{same_answer, no_answer}
 use Rattle.book_laws.proofs.GoingOnLemmas.{call_continues, books_go_on}
@@ -71,8 +71,8 @@ record Answered (stories : Stories) (name : List ℕ) (page : Page) : Type 0 whe
   book : page.book ≡ story.id
   within : IsWithin story page.mark
 
-answered : (world : World) (name : List ℕ) (token : Option Token) (limit : Option ℕ) (page : Page) → report_meaning world.limits world.books name token limit ≡ Ok page → Answered world.books name page
-answered world name token limit page = by_story (finite.get world.books name) refl
+answered : (world : World) (name : List ℕ) (token : Option Token) (limit : Option ℕ) (page : Page) → AreSound world.books → report_meaning world.limits world.books name token limit ≡ Ok page → Answered world.books name page
+answered world name token limit page sound = by_story (finite.get world.books name) refl
   where
     by_size : (story : Story) → finite.get world.books name ≡ Some story → (mark : Mark) → IsWithin story mark → (size : Result ℕ Refusal) → (size >>= λ k. Ok (page_of story.id (report story.history mark k))) ≡ Ok page → Answered world.books name page
     by_size story found mark w (Ok k) e =
@@ -81,13 +81,13 @@ answered world name token limit page = by_story (finite.get world.books name) re
           story = story;
           found = found;
           book = ap (λ (p : Page). p.book) (sym is);
-          within = subst (λ (p : Page). IsWithin story p.mark) is (report_within story (world.sound name story found) mark k w);
+          within = subst (λ (p : Page). IsWithin story p.mark) is (report_within story (sound name story found) mark k w);
         }
     by_size story found mark w (Err refusal) e = absurd (no_answer refusal page e)
 
     by_mark : (story : Story) → finite.get world.books name ≡ Some story → (mark : Result Mark Refusal) → mark_asked story.id (length story.history) story.horizon token ≡ mark
         → (mark >>= λ m. page_size world.limits.page_max limit >>= λ k. Ok (page_of story.id (report story.history m k))) ≡ Ok page → Answered world.books name page
-    by_mark story found (Ok mark) is e = by_size story found mark (asked_within story (world.sound name story found) token mark is) (page_size world.limits.page_max limit) e
+    by_mark story found (Ok mark) is e = by_size story found mark (asked_within story (sound name story found) token mark is) (page_size world.limits.page_max limit) e
     by_mark story found (Err refusal) is e = absurd (no_answer refusal page e)
 
     by_story : (o : Option Story) → finite.get world.books name ≡ o
@@ -169,8 +169,8 @@ rose limits (call ∷ calls) stories name base story new found low at high =
 -- ---- the whole
 
 pub tokens_stay_good : TokensStayGood
-tokens_stay_good world name token limit again page calls cause made refused =
-    let a = answered world name token limit page made in
+tokens_stay_good world name token limit again page calls cause sound made refused =
+    let a = answered world name token limit page sound made in
     let g = books_go_on world.limits world.books calls name a.story a.found in
     let new = g.0 in
     let goes = g.2 in

@@ -32,10 +32,10 @@ use Rattle.book_model.specs.Pages.{Asked, mark_asked, page_size, page_of}
 use Rattle.book_model.specs.Putting.{Found, put_answer, reason_for, found_in, books_after_put}
 use Rattle.book_laws.specs.Reports.{report}
 use Rattle.book_laws.specs.Rows.{all_rows, is_kept, kept_rows}
-use Rattle.book_laws.specs.Worlds.{Story, Stories, IsSound, book_of, rows}
+use Rattle.book_laws.specs.Worlds.{Story, Stories, IsSound, AreSound, book_of, rows}
 use Rattle.book_laws.specs.WorldSteps.{empty_story, with_event, create_meaning, found_of, stories_after_put, put_meaning, report_meaning}
-use Rattle.book_laws.specs.Following.{IsWorldOf, Follows, PagesFollow}
-use Rattle.book_laws.specs.ChangeLaws.{CreatingFollows, PuttingFollows}
+use Rattle.book_laws.specs.Following.{AreStoriesOf, Follows, PagesFollow}
+use Rattle.book_laws.specs.ChangeLaws.{NothingFollows, CreatingFollows, PuttingFollows}
 use Rattle.book_laws.specs.ReadLaws.{ReportsFollow}
 use Rattle.book_model.proofs.BasicLemmas.{T_parts, T_both, is_some-map}
 use Rattle.book_model.proofs.TextLemmas.{text_total}
@@ -85,10 +85,7 @@ rows-insert stories name story = same_map text_total exact_bytes _ _ (λ q.
     ∙ ap (cond (same_uid q name) (Some (book_of story))) (sym (get-rows stories q))
     ∙ sym (get-insert text_total (rows stories) name (book_of story) q))
 
--- ---- worlds stay sound
-
-abbrev pub AreSound : Stories → Type 0
-AreSound stories = (name : List ℕ) (story : Story) → finite.get stories name ≡ Some story → IsSound story
+-- ---- stories stay sound
 
 sound_either : (b : Bool) (story other : Story) (before : Option Story) → IsSound story → (before ≡ Some other → IsSound other) → cond b (Some story) before ≡ Some other → IsSound other
 sound_either true story other before sound was e = let is : story ≡ other = cc in subst IsSound is sound
@@ -97,22 +94,15 @@ sound_either false story other before sound was e = was e
 pub sound-insert : (stories : Stories) (name : List ℕ) (story : Story) → AreSound stories → IsSound story → AreSound (finite.insert stories name story)
 sound-insert stories name story sound one q other e = sound_either (same_uid q name) story other (finite.get stories q) one (sound q other) (sym (get-insert text_total stories name story q) ∙ e)
 
--- a book of the world was written
-pub wrote_world : (limits : Bounds) (stories : Stories) (name : List ℕ) (story : Story) (book : Book) → AreSound stories → IsSound story → book_of story ≡ book → IsWorldOf limits (finite.insert stories name story) (finite.insert (rows stories) name book)
-wrote_world limits stories name story book sound one is = record {
-  world = record { limits = limits; books = finite.insert stories name story; sound = sound-insert stories name story sound one };
-  limits_are = refl;
-  stories_are = refl;
+-- a book was written
+pub wrote_story : (stories : Stories) (name : List ℕ) (story : Story) (book : Book) → AreSound stories → IsSound story → book_of story ≡ book → AreStoriesOf (finite.insert (rows stories) name book) (finite.insert stories name story)
+wrote_story stories name story book sound one is = record {
+  sound = sound-insert stories name story sound one;
   rows_are = rows-insert stories name story ∙ ap (finite.insert (rows stories) name) is;
 }
 
-pub same_world : (limits : Bounds) (stories : Stories) → AreSound stories → IsWorldOf limits stories (rows stories)
-same_world limits stories sound = record {
-  world = record { limits = limits; books = stories; sound = sound };
-  limits_are = refl;
-  stories_are = refl;
-  rows_are = refl;
-}
+pub same_stories : (stories : Stories) → AreSound stories → AreStoriesOf (rows stories) stories
+same_stories stories sound = record { sound = sound; rows_are = refl }
 
 -- ---- making a book
 
@@ -127,10 +117,10 @@ book_of-empty : (id : ℕ) → book_of (empty_story id) ≡ empty_book id
 book_of-empty id = ap (λ (members : finite.FinMap text_cmp Row). let b : Book = record { id = id; number = 0; horizon = 0; counts = no_counts; members = members; imports = finite.empty } in b) no_rows
 
 pub creating_follows : CreatingFollows
-creating_follows world name =
-    subst (λ (is_there : Bool). Follows limits (new_id limits name is_there (finite.len (rows stories)) >>= λ id. Ok (id, finite.insert (rows stories) name (empty_book id))) (create_meaning limits stories name))
+creating_follows world name sound =
+    subst (λ (is_there : Bool). Follows (new_id limits name is_there (finite.len (rows stories)) >>= λ id. Ok (id, finite.insert (rows stories) name (empty_book id))) (create_meaning limits stories name))
     (sym (ap is_some (get-rows stories name) ∙ is_some-map book_of (finite.get stories name)))
-    (subst (λ n. Follows limits (new_id limits name (finite.contains_key stories name) n >>= λ id. Ok (id, finite.insert (rows stories) name (empty_book id))) (create_meaning limits stories name))
+    (subst (λ n. Follows (new_id limits name (finite.contains_key stories name) n >>= λ id. Ok (id, finite.insert (rows stories) name (empty_book id))) (create_meaning limits stories name))
     (sym (len-rows stories)) (by_id (new_id limits name (finite.contains_key stories name) (finite.len stories))))
   where
     limits : Bounds
@@ -139,8 +129,8 @@ creating_follows world name =
     stories : Stories
     stories = world.books
 
-    by_id : (given : Result ℕ Refusal) → Follows limits (given >>= λ id. Ok (id, finite.insert (rows stories) name (empty_book id))) (given >>= λ id. Ok (id, finite.insert stories name (empty_story id)))
-    by_id (Ok id) = (refl, wrote_world limits stories name (empty_story id) (empty_book id) world.sound (record { lawful = tt; past = omega arith }) (book_of-empty id))
+    by_id : (given : Result ℕ Refusal) → Follows (given >>= λ id. Ok (id, finite.insert (rows stories) name (empty_book id))) (given >>= λ id. Ok (id, finite.insert stories name (empty_story id)))
+    by_id (Ok id) = (refl, wrote_story stories name (empty_story id) (empty_book id) sound (record { lawful = tt; past = omega arith }) (book_of-empty id))
     by_id (Err refusal) = refl
 
 -- ---- storing a card
@@ -159,9 +149,9 @@ found_is story uid sound =
     ∙ ap (F (finite.get (live story.history) uid)) (live_count_is story.history sound.lawful)
 
 pub putting_follows : PuttingFollows
-putting_follows world name card expect =
-    subst (λ (o : Option Book). Follows limits (option_map_or Ok o (Err NoSuchBook) >>= λ book. put_answer limits (found_in book uid) card expect >>= λ answer. Ok (answer, books_after_put (rows stories) name book card (reason_for answer))) (put_meaning limits stories name card expect))
-    (sym (get-rows stories name)) (by_story (finite.get stories name) (world.sound name))
+putting_follows world name card expect all =
+    subst (λ (o : Option Book). Follows (option_map_or Ok o (Err NoSuchBook) >>= λ book. put_answer limits (found_in book uid) card expect >>= λ answer. Ok (answer, books_after_put (rows stories) name book card (reason_for answer))) (put_meaning limits stories name card expect))
+    (sym (get-rows stories name)) (by_story (finite.get stories name) (all name))
   where
     limits : Bounds
     limits = world.limits
@@ -173,25 +163,25 @@ putting_follows world name card expect =
     uid = uid_of card
 
     after : (story : Story) (answer : PutAnswer) (why : Option StoreReason) → IsSound story → ((reason : StoreReason) → why ≡ Some reason → MayStore reason card (finite.get (live story.history) uid))
-        → IsWorldOf limits (stories_after_put stories name story card why) (books_after_put (rows stories) name (book_of story) card why)
-    after story answer None sound may = same_world limits stories world.sound
+        → AreStoriesOf (books_after_put (rows stories) name (book_of story) card why) (stories_after_put stories name story card why)
+    after story answer None sound may = same_stories stories all
     after story answer (Some why) sound may =
         let e : BookEvent = record { uid = uid; change = Stores card why } in
-        wrote_world limits stories name (with_event story e) (with_change (book_of story) uid (Stores card why)) world.sound
+        wrote_story stories name (with_event story e) (with_change (book_of story) uid (Stores card why)) all
         (record { lawful = ((refl, may why refl), sound.lawful); past = let before = sound.past in omega (arith, before) })
         (book_of-with_event story e sound.past)
 
     by_answer : (story : Story) → IsSound story → (given : Result PutAnswer Refusal) → put_answer limits (found_of story.history uid) card expect ≡ given
-        → Follows limits (given >>= λ answer. Ok (answer, books_after_put (rows stories) name (book_of story) card (reason_for answer))) (given >>= λ answer. Ok (answer, stories_after_put stories name story card (reason_for answer)))
+        → Follows (given >>= λ answer. Ok (answer, books_after_put (rows stories) name (book_of story) card (reason_for answer))) (given >>= λ answer. Ok (answer, stories_after_put stories name story card (reason_for answer)))
     by_answer story sound (Ok answer) e = (refl, after story answer (reason_for answer) sound (λ why r. may_store limits (found_of story.history uid) card expect answer why e r))
     by_answer story sound (Err refusal) e = refl
 
     by_story : (o : Option Story) → ((story : Story) → o ≡ Some story → IsSound story)
-        → Follows limits (option_map_or Ok (option_map book_of o) (Err NoSuchBook) >>= λ book. put_answer limits (found_in book uid) card expect >>= λ answer. Ok (answer, books_after_put (rows stories) name book card (reason_for answer)))
+        → Follows (option_map_or Ok (option_map book_of o) (Err NoSuchBook) >>= λ book. put_answer limits (found_in book uid) card expect >>= λ answer. Ok (answer, books_after_put (rows stories) name book card (reason_for answer)))
         (option_map_or Ok o (Err NoSuchBook) >>= λ story. put_answer limits (found_of story.history uid) card expect >>= λ answer. Ok (answer, stories_after_put stories name story card (reason_for answer)))
     by_story None sound = refl
     by_story (Some story) sound =
-        subst (λ (found : Found). Follows limits (put_answer limits found card expect >>= λ answer. Ok (answer, books_after_put (rows stories) name (book_of story) card (reason_for answer)))
+        subst (λ (found : Found). Follows (put_answer limits found card expect >>= λ answer. Ok (answer, books_after_put (rows stories) name (book_of story) card (reason_for answer)))
         (put_answer limits (found_of story.history uid) card expect >>= λ answer. Ok (answer, stories_after_put stories name story card (reason_for answer))))
         (sym (found_is story uid (sound story refl))) (by_answer story (sound story refl) (put_answer limits (found_of story.history uid) card expect) refl)
 
@@ -213,9 +203,9 @@ asked-le id number horizon (Some token) mark e le =
     let past : horizon ≤ token.mark.base = leb-true _ _ known.0 in omega (arith, past, base)
 
 pub reports_follow : ReportsFollow
-reports_follow world name token limit =
+reports_follow world name token limit all =
     subst (λ (o : Option Book). PagesFollow (option_map_or Ok o (Err NoSuchBook) >>= λ book. asked book (mark_asked book.id book.number book.horizon token) (page_size limits.page_max limit)) (report_meaning limits stories name token limit))
-    (sym (get-rows stories name)) (by_story (finite.get stories name) (world.sound name))
+    (sym (get-rows stories name)) (by_story (finite.get stories name) (all name))
   where
     limits : Bounds
     limits = world.limits
@@ -241,8 +231,14 @@ reports_follow world name token limit =
     by_story (Some story) sound = by_mark story (sound story refl) (mark_asked story.id (length story.history) story.horizon token) (page_size limits.page_max limit) refl
 
 -- without books there are no rows
-pub rows-empty : rows finite.empty ≡ finite.empty
+rows-empty : rows finite.empty ≡ finite.empty
 rows-empty =
     let none : finite.entries finite.empty ≡ [] = nil_from_length _ (sym (finite.len-entries finite.empty) ∙ finite.len-empty text_cmp Story) in
     ap (λ (es : List (List ℕ × Story)). finite.from_sorted (map named_rows es)) none
     ∙ same_map text_total exact_bytes _ _ (λ q. get-from_sorted text_cmp [] q tt ∙ sym (get-empty text_cmp q))
+
+pub nothing_follows : NothingFollows
+nothing_follows = record { sound = λ name story e. absurd (none story (sym (get-empty text_cmp name) ∙ e)); rows_are = rows-empty }
+  where
+    none : (story : Story) → None ≡ Some story → ⊥
+    none story e = cc

@@ -8,12 +8,12 @@ use Rattle.book_laws.specs.Calls.{Call, Imports, DidImport, meaning, told, after
 use Rattle.book_model.specs.Devices.{Holding}
 use Rattle.book_laws.specs.RightDevices.{IsRight}
 use Rattle.book_laws.specs.Histories.{BookEvent}
-use Rattle.book_laws.specs.Worlds.{Story, Stories, World, IsSound, rows}
+use Rattle.book_laws.specs.Worlds.{Story, Stories, AreSound, World, rows}
 
 -- Every history stays lawful, and no horizon gets past its history.
 abbrev pub StaysSound : Type 0
-StaysSound = (world : World) (calls : List Call) (name : List ℕ) (story : Story) →
-    finite.get (after_all world.limits world.books calls) name ≡ Some story → IsSound story
+StaysSound = (world : World) (calls : List Call) → AreSound world.books →
+    AreSound (after_all world.limits world.books calls)
 
 -- Where two worlds have the same limits and rows, every list of calls is answered alike, and leaves the same rows: the
 -- rows forget nothing that a later call asks for.
@@ -22,7 +22,8 @@ pub record AreAlike (a b : World) (calls : List Call) : Type 0 where
   pub rows_are : rows (after_all a.limits a.books calls) ≡ rows (after_all b.limits b.books calls)
 
 abbrev pub RowsAreEnough : Type 0
-RowsAreEnough = (a b : World) (calls : List Call) → a.limits ≡ b.limits → rows a.books ≡ rows b.books → AreAlike a b calls
+RowsAreEnough = (a b : World) (calls : List Call) → AreSound a.books → AreSound b.books →
+    a.limits ≡ b.limits → rows a.books ≡ rows b.books → AreAlike a b calls
 
 -- the book still has its id, its events with more after them, a horizon that is no lower, and its kept imports
 pub record GoesOn (old new : Story) : Type 0 where

@@ -3,7 +3,7 @@ use Rattle.std.specs.Prelude.{ℕ, ◌≡◌, ◌≤◌, List, length, map, Some
 use Rattle.std.specs.FinMap as finite
 use Rattle.vcard_text.specs.TextMaps.{text_cmp}
 use Rattle.book_model.specs.declared.answers.ImportTally.{ImportTally}
-use Rattle.book_model.specs.Bounds.{Bounds}
+use Rattle.book_model.specs.Bounds.{Bounds, IsInRange}
 use Rattle.book_model.specs.Books.{Book, Books}
 use Rattle.book_laws.specs.HistoryCounts.{counts_of}
 use Rattle.book_laws.specs.Histories.{BookEvent}
@@ -25,10 +25,24 @@ pub record IsSound (story : Story) : Type 0 where
   pub lawful : IsLawful story.history
   pub past : story.horizon ≤ length story.history
 
+-- and so can each of these
+abbrev pub AreSound : Stories → Type 0
+AreSound stories =
+    (name : List ℕ) (story : Story) → finite.get stories name ≡ Some story → IsSound story
+
+-- ---- a store with its past
+
+-- the limits of a store, and its books with their whole histories
 pub record World : Type 0 where
   pub limits : Bounds
   pub books : Stories
-  pub sound : (name : List ℕ) (story : Story) → finite.get books name ≡ Some story → IsSound story
+
+-- a store can have these limits, and books with these histories
+pub record IsSoundWorld (world : World) : Type 0 where
+  pub limits : IsInRange world.limits
+  pub books : AreSound world.books
+
+-- ---- its rows
 
 -- what a store keeps of a book
 abbrev pub book_of : Story → Book
