@@ -1,11 +1,12 @@
 -- A right copy stays right through events and pages.
-use Rattle.std.proofs.Common.{◌≡◌, ℕ, zero, suc, ◌-◌, ◌<◌, ◌≤◌, max, min, Bool, true, false, cond, ◌&&◌, ◌||◌, ◌==◌, List, [], ◌∷◌, length, take, map, get_or, Option, Some, None, Result, Ok, Err, nat_lt, nat_le, is_some, IsSome, inl, inr, refl, sym, ap, ◌∙◌, subst, ⊎_elim, arith}
+use Rattle.std.proofs.Common.{◌≡◌, ℕ, zero, suc, ◌-◌, ◌<◌, ◌≤◌, max, min, Bool, true, false, cond, ◌&&◌, ◌||◌, ◌==◌, List, [], ◌∷◌, length, take, map, get_or, Option, Some, None, Result, Ok, Err, nat_lt, nat_le, is_some, IsSome, inl, refl, sym, ap, ◌∙◌, subst, ⊎_elim, arith}
 use Rattle.std.specs.Option.{option_map_or}
 use Rattle.std.specs.FinMap as finite
 use Rattle.std.specs.FinMap.{get-empty, get-insert, get-remove, same_map}
 use Rattle.std.proofs.lemmas.Bool.{cases_Bool, cases_lt, cond-true, cond-false, or_cases, or_left, or_right, or_parts, and_cases, both_ways, false_from_ne_true, false≢true, ltb-true, ltb-false, le-leb, lt-leb}
 use Rattle.std.proofs.lemmas.Bool.Decides.{Decides-eqb}
 use Rattle.std.proofs.lemmas.List.{take-map}
+use Rattle.std.proofs.lemmas.Option.{same_Some}
 use Rattle.std.proofs.lemmas.Map.Lookups.{exact_bytes}
 use Rattle.vcard_text.specs.TextMaps.{text_cmp}
 use Rattle.book_model.specs.declared.page.Entry.TheVariants.{Changed, Removed}
@@ -20,12 +21,13 @@ use Rattle.book_laws.specs.Histories.{BookEvent, same_uid, live, last}
 use Rattle.book_model.specs.Books.{LiveCards}
 use Rattle.book_model.specs.Outcomes.{◌>>=◌, provided}
 use Rattle.book_model.specs.Pages.{mark_asked, page_size, mark_after, page_of}
-use Rattle.book_laws.specs.Reports.{is_due, due, entry_of, cut_page, whole_page, report}
+use Rattle.book_laws.specs.Reports.{first_mark, is_due, due, entry_of, cut_page, whole_page, report}
 use Rattle.book_laws.specs.Worlds.{Story, Stories}
 use Rattle.book_laws.specs.WorldSteps.{empty_story, with_event, report_meaning}
-use Rattle.book_model.specs.Devices.{applied, applied_one, Holding, copy_under, ready_copy, after_page, AppliesInPart}
-use Rattle.book_laws.specs.RightDevices.{Agrees, first_mark, mark_under, page_for, IsRightUnder, IsRightFor, IsRightWith, IsRight}
-use Rattle.book_laws.specs.DeviceLaws.{EmptyIsRight, CopiesStayRight, PartsKeepCopiesRight, WholePagesKeepCopiesRight, LastPagesCompleteCopies, RestartedAreRight, NobodyDueIsComplete, LiveAreDueFirst, NewBooksKeepAllRight, DevicesStayRight, PartsKeepDevicesRight, WholePagesKeepDevicesRight, LastPagesCompleteDevices, LastPagesCompleteAll, RightTokensAreKnown, RightTokensGrowOld, EventsKeepAllRight, PartsKeepAllRight, WholePagesKeepAllRight}
+use Rattle.book_model.specs.Devices.{applied, applied_one, Holding, copy_under, ready_copy, after_page}
+use Rattle.book_laws.specs.RightDevices.{Agrees, IsRightAt, IsRight}
+use Rattle.book_laws.specs.Paging.{mark_under, page_for}
+use Rattle.book_laws.specs.DeviceLaws.{EmptyIsRight, CopiesStayRight, PartsKeepCopiesRight, WholePagesKeepCopiesRight, LastPagesCompleteCopies, DevicesStartRight, NobodyDueIsComplete, LiveAreDueFirst, NewBooksKeepAllRight, LastPagesCompleteAll, RightTokensAreKnown, RightTokensGrowOld, EventsKeepAllRight, PartsKeepAllRight, WholePagesKeepAllRight}
 use Rattle.book_model.proofs.BasicLemmas.{both, is_some-false}
 use Rattle.book_model.proofs.TextLemmas.{text_total, same-equal}
 use Rattle.book_laws.proofs.HistoryLemmas.{has, last-le, last_here, last_other, last_event, event-le, Rises, get-changed}
@@ -232,109 +234,86 @@ live_are_due_first h uid = (
 
 -- ---- devices
 
--- what a page is applied to is right at the mark that asks
-ready : (story : Story) (copy : LiveCards) (token : Option Token) → IsRightUnder story copy token → Agrees (copy_under token copy) (mark_under story.history token) story.history
-ready story copy None r = empty_is_right story.history
-ready story copy (Some token) r = r.1
+none_is_some : {A : Type 0} (x : A) → None ≡ Some x → ⊥
+none_is_some x e = cc
 
-pub restarted_are_right : RestartedAreRight
-restarted_are_right story holding = tt
-
-pub devices_stay_right : DevicesStayRight
-devices_stay_right story holding e r = stays holding.token r
-  where
-    stays : (token : Option Token) → IsRightUnder story holding.copy token → IsRightUnder (with_event story e) holding.copy token
-    stays None r = tt
-    stays (Some token) r = (r.0, copies_stay_right holding.copy token.mark story.history e r.1)
-
-pub parts_keep_devices_right : PartsKeepDevicesRight
-parts_keep_devices_right story holding after k r part = ⊎_elim
-    (λ same. subst Kept (sym same) (r, refl))
-    (λ first. subst Kept (sym first.after_is) (kept first.count holding.token r, refl))
-    part
-  where
-    Kept : Holding → Type 0
-    Kept a = IsRightFor story a × (a.token ≡ holding.token)
-
-    kept : (count : ℕ) (token : Option Token) → IsRightUnder story holding.copy token
-        → IsRightUnder story (applied (copy_under token holding.copy) (take count (report story.history (mark_under story.history token) k).entries)) token
-    kept count None r = tt
-    kept count (Some token) r = (r.0, parts_keep_copies_right holding.copy token.mark story.history k count r.1)
-
-pub whole_pages_keep_devices_right : WholePagesKeepDevicesRight
-whole_pages_keep_devices_right story holding k some r =
-    (refl, whole_pages_keep_copies_right (ready_copy holding) (mark_under story.history holding.token) story.history k some (ready story holding.copy holding.token r))
-
-pub last_pages_complete_devices : LastPagesCompleteDevices
-last_pages_complete_devices story holding k r t =
-    last_pages_complete_copies (ready_copy holding) (mark_under story.history holding.token) story.history k (ready story holding.copy holding.token r) t
-
-opened : (own known old : Bool) (mark : Mark) → own ≡ true → known ≡ true → (provided own (BadToken OtherBook) >>= λ _. provided known (BadToken TooNew) >>= λ _. provided old (BadToken TooOld) >>= λ _. Ok mark) ≡ (provided old (BadToken TooOld) >>= λ _. Ok mark)
-opened true true old mark o k = refl
-opened true false old mark o k = absurd (both_ways false refl k)
-opened false known old mark o k = absurd (both_ways false refl o)
-
--- of a right token only the age is in question
-by_age : (story : Story) (copy : LiveCards) (token : Token) → IsRightUnder story copy (Some token)
-    → mark_asked story.id (length story.history) story.horizon (Some token) ≡ (provided (nat_le story.horizon token.mark.base) (BadToken TooOld) >>= λ _. Ok token.mark)
-by_age story copy token r =
-    let number = length story.history in
-    let past = r.1.past in
-    let ordered = r.1.ordered in
-    opened (token.book == story.id) (nat_le token.mark.at number && nat_le token.mark.base number) (nat_le story.horizon token.mark.base) token.mark
-    ((Decides-eqb token.book story.id).1 r.0) (both _ _ (le-leb _ _ (omega (arith, past, ordered))) (le-leb _ _ past))
-
-pub right_tokens_are_known : RightTokensAreKnown
-right_tokens_are_known story holding r le = known holding.token r le
-  where
-    known : (token : Option Token) → IsRightUnder story holding.copy token → story.horizon ≤ (mark_under story.history token).base
-        → mark_asked story.id (length story.history) story.horizon token ≡ Ok (mark_under story.history token)
-    known None r le = refl
-    known (Some token) r le = by_age story holding.copy token r ∙ ap (λ young. provided young (BadToken TooOld) >>= λ _. Ok token.mark) (le-leb _ _ le)
-
-pub right_tokens_grow_old : RightTokensGrowOld
-right_tokens_grow_old story holding token r is old =
-    ap (mark_asked story.id (length story.history) story.horizon) is
-    ∙ by_age story holding.copy token (subst (IsRightUnder story holding.copy) is r)
-    ∙ ap (λ young. provided young (BadToken TooOld) >>= λ _. Ok token.mark) (lt-leb story.horizon token.mark.base old)
-
--- ---- among all books
-
-right_at : (stories : Stories) (holding : Holding) (o : Option Story) → finite.get stories holding.book ≡ o → IsRight stories holding → IsRightWith o holding
-right_at stories holding o is r = subst (λ (o : Option Story). IsRightWith o holding) is r
-
-right_from : (holding : Holding) {o p : Option Story} → o ≡ p → IsRightWith p holding → IsRightWith o holding
-right_from holding same r = subst (λ (o : Option Story). IsRightWith o holding) (sym same) r
+pub devices_start_right : DevicesStartRight
+devices_start_right stories device none token e = absurd (none_is_some token (sym none ∙ e))
 
 pub events_keep_all_right : EventsKeepAllRight
-events_keep_all_right stories name story e holding is r =
-    right_from holding (get-insert text_total stories name (with_event story e) holding.book)
-    (⊎_elim
-    (λ here. right_from holding (cond-true _ _ _ here) (devices_stay_right story holding e (right_at stories holding (Some story) (ap (finite.get stories) (same-equal holding.book name here) ∙ is) r)))
-    (λ other. right_from holding (cond-false _ _ _ other) r)
-    (cases_Bool (same_uid holding.book name)))
+events_keep_all_right stories name story e device is right token at =
+    let r = right token at in ⊎_elim
+    (λ here.
+    let same : r.story ≡ story = same_Some r.story story (sym r.found ∙ ap (finite.get stories) (same-equal device.book name here) ∙ is) in
+    record {
+      story = with_event story e;
+      found = get-insert text_total stories name (with_event story e) device.book ∙ cond-true _ _ _ here;
+      own = r.own ∙ ap (λ (s : Story). s.id) same;
+      agrees = subst (λ (s : Story). Agrees device.copy token.mark (e ∷ s.history)) same (copies_stay_right device.copy token.mark r.story.history e r.agrees);
+    })
+    (λ other. record {
+      story = r.story;
+      found = get-insert text_total stories name (with_event story e) device.book ∙ cond-false _ _ _ other ∙ r.found;
+      own = r.own;
+      agrees = r.agrees;
+    })
+    (cases_Bool (same_uid device.book name))
 
 pub new_books_keep_all_right : NewBooksKeepAllRight
-new_books_keep_all_right stories name id holding none r =
-    right_from holding (get-insert text_total stories name (empty_story id) holding.book)
-    (⊎_elim
-    (λ here. right_from holding (cond-true _ _ _ here) (no_token holding.token (right_at stories holding None (ap (finite.get stories) (same-equal holding.book name here) ∙ none) r)))
-    (λ other. right_from holding (cond-false _ _ _ other) r)
-    (cases_Bool (same_uid holding.book name)))
-  where
-    no_token : (token : Option Token) → token ≡ None → IsRightUnder (empty_story id) holding.copy token
-    no_token None is = tt
-    no_token (Some token) is = absurd (no is)
-      where
-        no : Some token ≡ None → ⊥
-        no n = cc
+new_books_keep_all_right stories name id device none right token at =
+    let r = right token at in ⊎_elim
+    (λ here. absurd (none_is_some r.story (sym none ∙ ap (finite.get stories) (sym (same-equal device.book name here)) ∙ r.found)))
+    (λ other. record {
+      story = r.story;
+      found = get-insert text_total stories name (empty_story id) device.book ∙ cond-false _ _ _ other ∙ r.found;
+      own = r.own;
+      agrees = r.agrees;
+    })
+    (cases_Bool (same_uid device.book name))
+
+-- ---- its page
+
+-- of the book that a right device names
+module _ (stories : Stories) (device : Holding) (story : Story) (found : finite.get stories device.book ≡ Some story) (right : IsRight stories device) where
+  -- what a page is applied to agrees at the mark that asks
+  pub ready : Agrees (ready_copy device) (mark_under story.history device.token) story.history
+  ready = by_token device.token right
+    where
+      by_token : (token : Option Token) → ((t : Token) → token ≡ Some t → IsRightAt stories device t) → Agrees (copy_under token device.copy) (mark_under story.history token) story.history
+      by_token None right = empty_is_right story.history
+      by_token (Some token) right =
+          let r = right token refl in
+          subst (λ (s : Story). Agrees device.copy token.mark s.history) (same_Some r.story story (sym r.found ∙ found)) r.agrees
+
+  right_in_part : (k count : ℕ) → IsRight stories (record device { copy = applied (ready_copy device) (take count (page_for story device k).entries) })
+  right_in_part k count token at =
+      let r = right token at in
+      record {
+        story = story;
+        found = found;
+        own = r.own ∙ ap (λ (s : Story). s.id) (same_Some r.story story (sym r.found ∙ found));
+        agrees =
+            subst (λ (t : Option Token). Agrees (applied (ready_copy device) (take count (page_for story device k).entries)) (mark_under story.history t) story.history) at
+            (parts_keep_copies_right (ready_copy device) (mark_under story.history device.token) story.history k count ready);
+      }
+
+  right_after_page : (k : ℕ) → 0 < k → IsRight stories (after_page device (page_for story device k))
+  right_after_page k some token at = subst (IsRightAt stories (after_page device (page_for story device k))) (same_Some _ token at) (record {
+    story = story;
+    found = found;
+    own = refl;
+    agrees = whole_pages_keep_copies_right (ready_copy device) (mark_under story.history device.token) story.history k some ready;
+  })
+
+  complete_after_page : (k : ℕ) → (page_for story device k).truncated ≡ false → (after_page device (page_for story device k)).copy ≡ live story.history
+  complete_after_page k = last_pages_complete_copies (ready_copy device) (mark_under story.history device.token) story.history k ready
 
 -- a page that a report means is one that the device's book has for it
-record IsFrom (limits : Bounds) (o : Option Story) (holding : Holding) (page : Page) : Type 0 where
+record IsFrom (limits : Bounds) (o : Option Story) (device : Holding) (page : Page) : Type 0 where
   story : Story
   size : ℕ
   story_is : o ≡ Some story
-  page_is : page ≡ page_for story holding size
+  page_is : page ≡ page_for story device size
   some : 0 < limits.page_max → 0 < size
 
 passed : (own known old : Bool) (mark asked : Mark) → (provided own (BadToken OtherBook) >>= λ _. provided known (BadToken TooNew) >>= λ _. provided old (BadToken TooOld) >>= λ _. Ok mark) ≡ Ok asked → asked ≡ mark
@@ -357,18 +336,18 @@ size_some page_max (Some limit) size e some =
       | false ↦ λ asks e. cc
     ] refl e
 
-told_from : (limits : Bounds) (stories : Stories) (holding : Holding) (limit : Option ℕ) (page : Page) → report_meaning limits stories holding.book holding.token limit ≡ Ok page → IsFrom limits (finite.get stories holding.book) holding page
-told_from limits stories holding limit page e = by_story (finite.get stories holding.book) e
+told_from : (limits : Bounds) (stories : Stories) (device : Holding) (limit : Option ℕ) (page : Page) → report_meaning limits stories device.book device.token limit ≡ Ok page → IsFrom limits (finite.get stories device.book) device page
+told_from limits stories device limit page e = by_story (finite.get stories device.book) e
   where
-    by_mark : (story : Story) (mark : Result Mark Refusal) (size : Result ℕ Refusal) → mark_asked story.id (length story.history) story.horizon holding.token ≡ mark → page_size limits.page_max limit ≡ size
-        → (mark >>= λ m. size >>= λ k. Ok (page_of story.id (report story.history m k))) ≡ Ok page → IsFrom limits (Some story) holding page
+    by_mark : (story : Story) (mark : Result Mark Refusal) (size : Result ℕ Refusal) → mark_asked story.id (length story.history) story.horizon device.token ≡ mark → page_size limits.page_max limit ≡ size
+        → (mark >>= λ m. size >>= λ k. Ok (page_of story.id (report story.history m k))) ≡ Ok page → IsFrom limits (Some story) device page
     by_mark story (Ok mark) (Ok k) is_mark is_size e =
         let is : page_of story.id (report story.history mark k) ≡ page = cc in
         record {
           story = story;
           size = k;
           story_is = refl;
-          page_is = sym is ∙ ap (λ (m : Mark). page_of story.id (report story.history m k)) (asked_is story holding.token mark is_mark);
+          page_is = sym is ∙ ap (λ (m : Mark). page_of story.id (report story.history m k)) (asked_is story device.token mark is_mark);
           some = size_some limits.page_max limit k is_size;
         }
     by_mark story (Ok mark) (Err refusal) is_mark is_size e = absurd (no_page e)
@@ -380,39 +359,60 @@ told_from limits stories holding limit page e = by_story (finite.get stories hol
         no_page : Err refusal ≡ Ok page → ⊥
         no_page n = cc
 
-    by_story : (o : Option Story) → (option_map_or Ok o (Err NoSuchBook) >>= λ story. mark_asked story.id (length story.history) story.horizon holding.token >>= λ m. page_size limits.page_max limit >>= λ k. Ok (page_of story.id (report story.history m k))) ≡ Ok page → IsFrom limits o holding page
+    by_story : (o : Option Story) → (option_map_or Ok o (Err NoSuchBook) >>= λ story. mark_asked story.id (length story.history) story.horizon device.token >>= λ m. page_size limits.page_max limit >>= λ k. Ok (page_of story.id (report story.history m k))) ≡ Ok page → IsFrom limits o device page
     by_story None e = absurd (no_page e)
       where
         no_page : Err NoSuchBook ≡ Ok page → ⊥
         no_page n = cc
-    by_story (Some story) e = by_mark story (mark_asked story.id (length story.history) story.horizon holding.token) (page_size limits.page_max limit) refl refl e
+    by_story (Some story) e = by_mark story (mark_asked story.id (length story.history) story.horizon device.token) (page_size limits.page_max limit) refl refl e
 
 pub parts_keep_all_right : PartsKeepAllRight
-parts_keep_all_right limits stories holding after limit page r e part =
-    let from = told_from limits stories holding limit page e in
-    let right = right_at stories holding (Some from.story) from.story_is r in
-    ⊎_elim
-    (λ same. subst (IsRight stories) (sym same) r)
-    (λ first.
-    let own : AppliesInPart holding (page_for from.story holding from.size) after = subst (λ (p : Page). AppliesInPart holding p after) from.page_is (inr first) in
-    let book : finite.get stories after.book ≡ Some from.story = ap (λ (a : Holding). finite.get stories a.book) first.after_is ∙ from.story_is in
-    subst (λ (o : Option Story). IsRightWith o after) (sym book) (parts_keep_devices_right from.story holding after from.size right own).0)
+parts_keep_all_right limits stories device after limit page right e part =
+    let from = told_from limits stories device limit page e in ⊎_elim
+    (λ same. subst (IsRight stories) (sym same) right)
+    (λ first. subst (IsRight stories) (sym first.after_is)
+    (subst (λ (p : Page). IsRight stories (record device { copy = applied (ready_copy device) (take first.count p.entries) })) (sym from.page_is)
+    (right_in_part stories device from.story from.story_is right from.size first.count)))
     part
 
 pub whole_pages_keep_all_right : WholePagesKeepAllRight
-whole_pages_keep_all_right limits stories holding limit page some r e =
-    let from = told_from limits stories holding limit page e in
-    let right = right_at stories holding (Some from.story) from.story_is r in
-    subst (λ (o : Option Story). IsRightWith o (after_page holding page)) (sym from.story_is)
-    (subst (λ (p : Page). IsRightFor from.story (after_page holding p)) (sym from.page_is) (whole_pages_keep_devices_right from.story holding from.size (from.some some) right))
+whole_pages_keep_all_right limits stories device limit page some right e =
+    let from = told_from limits stories device limit page e in
+    subst (λ (p : Page). IsRight stories (after_page device p)) (sym from.page_is)
+    (right_after_page stories device from.story from.story_is right from.size (from.some some))
 
 pub last_pages_complete_all : LastPagesCompleteAll
-last_pages_complete_all limits stories holding limit page r e last =
-    let from = told_from limits stories holding limit page e in
-    let right = right_at stories holding (Some from.story) from.story_is r in
-    let whole : (page_for from.story holding from.size).truncated ≡ false = sym (ap (λ (p : Page). p.truncated) from.page_is) ∙ last in
+last_pages_complete_all limits stories device limit page right e last =
+    let from = told_from limits stories device limit page e in
     record {
       story = from.story;
       found = from.story_is;
-      copy = ap (λ (p : Page). (after_page holding p).copy) from.page_is ∙ last_pages_complete_devices from.story holding from.size right whole;
+      copy =
+          ap (λ (p : Page). (after_page device p).copy) from.page_is
+          ∙ complete_after_page stories device from.story from.story_is right from.size (sym (ap (λ (p : Page). p.truncated) from.page_is) ∙ last);
     }
+
+-- ---- its token
+
+opened : (own known old : Bool) (mark : Mark) → own ≡ true → known ≡ true → (provided own (BadToken OtherBook) >>= λ _. provided known (BadToken TooNew) >>= λ _. provided old (BadToken TooOld) >>= λ _. Ok mark) ≡ (provided old (BadToken TooOld) >>= λ _. Ok mark)
+opened true true old mark o k = refl
+opened true false old mark o k = absurd (both_ways false refl k)
+opened false known old mark o k = absurd (both_ways false refl o)
+
+-- of a right token only the age is in question
+by_age : (stories : Stories) (device : Holding) (token : Token) (right : IsRightAt stories device token)
+    → mark_asked right.story.id (length right.story.history) right.story.horizon (Some token) ≡ (provided (nat_le right.story.horizon token.mark.base) (BadToken TooOld) >>= λ _. Ok token.mark)
+by_age stories device token right =
+    let number = length right.story.history in
+    let past = right.agrees.past in
+    let ordered = right.agrees.ordered in
+    opened (token.book == right.story.id) (nat_le token.mark.at number && nat_le token.mark.base number) (nat_le right.story.horizon token.mark.base) token.mark
+    ((Decides-eqb token.book right.story.id).1 right.own) (both _ _ (le-leb _ _ (omega (arith, past, ordered))) (le-leb _ _ past))
+
+pub right_tokens_are_known : RightTokensAreKnown
+right_tokens_are_known stories device token right le =
+    by_age stories device token right ∙ ap (λ young. provided young (BadToken TooOld) >>= λ _. Ok token.mark) (le-leb _ _ le)
+
+pub right_tokens_grow_old : RightTokensGrowOld
+right_tokens_grow_old stories device token right old =
+    by_age stories device token right ∙ ap (λ young. provided young (BadToken TooOld) >>= λ _. Ok token.mark) (lt-leb right.story.horizon token.mark.base old)

@@ -13,14 +13,14 @@ use Rattle.book_model.specs.Books.{LiveCards}
 use Rattle.book_model.specs.Pages.{Answer, mark_after}
 use Rattle.book_laws.specs.Reports.{is_due, due, entry_of, cut_page, whole_page, report}
 use Rattle.book_laws.specs.Worlds.{Story}
-use Rattle.book_model.specs.Devices.{Holding, after_page}
-use Rattle.book_laws.specs.RightDevices.{mark_under, page_for, IsRightUnder}
+use Rattle.book_model.specs.Devices.{applied, ready_copy, after_page}
+use Rattle.book_laws.specs.RightDevices.{Agrees}
 use Rattle.book_laws.specs.DeviceLaws.{DueRises, EntriesAreFirstDue, PagesFit}
-use Rattle.book_laws.specs.Paging.{Place, with_events, told, after_turn, due_count, one_where, truncated_pages, events_to_last, after_pages}
+use Rattle.book_laws.specs.Paging.{Place, mark_under, page_for, with_events, told, after_turn, due_count, one_where, truncated_pages, events_to_last, after_pages}
 use Rattle.book_laws.specs.PagingLaws.{EventsAddAtMostOne, TruncatedPagesLeaveRest, TruncatedPagesLeaveFewer, LastPagesLeaveNobody, TruncatedPagesAreBounded, QuietBooksAreToldWhole, QuietDevicesCatchUp}
 use Rattle.book_laws.proofs.HistoryLemmas.{Rises, last-le, last_other, get-changed}
 use Rattle.book_laws.proofs.DueLemmas.{due-rises}
-use Rattle.book_laws.proofs.DeviceLemmas.{nobody_due_is_complete, whole_pages_keep_devices_right}
+use Rattle.book_laws.proofs.DeviceLemmas.{whole_pages_keep_copies_right, nobody_due_is_complete, ready}
 use Rattle.book_laws.specs.Calls.{after}
 use Rattle.vcard_text.specs.Unfolding.{before}
 
@@ -243,20 +243,20 @@ quiet_books_are_told_whole k place (suc n) some le =
     (quiet_turn k place n some (let same : suc n ≡ 1 + n = omega arith in subst (λ m. due_count place ≤ m * k) same le))
 
 -- a device with a token
-caught_up : (k : ℕ) (story : Story) (n : ℕ) (book : List ℕ) (copy : LiveCards) (token : Token) → 0 < k → IsRightUnder story copy (Some token)
+caught_up : (k : ℕ) (story : Story) (n : ℕ) (book : List ℕ) (copy : LiveCards) (token : Token) → 0 < k → Agrees copy token.mark story.history
     → length (due story.history token.mark) ≤ n * k → (after_pages k story n (record { book = book; copy = copy; token = Some token })).copy ≡ live story.history
-caught_up k story zero book copy token some r le =
-    nobody_due_is_complete copy token.mark story.history r.1 (none_left (due story.history token.mark) (let none : 0 * k ≡ 0 = search arith in omega (arith, none, le)))
-caught_up k story (suc n) book copy token some r le =
-    let holding : Holding = record { book = book; copy = copy; token = Some token } in
+caught_up k story zero book copy token some agrees le =
+    nobody_due_is_complete copy token.mark story.history agrees (none_left (due story.history token.mark) (let none : 0 * k ≡ 0 = search arith in omega (arith, none, le)))
+caught_up k story (suc n) book copy token some agrees le =
     let next : Token = record { book = story.id; mark = (report story.history token.mark k).mark } in
-    caught_up k story n book (after_page holding (page_for story holding k)).copy next some (whole_pages_keep_devices_right story holding k some r)
+    caught_up k story n book (applied copy (report story.history token.mark k).entries) next some (whole_pages_keep_copies_right copy token.mark story.history k some agrees)
     (quiet_turn k (record { history = story.history; mark = token.mark }) n some (let same : suc n ≡ 1 + n = omega arith in subst (λ m. length (due story.history token.mark) ≤ m * k) same le))
 
 pub quiet_devices_catch_up : QuietDevicesCatchUp
-quiet_devices_catch_up k story zero holding some pages r le = absurd (omega arith)
-quiet_devices_catch_up k story (suc n) holding some pages r le =
-    let mark = mark_under story.history holding.token in
+quiet_devices_catch_up stories device story k zero some pages right found le = absurd (omega arith)
+quiet_devices_catch_up stories device story k (suc n) some pages right found le =
+    let mark = mark_under story.history device.token in
     let next : Token = record { book = story.id; mark = (report story.history mark k).mark } in
-    caught_up k story n holding.book (after_page holding (page_for story holding k)).copy next some (whole_pages_keep_devices_right story holding k some r)
+    caught_up k story n device.book (after_page device (page_for story device k)).copy next some
+    (whole_pages_keep_copies_right (ready_copy device) mark story.history k some (ready stories device story found right))
     (quiet_turn k (record { history = story.history; mark = mark }) n some (let same : suc n ≡ 1 + n = omega arith in subst (λ m. length (due story.history mark) ≤ m * k) same le))

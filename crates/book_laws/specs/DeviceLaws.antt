@@ -11,11 +11,11 @@ use Rattle.book_model.specs.Bounds.{Bounds}
 use Rattle.book_laws.specs.Histories.{BookEvent, live, last}
 use Rattle.book_model.specs.Books.{LiveCards}
 use Rattle.book_model.specs.Pages.{mark_asked}
-use Rattle.book_laws.specs.Reports.{due, entry_of, report}
+use Rattle.book_laws.specs.Reports.{first_mark, due, entry_of, report}
 use Rattle.book_laws.specs.Worlds.{Story, Stories}
 use Rattle.book_laws.specs.WorldSteps.{empty_story, with_event, report_meaning}
-use Rattle.book_laws.specs.RightDevices.{Agrees, IsComplete, IsRight, IsRightFor, first_mark, mark_under, page_for}
-use Rattle.book_model.specs.Devices.{AppliesInPart, Holding, after_page, applied, restarted}
+use Rattle.book_laws.specs.RightDevices.{Agrees, IsComplete, IsRight, IsRightAt}
+use Rattle.book_model.specs.Devices.{AppliesInPart, Holding, after_page, applied}
 
 -- ---- what holds of all copies
 
@@ -50,72 +50,57 @@ NobodyDueIsComplete = (copy : LiveCards) (mark : Mark) (h : List BookEvent) →
 
 -- ---- what holds of all devices
 
--- a device whose token was taken away is right for each book
-abbrev pub RestartedAreRight : Type 0
-RestartedAreRight = (story : Story) (holding : Holding) → IsRightFor story (restarted holding)
+-- a device without a token is right, as a new one is and one that starts again
+abbrev pub DevicesStartRight : Type 0
+DevicesStartRight = (stories : Stories) (device : Holding) →
+    device.token ≡ None → IsRight stories device
 
--- a right device stays right whatever event comes
-abbrev pub DevicesStayRight : Type 0
-DevicesStayRight = (story : Story) (holding : Holding) (e : BookEvent) →
-    IsRightFor story holding → IsRightFor (with_event story e) holding
-
--- a right device that applies its page in part is right, with its old token or still without one
-abbrev pub PartsKeepDevicesRight : Type 0
-PartsKeepDevicesRight = (story : Story) (holding after : Holding) (k : ℕ) →
-    IsRightFor story holding → AppliesInPart holding (page_for story holding k) after →
-    IsRightFor story after × (after.token ≡ holding.token)
-
--- a right device that applies its whole page is right with the page's token
-abbrev pub WholePagesKeepDevicesRight : Type 0
-WholePagesKeepDevicesRight = (story : Story) (holding : Holding) (k : ℕ) → 0 < k →
-    IsRightFor story holding → IsRightFor story (after_page holding (page_for story holding k))
-
--- a right device that applies a whole page that isn't truncated has the live cards, with their versions
-abbrev pub LastPagesCompleteDevices : Type 0
-LastPagesCompleteDevices = (story : Story) (holding : Holding) (k : ℕ) →
-    IsRightFor story holding → (page_for story holding k).truncated ≡ false →
-    (after_page holding (page_for story holding k)).copy ≡ live story.history
-
--- no right token is refused, unless its base is below the horizon
-abbrev pub RightTokensAreKnown : Type 0
-RightTokensAreKnown = (story : Story) (holding : Holding) → IsRightFor story holding →
-    story.horizon ≤ (mark_under story.history holding.token).base →
-    mark_asked story.id (length story.history) story.horizon holding.token ≡ Ok (mark_under story.history holding.token)
-
--- and then it is refused for its age
-abbrev pub RightTokensGrowOld : Type 0
-RightTokensGrowOld = (story : Story) (holding : Holding) (token : Token) → IsRightFor story holding →
-    holding.token ≡ Some token → token.mark.base < story.horizon →
-    mark_asked story.id (length story.history) story.horizon holding.token ≡ Err (BadToken TooOld)
-
--- ---- what holds among all books
-
--- an event in any book leaves each right device right
+-- an event in any book leaves each right device right, whether the event is lawful or not
 abbrev pub EventsKeepAllRight : Type 0
-EventsKeepAllRight = (stories : Stories) (name : List ℕ) (story : Story) (e : BookEvent) (holding : Holding) →
-    finite.get stories name ≡ Some story → IsRight stories holding → IsRight (finite.insert stories name (with_event story e)) holding
+EventsKeepAllRight = (stories : Stories) (name : List ℕ) (story : Story) (e : BookEvent)
+    (device : Holding) → finite.get stories name ≡ Some story → IsRight stories device →
+    IsRight (finite.insert stories name (with_event story e)) device
 
 -- and so does a book that is made, since no device has a token of it yet
 abbrev pub NewBooksKeepAllRight : Type 0
-NewBooksKeepAllRight = (stories : Stories) (name : List ℕ) (id : ℕ) (holding : Holding) →
-    finite.get stories name ≡ None → IsRight stories holding → IsRight (finite.insert stories name (empty_story id)) holding
+NewBooksKeepAllRight = (stories : Stories) (name : List ℕ) (id : ℕ) (device : Holding) →
+    finite.get stories name ≡ None → IsRight stories device →
+    IsRight (finite.insert stories name (empty_story id)) device
 
--- what a right device is told of its book leaves it right, in part or whole
+-- a right device that applies a page of its book in part is right
 abbrev pub PartsKeepAllRight : Type 0
-PartsKeepAllRight = (limits : Bounds) (stories : Stories) (holding after : Holding) (limit : Option ℕ) (page : Page) →
-    IsRight stories holding → report_meaning limits stories holding.book holding.token limit ≡ Ok page →
-    AppliesInPart holding page after → IsRight stories after
+PartsKeepAllRight = (limits : Bounds) (stories : Stories) (device after : Holding)
+    (limit : Option ℕ) (page : Page) → IsRight stories device →
+    report_meaning limits stories device.book device.token limit ≡ Ok page →
+    AppliesInPart device page after → IsRight stories after
 
+-- and so is one that applies it whole, with the page's token
 abbrev pub WholePagesKeepAllRight : Type 0
-WholePagesKeepAllRight = (limits : Bounds) (stories : Stories) (holding : Holding) (limit : Option ℕ) (page : Page) → 0 < limits.page_max →
-    IsRight stories holding → report_meaning limits stories holding.book holding.token limit ≡ Ok page →
-    IsRight stories (after_page holding page)
+WholePagesKeepAllRight = (limits : Bounds) (stories : Stories) (device : Holding)
+    (limit : Option ℕ) (page : Page) → 0 < limits.page_max → IsRight stories device →
+    report_meaning limits stories device.book device.token limit ≡ Ok page →
+    IsRight stories (after_page device page)
 
 -- a right device is complete after a whole page that isn't truncated
 abbrev pub LastPagesCompleteAll : Type 0
-LastPagesCompleteAll = (limits : Bounds) (stories : Stories) (holding : Holding) (limit : Option ℕ) (page : Page) →
-    IsRight stories holding → report_meaning limits stories holding.book holding.token limit ≡ Ok page → page.truncated ≡ false →
-    IsComplete stories (after_page holding page)
+LastPagesCompleteAll = (limits : Bounds) (stories : Stories) (device : Holding)
+    (limit : Option ℕ) (page : Page) → IsRight stories device →
+    report_meaning limits stories device.book device.token limit ≡ Ok page →
+    page.truncated ≡ false → IsComplete stories (after_page device page)
+
+-- no right token is refused, unless its base is below the horizon
+abbrev pub RightTokensAreKnown : Type 0
+RightTokensAreKnown = (stories : Stories) (device : Holding) (token : Token)
+    (right : IsRightAt stories device token) → right.story.horizon ≤ token.mark.base →
+    mark_asked right.story.id (length right.story.history) right.story.horizon (Some token)
+    ≡ Ok token.mark
+
+-- and then it is refused for its age
+abbrev pub RightTokensGrowOld : Type 0
+RightTokensGrowOld = (stories : Stories) (device : Holding) (token : Token)
+    (right : IsRightAt stories device token) → token.mark.base < right.story.horizon →
+    mark_asked right.story.id (length right.story.history) right.story.horizon (Some token)
+    ≡ Err (BadToken TooOld)
 
 -- ---- what a report holds
 

@@ -1,13 +1,14 @@
 -- How many pages of a book's report are truncated, as events come and pages are taken (RFC 6578, section 3.6). The
 -- bound is this project's own.
-use Rattle.std.specs.Prelude.{ℕ, zero, suc, ◌+◌, Bool, nat_lt, List, [], ◌∷◌, ◌++◌, length, fold, if◌then◌else◌}
+use Rattle.std.specs.Prelude.{ℕ, zero, suc, ◌+◌, Bool, nat_lt, List, [], ◌∷◌, ◌++◌, length, fold, Option, Some, None, if◌then◌else◌}
+use Rattle.book_model.specs.declared.page.Page.{Page}
 use Rattle.book_model.specs.declared.token.Mark.{Mark}
+use Rattle.book_model.specs.declared.token.Token.{Token}
 use Rattle.book_laws.specs.Histories.{BookEvent}
-use Rattle.book_model.specs.Pages.{Answer}
-use Rattle.book_laws.specs.Reports.{due, report}
+use Rattle.book_model.specs.Pages.{Answer, page_of}
+use Rattle.book_laws.specs.Reports.{first_mark, due, report}
 use Rattle.book_laws.specs.Worlds.{Story}
 use Rattle.book_model.specs.Devices.{Holding, after_page}
-use Rattle.book_laws.specs.RightDevices.{page_for}
 
 -- ---- turns
 
@@ -58,7 +59,18 @@ events_to_last k place (events ∷ turns) =
 
 -- ---- pages while nothing happens
 
+-- the mark from which a device asks
+abbrev pub mark_under : List BookEvent → Option Token → Mark
+mark_under h None = first_mark h
+mark_under h (Some token) = token.mark
+
+-- the page of at most k entries that the device is given
+abbrev pub page_for : Story → Holding → ℕ → Page
+page_for story device k =
+    page_of story.id (report story.history (mark_under story.history device.token) k)
+
 -- a device asks and applies the page, so many times while nothing happens
 abbrev pub after_pages : ℕ → Story → ℕ → Holding → Holding
-after_pages k story zero holding = holding
-after_pages k story (suc n) holding = after_pages k story n (after_page holding (page_for story holding k))
+after_pages k story zero device = device
+after_pages k story (suc n) device =
+    after_pages k story n (after_page device (page_for story device k))

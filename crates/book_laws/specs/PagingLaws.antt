@@ -1,12 +1,13 @@
 -- What holds of the counts of due members and of truncated pages. This project's own.
-use Rattle.std.specs.Prelude.{ℕ, ◌+◌, ◌*◌, ◌≡◌, ◌<◌, ◌≤◌, true, false, List, [], ◌∷◌, length, drop, replicate}
+use Rattle.std.specs.Prelude.{ℕ, ◌+◌, ◌*◌, ◌≡◌, ◌<◌, ◌≤◌, true, false, List, [], ◌∷◌, length, drop, replicate, Some}
+use Rattle.std.specs.FinMap as finite
 use Rattle.book_model.specs.declared.token.Mark.{Mark}
 use Rattle.book_laws.specs.Histories.{BookEvent, live}
 use Rattle.book_laws.specs.Reports.{due, report}
-use Rattle.book_laws.specs.Worlds.{Story}
+use Rattle.book_laws.specs.Worlds.{Story, Stories}
 use Rattle.book_model.specs.Devices.{Holding}
-use Rattle.book_laws.specs.RightDevices.{mark_under, IsRightFor}
-use Rattle.book_laws.specs.Paging.{Place, after_pages, after_turn, after_turns, due_count, events_to_last, truncated_pages, with_events}
+use Rattle.book_laws.specs.RightDevices.{IsRight}
+use Rattle.book_laws.specs.Paging.{Place, mark_under, after_pages, after_turn, after_turns, due_count, events_to_last, truncated_pages, with_events}
 
 -- an event makes at most one more member due
 abbrev pub EventsAddAtMostOne : Type 0
@@ -41,5 +42,7 @@ QuietBooksAreToldWhole = (k : ℕ) (place : Place) (n : ℕ) → 0 < k → due_c
 
 -- and such a device, if it was right, ends with the live cards
 abbrev pub QuietDevicesCatchUp : Type 0
-QuietDevicesCatchUp = (k : ℕ) (story : Story) (n : ℕ) (holding : Holding) → 0 < k → 0 < n → IsRightFor story holding →
-    length (due story.history (mark_under story.history holding.token)) ≤ n * k → (after_pages k story n holding).copy ≡ live story.history
+QuietDevicesCatchUp = (stories : Stories) (device : Holding) (story : Story) (k n : ℕ) → 0 < k → 0 < n →
+    IsRight stories device → finite.get stories device.book ≡ Some story →
+    length (due story.history (mark_under story.history device.token)) ≤ n * k →
+    (after_pages k story n device).copy ≡ live story.history

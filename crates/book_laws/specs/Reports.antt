@@ -9,6 +9,10 @@ use Rattle.book_model.specs.declared.token.Mark.{Mark}
 use Rattle.book_laws.specs.Histories.{BookEvent, live, last, touched}
 use Rattle.book_model.specs.Pages.{Answer, mark_after}
 
+-- the mark of a device that has heard nothing, and holds nothing that went before now
+abbrev pub first_mark : List BookEvent → Mark
+first_mark h = record { at = 0; base = length h }
+
 -- a member is due where it has an event above `at`, and is live or has one above `base`
 abbrev pub is_due : List BookEvent → Mark → List ℕ → Bool
 is_due h mark uid = nat_lt mark.at (last h uid) && (is_some (finite.get (live h) uid) || nat_lt mark.base (last h uid))

@@ -1,38 +1,38 @@
 //! What holds of devices that apply the pages that they are told.
-ghost use Rattle.book_laws.specs.DeviceLaws.{EmptyIsRight, RestartedAreRight, LiveAreDueFirst, CopiesStayRight, DevicesStayRight, PartsKeepCopiesRight, PartsKeepDevicesRight, WholePagesKeepCopiesRight, WholePagesKeepDevicesRight, LastPagesCompleteCopies, LastPagesCompleteDevices, LastPagesCompleteAll, NobodyDueIsComplete, RightTokensAreKnown, RightTokensGrowOld, EventsKeepAllRight, NewBooksKeepAllRight, PartsKeepAllRight, WholePagesKeepAllRight, DueRises, EntriesAreFirstDue, PagesFit};
+ghost use Rattle.book_laws.specs.DeviceLaws.{EmptyIsRight, DevicesStartRight, LiveAreDueFirst, CopiesStayRight, PartsKeepCopiesRight, WholePagesKeepCopiesRight, LastPagesCompleteCopies, LastPagesCompleteAll, NobodyDueIsComplete, RightTokensAreKnown, RightTokensGrowOld, EventsKeepAllRight, NewBooksKeepAllRight, PartsKeepAllRight, WholePagesKeepAllRight, DueRises, EntriesAreFirstDue, PagesFit};
 ghost use Rattle.book_laws.specs.RunLaws.{CallsKeepAllRight};
 ghost use Rattle.book_laws.specs.PagingLaws.{EventsAddAtMostOne, TruncatedPagesLeaveRest, TruncatedPagesLeaveFewer, LastPagesLeaveNobody, TruncatedPagesAreBounded, QuietBooksAreToldWhole, QuietDevicesCatchUp};
 
-/// An empty copy is right for a first report, and that report tells of just the live members.
+/// An empty copy is right for an initial report, and that report tells of just the live members.
 pub fn first_reports_start_right()
     ensures copies { EmptyIsRight }
-    ensures devices { RestartedAreRight }
     ensures due { LiveAreDueFirst }
 {}
 
-/// A right copy stays right whatever event comes, lawful or not, and so does a right device.
+/// A device without a token is right, as a new one is and one that starts again.
+pub fn devices_start_right()
+    ensures { DevicesStartRight }
+{}
+
+/// A right copy stays right whatever event comes, lawful or not.
 pub fn copies_stay_right()
-    ensures copies { CopiesStayRight }
-    ensures devices { DevicesStayRight }
+    ensures { CopiesStayRight }
 {}
 
-/// A right device that applies only some first entries of its page stays right, with its old token or without one.
+/// What some first entries of a report make of a right copy is right at the old mark.
 pub fn parts_of_pages_keep_right()
-    ensures copies { PartsKeepCopiesRight }
-    ensures devices { PartsKeepDevicesRight }
+    ensures { PartsKeepCopiesRight }
 {}
 
-/// A right device that applies its whole page is right with the page's token, whether it had a token or not.
+/// What a whole report makes of a right copy is right at the report's mark.
 pub fn whole_pages_keep_right()
-    ensures copies { WholePagesKeepCopiesRight }
-    ensures devices { WholePagesKeepDevicesRight }
+    ensures { WholePagesKeepCopiesRight }
 {}
 
-/// A page that isn't truncated makes a right device's copy the live cards, each with its version.
+/// A report that isn't truncated makes a right copy, and a right device's, the live cards, each with its version.
 pub fn last_pages_complete_copies()
     ensures copies { LastPagesCompleteCopies }
-    ensures devices { LastPagesCompleteDevices }
-    ensures all { LastPagesCompleteAll }
+    ensures devices { LastPagesCompleteAll }
     ensures due { NobodyDueIsComplete }
 {}
 
