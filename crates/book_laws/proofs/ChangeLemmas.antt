@@ -19,7 +19,7 @@ use Rattle.book_model.specs.declared.refusal.Refusal.TheVariants.{SameBook}
 use Rattle.book_model.specs.Bounds.{Bounds}
 use Rattle.book_model.specs.Books.{Books, with_change}
 use Rattle.book_laws.specs.ChangeLaws.{RemovingFollows, MovingFollows}
-use Rattle.book_laws.specs.Histories.{BookEvent, same_uid, changed, live}
+use Rattle.book_laws.specs.Histories.{BookEvent, same_uid, cards_after_change, live}
 use Rattle.book_laws.specs.Lawful.{MayHappen, IsLawful}
 use Rattle.book_model.specs.Moving.{Moving, move_answer, books_after_move}
 use Rattle.book_model.specs.Outcomes.{◌>>=◌}
@@ -70,7 +70,7 @@ live_uid (e ∷ h) uid s lawful is = ⊎_elim
     (λ other. live_uid h uid s lawful.1 (sym (get-changed (live h) e.uid uid e.change (length h + 1) other) ∙ is))
     (cases_Bool (same_uid uid e.uid))
   where
-    newest : (change : Change) → same_uid uid e.uid ≡ true → MayHappen e.uid change (finite.get (live h) e.uid) → finite.get (changed (live h) e.uid change (length h + 1)) uid ≡ Some s → uid_of s.card ≡ uid
+    newest : (change : Change) → same_uid uid e.uid ≡ true → MayHappen e.uid change (finite.get (live h) e.uid) → finite.get (cards_after_change (live h) e.uid change (length h + 1)) uid ≡ Some s → uid_of s.card ≡ uid
     newest (Stores card why) here may g =
         let stored : record { version = length h + 1; card = card } ≡ s = same_Some _ _ (sym (get-insert text_total (live h) e.uid (record { version = length h + 1; card = card }) uid ∙ cond-true _ _ _ here) ∙ g) in
         ap (λ (t : Stored). uid_of t.card) (sym stored) ∙ may.0 ∙ sym (same-equal uid e.uid here)

@@ -15,7 +15,7 @@ use Rattle.book_model.specs.declared.counts.Counts.{Counts}
 use Rattle.book_model.specs.Counting.{counted, total, arrivals, departures, live_count}
 use Rattle.book_laws.specs.HistoryCounts.{counts_of}
 use Rattle.book_laws.specs.CountLaws.{EventsAreCounted, LiveAreCounted}
-use Rattle.book_laws.specs.Histories.{BookEvent, changed, live}
+use Rattle.book_laws.specs.Histories.{BookEvent, cards_after_change, live}
 use Rattle.book_model.specs.Books.{LiveCards}
 use Rattle.book_laws.specs.Lawful.{MayHappen, Replaces, IsLawful}
 use Rattle.book_model.proofs.TextLemmas.{text_total}
@@ -39,10 +39,10 @@ replaced card None other = absurd other
 
 -- how the number of live cards goes on, by cases on what the change is for
 module _ (cards : LiveCards) (uid : List ℕ) where
-  stored_new : (card : List Line) (number : ℕ) (why : StoreReason) → finite.get cards uid ≡ None → finite.len (changed cards uid (Stores card why) number) ≡ finite.len cards + 1
+  stored_new : (card : List Line) (number : ℕ) (why : StoreReason) → finite.get cards uid ≡ None → finite.len (cards_after_change cards uid (Stores card why) number) ≡ finite.len cards + 1
   stored_new card number why none = len-insert text_total cards uid (record { version = number; card = card }) ∙ cond-false _ _ _ (ap is_some none)
 
-  stored_over : (card : List Line) (number : ℕ) (why : StoreReason) → is_some (finite.get cards uid) ≡ true → finite.len (changed cards uid (Stores card why) number) ≡ finite.len cards
+  stored_over : (card : List Line) (number : ℕ) (why : StoreReason) → is_some (finite.get cards uid) ≡ true → finite.len (cards_after_change cards uid (Stores card why) number) ≡ finite.len cards
   stored_over card number why some = len-insert text_total cards uid (record { version = number; card = card }) ∙ cond-true _ _ _ some
 
   some_live : finite.contains_key cards uid ≡ true → (n : ℕ) → n ≡ finite.len cards → 0 < n
@@ -56,7 +56,7 @@ module _ (cards : LiveCards) (uid : List ℕ) where
       omega (arith, less, one)
 
 live-counted : (cards : LiveCards) (c : Counts) (uid : List ℕ) (change : Change) (number : ℕ) → MayHappen uid change (finite.get cards uid) → finite.len cards + departures c ≡ arrivals c
-    → finite.len (changed cards uid change number) + departures (counted change c) ≡ arrivals (counted change c)
+    → finite.len (cards_after_change cards uid change number) + departures (counted change c) ≡ arrivals (counted change c)
 live-counted cards c uid (Stores card Creation) number may so = let n = stored_new cards uid card number Creation may.1 in omega (arith, n, so)
 live-counted cards c uid (Stores card Edit) number may so = let n = stored_over cards uid card number Edit (replaced card _ may.1) in omega (arith, n, so)
 live-counted cards c uid (Stores card Import) number may so = let n = stored_new cards uid card number Import may.1 in omega (arith, n, so)

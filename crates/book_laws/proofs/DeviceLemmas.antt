@@ -32,7 +32,6 @@ use Rattle.book_model.proofs.BasicLemmas.{both, is_some-false}
 use Rattle.book_model.proofs.TextLemmas.{text_total, same-equal}
 use Rattle.book_laws.proofs.HistoryLemmas.{has, last-le, last_here, last_other, last_event, event-le, Rises, get-changed}
 use Rattle.book_laws.proofs.DueLemmas.{has-due, due_have_events, above_first, due-rises}
-use Rattle.book_laws.specs.Calls.{after}
 
 -- ---- events
 

@@ -18,7 +18,7 @@ use Rattle.book_model.specs.declared.refusal.Refusal.TheVariants.{NoSuchBook, Ba
 use Rattle.book_model.specs.Bounds.{Bounds}
 use Rattle.book_model.specs.BookNames.{is_legal_name}
 use Rattle.book_model.specs.Books.{same_name}
-use Rattle.book_laws.specs.Calls.{Call, CreatesBook, Puts, Removes, Moves, Imports, Forgets, Reports, AsksImport, ListsBooks, ShowsBook, Gets, ListsCards, Tallies, Returned, MadeBook, DidPut, DidRemove, DidMove, DidImport, DidForget, GavePage, GaveImport, GaveBook, GaveCard, GaveCards, GaveTally, with_answer, with_reading, left_by, after}
+use Rattle.book_laws.specs.Calls.{Call, CreatesBook, Puts, Removes, Moves, Imports, Forgets, AsksReport, AsksImport, ListsBooks, ShowsBook, Gets, ListsCards, Tallies, Returned, MadeBook, DidPut, DidRemove, DidMove, DidImport, DidForget, GavePage, GaveImport, GaveBook, GaveCard, GaveCards, GaveTally, with_answer, with_reading, state_after, stories_after}
 use Rattle.book_model.specs.Creating.{new_id}
 use Rattle.book_model.specs.Forgetting.{may_forget}
 use Rattle.book_laws.specs.Histories.{BookEvent, live, touched}
@@ -30,7 +30,7 @@ use Rattle.book_model.specs.Removing.{remove_number}
 use Rattle.book_laws.specs.RunLaws.{GoesOn, BooksGoOn}
 use Rattle.book_model.specs.SameCards.{same_card}
 use Rattle.book_laws.specs.Worlds.{Story, Stories}
-use Rattle.book_laws.specs.WorldChanges.{event, is_forgotten, live_of, storing_event, imported, story_keeping, import_meaning_under, with_horizon, forget_meaning, stories_after_move}
+use Rattle.book_laws.specs.WorldChanges.{event, is_forgotten, live_of, storing_event, story_import, story_keeping, import_meaning_under, with_horizon, forget_meaning, stories_after_move}
 use Rattle.book_laws.specs.WorldSteps.{with_event, empty_story, story_named, found_of, stories_after_put}
 use Rattle.book_model.proofs.TextLemmas.{text_total, same-equal}
 
@@ -89,26 +89,26 @@ module _ (limits : Bounds) (stories : Stories) (call : Call) where
 
   module _ {A : Type 0} (f : A → Returned) where
     -- a step that has to find a book
-    by_named : (name : List ℕ) (g : Story → Result (A × Stories) Refusal) → ((story : Story) → finite.get stories name ≡ Some story → AllContinue (left_by stories (with_answer f (g story))))
-        → AllContinue (left_by stories (with_answer f (story_named stories name >>= g)))
+    by_named : (name : List ℕ) (g : Story → Result (A × Stories) Refusal) → ((story : Story) → finite.get stories name ≡ Some story → AllContinue (state_after stories (with_answer f (g story))))
+        → AllContinue (state_after stories (with_answer f (story_named stories name >>= g)))
     by_named name g each = by_story (finite.get stories name) each
       where
-        by_story : (o : Option Story) → ((story : Story) → o ≡ Some story → AllContinue (left_by stories (with_answer f (g story)))) → AllContinue (left_by stories (with_answer f (option_map_or Ok o (Err NoSuchBook) >>= g)))
+        by_story : (o : Option Story) → ((story : Story) → o ≡ Some story → AllContinue (state_after stories (with_answer f (g story)))) → AllContinue (state_after stories (with_answer f (option_map_or Ok o (Err NoSuchBook) >>= g)))
         by_story (Some story) each = each story refl
         by_story None each = all_same
 
     -- one that has to be given something
-    by_given : {B : Type 0} (given : Result B Refusal) (g : B → Result (A × Stories) Refusal) → ((x : B) → given ≡ Ok x → AllContinue (left_by stories (with_answer f (g x))))
-        → AllContinue (left_by stories (with_answer f (given >>= g)))
+    by_given : {B : Type 0} (given : Result B Refusal) (g : B → Result (A × Stories) Refusal) → ((x : B) → given ≡ Ok x → AllContinue (state_after stories (with_answer f (g x))))
+        → AllContinue (state_after stories (with_answer f (given >>= g)))
     by_given (Ok x) g each = each x refl
     by_given (Err refusal) g each = all_same
 
-    by_test : (test : Bool) (refusal : Refusal) (g : Result (A × Stories) Refusal) → (test ≡ true → AllContinue (left_by stories (with_answer f g)))
-        → AllContinue (left_by stories (with_answer f (provided test refusal >>= λ _. g)))
+    by_test : (test : Bool) (refusal : Refusal) (g : Result (A × Stories) Refusal) → (test ≡ true → AllContinue (state_after stories (with_answer f g)))
+        → AllContinue (state_after stories (with_answer f (provided test refusal >>= λ _. g)))
     by_test true refusal g each = each refl
     by_test false refusal g each = all_same
 
-  by_reading : {A : Type 0} (f : A → Returned) (reading : Result A Refusal) → AllContinue (left_by stories (with_reading f stories reading))
+  by_reading : {A : Type 0} (f : A → Returned) (reading : Result A Refusal) → AllContinue (state_after stories (with_reading f stories reading))
   by_reading f (Ok told) = all_same
   by_reading f (Err refusal) = all_same
 
@@ -150,7 +150,7 @@ keeping_goes_on story key tally none = record {
         no : ◌≡◌ {A = Option ImportTally} None (Some kept) → ⊥
         no n = cc
 
-pub import_goes_on : (story : Story) (cards : List (List Line)) → GoesOn story (imported story cards).book × ((imported story cards).book.horizon ≡ story.horizon)
+pub import_goes_on : (story : Story) (cards : List (List Line)) → GoesOn story (story_import story cards).book × ((story_import story cards).book.horizon ≡ story.horizon)
 import_goes_on story cards = cards_go_on cards (importing story 0 0 0)
 
 -- an import does nothing to the keys that are kept
@@ -188,7 +188,7 @@ past_first false refusal r id e = absurd (no e)
     no : ◌≡◌ {A = Result ℕ Refusal} (Err refusal) (Ok id) → ⊥
     no n = cc
 
-pub call_continues : (limits : Bounds) (stories : Stories) (call : Call) → AllContinue limits stories call (after limits stories call)
+pub call_continues : (limits : Bounds) (stories : Stories) (call : Call) → AllContinue limits stories call (stories_after limits stories call)
 call_continues limits stories (CreatesBook name) =
     let call = CreatesBook name in
     by_given limits stories call MadeBook (new_id limits name (finite.contains_key stories name) (finite.len stories)) _ (λ id given other story e.
@@ -251,12 +251,12 @@ call_continues limits stories (Imports name key cards) =
     by_kept story found (finite.get story.imports key) refl))
   where
     by_kept : (story : Story) → finite.get stories name ≡ Some story → (kept : Option ImportTally) → finite.get story.imports key ≡ kept
-        → AllContinue limits stories (Imports name key cards) (left_by stories (with_answer DidImport (import_meaning_under limits stories name story key cards kept)))
+        → AllContinue limits stories (Imports name key cards) (state_after stories (with_answer DidImport (import_meaning_under limits stories name story key cards kept)))
     by_kept story found (Some kept) e = all_same limits stories (Imports name key cards)
     by_kept story found None e =
-        let done = (imported story cards).book in
+        let done = (story_import story cards).book in
         let goes = import_goes_on story cards in
-        by_given limits stories (Imports name key cards) DidImport (import_tally limits (imported story cards) (finite.len (live done.history)) (length done.history)) _ (λ tally given.
+        by_given limits stories (Imports name key cards) DidImport (import_tally limits (story_import story cards) (finite.len (live done.history)) (length done.history)) _ (λ tally given.
         insert_one limits stories (Imports name key cards) name story (story_keeping done key tally) found
         (plainly limits stories (Imports name key cards) name story (story_keeping done key tally)
         (goes_on_twice story done (story_keeping done key tally) goes.0 (keeping_goes_on done key tally (ap (λ m. finite.get m key) (imports_same cards (importing story 0 0 0)) ∙ e))) goes.1))
@@ -278,7 +278,7 @@ call_continues limits stories (Forgets name upto) =
       where
         rest : Story → Result (ℕ × Stories) Refusal
         rest s = provided (may_forget s.horizon (length s.history) upto) BadForget >>= λ _. Ok (length (filter (is_forgotten s upto) (touched s.history)), finite.insert stories name (with_horizon s upto))
-call_continues limits stories (Reports name token limit) = by_reading limits stories (Reports name token limit) GavePage _
+call_continues limits stories (AsksReport name token limit) = by_reading limits stories (AsksReport name token limit) GavePage _
 call_continues limits stories (AsksImport name key) = by_reading limits stories (AsksImport name key) GaveImport _
 call_continues limits stories ListsBooks = all_same limits stories ListsBooks
 call_continues limits stories (ShowsBook name) = by_reading limits stories (ShowsBook name) GaveBook _
@@ -292,5 +292,5 @@ pub books_go_on : BooksGoOn
 books_go_on limits stories [] name story e = (story, e, same_story story)
 books_go_on limits stories (call ∷ calls) name story e =
     let one = call_continues limits stories call name story e in
-    let rest = books_go_on limits (after limits stories call) calls name one.0 one.1 in
+    let rest = books_go_on limits (stories_after limits stories call) calls name one.0 one.1 in
     (rest.0, rest.1, goes_on_twice story one.0 rest.0 one.2.goes_on rest.2)

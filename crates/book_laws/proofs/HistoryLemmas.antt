@@ -11,7 +11,7 @@ use Rattle.vcard_text.specs.TextMaps.{text_cmp}
 use Rattle.book_model.specs.declared.answers.Stored.{Stored}
 use Rattle.book_model.specs.declared.change.Change.{Change}
 use Rattle.book_model.specs.declared.change.Change.TheVariants.{Stores, TakesAway}
-use Rattle.book_laws.specs.Histories.{BookEvent, IsEventOf, same_uid, changed, live, last, touched}
+use Rattle.book_laws.specs.Histories.{BookEvent, IsEventOf, same_uid, cards_after_change, live, last, touched}
 use Rattle.book_model.specs.Books.{LiveCards}
 use Rattle.book_model.proofs.TextLemmas.{text_total, same_self, same-equal}
 
@@ -119,7 +119,7 @@ touched-rises (e ∷ h) =
 -- ---- the live cards
 
 -- an event changes what is live at its own UID alone
-pub get-changed : (cards : LiveCards) (v uid : List ℕ) (change : Change) (n : ℕ) → same_uid uid v ≡ false → finite.get (changed cards v change n) uid ≡ finite.get cards uid
+pub get-changed : (cards : LiveCards) (v uid : List ℕ) (change : Change) (n : ℕ) → same_uid uid v ≡ false → finite.get (cards_after_change cards v change n) uid ≡ finite.get cards uid
 get-changed cards v uid (Stores card why) n other = get-insert text_total cards v (record { version = n; card = card }) uid ∙ cond-false _ _ _ other
 get-changed cards v uid (TakesAway why) n other = get-remove text_total cards v uid ∙ cond-false _ _ _ other
 
@@ -134,7 +134,7 @@ version_is (e ∷ h) uid s is = ⊎_elim
     (λ other. version_is h uid s (sym (get-changed (live h) e.uid uid e.change (length h + 1) other) ∙ is) ∙ sym (last_other h e uid other))
     (cases_Bool (same_uid uid e.uid))
   where
-    newest : (change : Change) → same_uid uid e.uid ≡ true → finite.get (changed (live h) e.uid change (length h + 1)) uid ≡ Some s → s.version ≡ length h + 1
+    newest : (change : Change) → same_uid uid e.uid ≡ true → finite.get (cards_after_change (live h) e.uid change (length h + 1)) uid ≡ Some s → s.version ≡ length h + 1
     newest (Stores card why) here g =
         ap (λ (t : Stored). t.version) (sym (same_Some _ _ (sym (get-insert text_total (live h) e.uid (record { version = length h + 1; card = card }) uid ∙ cond-true _ _ _ here) ∙ g)))
     newest (TakesAway why) here g = absurd (no (sym (get-remove text_total (live h) e.uid uid ∙ cond-true _ _ _ here) ∙ g))

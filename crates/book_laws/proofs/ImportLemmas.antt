@@ -22,7 +22,7 @@ use Rattle.book_laws.specs.Lawful.{MayStore}
 use Rattle.book_model.specs.Outcomes.{◌>>=◌}
 use Rattle.book_model.specs.SameCards.{same_card}
 use Rattle.book_laws.specs.Worlds.{Story, Stories, IsSound, AreSound, World, book_of, rows}
-use Rattle.book_laws.specs.WorldChanges.{event, live_of, storing_event, imported, story_keeping, import_meaning_under}
+use Rattle.book_laws.specs.WorldChanges.{event, live_of, storing_event, story_import, story_keeping, import_meaning_under}
 use Rattle.book_laws.specs.Following.{Follows}
 use Rattle.book_laws.proofs.CountLemmas.{live_count_is}
 use Rattle.book_laws.proofs.FollowLemmas.{follow_named, follow_test, follow_given, sound_with}
@@ -87,12 +87,12 @@ keeps_all (card ∷ cards) state sound =
     let rest = keeps_all cards (one_card state card) one.sound in
     record { same = ap (λ s. fold (import_card live_at storing_in) s cards) one.same ∙ rest.same; sound = rest.sound }
 
-pub imported_sound : (story : Story) (cards : List (List Line)) → IsSound story → IsSound (imported story cards).book
+pub imported_sound : (story : Story) (cards : List (List Line)) → IsSound story → IsSound (story_import story cards).book
 imported_sound story cards sound = (keeps_all cards (importing story 0 0 0) sound).sound
 
 module _ (limits : Bounds) (story : Story) (cards : List (List Line)) (sound : IsSound story) where
   abbrev done : Importing Story
-  done = imported story cards
+  done = story_import story cards
 
   rows_imported : import_cards live_at storing_in (book_of story) cards ≡ rows_so_far done
   rows_imported = (keeps_all cards (importing story 0 0 0) sound).same
@@ -109,19 +109,19 @@ module _ (world : World) (name key : List ℕ) (cards : List (List Line)) (story
   written state tally = Ok (tally, finite.insert (rows world.books) name (keeping state.book key tally))
 
   abbrev meant : ImportTally → Result (ImportTally × Stories) Refusal
-  meant tally = Ok (tally, finite.insert world.books name (story_keeping (imported story cards).book key tally))
+  meant tally = Ok (tally, finite.insert world.books name (story_keeping (story_import story cards).book key tally))
 
   under : (kept : Option ImportTally) → Follows (import_under world.limits (rows world.books) name (book_of story) key cards kept) (import_meaning_under world.limits world.books name story key cards kept)
   under (Some kept) = (refl, same_stories world.books all)
   under None =
       subst (λ (state : Importing Book). Follows (import_tally world.limits state (live_count state.book.counts) state.book.number >>= written state) (import_meaning_under world.limits world.books name story key cards None))
       (sym (rows_imported world.limits story cards sound))
-      (subst (λ (given : Result ImportTally Refusal). Follows (given >>= written (rows_so_far (imported story cards))) (import_meaning_under world.limits world.books name story key cards None))
+      (subst (λ (given : Result ImportTally Refusal). Follows (given >>= written (rows_so_far (story_import story cards))) (import_meaning_under world.limits world.books name story key cards None))
       (sym (tally_is world.limits story cards sound))
-      (follow_given (import_tally world.limits (imported story cards) (finite.len (live (imported story cards).book.history)) (length (imported story cards).book.history)) (written (rows_so_far (imported story cards))) meant (λ tally is. (
+      (follow_given (import_tally world.limits (story_import story cards) (finite.len (live (story_import story cards).book.history)) (length (story_import story cards).book.history)) (written (rows_so_far (story_import story cards))) meant (λ tally is. (
         refl,
-        wrote_story world.books name (story_keeping (imported story cards).book key tally) (keeping (book_of (imported story cards).book) key tally) all
-            (keeping_sound (imported story cards).book key tally (imported_sound story cards sound)) refl,
+        wrote_story world.books name (story_keeping (story_import story cards).book key tally) (keeping (book_of (story_import story cards).book) key tally) all
+            (keeping_sound (story_import story cards).book key tally (imported_sound story cards sound)) refl,
       ))))
 
 pub importing_follows : ImportingFollows

@@ -31,7 +31,6 @@ use Rattle.book_model.proofs.BasicLemmas.{T_parts, T_both}
 use Rattle.book_model.proofs.AnswerLemmas.{found_to_move, live_first, free_first, expected_first, same_answer, no_answer}
 use Rattle.book_laws.proofs.CountLemmas.{len-removed}
 use Rattle.book_model.proofs.TextLemmas.{text_total, same_self, same_equiv, get-insert_here}
-use Rattle.book_laws.specs.Calls.{after}
 
 -- ---- a sum over the entries of a map, where one is written over
 

@@ -16,13 +16,11 @@ use Rattle.book_laws.specs.Worlds.{Story}
 use Rattle.book_model.specs.Devices.{applied, ready_copy, after_page}
 use Rattle.book_laws.specs.RightDevices.{Agrees}
 use Rattle.book_laws.specs.DeviceLaws.{DueRises, EntriesAreFirstDue, PagesFit}
-use Rattle.book_laws.specs.Paging.{Place, mark_under, page_for, with_events, told, after_turn, due_count, one_where, truncated_pages, events_to_last, after_pages}
+use Rattle.book_laws.specs.Paging.{Place, mark_under, page_for, with_events, next_report, after_turn, due_count, one_where, truncated_pages, events_to_last, after_pages}
 use Rattle.book_laws.specs.PagingLaws.{EventsAddAtMostOne, TruncatedPagesLeaveRest, TruncatedPagesLeaveFewer, LastPagesLeaveNobody, TruncatedPagesAreBounded, QuietBooksAreToldWhole, QuietDevicesCatchUp}
 use Rattle.book_laws.proofs.HistoryLemmas.{Rises, last-le, last_other, get-changed}
 use Rattle.book_laws.proofs.DueLemmas.{due-rises}
 use Rattle.book_laws.proofs.DeviceLemmas.{whole_pages_keep_copies_right, nobody_due_is_complete, ready}
-use Rattle.book_laws.specs.Calls.{after}
-use Rattle.vcard_text.specs.Unfolding.{before}
 
 -- ---- which members a report has
 
@@ -197,7 +195,7 @@ module _ (k : ℕ) (some : 0 < k) where
       → 0 < truncated_pages k place (events ∷ turns)
       → truncated_pages k place (events ∷ turns) * k < due_count (with_events place events) + events_to_last k (after_turn k place events) turns
   first_bounded place events turns later =
-      elim (told k (with_events place events)).truncated as (λ b. (told k (with_events place events)).truncated ≡ b → 0 < one_where b + t → (one_where b + t) * k < due_count (with_events place events) + w) [
+      elim (next_report k (with_events place events)).truncated as (λ b. (next_report k (with_events place events)).truncated ≡ b → 0 < one_where b + t → (one_where b + t) * k < due_count (with_events place events) + w) [
         | true ↦ λ cut _. one_more k t (due_count (with_events place events)) (due_count (after_turn k place events)) w
             (truncated_pages_leave_fewer (events ++ place.history) place.mark k some cut) (cut_where (events ++ place.history) place.mark k cut) later
         | false ↦ λ all more.
@@ -227,7 +225,7 @@ truncated_pages_bounded k place events turns some more = first_bounded k some pl
 -- a turn without events leaves k fewer, or none
 quiet_turn : (k : ℕ) (place : Place) (n : ℕ) → 0 < k → due_count place ≤ (1 + n) * k → due_count (after_turn k place []) ≤ n * k
 quiet_turn k place n some le =
-    elim (told k place).truncated as (λ b. (told k place).truncated ≡ b → due_count (after_turn k place []) ≤ n * k) [
+    elim (next_report k place).truncated as (λ b. (next_report k place).truncated ≡ b → due_count (after_turn k place []) ≤ n * k) [
       | true ↦ λ cut. let fewer = truncated_pages_leave_fewer place.history place.mark k some cut in let next = times_next n k in omega (arith, fewer, next, le)
       | false ↦ λ all. let none = ap length (last_pages_leave_nobody place.history place.mark k all) in omega (arith, none)
     ] refl

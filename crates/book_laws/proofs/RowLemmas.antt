@@ -14,7 +14,7 @@ use Rattle.book_model.specs.declared.change.Change.TheVariants.{Stores, TakesAwa
 use Rattle.book_model.specs.declared.row.Row.{Row}
 use Rattle.book_model.specs.declared.token.Mark.{Mark}
 use Rattle.book_model.specs.Books.{card_after, stored_in, LiveCards}
-use Rattle.book_laws.specs.Histories.{BookEvent, same_uid, changed, live, last}
+use Rattle.book_laws.specs.Histories.{BookEvent, same_uid, cards_after_change, live, last}
 use Rattle.book_model.specs.Pages.{row_is_due}
 use Rattle.book_laws.specs.Reports.{is_due}
 use Rattle.book_laws.specs.Rows.{all_rows, is_kept, kept_rows}
@@ -50,7 +50,7 @@ writes_row h e horizon le = same_map text_total exact_bytes _ _ (λ q.
 
 -- ---- what the rows have at a UID
 
-card-changed : (cards : LiveCards) (v uid : List ℕ) (change : Change) (n : ℕ) → same_uid uid v ≡ true → option_map (λ (s : Stored). s.card) (finite.get (changed cards v change n) uid) ≡ card_after change
+card-changed : (cards : LiveCards) (v uid : List ℕ) (change : Change) (n : ℕ) → same_uid uid v ≡ true → option_map (λ (s : Stored). s.card) (finite.get (cards_after_change cards v change n) uid) ≡ card_after change
 card-changed cards v uid (Stores card why) n here = ap (option_map (λ (s : Stored). s.card)) (get-insert text_total cards v (record { version = n; card = card }) uid ∙ cond-true _ _ _ here)
 card-changed cards v uid (TakesAway why) n here = ap (option_map (λ (s : Stored). s.card)) (get-remove text_total cards v uid ∙ cond-true _ _ _ here)
 

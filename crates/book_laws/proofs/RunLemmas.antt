@@ -4,7 +4,7 @@ use Rattle.book_model.specs.declared.page.Page.{Page}
 use Rattle.book_model.specs.declared.refusal.Refusal.{Refusal}
 use Rattle.book_model.specs.Bounds.{Bounds}
 use Rattle.book_model.specs.Books.{Books}
-use Rattle.book_laws.specs.Calls.{Call, CreatesBook, Puts, Removes, Moves, Imports, Forgets, Reports, AsksImport, ListsBooks, ShowsBook, Gets, ListsCards, Tallies, Returned, MadeBook, DidPut, DidRemove, DidMove, DidImport, DidForget, GavePage, GaveImport, GaveBooks, GaveBook, GaveCard, GaveCards, GaveTally, with_answer, with_reading, meaning, told, left_by, after, answers}
+use Rattle.book_laws.specs.Calls.{Call, CreatesBook, Puts, Removes, Moves, Imports, Forgets, AsksReport, AsksImport, ListsBooks, ShowsBook, Gets, ListsCards, Tallies, Returned, MadeBook, DidPut, DidRemove, DidMove, DidImport, DidForget, GavePage, GaveImport, GaveBooks, GaveBook, GaveCard, GaveCards, GaveTally, with_answer, with_reading, meaning, answer_of, state_after, stories_after, answers_to}
 use Rattle.book_model.specs.Creating.{create_step}
 use Rattle.book_model.specs.Forgetting.{forget_step}
 use Rattle.book_model.specs.Importing.{import_step, kept_import_step}
@@ -24,30 +24,29 @@ use Rattle.book_laws.proofs.ImportLemmas.{importing_follows}
 use Rattle.book_laws.proofs.ReadLemmas.{books_follow, book_lines_follow, getting_follows, cards_follow, kept_imports_follow, tallies_follow}
 use Rattle.book_laws.proofs.SortLemmas.{sorted, sorted_same, sorted_rises}
 use Rattle.book_laws.proofs.WorldLemmas.{creating_follows, putting_follows, reports_follow}
-use Rattle.vcard_text.specs.TextValues.{meant}
 
 -- ---- one call of a world
 
 -- a call leaves sound stories
 sound_by : {A : Type 0} (stories : Stories) (f : A → Returned) (step : Result (A × Books) Refusal) (meant : Result (A × Stories) Refusal) → AreSound stories → Follows step meant
-    → AreSound (left_by stories (with_answer f meant))
+    → AreSound (state_after stories (with_answer f meant))
 sound_by stories f (Ok done) (Ok meant) sound follows = follows.1.sound
 sound_by stories f (Ok done) (Err refusal) sound follows = absurd follows
 sound_by stories f (Err refusal) (Ok meant) sound follows = absurd follows
 sound_by stories f (Err refusal) (Err other) sound follows = sound
 
-reading_sound : {A : Type 0} (stories : Stories) (f : A → Returned) (reading : Result A Refusal) → AreSound stories → AreSound (left_by stories (with_reading f stories reading))
+reading_sound : {A : Type 0} (stories : Stories) (f : A → Returned) (reading : Result A Refusal) → AreSound stories → AreSound (state_after stories (with_reading f stories reading))
 reading_sound stories f (Ok told) sound = sound
 reading_sound stories f (Err refusal) sound = sound
 
-sound_after : (world : World) (call : Call) → AreSound world.books → AreSound (after world.limits world.books call)
+sound_after : (world : World) (call : Call) → AreSound world.books → AreSound (stories_after world.limits world.books call)
 sound_after world (CreatesBook name) sound = sound_by world.books MadeBook _ _ sound (creating_follows world name sound)
 sound_after world (Puts name card expect) sound = sound_by world.books DidPut _ _ sound (putting_follows world name card expect sound)
 sound_after world (Removes name uid expect) sound = sound_by world.books DidRemove _ _ sound (removing_follows world name uid expect sound)
 sound_after world (Moves from to uid expect) sound = sound_by world.books DidMove _ _ sound (moving_follows world from to uid expect sound)
 sound_after world (Imports name key cards) sound = sound_by world.books DidImport _ _ sound (importing_follows world name key cards sound)
 sound_after world (Forgets name upto) sound = sound_by world.books DidForget _ _ sound (forgetting_follows world.books name upto sound)
-sound_after world (Reports name token limit) sound = reading_sound world.books GavePage _ sound
+sound_after world (AsksReport name token limit) sound = reading_sound world.books GavePage _ sound
 sound_after world (AsksImport name key) sound = reading_sound world.books GaveImport _ sound
 sound_after world ListsBooks sound = sound
 sound_after world (ShowsBook name) sound = reading_sound world.books GaveBook _ sound
@@ -56,7 +55,7 @@ sound_after world (ListsCards name) sound = reading_sound world.books GaveCards 
 sound_after world (Tallies name) sound = reading_sound world.books GaveTally _ sound
 
 abbrev next : World → Call → World
-next world call = record { limits = world.limits; books = after world.limits world.books call }
+next world call = record { limits = world.limits; books = stories_after world.limits world.books call }
 
 pub stays_sound : StaysSound
 stays_sound world [] sound = sound
@@ -66,8 +65,8 @@ stays_sound world (call ∷ calls) sound = stays_sound (next world call) calls (
 
 -- two results with the same answer, whose stories have the same rows
 record SameStep (olds news : Stories) (a b : Result (Returned × Stories) Refusal) : Type 0 where
-  told_same : told a ≡ told b
-  rows_same : rows (left_by olds a) ≡ rows (left_by news b)
+  told_same : answer_of a ≡ answer_of b
+  rows_same : rows (state_after olds a) ≡ rows (state_after news b)
 
 -- a page that rows allow
 some_page : (asked : Asked) → (page : Page) × IsReport asked page
@@ -125,7 +124,7 @@ module _ (a b : World) (sound : AreSound a.books) (other_sound : AreSound b.book
   call_alike (Moves from to uid expect) = change_same a b same DidMove (move_step a.limits (rows a.books) from to uid expect) _ _ (moving_follows a from to uid expect sound) (turned (λ limits books. move_step limits books from to uid expect) (λ limits stories. move_meaning limits stories from to uid expect) (moving_follows b from to uid expect other_sound))
   call_alike (Imports name key cards) = change_same a b same DidImport (import_step a.limits (rows a.books) name key cards) _ _ (importing_follows a name key cards sound) (turned (λ limits books. import_step limits books name key cards) (λ limits stories. import_meaning limits stories name key cards) (importing_follows b name key cards other_sound))
   call_alike (Forgets name upto) = change_same a b same DidForget (forget_step (rows a.books) name upto) _ _ (forgetting_follows a.books name upto sound) (turned (λ limits books. forget_step books name upto) (λ limits stories. forget_meaning stories name upto) (forgetting_follows b.books name upto other_sound))
-  call_alike (Reports name token limit) = read_same a b same GavePage _ _ (page_same a b same (report_step a.limits (rows a.books) name token limit) _ _ (reports_follow a name token limit sound) (turned_page (λ limits books. report_step limits books name token limit) (λ limits stories. report_meaning limits stories name token limit) (reports_follow b name token limit other_sound)))
+  call_alike (AsksReport name token limit) = read_same a b same GavePage _ _ (page_same a b same (report_step a.limits (rows a.books) name token limit) _ _ (reports_follow a name token limit sound) (turned_page (λ limits books. report_step limits books name token limit) (λ limits stories. report_meaning limits stories name token limit) (reports_follow b name token limit other_sound)))
   call_alike (AsksImport name key) = read_same a b same GaveImport _ _ (told_alike (λ books. kept_import_step books name key) _ _ (kept_imports_follow a.books name key) (kept_imports_follow b.books name key))
   call_alike ListsBooks = record { told_same = ap (λ z. Ok (GaveBooks z)) (told_alike book_lines _ _ (books_follow a.books) (books_follow b.books)); rows_same = same }
   call_alike (ShowsBook name) = read_same a b same GaveBook _ _ (told_alike (λ books. book_line_step books name) _ _ (book_lines_follow a.books name) (book_lines_follow b.books name))
@@ -145,7 +144,7 @@ rows_are_enough a b (call ∷ calls) sound other_sound limits same =
     let rest = rows_are_enough (next a call) (next b call) calls (sound_after a call sound) (sound_after b call other_sound) limits now.rows_same in
     record {
       answers_are =
-          ap (λ t. t ∷ answers a.limits (after a.limits a.books call) calls) now.told_same
-          ∙ ap (λ ts. told (meaning b.limits b.books call) ∷ ts) rest.answers_are;
+          ap (λ t. t ∷ answers_to a.limits (stories_after a.limits a.books call) calls) now.told_same
+          ∙ ap (λ ts. answer_of (meaning b.limits b.books call) ∷ ts) rest.answers_are;
       rows_are = rest.rows_are;
     }

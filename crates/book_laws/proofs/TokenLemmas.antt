@@ -14,7 +14,7 @@ use Rattle.book_model.specs.declared.refusal.TokenCause.TheVariants.{OtherBook, 
 use Rattle.book_model.specs.declared.token.Mark.{Mark}
 use Rattle.book_model.specs.declared.token.Token.{Token}
 use Rattle.book_model.specs.Bounds.{Bounds}
-use Rattle.book_laws.specs.Calls.{Call, after, after_all}
+use Rattle.book_laws.specs.Calls.{Call, stories_after, stories_after_all}
 use Rattle.book_laws.specs.Histories.{last}
 use Rattle.book_model.specs.Outcomes.{◌>>=◌, provided}
 use Rattle.book_model.specs.Pages.{mark_asked, page_size, page_of}
@@ -131,7 +131,7 @@ too_old false known old rest mark f cause o k none e = absurd (both_ways false r
 
 -- a horizon is above a number only where a forgetting raised it there
 rose : (limits : Bounds) (calls : List Call) (stories : Stories) (name : List ℕ) (base : ℕ) (story new : Story) → finite.get stories name ≡ Some story → story.horizon ≤ base
-    → finite.get (after_all limits stories calls) name ≡ Some new → base < new.horizon → ForgotAbove limits stories calls name base
+    → finite.get (stories_after_all limits stories calls) name ≡ Some new → base < new.horizon → ForgotAbove limits stories calls name base
 rose limits [] stories name base story new found low at high =
     let same : story ≡ new = same_Some story new (sym found ∙ at) in
     let h = ap (λ (s : Story). s.horizon) same in absurd (omega (arith, low, high, h))
@@ -153,7 +153,7 @@ rose limits (call ∷ calls) stories name base story new found low at high =
     })
     one.2.horizon)
     (λ below.
-    let f = rose limits calls (after limits stories call) name base next new one.1 below at high in
+    let f = rose limits calls (stories_after limits stories call) name base next new one.1 below at high in
     record {
       earlier = call ∷ f.earlier;
       later = f.later;

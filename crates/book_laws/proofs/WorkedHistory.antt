@@ -15,7 +15,7 @@ use Rattle.book_model.specs.declared.refusal.Refusal.TheVariants.{BadKey, BookEx
 use Rattle.book_model.specs.declared.refusal.TokenCause.TheVariants.{OtherBook, TooNew, TooOld}
 use Rattle.book_model.specs.declared.token.Token.{Token}
 use Rattle.book_model.specs.Bounds.{Bounds}
-use Rattle.book_laws.specs.Calls.{Call, CreatesBook, Puts, Removes, Moves, Imports, AsksImport, Forgets, Reports, Tallies, Returned, MadeBook, DidPut, DidRemove, DidMove, DidImport, DidForget, GaveImport, GavePage, GaveTally, answers, after_all}
+use Rattle.book_laws.specs.Calls.{Call, CreatesBook, Puts, Removes, Moves, Imports, AsksImport, Forgets, AsksReport, Tallies, Returned, MadeBook, DidPut, DidRemove, DidMove, DidImport, DidForget, GaveImport, GavePage, GaveTally, answers_to, stories_after_all}
 use Rattle.book_model.specs.Counting.{no_counts}
 use Rattle.book_laws.specs.Histories.{BookEvent}
 use Rattle.book_model.specs.Reading.{tally_with}
@@ -91,7 +91,7 @@ only_staff horizon history = finite.insert none staff (story 1 horizon history)
 
 -- ---- an empty book
 
-pub empty_book_has_no_members : answers standard none (CreatesBook staff ∷ Reports staff None None ∷ []) ≡ Ok (MadeBook 1) ∷ page [] 0 0 ∷ []
+pub empty_book_has_no_members : answers_to standard none (CreatesBook staff ∷ AsksReport staff None None ∷ []) ≡ Ok (MadeBook 1) ∷ page [] 0 0 ∷ []
 empty_book_has_no_members = simp gets
 
 -- ---- puts, an edit and a removal
@@ -102,30 +102,30 @@ five = event b (TakesAway Deletion) ∷ event a (Stores anna Edit) ∷ event c (
 abbrev first_calls : List Call
 first_calls = CreatesBook staff ∷ Puts staff ann None ∷ Puts staff bob None ∷ Puts staff cy None ∷ Puts staff anna None ∷ Removes staff b None ∷ []
 
-pub changes_take_numbers : answers standard none first_calls ≡ Ok (MadeBook 1) ∷ Ok (DidPut (Created 1)) ∷ Ok (DidPut (Created 2)) ∷ Ok (DidPut (Created 3)) ∷ Ok (DidPut (Edited 4)) ∷ Ok (DidRemove 5) ∷ []
+pub changes_take_numbers : answers_to standard none first_calls ≡ Ok (MadeBook 1) ∷ Ok (DidPut (Created 1)) ∷ Ok (DidPut (Created 2)) ∷ Ok (DidPut (Created 3)) ∷ Ok (DidPut (Edited 4)) ∷ Ok (DidRemove 5) ∷ []
 changes_take_numbers = simp gets
 
-pub changes_are_events : finite.get (after_all standard none first_calls) staff ≡ Some (story 1 0 five)
+pub changes_are_events : finite.get (stories_after_all standard none first_calls) staff ≡ Some (story 1 0 five)
 changes_are_events = simp gets
 
-pub changes_are_tallied : answers standard (only_staff 0 five) (Tallies staff ∷ []) ≡ Ok (GaveTally (tally_with 5 0 2 (record no_counts { created = 3; edited = 1; deleted = 1 }) 1)) ∷ []
+pub changes_are_tallied : answers_to standard (only_staff 0 five) (Tallies staff ∷ []) ≡ Ok (GaveTally (tally_with 5 0 2 (record no_counts { created = 3; edited = 1; deleted = 1 }) 1)) ∷ []
 changes_are_tallied = simp gets
 
 -- ---- a first report in pages, and a whole one
 
-pub first_page_is_cut : answers standard (only_staff 0 five) (Reports staff None (Some 1) ∷ []) ≡ cut (Changed c 3 cy ∷ []) 3 5 ∷ []
+pub first_page_is_cut : answers_to standard (only_staff 0 five) (AsksReport staff None (Some 1) ∷ []) ≡ cut (Changed c 3 cy ∷ []) 3 5 ∷ []
 first_page_is_cut = simp gets
 
-pub just_as_many_are_whole : answers standard (only_staff 0 five) (Reports staff (token 1 3 5) (Some 1) ∷ []) ≡ page (Changed a 4 anna ∷ []) 5 5 ∷ []
+pub just_as_many_are_whole : answers_to standard (only_staff 0 five) (AsksReport staff (token 1 3 5) (Some 1) ∷ []) ≡ page (Changed a 4 anna ∷ []) 5 5 ∷ []
 just_as_many_are_whole = simp gets
 
-pub later_reports : answers standard (only_staff 0 five) (Reports staff None None ∷ Reports staff (token 1 2 2) None ∷ Reports staff (token 1 4 4) None ∷ Reports staff (token 1 5 6) None ∷ [])
+pub later_reports : answers_to standard (only_staff 0 five) (AsksReport staff None None ∷ AsksReport staff (token 1 2 2) None ∷ AsksReport staff (token 1 4 4) None ∷ AsksReport staff (token 1 5 6) None ∷ [])
     ≡ page (Changed c 3 cy ∷ Changed a 4 anna ∷ []) 5 5 ∷ page (Changed c 3 cy ∷ Changed a 4 anna ∷ Removed b ∷ []) 5 5 ∷ page (Removed b ∷ []) 5 5 ∷ Err (BadToken TooNew) ∷ []
 later_reports = simp gets
 
 -- ---- forgetting
 
-pub forgets : answers standard (only_staff 0 five) (Forgets staff 5 ∷ Reports staff (token 1 3 5) (Some 1) ∷ Reports staff (token 1 4 4) None ∷ Forgets staff 4 ∷ Forgets staff 6 ∷ Forgets staff 5 ∷ [])
+pub forgets : answers_to standard (only_staff 0 five) (Forgets staff 5 ∷ AsksReport staff (token 1 3 5) (Some 1) ∷ AsksReport staff (token 1 4 4) None ∷ Forgets staff 4 ∷ Forgets staff 6 ∷ Forgets staff 5 ∷ [])
     ≡ Ok (DidForget 1) ∷ page (Changed a 4 anna ∷ []) 5 5 ∷ Err (BadToken TooOld) ∷ Err BadForget ∷ Err BadForget ∷ Ok (DidForget 0) ∷ []
 forgets = simp gets
 
@@ -134,10 +134,10 @@ forgets = simp gets
 abbrev seven : List BookEvent
 seven = event b (Stores bob Creation) ∷ event c (TakesAway Deletion) ∷ five
 
-pub a_removed_member_comes_again : answers standard (only_staff 0 five) (Removes staff c None ∷ Puts staff bob None ∷ []) ≡ Ok (DidRemove 6) ∷ Ok (DidPut (Created 7)) ∷ []
+pub a_removed_member_comes_again : answers_to standard (only_staff 0 five) (Removes staff c None ∷ Puts staff bob None ∷ []) ≡ Ok (DidRemove 6) ∷ Ok (DidPut (Created 7)) ∷ []
 a_removed_member_comes_again = simp gets
 
-pub pages_go_on : answers standard (only_staff 0 seven) (Reports staff (token 1 3 5) (Some 1) ∷ Reports staff (token 1 4 5) (Some 2) ∷ Reports staff (token 1 4 5) (Some 1) ∷ Reports staff (token 1 6 6) (Some 1) ∷ [])
+pub pages_go_on : answers_to standard (only_staff 0 seven) (AsksReport staff (token 1 3 5) (Some 1) ∷ AsksReport staff (token 1 4 5) (Some 2) ∷ AsksReport staff (token 1 4 5) (Some 1) ∷ AsksReport staff (token 1 6 6) (Some 1) ∷ [])
     ≡ cut (Changed a 4 anna ∷ []) 4 5 ∷ page (Removed c ∷ Changed b 7 bob ∷ []) 7 7 ∷ cut (Removed c ∷ []) 6 6 ∷ page (Changed b 7 bob ∷ []) 7 7 ∷ []
 pages_go_on = simp gets
 
@@ -145,7 +145,7 @@ pages_go_on = simp gets
 abbrev nine : List BookEvent
 nine = event d (TakesAway Deletion) ∷ event d (Stores dee Creation) ∷ seven
 
-pub short_lived_members_are_removed : answers standard (only_staff 0 seven) (Puts staff dee None ∷ Removes staff d None ∷ Reports staff (token 1 7 7) None ∷ []) ≡ Ok (DidPut (Created 8)) ∷ Ok (DidRemove 9) ∷ page (Removed d ∷ []) 9 9 ∷ []
+pub short_lived_members_are_removed : answers_to standard (only_staff 0 seven) (Puts staff dee None ∷ Removes staff d None ∷ AsksReport staff (token 1 7 7) None ∷ []) ≡ Ok (DidPut (Created 8)) ∷ Ok (DidRemove 9) ∷ page (Removed d ∷ []) 9 9 ∷ []
 short_lived_members_are_removed = simp gets
 
 -- ---- two books
@@ -156,25 +156,25 @@ ten = event a (TakesAway MoveOut) ∷ nine
 abbrev two_books : List BookEvent → List BookEvent → Stories
 two_books history other = finite.insert (only_staff 0 history) clients (story 2 0 other)
 
-pub a_card_moves : answers standard (only_staff 0 nine) (CreatesBook clients ∷ Moves staff clients a None ∷ []) ≡ Ok (MadeBook 2) ∷ Ok (DidMove (record { from = 10; version = 1 })) ∷ []
+pub a_card_moves : answers_to standard (only_staff 0 nine) (CreatesBook clients ∷ Moves staff clients a None ∷ []) ≡ Ok (MadeBook 2) ∷ Ok (DidMove (record { from = 10; version = 1 })) ∷ []
 a_card_moves = simp gets
 
 abbrev moved : Stories
 moved = two_books ten (event a (Stores anna MoveIn) ∷ [])
 
-pub moves_are_tallied : answers standard moved (Tallies staff ∷ Tallies clients ∷ [])
+pub moves_are_tallied : answers_to standard moved (Tallies staff ∷ Tallies clients ∷ [])
     ≡ Ok (GaveTally (tally_with 10 0 1 (record no_counts { created = 5; edited = 1; deleted = 3; moved_out = 1 }) 3))
     ∷ Ok (GaveTally (tally_with 1 0 1 (record no_counts { moved_in = 1 }) 0)) ∷ []
 moves_are_tallied = simp gets
 
-pub moves_are_refused : answers standard moved (Moves staff clients a None ∷ Puts clients bob None ∷ Moves staff clients b None ∷ Moves staff staff b None ∷ [])
+pub moves_are_refused : answers_to standard moved (Moves staff clients a None ∷ Puts clients bob None ∷ Moves staff clients b None ∷ Moves staff staff b None ∷ [])
     ≡ Err NoSuchCard ∷ Ok (DidPut (Created 2)) ∷ Err UidTaken ∷ Err SameBook ∷ []
 moves_are_refused = simp gets
 
-pub an_equal_card_takes_no_number : answers standard moved (Puts staff bob None ∷ Reports staff (token 1 10 10) None ∷ Puts staff rob (Some 6) ∷ []) ≡ Ok (DidPut (Unchanged 7)) ∷ page [] 10 10 ∷ Err (VersionMismatch 7) ∷ []
+pub an_equal_card_takes_no_number : answers_to standard moved (Puts staff bob None ∷ AsksReport staff (token 1 10 10) None ∷ Puts staff rob (Some 6) ∷ []) ≡ Ok (DidPut (Unchanged 7)) ∷ page [] 10 10 ∷ Err (VersionMismatch 7) ∷ []
 an_equal_card_takes_no_number = simp gets
 
-pub tokens_are_judged : answers standard moved (Reports staff None (Some 0) ∷ Reports staff (token 2 1 1) None ∷ Reports staff (token 1 99 99) None ∷ Reports staff (token 1 3 5) None ∷ [])
+pub tokens_are_judged : answers_to standard moved (AsksReport staff None (Some 0) ∷ AsksReport staff (token 2 1 1) None ∷ AsksReport staff (token 1 99 99) None ∷ AsksReport staff (token 1 3 5) None ∷ [])
     ≡ Err BadLimit ∷ Err (BadToken OtherBook) ∷ Err (BadToken TooNew) ∷ page (Removed c ∷ Changed b 7 bob ∷ Removed d ∷ Removed a ∷ []) 10 10 ∷ []
 tokens_are_judged = simp gets
 
@@ -202,34 +202,34 @@ abbrev imported : ℕ → ℕ → ℕ → ℕ → Result Returned Refusal
 imported added edited same number = Ok (DidImport (record { added = added; edited = edited; same = same; number = number }))
 
 -- the second import with the key changes nothing, whatever it brings
-pub imports_are_kept : answers standard with_clients (Imports clients (codes "k1") (pat ∷ quin ∷ rae ∷ []) ∷ Imports clients (codes "k1") (sy ∷ []) ∷ Tallies clients ∷ [])
+pub imports_are_kept : answers_to standard with_clients (Imports clients (codes "k1") (pat ∷ quin ∷ rae ∷ []) ∷ Imports clients (codes "k1") (sy ∷ []) ∷ Tallies clients ∷ [])
     ≡ imported 3 0 0 5 ∷ imported 3 0 0 5 ∷ Ok (GaveTally (tally_with 5 0 5 (record no_counts { created = 1; imported = 3; moved_in = 1 }) 0)) ∷ []
 imports_are_kept = simp gets
 
 abbrev imported_three : Stories
 imported_three = two_books ten (event (codes "r") (Stores rae Import) ∷ event (codes "q") (Stores quin Import) ∷ event (codes "p") (Stores pat Import) ∷ event b (Stores bob Creation) ∷ event a (Stores anna MoveIn) ∷ [])
 
-pub imports_edit : answers standard imported_three (Imports clients (codes "k2") (pat ∷ quinn ∷ sy ∷ []) ∷ Imports clients (codes "k/3") [] ∷ []) ≡ imported 1 1 1 7 ∷ Err BadKey ∷ []
+pub imports_edit : answers_to standard imported_three (Imports clients (codes "k2") (pat ∷ quinn ∷ sy ∷ []) ∷ Imports clients (codes "k/3") [] ∷ []) ≡ imported 1 1 1 7 ∷ Err BadKey ∷ []
 imports_edit = simp gets
 
-pub import_edits_are_tallied : answers standard (two_books ten (event (codes "s") (Stores sy Import) ∷ event (codes "q") (Stores quinn ImportEdit) ∷ event (codes "r") (Stores rae Import) ∷ event (codes "q") (Stores quin Import) ∷ event (codes "p") (Stores pat Import) ∷ event b (Stores bob Creation) ∷ event a (Stores anna MoveIn) ∷ [])) (Tallies clients ∷ [])
+pub import_edits_are_tallied : answers_to standard (two_books ten (event (codes "s") (Stores sy Import) ∷ event (codes "q") (Stores quinn ImportEdit) ∷ event (codes "r") (Stores rae Import) ∷ event (codes "q") (Stores quin Import) ∷ event (codes "p") (Stores pat Import) ∷ event b (Stores bob Creation) ∷ event a (Stores anna MoveIn) ∷ [])) (Tallies clients ∷ [])
     ≡ Ok (GaveTally (tally_with 7 0 6 (record no_counts { created = 1; imported = 4; import_edited = 1; moved_in = 1 }) 0)) ∷ []
 import_edits_are_tallied = simp gets
 
 -- an import of no cards takes no number, and is kept
-pub empty_imports_are_kept : answers (bounds 100 1 2 1) (only_staff 0 (event b (TakesAway Deletion) ∷ event b (Stores bob Creation) ∷ [])) (Imports staff (codes "k") [] ∷ Imports staff (codes "m") (sy ∷ []) ∷ AsksImport staff (codes "k") ∷ AsksImport staff (codes "m") ∷ [])
+pub empty_imports_are_kept : answers_to (bounds 100 1 2 1) (only_staff 0 (event b (TakesAway Deletion) ∷ event b (Stores bob Creation) ∷ [])) (Imports staff (codes "k") [] ∷ Imports staff (codes "m") (sy ∷ []) ∷ AsksImport staff (codes "k") ∷ AsksImport staff (codes "m") ∷ [])
     ≡ imported 0 0 0 2 ∷ Err ChangesSpent ∷ Ok (GaveImport (Some (record { added = 0; edited = 0; same = 0; number = 2 }))) ∷ Ok (GaveImport None) ∷ []
 empty_imports_are_kept = simp gets
 
 -- ---- limits
 
-pub changes_are_limited : answers (bounds 100 10000 3 100) none (CreatesBook staff ∷ Puts staff ann None ∷ Puts staff bob None ∷ Puts staff anna None ∷ Puts staff cy None ∷ Puts staff bob None ∷ [])
+pub changes_are_limited : answers_to (bounds 100 10000 3 100) none (CreatesBook staff ∷ Puts staff ann None ∷ Puts staff bob None ∷ Puts staff anna None ∷ Puts staff cy None ∷ Puts staff bob None ∷ [])
     ≡ Ok (MadeBook 1) ∷ Ok (DidPut (Created 1)) ∷ Ok (DidPut (Created 2)) ∷ Ok (DidPut (Edited 3)) ∷ Err ChangesSpent ∷ Ok (DidPut (Unchanged 2)) ∷ []
 changes_are_limited = simp gets
 
-pub cards_are_limited : answers (bounds 100 2 1000 100) none (CreatesBook staff ∷ Puts staff ann None ∷ Puts staff bob None ∷ Puts staff cy None ∷ Puts staff anna None ∷ [])
+pub cards_are_limited : answers_to (bounds 100 2 1000 100) none (CreatesBook staff ∷ Puts staff ann None ∷ Puts staff bob None ∷ Puts staff cy None ∷ Puts staff anna None ∷ [])
     ≡ Ok (MadeBook 1) ∷ Ok (DidPut (Created 1)) ∷ Ok (DidPut (Created 2)) ∷ Err BookFull ∷ Ok (DidPut (Edited 3)) ∷ []
 cards_are_limited = simp gets
 
-pub books_are_limited : answers (bounds 100 10000 1000 1) none (CreatesBook staff ∷ CreatesBook staff ∷ CreatesBook clients ∷ []) ≡ Ok (MadeBook 1) ∷ Err BookExists ∷ Err TooManyBooks ∷ []
+pub books_are_limited : answers_to (bounds 100 10000 1000 1) none (CreatesBook staff ∷ CreatesBook staff ∷ CreatesBook clients ∷ []) ≡ Ok (MadeBook 1) ∷ Err BookExists ∷ Err TooManyBooks ∷ []
 books_are_limited = simp gets

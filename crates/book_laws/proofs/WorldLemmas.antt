@@ -43,7 +43,6 @@ use Rattle.book_laws.proofs.CountLemmas.{live_count_is}
 use Rattle.book_laws.proofs.PutLemmas.{may_store}
 use Rattle.book_laws.proofs.ReportLemmas.{page_is_report}
 use Rattle.book_laws.proofs.RowLemmas.{get-kept_rows, writes_row, live_by_row}
-use Rattle.vcard_text.specs.Unfolding.{before}
 
 abbrev named_rows : List ℕ × Story → List ℕ × Book
 named_rows named = (named.0, book_of named.1)

@@ -33,7 +33,7 @@ pub data Call : Type 0 where
   -- the book forgets what was removed up to the number
   Forgets : List ℕ → ℕ → Call
   -- the book's report from the token, with at most so many entries
-  Reports : List ℕ → Option Token → Option ℕ → Call
+  AsksReport : List ℕ → Option Token → Option ℕ → Call
   -- what the book keeps of the import with this key
   AsksImport : List ℕ → List ℕ → Call
   ListsBooks : Call
@@ -65,7 +65,7 @@ with_answer f step = step >>= λ done. Ok (f done.0, done.1)
 
 -- what is said of an answer that left the state as it was
 abbrev pub with_reading : {A B S : Type 0} → (A → B) → S → Result A Refusal → Result (B × S) Refusal
-with_reading f state reading = reading >>= λ told. Ok (f told, state)
+with_reading f state reading = reading >>= λ answer. Ok (f answer, state)
 
 -- what a call means: its answer and the stories after it, or its refusal
 abbrev pub meaning : Bounds → Stories → Call → Result (Returned × Stories) Refusal
@@ -75,7 +75,7 @@ meaning limits stories (Removes name uid expect) = with_answer DidRemove (remove
 meaning limits stories (Moves from to uid expect) = with_answer DidMove (move_meaning limits stories from to uid expect)
 meaning limits stories (Imports name key cards) = with_answer DidImport (import_meaning limits stories name key cards)
 meaning limits stories (Forgets name upto) = with_answer DidForget (forget_meaning stories name upto)
-meaning limits stories (Reports name token limit) = with_reading GavePage stories (report_meaning limits stories name token limit)
+meaning limits stories (AsksReport name token limit) = with_reading GavePage stories (report_meaning limits stories name token limit)
 meaning limits stories (AsksImport name key) = with_reading GaveImport stories (kept_import_meaning stories name key)
 meaning limits stories ListsBooks = Ok (GaveBooks (books_meaning stories), stories)
 meaning limits stories (ShowsBook name) = with_reading GaveBook stories (book_line_meaning stories name)
@@ -86,24 +86,24 @@ meaning limits stories (Tallies name) = with_reading GaveTally stories (tally_me
 -- ---- one call after another
 
 -- what is answered, without the state
-abbrev pub told : {S : Type 0} → Result (Returned × S) Refusal → Result Returned Refusal
-told (Ok done) = Ok done.0
-told (Err refusal) = Err refusal
+abbrev pub answer_of : {S : Type 0} → Result (Returned × S) Refusal → Result Returned Refusal
+answer_of (Ok done) = Ok done.0
+answer_of (Err refusal) = Err refusal
 
 -- the state that is left: a refusal leaves it as it was
-abbrev pub left_by : {A S : Type 0} → S → Result (A × S) Refusal → S
-left_by old (Ok done) = done.1
-left_by old (Err refusal) = old
+abbrev pub state_after : {A S : Type 0} → S → Result (A × S) Refusal → S
+state_after old (Ok done) = done.1
+state_after old (Err refusal) = old
 
 -- the stories after a call
-abbrev pub after : Bounds → Stories → Call → Stories
-after limits stories call = left_by stories (meaning limits stories call)
+abbrev pub stories_after : Bounds → Stories → Call → Stories
+stories_after limits stories call = state_after stories (meaning limits stories call)
 
 -- the answers of calls in their order, and the stories after all of them
-abbrev pub answers : Bounds → Stories → List Call → List (Result Returned Refusal)
-answers limits stories [] = []
-answers limits stories (call ∷ calls) = told (meaning limits stories call) ∷ answers limits (after limits stories call) calls
+abbrev pub answers_to : Bounds → Stories → List Call → List (Result Returned Refusal)
+answers_to limits stories [] = []
+answers_to limits stories (call ∷ calls) = answer_of (meaning limits stories call) ∷ answers_to limits (stories_after limits stories call) calls
 
-abbrev pub after_all : Bounds → Stories → List Call → Stories
-after_all limits stories [] = stories
-after_all limits stories (call ∷ calls) = after_all limits (after limits stories call) calls
+abbrev pub stories_after_all : Bounds → Stories → List Call → Stories
+stories_after_all limits stories [] = stories
+stories_after_all limits stories (call ∷ calls) = stories_after_all limits (stories_after limits stories call) calls

@@ -5,7 +5,6 @@ use Rattle.book_model.specs.declared.refusal.Refusal.{Refusal}
 use Rattle.book_model.specs.Books.{Books}
 use Rattle.book_model.specs.Pages.{Asked, IsReport}
 use Rattle.book_laws.specs.Worlds.{Stories, AreSound, rows}
-use Rattle.vcard_text.specs.TextValues.{meant}
 
 -- the stories are sound, and have these rows
 pub record AreStoriesOf (books : Books) (stories : Stories) : Type 0 where

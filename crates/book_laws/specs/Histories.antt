@@ -18,14 +18,14 @@ abbrev pub same_uid : List ℕ → List ℕ → Bool
 same_uid a b = eq_by_cmp text_cmp a b
 
 -- a card that is stored has the number of its event as its version
-abbrev pub changed : LiveCards → List ℕ → Change → ℕ → LiveCards
-changed cards uid (Stores card why) number = finite.insert cards uid (record { version = number; card = card })
-changed cards uid (TakesAway why) number = finite.remove cards uid
+abbrev pub cards_after_change : LiveCards → List ℕ → Change → ℕ → LiveCards
+cards_after_change cards uid (Stores card why) number = finite.insert cards uid (record { version = number; card = card })
+cards_after_change cards uid (TakesAway why) number = finite.remove cards uid
 
 -- the live cards after all events
 abbrev pub live : List BookEvent → LiveCards
 live [] = finite.empty
-live (e ∷ h) = changed (live h) e.uid e.change (length h + 1)
+live (e ∷ h) = cards_after_change (live h) e.uid e.change (length h + 1)
 
 -- the number of the UID's last event, and 0 where it has none
 abbrev pub last : List BookEvent → List ℕ → ℕ

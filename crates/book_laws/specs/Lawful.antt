@@ -9,7 +9,6 @@ use Rattle.book_model.specs.declared.change.Change.TheVariants.{Stores, TakesAwa
 use Rattle.book_model.specs.declared.change.StoreReason.{StoreReason}
 use Rattle.book_model.specs.declared.change.StoreReason.TheVariants.{Creation, Edit, Import, ImportEdit, MoveIn}
 use Rattle.book_laws.specs.Histories.{BookEvent, live}
-use Rattle.vcard_text.specs.Unfolding.{before}
 
 -- another card is live
 abbrev pub Replaces : List Line → Option Stored → Type 0

@@ -22,16 +22,16 @@ abbrev pub with_events : Place → List BookEvent → Place
 with_events place events = record place { history = events ++ place.history }
 
 -- what the device is told where it asks for k entries
-abbrev pub told : ℕ → Place → Answer
-told k place = report place.history place.mark k
+abbrev pub next_report : ℕ → Place → Answer
+next_report k place = report place.history place.mark k
 
 -- the page was applied whole, so that its mark is the device's
-abbrev pub moved_on : ℕ → Place → Place
-moved_on k place = record place { mark = (told k place).mark }
+abbrev pub place_after_page : ℕ → Place → Place
+place_after_page k place = record place { mark = (next_report k place).mark }
 
 -- a turn: some events come, and then the device asks once and applies the page
 abbrev pub after_turn : ℕ → Place → List BookEvent → Place
-after_turn k place events = moved_on k (with_events place events)
+after_turn k place events = place_after_page k (with_events place events)
 
 -- after all turns, the first turn first
 abbrev pub after_turns : ℕ → Place → List (List BookEvent) → Place
@@ -49,7 +49,7 @@ one_where holds = if holds then 1 else 0
 -- how many pages of these turns were truncated
 abbrev pub truncated_pages : ℕ → Place → List (List BookEvent) → ℕ
 truncated_pages k place [] = 0
-truncated_pages k place (events ∷ turns) = one_where (told k (with_events place events)).truncated + truncated_pages k (after_turn k place events) turns
+truncated_pages k place (events ∷ turns) = one_where (next_report k (with_events place events)).truncated + truncated_pages k (after_turn k place events) turns
 
 -- how many events came, up to the last page that was truncated
 abbrev pub events_to_last : ℕ → Place → List (List BookEvent) → ℕ

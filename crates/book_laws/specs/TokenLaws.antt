@@ -6,7 +6,7 @@ use Rattle.book_model.specs.declared.refusal.TokenCause.{TokenCause}
 use Rattle.book_model.specs.declared.refusal.TokenCause.TheVariants.{TooOld}
 use Rattle.book_model.specs.declared.token.Token.{Token}
 use Rattle.book_model.specs.Bounds.{Bounds}
-use Rattle.book_laws.specs.Calls.{Call, Forgets, after_all}
+use Rattle.book_laws.specs.Calls.{Call, Forgets, stories_after_all}
 use Rattle.book_laws.specs.Worlds.{Stories, AreSound, World}
 use Rattle.book_laws.specs.WorldChanges.{forget_meaning}
 use Rattle.book_laws.specs.WorldSteps.{report_meaning}
@@ -24,13 +24,13 @@ pub record ForgotAbove (limits : Bounds) (stories : Stories) (calls : List Call)
   pub calls_are : calls ≡ earlier ++ Forgets name upto ∷ later
   pub dropped : ℕ
   pub left : Stories
-  pub accepted : forget_meaning (after_all limits stories earlier) name upto ≡ Ok (dropped, left)
+  pub accepted : forget_meaning (stories_after_all limits stories earlier) name upto ≡ Ok (dropped, left)
 
 -- A page's own book refuses its token only as too old, and only where it was made to forget above the token's base since.
 abbrev pub TokensStayGood : Type 0
 TokensStayGood = (world : World) (name : List ℕ) (token : Option Token) (limit again : Option ℕ)
     (page : Page) (calls : List Call) (cause : TokenCause) → AreSound world.books →
     report_meaning world.limits world.books name token limit ≡ Ok page →
-    report_meaning world.limits (after_all world.limits world.books calls) name
+    report_meaning world.limits (stories_after_all world.limits world.books calls) name
     (Some (token_of page)) again ≡ Err (BadToken cause) →
     (cause ≡ TooOld) × ForgotAbove world.limits world.books calls name page.mark.base

@@ -59,8 +59,8 @@ abbrev pub storing_event : Story → List Line → StoreReason → Story
 storing_event story card why = with_event story (event (uid_of card) (Stores card why))
 
 -- the story as far as the cards are in it
-abbrev pub imported : Story → List (List Line) → Importing Story
-imported story cards = import_cards live_of storing_event story cards
+abbrev pub story_import : Story → List (List Line) → Importing Story
+story_import story cards = import_cards live_of storing_event story cards
 
 abbrev pub story_keeping : Story → List ℕ → ImportTally → Story
 story_keeping story key tally = record story { imports = finite.insert story.imports key tally }
@@ -68,8 +68,8 @@ story_keeping story key tally = record story { imports = finite.insert story.imp
 abbrev pub import_meaning_under : Bounds → Stories → List ℕ → Story → List ℕ → List (List Line) → Option ImportTally → Result (ImportTally × Stories) Refusal
 import_meaning_under limits stories name story key cards (Some kept) = Ok (kept, stories)
 import_meaning_under limits stories name story key cards None = do
-  tally ← import_tally limits (imported story cards) (finite.len (live (imported story cards).book.history)) (length (imported story cards).book.history)
-  Ok (tally, finite.insert stories name (story_keeping (imported story cards).book key tally))
+  tally ← import_tally limits (story_import story cards) (finite.len (live (story_import story cards).book.history)) (length (story_import story cards).book.history)
+  Ok (tally, finite.insert stories name (story_keeping (story_import story cards).book key tally))
 
 abbrev pub import_meaning : Bounds → Stories → List ℕ → List ℕ → List (List Line) → Result (ImportTally × Stories) Refusal
 import_meaning limits stories name key cards = do
