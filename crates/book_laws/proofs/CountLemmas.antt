@@ -1,8 +1,9 @@
 -- Events are counted, and the live cards with them.
-use Rattle.std.proofs.Common.{◌≡◌, ℕ, zero, suc, ◌+◌, ◌<◌, true, List, [], ◌∷◌, length, Option, Some, None, is_some, refl, sym, ap, ◌∙◌, arith}
+use Rattle.std.proofs.Common.{◌≡◌, ℕ, zero, suc, ◌+◌, ◌<◌, true, cond, List, [], ◌∷◌, length, Option, Some, None, is_some, refl, sym, ap, ◌∙◌, arith}
 use Rattle.std.specs.FinMap as finite
 use Rattle.std.specs.FinMap.{get-empty, len-insert, len-remove, len-empty}
 use Rattle.std.proofs.lemmas.Bool.{cond-true, cond-false, both_ways}
+use Rattle.std.proofs.lemmas.List.Recursion.{is_count_by}
 use Rattle.vcard_text.specs.TextMaps.{text_cmp}
 use Rattle.vcard_text.specs.declared.line.Line.{Line}
 use Rattle.book_model.specs.declared.answers.Stored.{Stored}
@@ -14,7 +15,8 @@ use Rattle.book_model.specs.declared.change.RemovalReason.TheVariants.{Deletion,
 use Rattle.book_model.specs.declared.counts.Counts.{Counts}
 use Rattle.book_model.specs.Counting.{counted, total, arrivals, departures, live_count}
 use Rattle.book_laws.specs.HistoryCounts.{counts_of}
-use Rattle.book_laws.specs.CountLaws.{EventsAreCounted, LiveAreCounted}
+use Rattle.book_laws.specs.CountLaws.{EventsAreCounted, LiveAreCounted, ReasonsAreCounted}
+use Rattle.book_laws.specs.Reasons.{is_creation, is_edit, is_import, is_import_edit, is_move_in, is_deletion, is_move_out}
 use Rattle.book_laws.specs.Histories.{BookEvent, cards_after_change, live}
 use Rattle.book_model.specs.Books.{LiveCards}
 use Rattle.book_laws.specs.Lawful.{MayHappen, Replaces, IsLawful}
@@ -71,3 +73,79 @@ live_are_counted (e ∷ h) lawful = live-counted (live h) (counts_of h) e.uid e.
 
 pub live_count_is : (h : List BookEvent) → IsLawful h → live_count (counts_of h) ≡ finite.len (live h)
 live_count_is h lawful = let so = live_are_counted h lawful in omega (arith, so)
+
+-- ---- each count is the number of the events with its reason
+
+created_more : (change : Change) (c : Counts) → (counted change c).created ≡ cond (is_creation change) (1 + c.created) c.created
+created_more (Stores card Creation) c = omega arith
+created_more (Stores card Edit) c = refl
+created_more (Stores card Import) c = refl
+created_more (Stores card ImportEdit) c = refl
+created_more (Stores card MoveIn) c = refl
+created_more (TakesAway Deletion) c = refl
+created_more (TakesAway MoveOut) c = refl
+
+edited_more : (change : Change) (c : Counts) → (counted change c).edited ≡ cond (is_edit change) (1 + c.edited) c.edited
+edited_more (Stores card Creation) c = refl
+edited_more (Stores card Edit) c = omega arith
+edited_more (Stores card Import) c = refl
+edited_more (Stores card ImportEdit) c = refl
+edited_more (Stores card MoveIn) c = refl
+edited_more (TakesAway Deletion) c = refl
+edited_more (TakesAway MoveOut) c = refl
+
+imported_more : (change : Change) (c : Counts) → (counted change c).imported ≡ cond (is_import change) (1 + c.imported) c.imported
+imported_more (Stores card Creation) c = refl
+imported_more (Stores card Edit) c = refl
+imported_more (Stores card Import) c = omega arith
+imported_more (Stores card ImportEdit) c = refl
+imported_more (Stores card MoveIn) c = refl
+imported_more (TakesAway Deletion) c = refl
+imported_more (TakesAway MoveOut) c = refl
+
+import_edited_more : (change : Change) (c : Counts) → (counted change c).import_edited ≡ cond (is_import_edit change) (1 + c.import_edited) c.import_edited
+import_edited_more (Stores card Creation) c = refl
+import_edited_more (Stores card Edit) c = refl
+import_edited_more (Stores card Import) c = refl
+import_edited_more (Stores card ImportEdit) c = omega arith
+import_edited_more (Stores card MoveIn) c = refl
+import_edited_more (TakesAway Deletion) c = refl
+import_edited_more (TakesAway MoveOut) c = refl
+
+moved_in_more : (change : Change) (c : Counts) → (counted change c).moved_in ≡ cond (is_move_in change) (1 + c.moved_in) c.moved_in
+moved_in_more (Stores card Creation) c = refl
+moved_in_more (Stores card Edit) c = refl
+moved_in_more (Stores card Import) c = refl
+moved_in_more (Stores card ImportEdit) c = refl
+moved_in_more (Stores card MoveIn) c = omega arith
+moved_in_more (TakesAway Deletion) c = refl
+moved_in_more (TakesAway MoveOut) c = refl
+
+deleted_more : (change : Change) (c : Counts) → (counted change c).deleted ≡ cond (is_deletion change) (1 + c.deleted) c.deleted
+deleted_more (Stores card Creation) c = refl
+deleted_more (Stores card Edit) c = refl
+deleted_more (Stores card Import) c = refl
+deleted_more (Stores card ImportEdit) c = refl
+deleted_more (Stores card MoveIn) c = refl
+deleted_more (TakesAway Deletion) c = omega arith
+deleted_more (TakesAway MoveOut) c = refl
+
+moved_out_more : (change : Change) (c : Counts) → (counted change c).moved_out ≡ cond (is_move_out change) (1 + c.moved_out) c.moved_out
+moved_out_more (Stores card Creation) c = refl
+moved_out_more (Stores card Edit) c = refl
+moved_out_more (Stores card Import) c = refl
+moved_out_more (Stores card ImportEdit) c = refl
+moved_out_more (Stores card MoveIn) c = refl
+moved_out_more (TakesAway Deletion) c = refl
+moved_out_more (TakesAway MoveOut) c = omega arith
+
+pub reasons_are_counted : ReasonsAreCounted
+reasons_are_counted h = record {
+  created = is_count_by (λ h. (counts_of h).created) (λ (e : BookEvent). is_creation e.change) refl (λ e h. created_more e.change (counts_of h)) h;
+  edited = is_count_by (λ h. (counts_of h).edited) (λ (e : BookEvent). is_edit e.change) refl (λ e h. edited_more e.change (counts_of h)) h;
+  imported = is_count_by (λ h. (counts_of h).imported) (λ (e : BookEvent). is_import e.change) refl (λ e h. imported_more e.change (counts_of h)) h;
+  import_edited = is_count_by (λ h. (counts_of h).import_edited) (λ (e : BookEvent). is_import_edit e.change) refl (λ e h. import_edited_more e.change (counts_of h)) h;
+  moved_in = is_count_by (λ h. (counts_of h).moved_in) (λ (e : BookEvent). is_move_in e.change) refl (λ e h. moved_in_more e.change (counts_of h)) h;
+  deleted = is_count_by (λ h. (counts_of h).deleted) (λ (e : BookEvent). is_deletion e.change) refl (λ e h. deleted_more e.change (counts_of h)) h;
+  moved_out = is_count_by (λ h. (counts_of h).moved_out) (λ (e : BookEvent). is_move_out e.change) refl (λ e h. moved_out_more e.change (counts_of h)) h;
+}

@@ -2,7 +2,9 @@ pub mod Histories
 pub mod Lawful
 pub mod HistoryCounts
 pub mod LiveLaws
+pub mod Reasons
 pub mod CountLaws
+pub mod HistoryLaws
 pub mod Reports
 pub mod ReportLaws
 pub mod Rows
@@ -12,6 +14,7 @@ pub mod WorldChanges
 pub mod WorldReads
 pub mod Following
 pub mod ChangeLaws
+pub mod RowLaws
 pub mod ReadLaws
 pub mod Calls
 pub mod RightDevices

@@ -1,6 +1,12 @@
 //! That the rows of a store stand for histories: what a call answers and leaves by its rows is what it means on these.
 ghost use Rattle.book_laws.specs.ChangeLaws.{RemovingFollows, MovingFollows, ImportingFollows, ForgettingFollows, NothingFollows, CreatingFollows, PuttingFollows};
+ghost use Rattle.book_laws.specs.RowLaws.{RowsAreOfBooks};
 ghost use Rattle.book_laws.specs.ReadLaws.{BooksFollow, BookLinesFollow, GettingFollows, CardsFollow, KeptImportsFollow, TalliesFollow, ReportsFollow};
+
+/// What the rows of histories have under a name is what a store keeps of that book's history.
+pub fn rows_are_of_books()
+    ensures { RowsAreOfBooks }
+{}
 
 /// A store without books has the rows of no histories.
 pub fn empty_stores_have_no_history()

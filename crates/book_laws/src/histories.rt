@@ -4,7 +4,8 @@ ghost use Rattle.vcard_text.specs.Cards.{IsCard, canonical_text};
 ghost use Rattle.vcard_text.specs.declared.line.Line.{Line};
 ghost use Rattle.book_model.specs.SameCards.{same_card};
 ghost use Rattle.book_laws.specs.LiveLaws.{LiveAreStoredLast};
-ghost use Rattle.book_laws.specs.CountLaws.{EventsAreCounted, LiveAreCounted};
+ghost use Rattle.book_laws.specs.CountLaws.{EventsAreCounted, LiveAreCounted, ReasonsAreCounted};
+ghost use Rattle.book_laws.specs.HistoryLaws.{VersionsAreLast};
 ghost use Rattle.book_laws.specs.ReportLaws.{DueHaveEvents};
 
 use vcard_text::laws::equal_texts;
@@ -14,10 +15,17 @@ pub fn live_cards_are_stored_last()
     ensures { LiveAreStoredLast }
 {}
 
-/// The counts of a history add up to its number of events, and tell how many cards are live.
+/// Each of a history's counts is the number of its events with that reason. They add up to the number of all events, and
+/// tell how many cards are live.
 pub fn changes_are_counted()
+    ensures reasons { ReasonsAreCounted }
     ensures events { EventsAreCounted }
     ensures live { LiveAreCounted }
+{}
+
+/// The version of a live card is the number of its UID's last event.
+pub fn versions_are_last()
+    ensures { VersionsAreLast }
 {}
 
 /// A report tells of the members that have events since the mark.
