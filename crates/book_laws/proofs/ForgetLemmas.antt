@@ -1,8 +1,10 @@
 -- Forgetting in the rows: which rows stay, and how many there are.
-use Rattle.std.proofs.Common.{◌≡◌, ℕ, ◌+◌, ◌-◌, ◌<◌, ◌≤◌, Bool, true, false, cond, not, ◌&&◌, ◌||◌, List, [], ◌∷◌, ◌++◌, length, filter, Option, Some, None, is_some, nat_lt, nat_le, refl, sym, ap, ◌∙◌, ⊎_elim, arith}
+use Rattle.std.proofs.Common.{◌≡◌, ℕ, ◌+◌, ◌<◌, ◌≤◌, Bool, true, false, cond, not, ◌&&◌, ◌||◌, List, [], ◌∷◌, ◌++◌, length, filter, Option, Some, None, is_some, nat_lt, nat_le, Equal, refl, sym, ap, ◌∙◌, ⊎_elim, arith}
 use Rattle.std.specs.Option.{option_map_or}
 use Rattle.std.specs.FinMap as finite
 use Rattle.std.specs.FinMap.{get-empty, get-insert, get-retain_keys, len-insert, len-empty, same_map}
+use Rattle.std.specs.FinMap.Entries.{where_key, is_sorted-where_key, find-where_key, same_entries}
+use Rattle.std.specs.List.{AllByRecursion}
 use Rattle.std.proofs.lemmas.Bool.{cases_Bool, cases_lt, cond-true, cond-false, and_parts, leb-true, le-leb, lt-ltb, false_from_ne_true, ltb-true}
 use Rattle.std.proofs.lemmas.List.{length-append}
 use Rattle.std.proofs.lemmas.Map.Lookups.{exact_bytes}
@@ -13,22 +15,21 @@ use Rattle.book_model.specs.declared.refusal.Refusal.TheVariants.{BadForget}
 use Rattle.book_model.specs.Books.{Book, card_after}
 use Rattle.book_laws.specs.ChangeLaws.{ForgettingFollows}
 use Rattle.book_laws.specs.HistoryCounts.{counts_of}
-use Rattle.book_model.specs.Forgetting.{is_remembered, forgotten, may_forget}
+use Rattle.book_model.specs.Forgetting.{is_row_kept, dropped_rows, forgotten, may_forget}
 use Rattle.book_laws.specs.Histories.{BookEvent, same_uid, live, last, touched}
 use Rattle.book_laws.specs.Rows.{all_rows, is_kept, kept_rows}
 use Rattle.book_laws.specs.Worlds.{Story, book_of}
 use Rattle.book_laws.specs.WorldChanges.{is_forgotten, with_horizon}
 use Rattle.book_model.proofs.BasicLemmas.{is_some-map}
 use Rattle.book_laws.proofs.FollowLemmas.{follow_named, follow_test}
+use Rattle.book_laws.proofs.ReportLemmas.{each_found}
+use Rattle.book_model.proofs.LiveCardLemmas.{Members}
 use Rattle.book_laws.proofs.RowLemmas.{row_at, get-kept_rows, get-all_rows}
 use Rattle.book_model.proofs.TextLemmas.{text_total, same_self, same-equal}
 use Rattle.book_laws.proofs.WorldLemmas.{wrote_story}
 
 abbrev Rows : Type 0
 Rows = finite.FinMap text_cmp Row
-
-abbrev one_if : Bool → ℕ
-one_if b = cond b 1 0
 
 -- ---- how many rows there are
 
@@ -150,6 +151,40 @@ retained_rows h horizon test wanted agree = same_map text_total exact_bytes _ _ 
           | false ↦ λ some. nothing (is_kept h horizon q) (wanted q)
         ] refl
 
+-- ---- how many rows pass a test
+
+-- the entries of the rows that pass a test
+module _ (m : finite.FinMap text_cmp Row) (test : Row → Bool) where
+  abbrev by_key : List ℕ → Bool
+  by_key = at_row test m
+
+  -- on entries of the map the test of the key is that of the row
+  same_passing : (es : Members) → AllByRecursion (λ e. finite.get m e.0 ≡ Some e.1) es → where_key text_cmp by_key es ≡ filter (λ (e : List ℕ × Row). test e.1) es
+  same_passing [] a = refl
+  same_passing (e ∷ es) a =
+      ap (λ b. cond b (e ∷ where_key text_cmp by_key es) (where_key text_cmp by_key es)) (ap (λ (o : Option Row). option_map_or test o false) a.0)
+      ∙ ap (λ (ds : Members). cond (test e.1) (e ∷ ds) ds) (same_passing es a.1)
+
+  pub entries-retained : finite.entries (finite.retain_keys m by_key) ≡ filter (λ (e : List ℕ × Row). test e.1) (finite.entries m)
+  entries-retained =
+      same_entries text_cmp text_total exact_bytes (finite.entries (finite.retain_keys m by_key)) (where_key text_cmp by_key (finite.entries m))
+      (finite.entries_sorted (finite.retain_keys m by_key)) (is_sorted-where_key text_cmp by_key (finite.entries m) (finite.entries_sorted m))
+      (λ q. sym (finite.get-entries (finite.retain_keys m by_key) q) ∙ get-retain_keys m by_key q (alike q) ∙ ap (λ (o : Option Row). cond (by_key q) o None) (finite.get-entries m q) ∙ sym (find-where_key text_cmp by_key q (alike q) (finite.entries m)))
+      ∙ same_passing (finite.entries m) (each_found m)
+    where
+      alike : (q x : List ℕ) → text_cmp q x ≡ Equal → by_key x ≡ by_key q
+      alike q x e = ap by_key (sym (exact_bytes q x e))
+
+-- the rows that were kept and pass a test are as many as the touched UIDs that pass it on the history
+pub passing_rows : (h : List BookEvent) (horizon : ℕ) (test : Row → Bool) (wanted : List ℕ → Bool)
+    → ((uid : List ℕ) → 0 < last h uid → (is_kept h horizon uid && test (row_at h uid)) ≡ wanted uid)
+    → length (filter (λ (member : List ℕ × Row). test member.1) (finite.entries (kept_rows h horizon))) ≡ length (filter wanted (touched h))
+passing_rows h horizon test wanted agree =
+    ap length (sym (entries-retained (kept_rows h horizon) test))
+    ∙ sym (finite.len-entries (finite.retain_keys (kept_rows h horizon) (at_row test (kept_rows h horizon))))
+    ∙ ap finite.len (retained_rows h horizon test wanted agree)
+    ∙ len_retained h wanted
+
 -- ---- a higher horizon
 
 module _ (horizon upto n : ℕ) (rises : horizon ≤ upto) where
@@ -164,70 +199,40 @@ module _ (horizon upto n : ℕ) (rises : horizon ≤ upto) where
       and_false true = refl
       and_false false = refl
 
-  -- above the old horizon is above the new one, or between them
-  split_above : one_if (nat_lt horizon n) ≡ one_if (nat_lt upto n) + one_if (nat_lt horizon n && nat_le n upto)
-  split_above = ⊎_elim
-      (λ above.
-      let low : one_if (nat_lt horizon n) ≡ 1 = ap one_if (lt-ltb horizon n (omega (arith, rises, above))) in
-      let high : one_if (nat_lt upto n) ≡ 1 = ap one_if (lt-ltb upto n above) in
-      let none : nat_le n upto ≡ false = false_from_ne_true _ (λ e. let l = leb-true n upto e in absurd (omega (arith, l, above))) in
-      let between : one_if (nat_lt horizon n && nat_le n upto) ≡ 0 = ap (λ b. one_if (nat_lt horizon n && b)) none ∙ none_and (nat_lt horizon n) in
-      omega (arith, low, high, between))
-      (λ below.
-      let none : nat_lt upto n ≡ false = false_from_ne_true _ (λ e. let l = ltb-true upto n e in absurd (omega (arith, l, below))) in
-      let high : one_if (nat_lt upto n) ≡ 0 = ap one_if none in
-      let between : one_if (nat_lt horizon n && nat_le n upto) ≡ one_if (nat_lt horizon n) = ap (λ b. one_if (nat_lt horizon n && b)) (le-leb n upto below) ∙ and_true (nat_lt horizon n) in
-      omega (arith, high, between))
-      (cases_lt upto n)
-    where
-      none_and : (b : Bool) → one_if (b && false) ≡ 0
-      none_and true = refl
-      none_and false = refl
+not_above : (upto n : ℕ) → not (nat_lt upto n) ≡ nat_le n upto
+not_above upto n = ⊎_elim
+    (λ above.
+    let none : nat_le n upto ≡ false = false_from_ne_true _ (λ e. let l = leb-true n upto e in absurd (omega (arith, l, above))) in
+    ap not (lt-ltb upto n above) ∙ sym none)
+    (λ below.
+    let none : nat_lt upto n ≡ false = false_from_ne_true _ (λ e. let l = ltb-true upto n e in absurd (omega (arith, l, below))) in
+    ap not none ∙ sym (le-leb n upto below))
+    (cases_lt upto n)
 
-      and_true : (b : Bool) → one_if (b && true) ≡ one_if b
-      and_true true = refl
-      and_true false = refl
-
-length-filter-cons : (p : List ℕ → Bool) (u : List ℕ) (us : List (List ℕ)) → length (filter p (u ∷ us)) ≡ one_if (p u) + length (filter p us)
-length-filter-cons p u us = elim (p u) as (λ b. length (cond b (u ∷ filter p us) (filter p us)) ≡ one_if b + length (filter p us)) [ true ↦ omega arith | false ↦ omega arith ]
-
--- who passes one test passes just one of two others
-split_length : (p q r : List ℕ → Bool) → ((u : List ℕ) → one_if (p u) ≡ one_if (q u) + one_if (r u)) → (us : List (List ℕ)) → length (filter p us) ≡ length (filter q us) + length (filter r us)
-split_length p q r split [] = refl
-split_length p q r split (u ∷ us) =
-    let rest = split_length p q r split us in
-    let a = length-filter-cons p u us in
-    let b = length-filter-cons q u us in
-    let c = length-filter-cons r u us in
-    let one = split u in
-    omega (arith, rest, a, b, c, one)
-
-module _ (story : Story) (upto : ℕ) (rises : story.horizon ≤ upto) where
-  still_kept : (uid : List ℕ) → 0 < last story.history uid → (is_kept story.history story.horizon uid && is_remembered upto (row_at story.history uid)) ≡ is_kept story.history upto uid
-  still_kept uid some =
+module _ (story : Story) (upto : ℕ) where
+  still_kept : story.horizon ≤ upto → (uid : List ℕ) → 0 < last story.history uid → (is_kept story.history story.horizon uid && is_row_kept upto (row_at story.history uid)) ≡ is_kept story.history upto uid
+  still_kept rises uid some =
       ap (λ b. is_kept story.history story.horizon uid && (b || nat_lt upto (last story.history uid))) (is_some-map (λ (s : Stored). s.card) (finite.get (live story.history) uid))
       ∙ elim (is_some (finite.get (live story.history) uid)) as (λ b. ((b || nat_lt story.horizon (last story.history uid)) && (b || nat_lt upto (last story.history uid))) ≡ (b || nat_lt upto (last story.history uid))) [
         | true ↦ refl
         | false ↦ both_above story.horizon upto (last story.history uid) rises
       ]
 
-  book_forgotten : book_of (with_horizon story upto) ≡ forgotten (book_of story) upto
-  book_forgotten =
+  book_forgotten : story.horizon ≤ upto → book_of (with_horizon story upto) ≡ forgotten (book_of story) upto
+  book_forgotten rises =
       let B : finite.FinMap text_cmp Row → Book = λ members. record { id = story.id; number = length story.history; horizon = upto; counts = counts_of story.history; members = members; imports = story.imports } in
-      ap B (sym (retained_rows story.history story.horizon (is_remembered upto) (is_kept story.history upto) still_kept))
+      ap B (sym (retained_rows story.history story.horizon (is_row_kept upto) (is_kept story.history upto) (still_kept rises)))
 
-  forgotten_or_kept : (uid : List ℕ) → one_if (is_kept story.history story.horizon uid) ≡ one_if (is_kept story.history upto uid) + one_if (is_forgotten story upto uid)
-  forgotten_or_kept uid = elim (is_some (finite.get (live story.history) uid)) as (λ b. one_if (b || nat_lt story.horizon (last story.history uid)) ≡ one_if (b || nat_lt upto (last story.history uid)) + one_if (not b && nat_lt story.horizon (last story.history uid) && nat_le (last story.history uid) upto)) [
-    | true ↦ refl
-    | false ↦ split_above story.horizon upto (last story.history uid) rises
-  ]
+  dropped : (uid : List ℕ) → 0 < last story.history uid → (is_kept story.history story.horizon uid && not (is_row_kept upto (row_at story.history uid))) ≡ is_forgotten story upto uid
+  dropped uid some =
+      ap (λ b. is_kept story.history story.horizon uid && not (b || nat_lt upto (last story.history uid))) (is_some-map (λ (s : Stored). s.card) (finite.get (live story.history) uid))
+      ∙ elim (is_some (finite.get (live story.history) uid)) as (λ b. ((b || nat_lt story.horizon (last story.history uid)) && not (b || nat_lt upto (last story.history uid))) ≡ (not b && nat_lt story.horizon (last story.history uid) && nat_le (last story.history uid) upto)) [
+        | true ↦ refl
+        | false ↦ ap (λ b. nat_lt story.horizon (last story.history uid) && b) (not_above upto (last story.history uid))
+      ]
 
-  dropped_is : finite.len (kept_rows story.history story.horizon) - finite.len (forgotten (book_of story) upto).members ≡ length (filter (is_forgotten story upto) (touched story.history))
-  dropped_is =
-      let before = len_retained story.history (is_kept story.history story.horizon) in
-      let after = ap (λ (b : Book). finite.len b.members) (sym book_forgotten) ∙ len_retained story.history (is_kept story.history upto) in
-      let all = split_length (is_kept story.history story.horizon) (is_kept story.history upto) (is_forgotten story upto) forgotten_or_kept (touched story.history) in
-      omega (arith, before, after, all)
+  dropped_is : dropped_rows (book_of story).members upto ≡ length (filter (is_forgotten story upto) (touched story.history))
+  dropped_is = passing_rows story.history story.horizon (λ row. not (is_row_kept upto row)) (is_forgotten story upto) dropped
 
 pub forgetting_follows : ForgettingFollows
 forgetting_follows stories name upto all =
@@ -236,6 +241,6 @@ forgetting_follows stories name upto all =
     let parts = and_parts _ _ allowed in
     let rises : story.horizon ≤ upto = leb-true _ _ parts.0 in
     let past : upto ≤ length story.history = leb-true _ _ parts.1 in (
-      dropped_is story upto rises,
+      dropped_is story upto,
       wrote_story stories name (with_horizon story upto) (forgotten (book_of story) upto) all (record { lawful = sound.lawful; past = past }) (book_forgotten story upto rises),
     )))

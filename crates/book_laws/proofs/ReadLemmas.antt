@@ -1,10 +1,8 @@
 -- What the rows tell of a book, beside what its history tells.
-use Rattle.std.proofs.Common.{◌≡◌, ℕ, Bool, true, false, cond, not, ◌&&◌, ◌||◌, List, [], ◌∷◌, map, flat_map, length, filter, Option, Some, None, Result, Ok, Err, is_some, nat_lt, ◌<◌, Equal, refl, sym, ap, ◌∙◌}
+use Rattle.std.proofs.Common.{◌≡◌, ℕ, true, false, not, ◌&&◌, ◌||◌, List, [], ◌∷◌, map, flat_map, length, filter, Option, Some, None, Result, Ok, Err, is_some, nat_lt, ◌<◌, refl, sym, ap, ◌∙◌}
 use Rattle.std.specs.Option.{option_map, option_map_or, option_and_then}
 use Rattle.std.specs.FinMap as finite
-use Rattle.std.specs.FinMap.{get-retain_keys, get-from_entries, same_map}
-use Rattle.std.specs.FinMap.Entries.{where_key, is_sorted-where_key, find-where_key, same_entries}
-use Rattle.std.specs.List.{AllByRecursion}
+use Rattle.std.specs.FinMap.{get-from_entries, same_map}
 use Rattle.std.proofs.lemmas.Map.Lookups.{exact_bytes}
 use Rattle.vcard_text.specs.TextMaps.{text_cmp}
 use Rattle.book_model.specs.declared.answers.Stored.{Stored}
@@ -24,11 +22,10 @@ use Rattle.book_laws.specs.WorldReads.{story_line, is_remembered_of, tally_of_st
 use Rattle.book_laws.specs.WorldSteps.{story_named}
 use Rattle.book_model.proofs.BasicLemmas.{is_some-map}
 use Rattle.book_laws.proofs.CountLemmas.{live_count_is}
-use Rattle.book_laws.proofs.ForgetLemmas.{at_row, len_retained, retained_rows}
-use Rattle.book_laws.proofs.ReportLemmas.{each_found}
+use Rattle.book_laws.proofs.ForgetLemmas.{passing_rows}
 use Rattle.book_laws.proofs.RowLemmas.{row_at, live_by_row}
 use Rattle.book_model.proofs.TextLemmas.{text_total}
-use Rattle.book_model.proofs.LiveCardLemmas.{find_live, Members}
+use Rattle.book_model.proofs.LiveCardLemmas.{find_live}
 use Rattle.book_laws.proofs.WorldLemmas.{get-rows, entries-rows}
 
 -- the same is told of the book of a name and of its story
@@ -78,28 +75,6 @@ kept_imports_follow stories name key = told_named stories name _ _ (λ story at.
 
 -- ---- a book in numbers
 
--- the entries of the rows that pass a test
-module _ (m : finite.FinMap text_cmp Row) (test : Row → Bool) where
-  abbrev by_key : List ℕ → Bool
-  by_key = at_row test m
-
-  -- on entries of the map the test of the key is that of the row
-  same_passing : (es : Members) → AllByRecursion (λ e. finite.get m e.0 ≡ Some e.1) es → where_key text_cmp by_key es ≡ filter (λ (e : List ℕ × Row). test e.1) es
-  same_passing [] a = refl
-  same_passing (e ∷ es) a =
-      ap (λ b. cond b (e ∷ where_key text_cmp by_key es) (where_key text_cmp by_key es)) (ap (λ (o : Option Row). option_map_or test o false) a.0)
-      ∙ ap (λ (ds : Members). cond (test e.1) (e ∷ ds) ds) (same_passing es a.1)
-
-  pub entries-retained : finite.entries (finite.retain_keys m by_key) ≡ filter (λ (e : List ℕ × Row). test e.1) (finite.entries m)
-  entries-retained =
-      same_entries text_cmp text_total exact_bytes (finite.entries (finite.retain_keys m by_key)) (where_key text_cmp by_key (finite.entries m))
-      (finite.entries_sorted (finite.retain_keys m by_key)) (is_sorted-where_key text_cmp by_key (finite.entries m) (finite.entries_sorted m))
-      (λ q. sym (finite.get-entries (finite.retain_keys m by_key) q) ∙ get-retain_keys m by_key q (alike q) ∙ ap (λ (o : Option Row). cond (by_key q) o None) (finite.get-entries m q) ∙ sym (find-where_key text_cmp by_key q (alike q) (finite.entries m)))
-      ∙ same_passing (finite.entries m) (each_found m)
-    where
-      alike : (q x : List ℕ) → text_cmp q x ≡ Equal → by_key x ≡ by_key q
-      alike q x e = ap by_key (sym (exact_bytes q x e))
-
 module _ (story : Story) where
   removed_after : (uid : List ℕ) → 0 < last story.history uid → (is_kept story.history story.horizon uid && is_removed_after story.horizon (row_at story.history uid)) ≡ is_remembered_of story uid
   removed_after uid some =
@@ -110,11 +85,7 @@ module _ (story : Story) where
       ]
 
   remembered_is : remembered_in (book_of story) ≡ length (filter (is_remembered_of story) (touched story.history))
-  remembered_is =
-      ap length (sym (entries-retained (kept_rows story.history story.horizon) (is_removed_after story.horizon)))
-      ∙ sym (finite.len-entries (finite.retain_keys (kept_rows story.history story.horizon) (at_row (is_removed_after story.horizon) (kept_rows story.history story.horizon))))
-      ∙ ap finite.len (retained_rows story.history story.horizon (is_removed_after story.horizon) (is_remembered_of story) removed_after)
-      ∙ len_retained story.history (is_remembered_of story)
+  remembered_is = passing_rows story.history story.horizon (is_removed_after story.horizon) (is_remembered_of story) removed_after
 
   tally_is : IsSound story → tally_of (book_of story) ≡ tally_of_story story
   tally_is sound =

@@ -16,9 +16,7 @@ use Rattle.book_model.specs.declared.refusal.TokenCause.TheVariants.{OtherBook, 
 use Rattle.book_model.specs.declared.token.Token.{Token}
 use Rattle.book_model.specs.Bounds.{Bounds}
 use Rattle.book_laws.specs.Calls.{Call, CreatesBook, Puts, Removes, Moves, Imports, AsksImport, Forgets, AsksReport, Tallies, Returned, MadeBook, DidPut, DidRemove, DidMove, DidImport, DidForget, GaveImport, GavePage, GaveTally, answers_to, stories_after_all}
-use Rattle.book_model.specs.Counting.{no_counts}
 use Rattle.book_laws.specs.Histories.{BookEvent}
-use Rattle.book_model.specs.Reading.{tally_with}
 use Rattle.book_laws.specs.Worlds.{Story, Stories}
 use Rattle.book_laws.specs.WorldChanges.{event}
 
@@ -108,7 +106,7 @@ changes_take_numbers = simp gets
 pub changes_are_events : finite.get (stories_after_all standard none first_calls) staff ≡ Some (story 1 0 five)
 changes_are_events = simp gets
 
-pub changes_are_tallied : answers_to standard (only_staff 0 five) (Tallies staff ∷ []) ≡ Ok (GaveTally (tally_with 5 0 2 (record no_counts { created = 3; edited = 1; deleted = 1 }) 1)) ∷ []
+pub changes_are_tallied : answers_to standard (only_staff 0 five) (Tallies staff ∷ []) ≡ Ok (GaveTally (record { number = 5; horizon = 0; cards = 2; created = 3; edited = 1; imported = 0; import_edited = 0; moved_in = 0; deleted = 1; moved_out = 0; remembered = 1 })) ∷ []
 changes_are_tallied = simp gets
 
 -- ---- a first report in pages, and a whole one
@@ -163,8 +161,8 @@ abbrev moved : Stories
 moved = two_books ten (event a (Stores anna MoveIn) ∷ [])
 
 pub moves_are_tallied : answers_to standard moved (Tallies staff ∷ Tallies clients ∷ [])
-    ≡ Ok (GaveTally (tally_with 10 0 1 (record no_counts { created = 5; edited = 1; deleted = 3; moved_out = 1 }) 3))
-    ∷ Ok (GaveTally (tally_with 1 0 1 (record no_counts { moved_in = 1 }) 0)) ∷ []
+    ≡ Ok (GaveTally (record { number = 10; horizon = 0; cards = 1; created = 5; edited = 1; imported = 0; import_edited = 0; moved_in = 0; deleted = 3; moved_out = 1; remembered = 3 }))
+    ∷ Ok (GaveTally (record { number = 1; horizon = 0; cards = 1; created = 0; edited = 0; imported = 0; import_edited = 0; moved_in = 1; deleted = 0; moved_out = 0; remembered = 0 })) ∷ []
 moves_are_tallied = simp gets
 
 pub moves_are_refused : answers_to standard moved (Moves staff clients a None ∷ Puts clients bob None ∷ Moves staff clients b None ∷ Moves staff staff b None ∷ [])
@@ -203,7 +201,7 @@ imported added edited same number = Ok (DidImport (record { added = added; edite
 
 -- the second import with the key changes nothing, whatever it brings
 pub imports_are_kept : answers_to standard with_clients (Imports clients (codes "k1") (pat ∷ quin ∷ rae ∷ []) ∷ Imports clients (codes "k1") (sy ∷ []) ∷ Tallies clients ∷ [])
-    ≡ imported 3 0 0 5 ∷ imported 3 0 0 5 ∷ Ok (GaveTally (tally_with 5 0 5 (record no_counts { created = 1; imported = 3; moved_in = 1 }) 0)) ∷ []
+    ≡ imported 3 0 0 5 ∷ imported 3 0 0 5 ∷ Ok (GaveTally (record { number = 5; horizon = 0; cards = 5; created = 1; edited = 0; imported = 3; import_edited = 0; moved_in = 1; deleted = 0; moved_out = 0; remembered = 0 })) ∷ []
 imports_are_kept = simp gets
 
 abbrev imported_three : Stories
@@ -213,7 +211,7 @@ pub imports_edit : answers_to standard imported_three (Imports clients (codes "k
 imports_edit = simp gets
 
 pub import_edits_are_tallied : answers_to standard (two_books ten (event (codes "s") (Stores sy Import) ∷ event (codes "q") (Stores quinn ImportEdit) ∷ event (codes "r") (Stores rae Import) ∷ event (codes "q") (Stores quin Import) ∷ event (codes "p") (Stores pat Import) ∷ event b (Stores bob Creation) ∷ event a (Stores anna MoveIn) ∷ [])) (Tallies clients ∷ [])
-    ≡ Ok (GaveTally (tally_with 7 0 6 (record no_counts { created = 1; imported = 4; import_edited = 1; moved_in = 1 }) 0)) ∷ []
+    ≡ Ok (GaveTally (record { number = 7; horizon = 0; cards = 6; created = 1; edited = 0; imported = 4; import_edited = 1; moved_in = 1; deleted = 0; moved_out = 0; remembered = 0 })) ∷ []
 import_edits_are_tallied = simp gets
 
 -- an import of no cards takes no number, and is kept

@@ -1,32 +1,39 @@
 -- Forgetting the removed members up to a number: tokens that need them aren't taken any more (RFC 6578, section 3.2,
 -- the precondition valid-sync-token). How it is done is this project's own.
-use Rattle.std.specs.Prelude.{ℕ, ◌-◌, Bool, false, ◌&&◌, ◌||◌, nat_le, nat_lt, List, is_some, Result, Ok}
+use Rattle.std.specs.Prelude.{ℕ, Bool, false, not, ◌&&◌, ◌||◌, nat_le, nat_lt, List, length, filter, is_some, Result, Ok}
 use Rattle.std.specs.Option.{option_map_or}
 use Rattle.std.specs.FinMap as finite
+use Rattle.vcard_text.specs.TextMaps.{text_cmp}
 use Rattle.book_model.specs.declared.refusal.Refusal.{Refusal}
 use Rattle.book_model.specs.declared.refusal.Refusal.TheVariants.{BadForget}
 use Rattle.book_model.specs.declared.row.Row.{Row}
 use Rattle.book_model.specs.Books.{Book, Books, book_named}
 use Rattle.book_model.specs.Outcomes.{◌>>=◌, provided}
 
--- the row is of a live member, or of one that was removed after the horizon
-abbrev pub is_remembered : ℕ → Row → Bool
-is_remembered horizon row = is_some row.card || nat_lt horizon row.changed
+-- the row stays: it is of a live member, or of one that was removed after the horizon
+abbrev pub is_row_kept : ℕ → Row → Bool
+is_row_kept horizon row = is_some row.card || nat_lt horizon row.changed
+
+-- how many rows don't
+abbrev pub dropped_rows : finite.FinMap text_cmp Row → ℕ → ℕ
+dropped_rows members horizon =
+    length (filter (λ member. not (is_row_kept horizon member.1)) (finite.entries members))
 
 -- the book with this horizon, without the rows of members that were removed up to it
 abbrev pub forgotten : Book → ℕ → Book
 forgotten book upto = record book {
   horizon = upto;
-  members = finite.retain_keys book.members (λ uid. option_map_or (is_remembered upto) (finite.get book.members uid) false);
+  members = finite.retain_keys book.members
+      (λ uid. option_map_or (is_row_kept upto) (finite.get book.members uid) false);
 }
 
 -- the horizon only rises, and not above the book's number
 abbrev pub may_forget : ℕ → ℕ → ℕ → Bool
 may_forget horizon number upto = nat_le horizon upto && nat_le upto number
 
--- how many rows were dropped, and the books after it; it takes no number
+-- how many rows are dropped, and the books after it; it takes no number
 abbrev pub forget_step : Books → List ℕ → ℕ → Result (ℕ × Books) Refusal
 forget_step books name upto = do
   book ← book_named books name
   allowed ← provided (may_forget book.horizon book.number upto) BadForget
-  Ok (finite.len book.members - finite.len (forgotten book upto).members, finite.insert books name (forgotten book upto))
+  Ok (dropped_rows book.members upto, finite.insert books name (forgotten book upto))
