@@ -3,3 +3,4 @@ pub mod TextLemmas
 pub mod SameCardLemmas
 pub mod LiveCardLemmas
 pub mod AnswerLemmas
+pub mod ImportCountLemmas

@@ -11,6 +11,7 @@ pub mod Putting
 pub mod Removing
 pub mod Moving
 pub mod Importing
+pub mod ImportLaws
 pub mod Forgetting
 pub mod Pages
 pub mod Reading

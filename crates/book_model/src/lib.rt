@@ -6,6 +6,7 @@ pub mod answers;
 pub mod change;
 pub mod counts;
 pub mod denied;
+pub mod laws;
 pub mod limits;
 pub mod page;
 pub mod refusal;
