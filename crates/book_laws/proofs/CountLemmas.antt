@@ -41,10 +41,10 @@ replaced card None other = absurd other
 
 -- how the number of live cards goes on, by cases on what the change is for
 module _ (cards : LiveCards) (uid : List ℕ) where
-  stored_new : (card : List Line) (number : ℕ) (why : StoreReason) → finite.get cards uid ≡ None → finite.len (cards_after_change cards uid (Stores card why) number) ≡ finite.len cards + 1
+  pub stored_new : (card : List Line) (number : ℕ) (why : StoreReason) → finite.get cards uid ≡ None → finite.len (cards_after_change cards uid (Stores card why) number) ≡ finite.len cards + 1
   stored_new card number why none = len-insert text_total cards uid (record { version = number; card = card }) ∙ cond-false _ _ _ (ap is_some none)
 
-  stored_over : (card : List Line) (number : ℕ) (why : StoreReason) → is_some (finite.get cards uid) ≡ true → finite.len (cards_after_change cards uid (Stores card why) number) ≡ finite.len cards
+  pub stored_over : (card : List Line) (number : ℕ) (why : StoreReason) → is_some (finite.get cards uid) ≡ true → finite.len (cards_after_change cards uid (Stores card why) number) ≡ finite.len cards
   stored_over card number why some = len-insert text_total cards uid (record { version = number; card = card }) ∙ cond-true _ _ _ some
 
   some_live : finite.contains_key cards uid ≡ true → (n : ℕ) → n ≡ finite.len cards → 0 < n

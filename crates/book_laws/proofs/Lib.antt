@@ -21,3 +21,4 @@ pub mod WorkedHistory
 pub mod DeviceLemmas
 pub mod PagingLemmas
 pub mod DeviceRunLemmas
+pub mod ImportCountLemmas

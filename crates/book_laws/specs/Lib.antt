@@ -14,6 +14,7 @@ pub mod WorldChanges
 pub mod WorldReads
 pub mod Following
 pub mod ChangeLaws
+pub mod ImportLaws
 pub mod RowLaws
 pub mod ReadLaws
 pub mod Calls

@@ -6,6 +6,7 @@ ghost use Rattle.book_model.specs.SameCards.{same_card};
 ghost use Rattle.book_laws.specs.LiveLaws.{LiveAreStoredLast};
 ghost use Rattle.book_laws.specs.CountLaws.{EventsAreCounted, LiveAreCounted, ReasonsAreCounted};
 ghost use Rattle.book_laws.specs.HistoryLaws.{VersionsAreLast};
+ghost use Rattle.book_laws.specs.ImportLaws.{ImportsCountLiveCards, ImportsTakeEvents};
 ghost use Rattle.book_laws.specs.ReportLaws.{DueHaveEvents};
 
 use vcard_text::laws::equal_texts;
@@ -26,6 +27,13 @@ pub fn changes_are_counted()
 /// The version of a live card is the number of its UID's last event.
 pub fn versions_are_last()
     ensures { VersionsAreLast }
+{}
+
+/// An import of cards with distinct UIDs counts them by what was live before all of them. Each that it adds or edits is an
+/// event, and each that it adds is one more live card.
+pub fn imports_count_live_cards()
+    ensures counts { ImportsCountLiveCards }
+    ensures events { ImportsTakeEvents }
 {}
 
 /// A report tells of the members that have events since the mark.
