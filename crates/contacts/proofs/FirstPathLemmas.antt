@@ -27,9 +27,9 @@ use Rattle.book_model.specs.Outcomes.{◌>>=◌, provided, Does, Reads, HasNoSto
 use Rattle.book_model.specs.Pages.{Asked, IsReport, mark_asked, page_size, report_step, page_of}
 use Rattle.book_model.specs.Putting.{answer_over, put_answer, next_number, reason_for, put_step}
 use Rattle.book_laws.specs.Reports.{report}
-use Rattle.book_laws.specs.Worlds.{Story, Stories, World, rows}
+use Rattle.book_laws.specs.Worlds.{Story, Stories, World}
 use Rattle.book_laws.specs.WorldSteps.{empty_story, story_named, create_meaning, found_of, stories_after_put, put_meaning, report_meaning}
-use Rattle.book_laws.specs.Following.{IsWorldOf, Follows, PagesFollow}
+use Rattle.book_laws.specs.Following.{AreStoriesOf, Follows, PagesFollow}
 use Rattle.book_laws.specs.ChangeLaws.{NothingFollows, CreatingFollows, PuttingFollows}
 use Rattle.book_laws.specs.ReadLaws.{ReportsFollow}
 use Rattle.contacts.specs.FirstPaths.{one_creation, first_page, IsDeniedFor}
@@ -56,12 +56,8 @@ with_card card = finite.insert with_book name (story_after card)
 
 -- ---- what the calls mean
 
-pub no_stories : (limits : Bounds) → World
-no_stories limits = record {
-  limits = limits;
-  books = finite.empty;
-  sound = λ q story e. absurd (let none : None ≡ Some story = sym (get-empty text_cmp q) ∙ e in cc);
-}
+abbrev world_of : Bounds → Stories → World
+world_of limits stories = record { limits = limits; books = stories }
 
 pub created : (limits : Bounds) → AreStandard limits → create_meaning limits finite.empty name ≡ Ok (1, with_book)
 created limits s =
@@ -91,17 +87,17 @@ module _ (limits : Bounds) (s : AreStandard limits) (card : List Line) where
 
 -- ---- what the calls did
 
--- the answer and a world with the rows that are left, or want of memory
-abbrev pub Did : {A : Type 0} → Bounds → Result A Denied → A → Stories → Books → Type 0
-Did limits result answer stories books = MatchResult result (λ a. (a ≡ answer) × IsWorldOf limits stories books) (λ denied. denied ≡ no_memory)
+-- the answer and stories with the rows that are left, or out of memory
+abbrev pub Did : {A : Type 0} → Result A Denied → A → Stories → Books → Type 0
+Did result answer stories books = MatchResult result (λ a. (a ≡ answer) × AreStoriesOf books stories) (λ denied. denied ≡ no_memory)
 
-pub did : {A : Type 0} (limits : Bounds) (result : Result A Denied) (step : Result (A × Books) Refusal) (meaning : Result (A × Stories) Refusal) (answer : A) (stories : Stories) (old new : Books)
-    → Does result step old new → Follows limits step meaning → meaning ≡ Ok (answer, stories) → HasNoStoreFault result → Did limits result answer stories new
-did {A} limits result step meaning answer stories old new does follows is sound =
-    by_result result step does (subst (Follows limits step) is follows) sound
+pub did : {A : Type 0} (result : Result A Denied) (step : Result (A × Books) Refusal) (meaning : Result (A × Stories) Refusal) (answer : A) (stories : Stories) (old new : Books)
+    → Does result step old new → Follows step meaning → meaning ≡ Ok (answer, stories) → HasNoStoreFault result → Did result answer stories new
+did {A} result step meaning answer stories old new does follows is sound =
+    by_result result step does (subst (Follows step) is follows) sound
   where
-    by_result : (r : Result A Denied) (done : Result (A × Books) Refusal) → Does r done old new → Follows limits done (Ok (answer, stories)) → HasNoStoreFault r → Did limits r answer stories new
-    by_result (Ok a) (Ok done) d f n = (d.0 ∙ f.0, subst (IsWorldOf limits stories) (sym d.1) f.1)
+    by_result : (r : Result A Denied) (done : Result (A × Books) Refusal) → Does r done old new → Follows done (Ok (answer, stories)) → HasNoStoreFault r → Did r answer stories new
+    by_result (Ok a) (Ok done) d f n = (d.0 ∙ f.0, subst (λ (books : Books). AreStoriesOf books stories) (sym d.1) f.1)
     by_result (Ok a) (Err refusal) d f n = absurd d
     by_result (Err (Refused refusal)) (Ok done) d f n = absurd d
     by_result (Err (Refused refusal)) (Err other) d f n = absurd f
@@ -125,31 +121,26 @@ gave result step meaning page old new reads reports is sound =
 
 module _ (limits : Bounds) (s : AreStandard limits) where
   pub book_made : NothingFollows → CreatingFollows → (result : Result ℕ Denied) (old new : Books) → old ≡ finite.empty
-      → Does result (create_step limits old name) old new → HasNoStoreFault result → Did limits result 1 with_book new
-  unfolding no_stories
+      → Does result (create_step limits old name) old new → HasNoStoreFault result → Did result 1 with_book new
   book_made nothing creating result old new empty does sound =
-      did limits result (create_step limits old name) (create_meaning limits finite.empty name) 1 with_book old new does
-      (subst (λ (books : Books). Follows limits (create_step limits books name) (create_meaning limits finite.empty name)) (nothing ∙ sym empty) (creating (no_stories limits) name))
+      did result (create_step limits old name) (create_meaning limits finite.empty name) 1 with_book old new does
+      (subst (λ (books : Books). Follows (create_step limits books name) (create_meaning limits finite.empty name)) (nothing.rows_are ∙ sym empty) (creating (world_of limits finite.empty) name nothing.sound))
       (created limits s) sound
 
-  pub card_put : PuttingFollows → (card : List Line) (result : Result PutAnswer Denied) (old new : Books) → IsWorldOf limits with_book old
-      → Does result (put_step limits old name card None) old new → HasNoStoreFault result → Did limits result (Created 1) (with_card card) new
+  pub card_put : PuttingFollows → (card : List Line) (result : Result PutAnswer Denied) (old new : Books) → AreStoriesOf old with_book
+      → Does result (put_step limits old name card None) old new → HasNoStoreFault result → Did result (Created 1) (with_card card) new
   card_put putting card result old new w does sound =
-      did limits result (put_step limits old name card None) (put_meaning limits with_book name card None) (Created 1) (with_card card) old new does
-      (subst (λ (books : Books). Follows limits (put_step limits books name card None) (put_meaning limits with_book name card None)) w.rows_are
-      (subst (λ (stories : Stories). Follows limits (put_step limits (rows stories) name card None) (put_meaning limits stories name card None)) w.stories_are
-      (subst (λ (l : Bounds). Follows l (put_step l (rows w.world.books) name card None) (put_meaning l w.world.books name card None)) w.limits_are
-      (putting w.world name card None))))
+      did result (put_step limits old name card None) (put_meaning limits with_book name card None) (Created 1) (with_card card) old new does
+      (subst (λ (books : Books). Follows (put_step limits books name card None) (put_meaning limits with_book name card None)) w.rows_are
+      (putting (world_of limits with_book) name card None w.sound))
       (stored limits s card) sound
 
-  pub page_given : ReportsFollow → (card : List Line) (result : Result Page Denied) (old new : Books) → IsWorldOf limits (with_card card) old
+  pub page_given : ReportsFollow → (card : List Line) (result : Result Page Denied) (old new : Books) → AreStoriesOf old (with_card card)
       → Reads IsReport result (report_step limits old name None None) old new → HasNoStoreFault result → MatchResult result (λ p. p ≡ first_page card) (λ denied. denied ≡ no_memory)
   page_given reporting card result old new w reads sound =
       gave result (report_step limits old name None None) (report_meaning limits (with_card card) name None None) (first_page card) old new reads
       (subst (λ (books : Books). PagesFollow (report_step limits books name None None) (report_meaning limits (with_card card) name None None)) w.rows_are
-      (subst (λ (stories : Stories). PagesFollow (report_step limits (rows stories) name None None) (report_meaning limits stories name None None)) w.stories_are
-      (subst (λ (l : Bounds). PagesFollow (report_step l (rows w.world.books) name None None) (report_meaning l w.world.books name None None)) w.limits_are
-      (reporting w.world name None None))))
+      (reporting (world_of limits (with_card card)) name None None w.sound))
       (reported limits s card) sound
 
 -- ---- a text that is no card

@@ -9,7 +9,7 @@ use Rattle.book_model.specs.Bounds.{Bounds}
 use Rattle.book_model.specs.Outcomes.{Does, Reads, HasNoStoreFault, no_memory}
 use Rattle.book_model.specs.Pages.{IsReport, report_step}
 use Rattle.book_model.specs.Putting.{put_step}
-use Rattle.book_laws.specs.Following.{IsWorldOf}
+use Rattle.book_laws.specs.Following.{AreStoriesOf}
 use Rattle.contacts.specs.FirstPaths.{first_page}
 use Rattle.contacts.proofs.FirstPathLemmas.{AreStandard, Did, with_book, with_card, book_made, card_put, page_given}
 use Rattle.contacts.proofs.first_path.put_and_report.Goals as goal
@@ -19,8 +19,8 @@ use Rattle.contacts.proofs.first_path.put_and_report.Goals.{After-create_book, I
 standard : (c : After-create_book) → AreStandard c.new-store.result.limits
 standard c = subst AreStandard (sym c.new-store.ensures.limits) (record { page = c.standard.ensures.page; cards = c.standard.ensures.cards; changes = c.standard.ensures.changes; books = c.standard.ensures.books })
 
--- after the first call the rows are those of a world with the one book
-with_book_made : (c : In_ok-create_book) → IsWorldOf c.new-store.result.limits with_book c.create_book.new.self.books
+-- after the first call the rows are those of the one book
+with_book_made : (c : In_ok-create_book) → AreStoriesOf c.create_book.new.self.books with_book
 with_book_made c = (book_made c.new-store.result.limits (standard (goal.at.In_ok-create_book c).After-create_book)
     c.empty_stores_have_no_history.ensures c.creating_follows_histories.ensures (Ok c.in_ok-create_book.field-0) _ _ c.new-store.ensures.books
     c.in_ok-create_book.ensures.does tt).1
@@ -34,7 +34,7 @@ returns-in_err-create_book-clause-denied c =
 
 -- the limits stay, so the second call's step is one under the first limits
 put_did : (c : After-put) (r : Result PutAnswer Denied) → Does r (put_step c.create_book.new.self.limits c.create_book.new.self.books (codes "try") c.args.card.now None) c.create_book.new.self.books c.put.new.self.books → HasNoStoreFault r
-    → Did c.new-store.result.limits r (Created 1) (with_card c.args.card.now) c.put.new.self.books
+    → Did r (Created 1) (with_card c.args.card.now) c.put.new.self.books
 put_did c r does sound = card_put c.new-store.result.limits (standard (goal.at.After-put c).After-create_book) c.putting_follows_histories.ensures c.args.card.now r _ _
     (with_book_made (goal.at.After-put c).In_ok-create_book)
     (subst (λ (l : Bounds). Does r (put_step l c.create_book.new.self.books (codes "try") c.args.card.now None) c.create_book.new.self.books c.put.new.self.books) c.in_ok-create_book.ensures.limits does)
