@@ -16,3 +16,4 @@ pub mod Forgetting
 pub mod Pages
 pub mod Reading
 pub mod Devices
+pub mod WellFormed
