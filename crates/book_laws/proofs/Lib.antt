@@ -22,3 +22,5 @@ pub mod DeviceLemmas
 pub mod PagingLemmas
 pub mod DeviceRunLemmas
 pub mod ImportCountLemmas
+pub mod WellFormedBooks
+pub mod WellFormedSteps

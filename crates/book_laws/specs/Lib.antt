@@ -25,3 +25,4 @@ pub mod PagingLaws
 pub mod RunLaws
 pub mod TokenLaws
 pub mod MoveLaws
+pub mod WellFormedLaws

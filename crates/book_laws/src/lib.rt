@@ -6,3 +6,4 @@ pub mod devices;
 pub mod following;
 pub mod histories;
 pub mod runs;
+pub mod well_formed;

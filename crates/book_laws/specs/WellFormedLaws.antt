@@ -1,0 +1,51 @@
+-- That the books of a store are well formed, whatever calls made them. This project's own.
+use Rattle.std.specs.Prelude.{ℕ, IfOk, List, Option, Result}
+use Rattle.std.specs.FinMap as finite
+use Rattle.vcard_text.specs.declared.line.Line.{Line}
+use Rattle.book_model.specs.declared.refusal.Refusal.{Refusal}
+use Rattle.book_model.specs.Bounds.{Bounds}
+use Rattle.book_model.specs.Books.{Books}
+use Rattle.book_model.specs.Creating.{create_step}
+use Rattle.book_model.specs.Forgetting.{forget_step}
+use Rattle.book_model.specs.Importing.{import_step}
+use Rattle.book_model.specs.Moving.{move_step}
+use Rattle.book_model.specs.Putting.{put_step}
+use Rattle.book_model.specs.Removing.{remove_step}
+use Rattle.book_model.specs.WellFormed.{IsWellFormed}
+
+abbrev pub NoBooksAreWellFormed : Type 0
+NoBooksAreWellFormed = (limits : Bounds) → IsWellFormed limits finite.empty
+
+-- the books that a step leaves are well formed, where it isn't refused
+abbrev pub LeavesWellFormed : {A : Type 0} → Bounds → Result (A × Books) Refusal → Type 0
+LeavesWellFormed limits step = IfOk step (λ done. IsWellFormed limits done.1)
+
+-- ---- each step that changes books keeps them well formed
+
+abbrev pub CreatingKeepsForm : Type 0
+CreatingKeepsForm = (limits : Bounds) (books : Books) (name : List ℕ) →
+    IsWellFormed limits books → LeavesWellFormed limits (create_step limits books name)
+
+abbrev pub PuttingKeepsForm : Type 0
+PuttingKeepsForm =
+    (limits : Bounds) (books : Books) (name : List ℕ) (card : List Line) (expect : Option ℕ) →
+    IsWellFormed limits books → LeavesWellFormed limits (put_step limits books name card expect)
+
+abbrev pub RemovingKeepsForm : Type 0
+RemovingKeepsForm =
+    (limits : Bounds) (books : Books) (name uid : List ℕ) (expect : Option ℕ) →
+    IsWellFormed limits books → LeavesWellFormed limits (remove_step limits books name uid expect)
+
+abbrev pub MovingKeepsForm : Type 0
+MovingKeepsForm =
+    (limits : Bounds) (books : Books) (from to uid : List ℕ) (expect : Option ℕ) →
+    IsWellFormed limits books → LeavesWellFormed limits (move_step limits books from to uid expect)
+
+abbrev pub ImportingKeepsForm : Type 0
+ImportingKeepsForm =
+    (limits : Bounds) (books : Books) (name key : List ℕ) (cards : List (List Line)) →
+    IsWellFormed limits books → LeavesWellFormed limits (import_step limits books name key cards)
+
+abbrev pub ForgettingKeepsForm : Type 0
+ForgettingKeepsForm = (limits : Bounds) (books : Books) (name : List ℕ) (upto : ℕ) →
+    IsWellFormed limits books → LeavesWellFormed limits (forget_step books name upto)
