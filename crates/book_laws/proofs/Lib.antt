@@ -22,5 +22,7 @@ pub mod DeviceLemmas
 pub mod PagingLemmas
 pub mod DeviceRunLemmas
 pub mod ImportCountLemmas
+pub mod PassedLemmas
 pub mod WellFormedBooks
 pub mod WellFormedSteps
+pub mod WellFormedPages

@@ -1,7 +1,7 @@
 -- Each step keeps the books well formed, by what its tests leave.
-use Rattle.std.proofs.Common.{◌≡◌, ℕ, ◌+◌, ◌<◌, ◌≤◌, Bool, true, false, cond, not, ◌⊎◌, inl, inr, ◌||◌, ◌==◌, List, [], ◌∷◌, fold, Option, Some, None, is_some, nat_lt, nat_le, Result, Ok, Err, refl, sym, ap, ◌∙◌, subst, ⊎_elim, arith}
+use Rattle.std.proofs.Common.{◌≡◌, ℕ, ◌+◌, ◌<◌, ◌≤◌, true, false, cond, not, ◌⊎◌, inl, inr, ◌||◌, ◌==◌, List, [], ◌∷◌, fold, Option, Some, None, is_some, nat_lt, nat_le, Result, Ok, refl, sym, ap, ◌∙◌, subst, ⊎_elim, arith}
 use Rattle.std.specs.Result.{IfOk}
-use Rattle.std.specs.Option.{option_map, option_map_or, option_and_then}
+use Rattle.std.specs.Option.{option_map, option_and_then}
 use Rattle.std.specs.FinMap as finite
 use Rattle.std.specs.FinMap.{get-insert}
 use Rattle.std.proofs.lemmas.Bool.{cond-false, and_parts, or_cases, ltb-true, leb-true, eqb-true, not-true}
@@ -19,11 +19,11 @@ use Rattle.book_model.specs.declared.change.StoreReason.{StoreReason}
 use Rattle.book_model.specs.declared.change.StoreReason.TheVariants.{Creation, Edit, Import, ImportEdit, MoveIn}
 use Rattle.book_model.specs.declared.change.RemovalReason.TheVariants.{Deletion, MoveOut}
 use Rattle.book_model.specs.declared.refusal.Refusal.{Refusal}
-use Rattle.book_model.specs.declared.refusal.Refusal.TheVariants.{NoSuchBook, BadBookName, BookExists, TooManyBooks, VersionMismatch, UidTaken, SameBook, BookFull, ChangesSpent, BadKey, BadForget}
+use Rattle.book_model.specs.declared.refusal.Refusal.TheVariants.{BadBookName, BookExists, TooManyBooks, VersionMismatch, UidTaken, SameBook, BookFull, ChangesSpent, BadKey, BadForget}
 use Rattle.book_model.specs.declared.row.Row.{Row}
 use Rattle.book_model.specs.Bounds.{Bounds, bounds_of}
 use Rattle.book_model.specs.BookNames.{is_legal_name}
-use Rattle.book_model.specs.Books.{Book, Books, book_named, empty_book, live_at, same_name, stored_in, with_change}
+use Rattle.book_model.specs.Books.{Book, Books, empty_book, live_at, same_name, stored_in, with_change}
 use Rattle.book_model.specs.Counting.{live_count}
 use Rattle.book_model.specs.Creating.{new_id}
 use Rattle.book_model.specs.Forgetting.{forgotten, may_forget}
@@ -36,25 +36,8 @@ use Rattle.book_model.specs.SameCards.{same_card}
 use Rattle.book_model.specs.WellFormed.{IsWellFormedBook, IsWellFormed}
 use Rattle.book_laws.specs.WellFormedLaws.{LeavesWellFormed, CreatingKeepsForm, PuttingKeepsForm, RemovingKeepsForm, MovingKeepsForm, ImportingKeepsForm, ForgettingKeepsForm}
 use Rattle.book_model.proofs.TextLemmas.{text_total}
+use Rattle.book_laws.proofs.PassedLemmas.{after_test, after_known, after_named}
 use Rattle.book_laws.proofs.WellFormedBooks.{Fits, well_changed, within, well_kept, well_forgotten, well_over, well_new}
-
--- ---- what holds of an answer, past the tests
-
-module _ {B : Type 0} (P : B → Type 0) where
-  after_test : (test : Bool) (refusal : Refusal) (r : Result B Refusal) → (test ≡ true → IfOk r P) → IfOk (provided test refusal >>= λ _. r) P
-  after_test true refusal r h = h refl
-  after_test false refusal r h = tt
-
-  after_known : {A : Type 0} (Q : A → Type 0) (given : Result A Refusal) (f : A → Result B Refusal) → IfOk given Q → ((x : A) → Q x → IfOk (f x) P) → IfOk (given >>= f) P
-  after_known Q (Ok x) f q h = h x q
-  after_known Q (Err refusal) f q h = tt
-
-  after_named : (books : Books) (name : List ℕ) (f : Book → Result B Refusal) → ((book : Book) → finite.get books name ≡ Some book → IfOk (f book) P) → IfOk (book_named books name >>= f) P
-  after_named books name f h = by (finite.get books name) h
-    where
-      by : (o : Option Book) → ((book : Book) → o ≡ Some book → IfOk (f book) P) → IfOk (option_map_or Ok o (Err NoSuchBook) >>= f) P
-      by (Some book) h = h book refl
-      by None h = tt
 
 -- there was a number left
 abbrev HasNumberLeft : Bounds → ℕ → Type 0

@@ -25,4 +25,5 @@ pub mod PagingLaws
 pub mod RunLaws
 pub mod TokenLaws
 pub mod MoveLaws
+pub mod WellFormedPages
 pub mod WellFormedLaws

@@ -1,17 +1,23 @@
 -- That the books of a store are well formed, whatever calls made them. This project's own.
-use Rattle.std.specs.Prelude.{ℕ, IfOk, List, Option, Result}
+use Rattle.std.specs.Prelude.{ℕ, ◌≡◌, ◌≢◌, IfOk, List, Option, Some, Result, Ok, Err}
 use Rattle.std.specs.FinMap as finite
 use Rattle.vcard_text.specs.declared.line.Line.{Line}
+use Rattle.book_model.specs.declared.page.Page.{Page}
 use Rattle.book_model.specs.declared.refusal.Refusal.{Refusal}
-use Rattle.book_model.specs.Bounds.{Bounds}
-use Rattle.book_model.specs.Books.{Books}
+use Rattle.book_model.specs.declared.refusal.Refusal.TheVariants.{BadToken}
+use Rattle.book_model.specs.declared.refusal.TokenCause.TheVariants.{OtherBook}
+use Rattle.book_model.specs.declared.token.Token.{Token}
+use Rattle.book_model.specs.Bounds.{Bounds, IsInRange}
+use Rattle.book_model.specs.Books.{Book, Books}
 use Rattle.book_model.specs.Creating.{create_step}
 use Rattle.book_model.specs.Forgetting.{forget_step}
 use Rattle.book_model.specs.Importing.{import_step}
 use Rattle.book_model.specs.Moving.{move_step}
+use Rattle.book_model.specs.Pages.{Asked, IsReport, report_step}
 use Rattle.book_model.specs.Putting.{put_step}
 use Rattle.book_model.specs.Removing.{remove_step}
 use Rattle.book_model.specs.WellFormed.{IsWellFormed}
+use Rattle.book_laws.specs.WellFormedPages.{IsPageIn, HasShortNumbers}
 
 abbrev pub NoBooksAreWellFormed : Type 0
 NoBooksAreWellFormed = (limits : Bounds) → IsWellFormed limits finite.empty
@@ -49,3 +55,30 @@ ImportingKeepsForm =
 abbrev pub ForgettingKeepsForm : Type 0
 ForgettingKeepsForm = (limits : Bounds) (books : Books) (name : List ℕ) (upto : ℕ) →
     IsWellFormed limits books → LeavesWellFormed limits (forget_step books name upto)
+
+-- ---- what is read from well formed books
+
+-- a page is in order, and each of its entries fits the book that was asked
+abbrev pub PagesFitBooks : Type 0
+PagesFitBooks =
+    (limits : Bounds) (books : Books) (name : List ℕ) (token : Option Token) (limit : Option ℕ) →
+    (asked : Asked) (page : Page) → IsWellFormed limits books →
+    report_step limits books name token limit ≡ Ok asked → IsReport asked page →
+    IsPageIn asked.book page
+
+-- a text of a token has room for the token of each page
+abbrev pub PagesHaveShortNumbers : Type 0
+PagesHaveShortNumbers =
+    (limits : Bounds) (books : Books) (name : List ℕ) (token : Option Token) (limit : Option ℕ) →
+    (asked : Asked) (page : Page) → IsInRange limits → IsWellFormed limits books →
+    report_step limits books name token limit ≡ Ok asked → IsReport asked page →
+    HasShortNumbers page
+
+-- a token of another book is refused as that
+abbrev pub OtherBooksTokensAreRefused : Type 0
+OtherBooksTokensAreRefused =
+    (limits : Bounds) (books : Books) (name other : List ℕ) (book another : Book) →
+    (token : Token) (limit : Option ℕ) → IsWellFormed limits books →
+    finite.get books name ≡ Some book → finite.get books other ≡ Some another → name ≢ other →
+    token.book ≡ another.id →
+    report_step limits books name (Some token) limit ≡ Err (BadToken OtherBook)

@@ -1,5 +1,5 @@
 //! That the rows of every store are well formed.
-ghost use Rattle.book_laws.specs.WellFormedLaws.{NoBooksAreWellFormed, CreatingKeepsForm, PuttingKeepsForm, RemovingKeepsForm, MovingKeepsForm, ImportingKeepsForm, ForgettingKeepsForm};
+ghost use Rattle.book_laws.specs.WellFormedLaws.{NoBooksAreWellFormed, CreatingKeepsForm, PuttingKeepsForm, RemovingKeepsForm, MovingKeepsForm, ImportingKeepsForm, ForgettingKeepsForm, PagesFitBooks, PagesHaveShortNumbers, OtherBooksTokensAreRefused};
 
 /// The rows of a new store are well formed.
 pub fn new_stores_are_well_formed()
@@ -14,4 +14,12 @@ pub fn steps_keep_books_well_formed()
     ensures move_card { MovingKeepsForm }
     ensures import { ImportingKeepsForm }
     ensures forget { ForgettingKeepsForm }
+{}
+
+/// A page of well-formed books is in order and tells cards under their own UIDs, a text has room for its token, and
+/// the token of another book is refused.
+pub fn pages_fit_well_formed_books()
+    ensures entries { PagesFitBooks }
+    ensures short_numbers { PagesHaveShortNumbers }
+    ensures other_books { OtherBooksTokensAreRefused }
 {}
