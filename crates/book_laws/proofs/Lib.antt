@@ -25,4 +25,5 @@ pub mod ImportCountLemmas
 pub mod PassedLemmas
 pub mod WellFormedBooks
 pub mod WellFormedSteps
+pub mod WellFormedCalls
 pub mod WellFormedPages

@@ -25,5 +25,6 @@ pub mod PagingLaws
 pub mod RunLaws
 pub mod TokenLaws
 pub mod MoveLaws
+pub mod RowsAfterCalls
 pub mod WellFormedPages
 pub mod WellFormedLaws

@@ -17,6 +17,8 @@ use Rattle.book_model.specs.Pages.{Asked, IsReport, report_step}
 use Rattle.book_model.specs.Putting.{put_step}
 use Rattle.book_model.specs.Removing.{remove_step}
 use Rattle.book_model.specs.WellFormed.{IsWellFormed}
+use Rattle.book_laws.specs.Calls.{Call}
+use Rattle.book_laws.specs.RowsAfterCalls.{rows_after_all}
 use Rattle.book_laws.specs.WellFormedPages.{IsPageIn, HasShortNumbers}
 
 abbrev pub NoBooksAreWellFormed : Type 0
@@ -55,6 +57,11 @@ ImportingKeepsForm =
 abbrev pub ForgettingKeepsForm : Type 0
 ForgettingKeepsForm = (limits : Bounds) (books : Books) (name : List ℕ) (upto : ℕ) →
     IsWellFormed limits books → LeavesWellFormed limits (forget_step books name upto)
+
+-- whatever calls are made, and whichever of them are refused
+abbrev pub CallsKeepForm : Type 0
+CallsKeepForm = (limits : Bounds) (books : Books) (calls : List Call) →
+    IsWellFormed limits books → IsWellFormed limits (rows_after_all limits books calls)
 
 -- ---- what is read from well formed books
 

@@ -1,5 +1,5 @@
 //! That the rows of every store are well formed.
-ghost use Rattle.book_laws.specs.WellFormedLaws.{NoBooksAreWellFormed, CreatingKeepsForm, PuttingKeepsForm, RemovingKeepsForm, MovingKeepsForm, ImportingKeepsForm, ForgettingKeepsForm, PagesFitBooks, PagesHaveShortNumbers, OtherBooksTokensAreRefused};
+ghost use Rattle.book_laws.specs.WellFormedLaws.{NoBooksAreWellFormed, CreatingKeepsForm, PuttingKeepsForm, RemovingKeepsForm, MovingKeepsForm, ImportingKeepsForm, ForgettingKeepsForm, CallsKeepForm, PagesFitBooks, PagesHaveShortNumbers, OtherBooksTokensAreRefused};
 
 /// The rows of a new store are well formed.
 pub fn new_stores_are_well_formed()
@@ -14,6 +14,11 @@ pub fn steps_keep_books_well_formed()
     ensures move_card { MovingKeepsForm }
     ensures import { ImportingKeepsForm }
     ensures forget { ForgettingKeepsForm }
+{}
+
+/// So the rows stay well formed over every list of calls.
+pub fn calls_keep_books_well_formed()
+    ensures { CallsKeepForm }
 {}
 
 /// A page of well-formed books is in order and tells cards under their own UIDs, a text has room for its token, and
