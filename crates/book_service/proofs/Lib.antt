@@ -7,3 +7,4 @@ pub mod EventLemmas
 pub mod DriveLemmas
 pub mod LawLemmas
 pub mod MirrorLemmas
+pub mod PageTokenLemmas

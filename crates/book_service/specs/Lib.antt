@@ -5,3 +5,4 @@ pub mod Asks
 pub mod Drives
 pub mod EventLaws
 pub mod Mirrors
+pub mod PageTokenLaws

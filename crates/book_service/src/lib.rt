@@ -7,6 +7,7 @@ pub mod command;
 pub mod event;
 pub mod laws;
 pub mod mirrored;
+pub mod page_tokens;
 pub mod reply;
 #[cfg(test)]
 mod tests;
