@@ -1,4 +1,4 @@
--- What a page of well formed books is like, by the rows that it tells.
+-- What a page of well-formed books is like, by the rows that it tells.
 use Rattle.std.proofs.Common.{◌≡◌, ℕ, zero, suc, ◌-◌, ◌≤◌, ◌==◌, ◌&&◌, Bool, true, false, cond, List, [], ◌∷◌, length, map, take, Option, Some, None, nat_lt, nat_le, Result, Ok, Err, refl, sym, ap, ◌∙◌, subst, arith}
 use Rattle.std.specs.Result.{IfOk}
 use Rattle.std.specs.Option.{option_map_or}

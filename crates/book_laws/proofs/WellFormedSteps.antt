@@ -163,7 +163,7 @@ module _ (limits : Bounds) (a b : Found) (expect : Option ℕ) where
       after_known (FitsMove limits a b) (λ (_ : Moved). HaveNumbersLeft limits a.number b.number) (move_numbers limits b.cards a.number b.number) _ (numbers_left limits b.cards a.number b.number)
       (λ numbers left. record { stored = stored; live = p; free = q; card_is = refl; source_left = left.0; target_left = left.1 }))
 
--- a live card of a well formed book has its UID
+-- a live card of a well-formed book has its UID
 own_live : (limits : Bounds) (book : Book) (uid : List ℕ) (stored : Stored) → IsWellFormedBook limits book → live_at book uid ≡ Some stored → uid_of stored.card ≡ uid
 own_live limits book uid stored is e = by_row (finite.get book.members uid) refl e
   where

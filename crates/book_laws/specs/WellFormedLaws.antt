@@ -63,7 +63,7 @@ abbrev pub CallsKeepForm : Type 0
 CallsKeepForm = (limits : Bounds) (books : Books) (calls : List Call) →
     IsWellFormed limits books → IsWellFormed limits (rows_after_all limits books calls)
 
--- ---- what is read from well formed books
+-- ---- what is read from well-formed books
 
 -- a page is in order, and each of its entries fits the book that was asked
 abbrev pub PagesFitBooks : Type 0

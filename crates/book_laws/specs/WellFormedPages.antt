@@ -1,4 +1,4 @@
--- What a page of a well formed book is like. This project's own.
+-- What a page of a well-formed book is like. This project's own.
 use Rattle.std.specs.Prelude.{◌≡◌, ◌<◌, ◌≤◌}
 use Rattle.std.specs.List.{All}
 use Rattle.vcard_text.specs.Cards.{uid_of}

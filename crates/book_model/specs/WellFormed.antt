@@ -1,5 +1,5 @@
--- What the rows of every store are like, whatever calls made them. What opens stored books tests the same.
--- This project's own.
+-- What the rows of every store are like, whatever calls made them. What opens stored books tests
+-- the same. This project's own.
 use Rattle.std.specs.Prelude.{ℕ, ◌≡◌, ◌<◌, ◌≤◌, ◌+◌, true, List, Some, None}
 use Rattle.std.specs.FinMap as finite
 use Rattle.vcard_text.specs.declared.line.Line.{Line}
