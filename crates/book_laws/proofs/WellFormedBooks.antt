@@ -1,5 +1,5 @@
 -- A book stays well formed by a change that fits what is live, and by forgetting; and books do when one is written over.
-use Rattle.std.proofs.Common.{◌≡◌, ℕ, ◌+◌, ◌<◌, ◌≤◌, Bool, true, false, cond, ◌⊎◌, inl, inr, List, Option, Some, None, is_some, refl, sym, ap, ◌∙◌, subst, ⊎_elim, arith}
+use Rattle.std.proofs.Common.{◌≡◌, ℕ, ◌+◌, ◌<◌, ◌≤◌, Bool, true, false, cond, ◌⊎◌, ◌||◌, nat_lt, inl, inr, List, Option, Some, None, is_some, refl, sym, ap, ◌∙◌, subst, ⊎_elim, arith}
 use Rattle.std.specs.Option.{option_and_then, option_map_or}
 use Rattle.std.specs.FinMap as finite
 use Rattle.std.specs.FinMap.{get-empty, get-insert, get-remove, get-retain_keys, get-from_entries, len-insert, len-empty, same_map}
@@ -22,7 +22,7 @@ use Rattle.book_model.specs.Bounds.{Bounds}
 use Rattle.book_model.specs.BookNames.{is_legal_name}
 use Rattle.book_model.specs.Books.{Book, Books, LiveCards, card_after, empty_book, live_at, same_name, stored_in, with_change}
 use Rattle.book_model.specs.Counting.{arrivals, departures}
-use Rattle.book_model.specs.Forgetting.{forgotten, is_remembered}
+use Rattle.book_model.specs.Forgetting.{forgotten}
 use Rattle.book_model.specs.Importing.{is_legal_key, keeping}
 use Rattle.book_model.specs.Reading.{live_cards}
 use Rattle.book_model.specs.WellFormed.{IsWellFormedRow, IsWellFormedImport, IsWellFormedBook, IsWellFormed}
@@ -207,35 +207,39 @@ well_kept limits book key tally legal known is = record {
       (written_or_there book.imports key tally q t e);
 }
 
+-- a row stays where its member is live or went after the number
+abbrev stays : ℕ → Row → Bool
+stays upto row = is_some row.card || nat_lt upto row.changed
+
 module _ (limits : Bounds) (book : Book) (upto : ℕ) (is : IsWellFormedBook limits book) (past : upto ≤ book.number) where
   abbrev less : Book
   less = forgotten book upto
 
   abbrev test : List ℕ → Bool
-  test uid = option_map_or (is_remembered upto) (finite.get book.members uid) false
+  test uid = option_map_or (stays upto) (finite.get book.members uid) false
 
   kept : (q : List ℕ) → finite.get less.members q ≡ cond (test q) (finite.get book.members q) None
   kept q = get-retain_keys book.members test q (λ x e. ap test (sym (exact_bytes q x e)))
 
   -- a row that is left was there, and is remembered
-  left : (q : List ℕ) (r : Row) → finite.get less.members q ≡ Some r → (finite.get book.members q ≡ Some r) × (is_remembered upto r ≡ true)
+  left : (q : List ℕ) (r : Row) → finite.get less.members q ≡ Some r → (finite.get book.members q ≡ Some r) × (stays upto r ≡ true)
   left q r e = by (finite.get book.members q) (sym (kept q) ∙ e)
     where
-      by : (o : Option Row) → cond (option_map_or (is_remembered upto) o false) o None ≡ Some r → (o ≡ Some r) × (is_remembered upto r ≡ true)
+      by : (o : Option Row) → cond (option_map_or (stays upto) o false) o None ≡ Some r → (o ≡ Some r) × (stays upto r ≡ true)
       by None e = cc
       by (Some x) e =
-          let is = cond_some (is_remembered upto x) x r e in
-          (ap Some is.1, subst (λ (y : Row). is_remembered upto y ≡ true) is.1 is.0)
+          let is = cond_some (stays upto x) x r e in
+          (ap Some is.1, subst (λ (y : Row). stays upto y ≡ true) is.1 is.0)
 
-  later : (r : Row) → is_remembered upto r ≡ true → r.card ≡ None → upto < r.changed
-  later r e none = ltb-true upto r.changed (subst (λ (o : Option (List Line)). is_remembered upto (record { changed = r.changed; card = o }) ≡ true) none e)
+  later : (r : Row) → stays upto r ≡ true → r.card ≡ None → upto < r.changed
+  later r e none = ltb-true upto r.changed (subst (λ (o : Option (List Line)). stays upto (record { changed = r.changed; card = o }) ≡ true) none e)
 
   live_still : live_cards less ≡ live_cards book
   live_still = same_live (live_cards book) less (λ q. ap (option_and_then stored_in) (kept q) ∙ by (finite.get book.members q) ∙ sym (get-live_cards book q))
     where
-      row_by : (x : Row) (o : Option (List Line)) → x.card ≡ o → option_and_then stored_in (cond (is_remembered upto x) (Some x) None) ≡ stored_in x
-      row_by x (Some card) e = ap (option_and_then stored_in) (cond-true (is_remembered upto x) (Some x) None (subst (λ (o : Option (List Line)). is_remembered upto (record { changed = x.changed; card = o }) ≡ true) (sym e) refl))
-      row_by x None e = gone (is_remembered upto x)
+      row_by : (x : Row) (o : Option (List Line)) → x.card ≡ o → option_and_then stored_in (cond (stays upto x) (Some x) None) ≡ stored_in x
+      row_by x (Some card) e = ap (option_and_then stored_in) (cond-true (stays upto x) (Some x) None (subst (λ (o : Option (List Line)). stays upto (record { changed = x.changed; card = o }) ≡ true) (sym e) refl))
+      row_by x None e = gone (stays upto x)
         where
           none : stored_in x ≡ None
           none = subst (λ (o : Option (List Line)). stored_in (record { changed = x.changed; card = o }) ≡ None) (sym e) refl
@@ -244,7 +248,7 @@ module _ (limits : Bounds) (book : Book) (upto : ℕ) (is : IsWellFormedBook lim
           gone true = refl
           gone false = sym none
 
-      by : (o : Option Row) → option_and_then stored_in (cond (option_map_or (is_remembered upto) o false) o None) ≡ option_and_then stored_in o
+      by : (o : Option Row) → option_and_then stored_in (cond (option_map_or (stays upto) o false) o None) ≡ option_and_then stored_in o
       by None = refl
       by (Some x) = row_by x x.card refl
 

@@ -149,9 +149,6 @@ numbers_left limits cards a b =
     after_known Q (λ (_ : ℕ). HasNumberLeft limits b) (next_number limits b) _ (number_left limits b) (λ version also. (left, also))))
 
 module _ (limits : Bounds) (a b : Found) (expect : Option ℕ) where
-  moving_of : List Line → Moved → Moving
-  moving_of card numbers = record { card = card; numbers = numbers }
-
   abbrev expected : Stored → Result Moving Refusal
   expected stored = provided (is_expected expect stored.version) (VersionMismatch stored.version) >>= λ _. move_numbers limits b.cards a.number b.number >>= λ numbers. Ok (record { card = stored.card; numbers = numbers })
 
