@@ -12,7 +12,7 @@ use Rattle.book_model.specs.declared.change.Change.{Change}
 use Rattle.book_model.specs.declared.change.Change.TheVariants.{Stores, TakesAway}
 use Rattle.book_model.specs.declared.change.StoreReason.{StoreReason}
 use Rattle.book_model.proofs.TextLemmas.{text_total, same_self, same-equal, same-other}
-use Rattle.book_laws.specs.Histories.{BookEvent, same_uid, changed, live}
+use Rattle.book_laws.specs.Histories.{BookEvent, same_uid, cards_after_change, live}
 use Rattle.book_laws.specs.LiveLaws.{IsOfAnother, IsStoredLast, LiveAreStoredLast}
 use Rattle.book_laws.proofs.HistoryLemmas.{get-changed}
 
@@ -22,7 +22,7 @@ nothing x e = cc
 -- ---- what is live was stored last
 
 stored_first : (h : List BookEvent) (e : BookEvent) (uid : List ℕ) (change : Change) (stored : Stored) → e.change ≡ change → same_uid uid e.uid ≡ true
-    → finite.get (changed (live h) e.uid change (length h + 1)) uid ≡ Some stored → IsStoredLast (e ∷ h) uid stored
+    → finite.get (cards_after_change (live h) e.uid change (length h + 1)) uid ≡ Some stored → IsStoredLast (e ∷ h) uid stored
 stored_first h e uid (Stores card why) stored is here g =
     let it : Stored = record { version = length h + 1; card = card } in
     let same : it ≡ stored = same_Some _ _ (sym (get-insert text_total (live h) e.uid it uid ∙ cond-true _ _ _ here) ∙ g) in
