@@ -60,7 +60,8 @@ pub data Returned : Type 0 where
   GaveTally : Tally → Returned
 
 -- what is said of an answer, and the state that it left
-abbrev pub with_answer : {A B S : Type 0} → (A → B) → Result (A × S) Refusal → Result (B × S) Refusal
+abbrev pub with_answer
+    : {A B S : Type 0} → (A → B) → Result (A × S) Refusal → Result (B × S) Refusal
 with_answer f step = step >>= λ done. Ok (f done.0, done.1)
 
 -- what is said of an answer that left the state as it was
@@ -69,18 +70,29 @@ with_reading f state reading = reading >>= λ answer. Ok (f answer, state)
 
 -- what a call means: its answer and the stories after it, or its refusal
 abbrev pub meaning : Bounds → Stories → Call → Result (Returned × Stories) Refusal
-meaning limits stories (CreatesBook name) = with_answer MadeBook (create_meaning limits stories name)
-meaning limits stories (Puts name card expect) = with_answer DidPut (put_meaning limits stories name card expect)
-meaning limits stories (Removes name uid expect) = with_answer DidRemove (remove_meaning limits stories name uid expect)
-meaning limits stories (Moves from to uid expect) = with_answer DidMove (move_meaning limits stories from to uid expect)
-meaning limits stories (Imports name key cards) = with_answer DidImport (import_meaning limits stories name key cards)
-meaning limits stories (Forgets name upto) = with_answer DidForget (forget_meaning stories name upto)
-meaning limits stories (AsksReport name token limit) = with_reading GavePage stories (report_meaning limits stories name token limit)
-meaning limits stories (AsksImport name key) = with_reading GaveImport stories (kept_import_meaning stories name key)
+meaning limits stories (CreatesBook name) =
+    with_answer MadeBook (create_meaning limits stories name)
+meaning limits stories (Puts name card expect) =
+    with_answer DidPut (put_meaning limits stories name card expect)
+meaning limits stories (Removes name uid expect) =
+    with_answer DidRemove (remove_meaning limits stories name uid expect)
+meaning limits stories (Moves from to uid expect) =
+    with_answer DidMove (move_meaning limits stories from to uid expect)
+meaning limits stories (Imports name key cards) =
+    with_answer DidImport (import_meaning limits stories name key cards)
+meaning limits stories (Forgets name upto) =
+    with_answer DidForget (forget_meaning stories name upto)
+meaning limits stories (AsksReport name token limit) =
+    with_reading GavePage stories (report_meaning limits stories name token limit)
+meaning limits stories (AsksImport name key) =
+    with_reading GaveImport stories (kept_import_meaning stories name key)
 meaning limits stories ListsBooks = Ok (GaveBooks (books_meaning stories), stories)
-meaning limits stories (ShowsBook name) = with_reading GaveBook stories (book_line_meaning stories name)
-meaning limits stories (Gets name uid) = with_reading GaveCard stories (get_meaning stories name uid)
-meaning limits stories (ListsCards name) = with_reading GaveCards stories (cards_meaning stories name)
+meaning limits stories (ShowsBook name) =
+    with_reading GaveBook stories (book_line_meaning stories name)
+meaning limits stories (Gets name uid) =
+    with_reading GaveCard stories (get_meaning stories name uid)
+meaning limits stories (ListsCards name) =
+    with_reading GaveCards stories (cards_meaning stories name)
 meaning limits stories (Tallies name) = with_reading GaveTally stories (tally_meaning stories name)
 
 -- ---- one call after another
@@ -102,8 +114,11 @@ stories_after limits stories call = state_after stories (meaning limits stories 
 -- the answers of calls in their order, and the stories after all of them
 abbrev pub answers_to : Bounds → Stories → List Call → List (Result Returned Refusal)
 answers_to limits stories [] = []
-answers_to limits stories (call ∷ calls) = answer_of (meaning limits stories call) ∷ answers_to limits (stories_after limits stories call) calls
+answers_to limits stories (call ∷ calls) =
+    answer_of (meaning limits stories call)
+    ∷ answers_to limits (stories_after limits stories call) calls
 
 abbrev pub stories_after_all : Bounds → Stories → List Call → Stories
 stories_after_all limits stories [] = stories
-stories_after_all limits stories (call ∷ calls) = stories_after_all limits (stories_after limits stories call) calls
+stories_after_all limits stories (call ∷ calls) =
+    stories_after_all limits (stories_after limits stories call) calls

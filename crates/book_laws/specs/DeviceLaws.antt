@@ -41,7 +41,8 @@ WholePagesKeepCopiesRight = (copy : LiveCards) (mark : Mark) (h : List BookEvent
 -- a report that isn't truncated makes a right copy the live cards, with their versions
 abbrev pub LastPagesCompleteCopies : Type 0
 LastPagesCompleteCopies = (copy : LiveCards) (mark : Mark) (h : List BookEvent) (k : ℕ) →
-    Agrees copy mark h → (report h mark k).truncated ≡ false → applied copy (report h mark k).entries ≡ live h
+    Agrees copy mark h → (report h mark k).truncated ≡ false →
+    applied copy (report h mark k).entries ≡ live h
 
 -- a right copy is the live cards where nobody is due
 abbrev pub NobodyDueIsComplete : Type 0
@@ -110,12 +111,15 @@ DueRises = (h : List BookEvent) (mark : Mark) → IsStrictlyIncreasing (map (las
 
 -- under the first mark the live members are due, and no removed ones (RFC 6578, section 3.4)
 abbrev pub LiveAreDueFirst : Type 0
-LiveAreDueFirst = (h : List BookEvent) (uid : List ℕ) → Contains (due h (first_mark h)) uid ↔ IsSome (finite.get (live h) uid)
+LiveAreDueFirst = (h : List BookEvent) (uid : List ℕ) →
+    Contains (due h (first_mark h)) uid ↔ IsSome (finite.get (live h) uid)
 
 -- the entries are those of the first k due members, each as it is now
 abbrev pub EntriesAreFirstDue : Type 0
-EntriesAreFirstDue = (h : List BookEvent) (mark : Mark) (k : ℕ) → (report h mark k).entries ≡ map (entry_of h) (take k (due h mark))
+EntriesAreFirstDue = (h : List BookEvent) (mark : Mark) (k : ℕ) →
+    (report h mark k).entries ≡ map (entry_of h) (take k (due h mark))
 
 -- and no more of them than there are, or than were asked for (RFC 6578, section 3.7)
 abbrev pub PagesFit : Type 0
-PagesFit = (h : List BookEvent) (mark : Mark) (k : ℕ) → length (report h mark k).entries ≡ min k (length (due h mark))
+PagesFit = (h : List BookEvent) (mark : Mark) (k : ℕ) →
+    length (report h mark k).entries ≡ min k (length (due h mark))

@@ -1,5 +1,6 @@
--- What happened to a book: the changes of a collection's members (RFC 6578, sections 3.1 and 3.5). A history is the
--- list of its events, the newest first, so the number of an event is the length of the history that ends with it.
+-- What happened to a book: the changes of a collection's members (RFC 6578, sections 3.1 and 3.5).
+-- A history is the list of its events, the newest first, so the number of an event is the length of
+-- the history that ends with it.
 use Rattle.std.specs.Prelude.{ℕ, ◌+◌, ◌≡◌, Bool, not, List, [], ◌∷◌, ◌++◌, length, filter, if◌then◌else◌}
 use Rattle.std.specs.Ordering.{eq_by_cmp}
 use Rattle.std.specs.FinMap as finite
@@ -19,7 +20,8 @@ same_uid a b = eq_by_cmp text_cmp a b
 
 -- a card that is stored has the number of its event as its version
 abbrev pub cards_after_change : LiveCards → List ℕ → Change → ℕ → LiveCards
-cards_after_change cards uid (Stores card why) number = finite.insert cards uid (record { version = number; card = card })
+cards_after_change cards uid (Stores card why) number =
+    finite.insert cards uid (record { version = number; card = card })
 cards_after_change cards uid (TakesAway why) number = finite.remove cards uid
 
 -- the live cards after all events

@@ -1,5 +1,5 @@
--- How many pages of a book's report are truncated, as events come and pages are taken (RFC 6578, section 3.6). The
--- bound is this project's own.
+-- How many pages of a book's report are truncated, as events come and pages are taken (RFC 6578,
+-- section 3.6). The bound is this project's own.
 use Rattle.std.specs.Prelude.{ℕ, zero, suc, ◌+◌, Bool, nat_lt, List, [], ◌∷◌, ◌++◌, length, fold, Option, Some, None, if◌then◌else◌}
 use Rattle.book_model.specs.declared.page.Page.{Page}
 use Rattle.book_model.specs.declared.token.Mark.{Mark}
@@ -49,13 +49,17 @@ one_where holds = if holds then 1 else 0
 -- how many pages of these turns were truncated
 abbrev pub truncated_pages : ℕ → Place → List (List BookEvent) → ℕ
 truncated_pages k place [] = 0
-truncated_pages k place (events ∷ turns) = one_where (next_report k (with_events place events)).truncated + truncated_pages k (after_turn k place events) turns
+truncated_pages k place (events ∷ turns) =
+    one_where (next_report k (with_events place events)).truncated
+    + truncated_pages k (after_turn k place events) turns
 
 -- how many events came, up to the last page that was truncated
 abbrev pub events_to_last : ℕ → Place → List (List BookEvent) → ℕ
 events_to_last k place [] = 0
 events_to_last k place (events ∷ turns) =
-    if nat_lt 0 (truncated_pages k place (events ∷ turns)) then length events + events_to_last k (after_turn k place events) turns else 0
+    if nat_lt 0 (truncated_pages k place (events ∷ turns))
+    then length events + events_to_last k (after_turn k place events) turns
+    else 0
 
 -- ---- pages while nothing happens
 

@@ -11,8 +11,9 @@ pub record HasEventAbove (h : List BookEvent) (bound : ℕ) (uid : List ℕ) : T
   pub above : bound < number
   pub event : IsEventOf h number uid
 
--- what the tests on last events come to: the due members are those that have an event above `at`, and are
--- live or have one above `base`
+-- what the tests on last events come to: the due members are those that have an event above `at`,
+-- and are live or have one above `base`
 abbrev pub DueHaveEvents : Type 0
 DueHaveEvents = (h : List BookEvent) (mark : Mark) (uid : List ℕ) →
-    Contains (due h mark) uid ↔ (HasEventAbove h mark.at uid × (IsSome (finite.get (live h) uid) ⊎ HasEventAbove h mark.base uid))
+    Contains (due h mark) uid ↔ (HasEventAbove h mark.at uid
+    × (IsSome (finite.get (live h) uid) ⊎ HasEventAbove h mark.base uid))

@@ -1,5 +1,6 @@
--- Reports of a history: the members that changed or went since a mark, as they are now (RFC 6578, sections 3.4
--- to 3.6). That a page is cut by the numbers of last events, and the base of a mark, are this project's own.
+-- Reports of a history: the members that changed or went since a mark, as they are now (RFC 6578,
+-- sections 3.4 to 3.6). That a page is cut by the numbers of last events, and the base of a mark,
+-- are this project's own.
 use Rattle.std.specs.Prelude.{ℕ, ◌-◌, Bool, true, false, ◌&&◌, ◌||◌, nat_lt, List, [], length, take, map, filter, get_or, is_some, if◌then◌else◌}
 use Rattle.std.specs.Option.{option_map_or}
 use Rattle.std.specs.FinMap as finite
@@ -15,7 +16,9 @@ first_mark h = record { at = 0; base = length h }
 
 -- a member is due where it has an event above `at`, and is live or has one above `base`
 abbrev pub is_due : List BookEvent → Mark → List ℕ → Bool
-is_due h mark uid = nat_lt mark.at (last h uid) && (is_some (finite.get (live h) uid) || nat_lt mark.base (last h uid))
+is_due h mark uid =
+    nat_lt mark.at (last h uid)
+    && (is_some (finite.get (live h) uid) || nat_lt mark.base (last h uid))
 
 -- the due members, in the order of their last events
 abbrev pub due : List BookEvent → Mark → List (List ℕ)
@@ -23,7 +26,9 @@ due h mark = filter (is_due h mark) (touched h)
 
 -- what is said of a member: its card as it is now, or that it is gone
 abbrev pub entry_of : List BookEvent → List ℕ → Entry
-entry_of h uid = option_map_or (λ stored. Changed uid stored.version stored.card) (finite.get (live h) uid) (Removed uid)
+entry_of h uid =
+    option_map_or (λ stored. Changed uid stored.version stored.card) (finite.get (live h) uid)
+    (Removed uid)
 
 -- the first k due members, where there are more
 abbrev pub cut_page : List BookEvent → Mark → ℕ → Answer

@@ -9,7 +9,9 @@ use Rattle.book_laws.specs.Histories.{BookEvent, live, last}
 -- a row for each member with an event, of its last one
 abbrev pub all_rows : List BookEvent → finite.FinMap text_cmp Row
 all_rows [] = finite.empty
-all_rows (e ∷ h) = finite.insert (all_rows h) e.uid (record { changed = length h + 1; card = card_after e.change })
+all_rows (e ∷ h) =
+    finite.insert (all_rows h) e.uid
+    (record { changed = length h + 1; card = card_after e.change })
 
 -- a row is kept where the member is live or has an event above the horizon
 abbrev pub is_kept : List BookEvent → ℕ → List ℕ → Bool

@@ -15,8 +15,10 @@ use Rattle.book_laws.specs.WorldSteps.{report_meaning}
 abbrev pub token_of : Page → Token
 token_of page = record { book = page.book; mark = page.mark }
 
--- Among the calls there was one that made the book forget what was removed up to a number above this one, and it was accepted.
-pub record ForgotAbove (limits : Bounds) (stories : Stories) (calls : List Call) (name : List ℕ) (base : ℕ) : Type 0 where
+-- Among the calls there was one that made the book forget what was removed up to a number above
+-- this one, and it was accepted.
+pub record ForgotAbove (limits : Bounds) (stories : Stories) (calls : List Call)
+    (name : List ℕ) (base : ℕ) : Type 0 where
   pub earlier : List Call
   pub later : List Call
   pub upto : ℕ
@@ -24,9 +26,11 @@ pub record ForgotAbove (limits : Bounds) (stories : Stories) (calls : List Call)
   pub calls_are : calls ≡ earlier ++ Forgets name upto ∷ later
   pub dropped : ℕ
   pub left : Stories
-  pub accepted : forget_meaning (stories_after_all limits stories earlier) name upto ≡ Ok (dropped, left)
+  pub accepted : forget_meaning (stories_after_all limits stories earlier) name upto
+      ≡ Ok (dropped, left)
 
--- A page's own book refuses its token only as too old, and only where it was made to forget above the token's base since.
+-- A page's own book refuses its token only as too old, and only where it was made to forget above
+-- the token's base since.
 abbrev pub TokensStayGood : Type 0
 TokensStayGood = (world : World) (name : List ℕ) (token : Option Token) (limit again : Option ℕ)
     (page : Page) (calls : List Call) (cause : TokenCause) → AreSound world.books →

@@ -29,7 +29,8 @@ event uid change = record { uid = uid; change = change }
 
 -- ---- taking a card away
 
-abbrev pub remove_meaning : Bounds → Stories → List ℕ → List ℕ → Option ℕ → Result (ℕ × Stories) Refusal
+abbrev pub remove_meaning : Bounds → Stories → List ℕ → List ℕ → Option ℕ
+    → Result (ℕ × Stories) Refusal
 remove_meaning limits stories name uid expect = do
   story ← story_named stories name
   number ← remove_number limits (found_of story.history uid) expect
@@ -37,12 +38,22 @@ remove_meaning limits stories name uid expect = do
 
 -- ---- moving a card
 
--- one event in each of both histories, with the same card
-abbrev pub stories_after_move : Stories → List ℕ → List ℕ → List ℕ → Story → Story → List Line → Stories
-stories_after_move stories from to uid source target card =
-    finite.insert (finite.insert stories to (with_event target (event uid (Stores card MoveIn)))) from (with_event source (event uid (TakesAway MoveOut)))
+-- the book that the card of the UID left, and the one to which this card came
+abbrev pub story_left : Story → List ℕ → Story
+story_left source uid = with_event source (event uid (TakesAway MoveOut))
 
-abbrev pub move_meaning : Bounds → Stories → List ℕ → List ℕ → List ℕ → Option ℕ → Result (Moved × Stories) Refusal
+abbrev pub story_joined : Story → List ℕ → List Line → Story
+story_joined target uid card = with_event target (event uid (Stores card MoveIn))
+
+-- one event in each of both histories, with the same card
+abbrev pub stories_after_move
+    : Stories → List ℕ → List ℕ → List ℕ → Story → Story → List Line → Stories
+stories_after_move stories from to uid source target card =
+    finite.insert (finite.insert stories to (story_joined target uid card)) from
+    (story_left source uid)
+
+abbrev pub move_meaning : Bounds → Stories → List ℕ → List ℕ → List ℕ → Option ℕ
+    → Result (Moved × Stories) Refusal
 move_meaning limits stories from to uid expect = do
   source ← story_named stories from
   target ← story_named stories to
@@ -65,13 +76,21 @@ story_import story cards = import_cards live_of storing_event story cards
 abbrev pub story_keeping : Story → List ℕ → ImportTally → Story
 story_keeping story key tally = record story { imports = finite.insert story.imports key tally }
 
-abbrev pub import_meaning_under : Bounds → Stories → List ℕ → Story → List ℕ → List (List Line) → Option ImportTally → Result (ImportTally × Stories) Refusal
+-- what the import answers where there is room for its cards
+abbrev pub story_tally : Bounds → Importing Story → Result ImportTally Refusal
+story_tally limits done =
+    import_tally limits done (finite.len (live done.book.history)) (length done.book.history)
+
+-- with a kept key the answer is what is kept, and nothing changes
+abbrev pub import_meaning_under : Bounds → Stories → List ℕ → Story → List ℕ → List (List Line)
+    → Option ImportTally → Result (ImportTally × Stories) Refusal
 import_meaning_under limits stories name story key cards (Some kept) = Ok (kept, stories)
 import_meaning_under limits stories name story key cards None = do
-  tally ← import_tally limits (story_import story cards) (finite.len (live (story_import story cards).book.history)) (length (story_import story cards).book.history)
+  tally ← story_tally limits (story_import story cards)
   Ok (tally, finite.insert stories name (story_keeping (story_import story cards).book key tally))
 
-abbrev pub import_meaning : Bounds → Stories → List ℕ → List ℕ → List (List Line) → Result (ImportTally × Stories) Refusal
+abbrev pub import_meaning : Bounds → Stories → List ℕ → List ℕ → List (List Line)
+    → Result (ImportTally × Stories) Refusal
 import_meaning limits stories name key cards = do
   story ← story_named stories name
   legal ← provided (is_legal_key key) BadKey
@@ -81,7 +100,13 @@ import_meaning limits stories name key cards = do
 
 -- the member isn't live, and its last event is above the old horizon and not above the new one
 abbrev pub is_forgotten : Story → ℕ → List ℕ → Bool
-is_forgotten story upto uid = not (is_some (finite.get (live story.history) uid)) && nat_lt story.horizon (last story.history uid) && nat_le (last story.history uid) upto
+is_forgotten story upto uid =
+    not (is_some (live_of story uid)) && nat_lt story.horizon (last story.history uid)
+    && nat_le (last story.history uid) upto
+
+-- how many members are
+abbrev pub forgotten_count : Story → ℕ → ℕ
+forgotten_count story upto = length (filter (is_forgotten story upto) (touched story.history))
 
 abbrev pub with_horizon : Story → ℕ → Story
 with_horizon story upto = record story { horizon = upto }
@@ -90,4 +115,4 @@ abbrev pub forget_meaning : Stories → List ℕ → ℕ → Result (ℕ × Stor
 forget_meaning stories name upto = do
   story ← story_named stories name
   allowed ← provided (may_forget story.horizon (length story.history) upto) BadForget
-  Ok (length (filter (is_forgotten story upto) (touched story.history)), finite.insert stories name (with_horizon story upto))
+  Ok (forgotten_count story upto, finite.insert stories name (with_horizon story upto))

@@ -47,12 +47,18 @@ kept_import_meaning stories name key = do
 
 -- a member that was removed after the horizon
 abbrev pub is_remembered_of : Story → List ℕ → Bool
-is_remembered_of story uid = not (is_some (finite.get (live story.history) uid)) && nat_lt story.horizon (last story.history uid)
+is_remembered_of story uid =
+    not (is_some (finite.get (live story.history) uid))
+    && nat_lt story.horizon (last story.history uid)
+
+-- how many members are
+abbrev pub remembered_count : Story → ℕ
+remembered_count story = length (filter (is_remembered_of story) (touched story.history))
 
 abbrev pub tally_of_story : Story → Tally
 tally_of_story story =
-    tally_with (length story.history) story.horizon (finite.len (live story.history)) (counts_of story.history)
-    (length (filter (is_remembered_of story) (touched story.history)))
+    tally_with (length story.history) story.horizon (finite.len (live story.history))
+    (counts_of story.history) (remembered_count story)
 
 abbrev pub tally_meaning : Stories → List ℕ → Result Tally Refusal
 tally_meaning stories name = do

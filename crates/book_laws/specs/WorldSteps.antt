@@ -1,4 +1,4 @@
--- What each call means on whole histories, and that the steps on rows follow it. This project's own.
+-- What the calls that store mean on whole histories, and a report. This project's own.
 use Rattle.std.specs.Prelude.{ℕ, List, [], ◌∷◌, length, Option, Some, None, Result, Ok, Err}
 use Rattle.std.specs.Option.{option_map_or}
 use Rattle.std.specs.FinMap as finite
@@ -40,13 +40,17 @@ create_meaning limits stories name = do
 -- ---- storing a card
 
 abbrev pub found_of : List BookEvent → List ℕ → Found
-found_of h uid = record { live = finite.get (live h) uid; cards = finite.len (live h); number = length h }
+found_of h uid =
+    record { live = finite.get (live h) uid; cards = finite.len (live h); number = length h }
 
 abbrev pub stories_after_put : Stories → List ℕ → Story → List Line → Option StoreReason → Stories
 stories_after_put stories name story card None = stories
-stories_after_put stories name story card (Some why) = finite.insert stories name (with_event story (record { uid = uid_of card; change = Stores card why }))
+stories_after_put stories name story card (Some why) =
+    finite.insert stories name
+    (with_event story (record { uid = uid_of card; change = Stores card why }))
 
-abbrev pub put_meaning : Bounds → Stories → List ℕ → List Line → Option ℕ → Result (PutAnswer × Stories) Refusal
+abbrev pub put_meaning : Bounds → Stories → List ℕ → List Line → Option ℕ
+    → Result (PutAnswer × Stories) Refusal
 put_meaning limits stories name card expect = do
   story ← story_named stories name
   answer ← put_answer limits (found_of story.history (uid_of card)) card expect
@@ -54,7 +58,8 @@ put_meaning limits stories name card expect = do
 
 -- ---- a report
 
-abbrev pub report_meaning : Bounds → Stories → List ℕ → Option Token → Option ℕ → Result Page Refusal
+abbrev pub report_meaning : Bounds → Stories → List ℕ → Option Token → Option ℕ
+    → Result Page Refusal
 report_meaning limits stories name token limit = do
   story ← story_named stories name
   mark ← mark_asked story.id (length story.history) story.horizon token

@@ -57,4 +57,5 @@ book_of story = record {
 
 -- and of all books, under the same names
 abbrev pub rows : Stories → Books
-rows stories = finite.from_sorted (map (λ named. (named.0, book_of named.1)) (finite.entries stories))
+rows stories =
+    finite.from_sorted (map (λ named. (named.0, book_of named.1)) (finite.entries stories))
