@@ -4,9 +4,9 @@ use Rattle.std.specs.List.{AllByRecursion}
 use Rattle.std.proofs.lemmas.Bool.{cases_Bool, or_cases, or_left, or_right, and_parts, both_ways, false_from_ne_true, ltb-true, lt-ltb}
 use Rattle.std.proofs.lemmas.Map.Views.{any-filter_same, Contains-from_any, list_any-from_Contains}
 use Rattle.book_model.specs.declared.token.Mark.{Mark}
-use Rattle.book_laws.specs.Histories.{BookEvent, same_uid, last, touched}
+use Rattle.book_laws.specs.Histories.{BookEvent, same_uid, last, touched, HasEventAbove}
 use Rattle.book_laws.specs.Reports.{is_due, due}
-use Rattle.book_laws.specs.ReportLaws.{HasEventAbove, DueHaveEvents}
+use Rattle.book_laws.specs.ReportLaws.{DueHaveEvents}
 use Rattle.book_model.proofs.BasicLemmas.{both}
 use Rattle.book_model.proofs.TextLemmas.{same_equiv, same-equal}
 use Rattle.book_laws.proofs.HistoryLemmas.{has, last_event, event-le, has-touched, Rises, touched-rises}

@@ -27,7 +27,8 @@ use Rattle.book_model.specs.Moving.{move_answer}
 use Rattle.book_model.specs.Outcomes.{◌>>=◌, provided}
 use Rattle.book_model.specs.Putting.{put_answer, reason_for}
 use Rattle.book_model.specs.Removing.{remove_number}
-use Rattle.book_laws.specs.RunLaws.{GoesOn, BooksGoOn}
+use Rattle.book_laws.specs.RunLaws.{BooksGoOn}
+use Rattle.book_laws.specs.GoingOn.{GoesOn}
 use Rattle.book_model.specs.SameCards.{same_card}
 use Rattle.book_laws.specs.Worlds.{Story, Stories}
 use Rattle.book_laws.specs.WorldChanges.{event, is_forgotten, live_of, storing_event, story_import, story_keeping, import_meaning_under, with_horizon, forget_meaning, stories_after_move}

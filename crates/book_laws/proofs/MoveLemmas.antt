@@ -20,7 +20,8 @@ use Rattle.book_model.specs.declared.refusal.Refusal.TheVariants.{NoSuchBook, Sa
 use Rattle.book_model.specs.Bounds.{Bounds}
 use Rattle.book_model.specs.Books.{same_name, LiveCards}
 use Rattle.book_laws.specs.Histories.{live}
-use Rattle.book_laws.specs.MoveLaws.{cards_in, TakesOneCard, MovesTakeOneCard}
+use Rattle.book_laws.specs.MoveLaws.{MovesTakeOneCard}
+use Rattle.book_laws.specs.CardMoves.{cards_in, TakesOneCard}
 use Rattle.book_model.specs.Moving.{Moving, move_numbers, move_answer}
 use Rattle.book_model.specs.Outcomes.{◌>>=◌, provided}
 use Rattle.book_model.specs.Putting.{Found, is_expected}

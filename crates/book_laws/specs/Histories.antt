@@ -1,7 +1,7 @@
 -- What happened to a book: the changes of a collection's members (RFC 6578, sections 3.1 and 3.5).
 -- A history is the list of its events, the newest first, so the number of an event is the length of
 -- the history that ends with it.
-use Rattle.std.specs.Prelude.{ℕ, ◌+◌, ◌≡◌, Bool, not, List, [], ◌∷◌, ◌++◌, length, filter, if◌then◌else◌}
+use Rattle.std.specs.Prelude.{ℕ, ◌+◌, ◌≡◌, ◌<◌, Bool, not, List, [], ◌∷◌, ◌++◌, length, filter, if◌then◌else◌}
 use Rattle.std.specs.Ordering.{eq_by_cmp}
 use Rattle.std.specs.FinMap as finite
 use Rattle.vcard_text.specs.TextMaps.{text_cmp}
@@ -47,3 +47,9 @@ pub record IsEventOf (h : List BookEvent) (number : ℕ) (uid : List ℕ) : Type
   pub parts : h ≡ later ++ event ∷ earlier
   pub number_is : number ≡ length earlier + 1
   pub uid_is : event.uid ≡ uid
+
+-- the member has an event with a number above this one
+pub record HasEventAbove (h : List BookEvent) (bound : ℕ) (uid : List ℕ) : Type 0 where
+  pub number : ℕ
+  pub above : bound < number
+  pub event : IsEventOf h number uid

@@ -13,6 +13,8 @@ pub mod WorldSteps
 pub mod WorldChanges
 pub mod WorldReads
 pub mod Following
+pub mod GoingOn
+pub mod CardMoves
 pub mod ChangeLaws
 pub mod ImportLaws
 pub mod RowLaws

@@ -1,15 +1,9 @@
 -- Which members a report tells of. This project's own.
-use Rattle.std.specs.Prelude.{ℕ, ◌<◌, ◌⊎◌, ◌↔◌, List, IsSome, Contains}
+use Rattle.std.specs.Prelude.{ℕ, ◌⊎◌, ◌↔◌, List, IsSome, Contains}
 use Rattle.std.specs.FinMap as finite
 use Rattle.book_model.specs.declared.token.Mark.{Mark}
-use Rattle.book_laws.specs.Histories.{BookEvent, IsEventOf, live}
+use Rattle.book_laws.specs.Histories.{BookEvent, HasEventAbove, live}
 use Rattle.book_laws.specs.Reports.{due}
-
--- the member has an event with a number above this one
-pub record HasEventAbove (h : List BookEvent) (bound : ℕ) (uid : List ℕ) : Type 0 where
-  pub number : ℕ
-  pub above : bound < number
-  pub event : IsEventOf h number uid
 
 -- what the tests on last events come to: the due members are those that have an event above `at`,
 -- and are live or have one above `base`

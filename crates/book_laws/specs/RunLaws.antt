@@ -1,5 +1,5 @@
 -- What holds over every list of calls. This project's own.
-use Rattle.std.specs.Prelude.{ℕ, ◌≡◌, ◌≤◌, List, ◌∷◌, ◌++◌, Some, Ok}
+use Rattle.std.specs.Prelude.{ℕ, ◌≡◌, List, ◌∷◌, Some, Ok}
 use Rattle.std.specs.FinMap as finite
 use Rattle.vcard_text.specs.declared.line.Line.{Line}
 use Rattle.book_model.specs.declared.answers.ImportTally.{ImportTally}
@@ -7,7 +7,7 @@ use Rattle.book_model.specs.Bounds.{Bounds}
 use Rattle.book_laws.specs.Calls.{Call, Imports, DidImport, meaning, answer_of, answers_to, stories_after_all}
 use Rattle.book_model.specs.Devices.{Holding}
 use Rattle.book_laws.specs.RightDevices.{IsRight}
-use Rattle.book_laws.specs.Histories.{BookEvent}
+use Rattle.book_laws.specs.GoingOn.{GoesOn}
 use Rattle.book_laws.specs.Worlds.{Story, Stories, AreSound, World, rows}
 
 -- Every history stays lawful, and no horizon gets past its history.
@@ -25,16 +25,6 @@ pub record AreAlike (a b : World) (calls : List Call) : Type 0 where
 abbrev pub RowsAreEnough : Type 0
 RowsAreEnough = (a b : World) (calls : List Call) → AreSound a.books → AreSound b.books →
     a.limits ≡ b.limits → rows a.books ≡ rows b.books → AreAlike a b calls
-
--- the book still has its id, its events with more after them, a horizon that is no lower, and its
--- kept imports
-pub record GoesOn (old new : Story) : Type 0 where
-  pub id : new.id ≡ old.id
-  pub later : List BookEvent
-  pub history : new.history ≡ later ++ old.history
-  pub horizon : old.horizon ≤ new.horizon
-  pub imports : (key : List ℕ) (tally : ImportTally) → finite.get old.imports key ≡ Some tally →
-      finite.get new.imports key ≡ Some tally
 
 -- No book goes away, and nothing that happened is undone.
 abbrev pub BooksGoOn : Type 0
