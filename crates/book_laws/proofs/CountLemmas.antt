@@ -1,5 +1,5 @@
 -- Events are counted, and the live cards with them.
-use Rattle.std.proofs.Common.{◌≡◌, ℕ, zero, suc, ◌+◌, ◌<◌, true, cond, List, [], ◌∷◌, length, Option, Some, None, is_some, refl, sym, ap, ◌∙◌, arith}
+use Rattle.std.proofs.Common.{◌≡◌, ℕ, zero, suc, ◌+◌, ◌<◌, true, cond, List, [], ◌∷◌, length, Option, Some, None, is_some, IsSomeAnd, ◌≢◌, refl, sym, ap, ◌∙◌, arith}
 use Rattle.std.specs.FinMap as finite
 use Rattle.std.specs.FinMap.{get-empty, len-insert, len-remove, len-empty}
 use Rattle.std.proofs.lemmas.Bool.{cond-true, cond-false, both_ways}
@@ -19,7 +19,7 @@ use Rattle.book_laws.specs.CountLaws.{EventsAreCounted, LiveAreCounted, ReasonsA
 use Rattle.book_laws.specs.Reasons.{is_creation, is_edit, is_import, is_import_edit, is_move_in, is_deletion, is_move_out}
 use Rattle.book_laws.specs.Histories.{BookEvent, cards_after_change, live}
 use Rattle.book_model.specs.Books.{LiveCards}
-use Rattle.book_laws.specs.Lawful.{MayHappen, Replaces, IsLawful}
+use Rattle.book_laws.specs.Lawful.{MayHappen, IsLawful}
 use Rattle.book_model.proofs.TextLemmas.{text_total}
 
 pub total-counted : (change : Change) (c : Counts) → total (counted change c) ≡ total c + 1
@@ -35,7 +35,7 @@ pub events_are_counted : EventsAreCounted
 events_are_counted [] = refl
 events_are_counted (e ∷ h) = let one = total-counted e.change (counts_of h) in let rest = events_are_counted h in omega (arith, one, rest)
 
-replaced : (card : List Line) (before : Option Stored) → Replaces card before → is_some before ≡ true
+replaced : (card : List Line) (before : Option Stored) → IsSomeAnd before (λ (stored : Stored). stored.card ≢ card) → is_some before ≡ true
 replaced card (Some stored) other = refl
 replaced card None other = absurd other
 

@@ -5,8 +5,8 @@ use Rattle.std.specs.FinMap as finite
 use Rattle.book_model.specs.declared.refusal.Refusal.{Refusal}
 use Rattle.book_model.specs.declared.refusal.Refusal.TheVariants.{NoSuchBook}
 use Rattle.book_model.specs.Books.{Book, Books, book_named}
-use Rattle.book_laws.specs.Histories.{BookEvent}
-use Rattle.book_laws.specs.Lawful.{MayFollow}
+use Rattle.book_laws.specs.Histories.{BookEvent, live}
+use Rattle.book_laws.specs.Lawful.{MayHappen}
 use Rattle.book_model.specs.Outcomes.{◌>>=◌, provided}
 use Rattle.book_laws.specs.Worlds.{Story, Stories, IsSound, AreSound, book_of, rows}
 use Rattle.book_laws.specs.WorldSteps.{with_event, story_named}
@@ -41,5 +41,5 @@ module _ {A : Type 0} where
   follow_given (Err refusal) f g h = refl
 
 -- a story goes on soundly by an event that may come next
-pub sound_with : (story : Story) (e : BookEvent) → IsSound story → MayFollow story.history e → IsSound (with_event story e)
+pub sound_with : (story : Story) (e : BookEvent) → IsSound story → MayHappen e.uid e.change (finite.get (live story.history) e.uid) → IsSound (with_event story e)
 sound_with story e sound may = record { lawful = (may, sound.lawful); past = let before = sound.past in omega (arith, before) }
