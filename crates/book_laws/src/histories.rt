@@ -44,7 +44,8 @@ pub fn due_members_have_events()
 /// The test by which a put knows the same card again is equality of cards, and so of their canonical texts.
 pub fn same_cards_are_equal()
     ensures lines { (a b : List Line) → (same_card a b ≡ true) ↔ (a ≡ b) }
-    ensures texts { (a b : List Line) → IsCard a → IsCard b → (same_card a b ≡ true) ↔ (canonical_text a ≡ canonical_text b) }
+    ensures texts { (a b : List Line) → IsCard a → IsCard b →
+        (same_card a b ≡ true) ↔ (canonical_text a ≡ canonical_text b) }
 {
     equal_texts();
 }
