@@ -1,5 +1,5 @@
--- Forgetting the removed members up to a number: tokens that need them aren't taken any more (RFC 6578, section 3.2,
--- the precondition valid-sync-token). How it is done is this project's own.
+-- Forgetting the removed members up to a number: tokens that need them aren't taken any more
+-- (RFC 6578, section 3.2, the precondition valid-sync-token). How it is done is this project's own.
 use Rattle.std.specs.Prelude.{ℕ, Bool, false, not, ◌&&◌, ◌||◌, nat_le, nat_lt, List, length, filter, is_some, Result, Ok}
 use Rattle.std.specs.Option.{option_map_or}
 use Rattle.std.specs.FinMap as finite

@@ -25,8 +25,8 @@ is_there (Some stored) card = same_card stored.card card
 abbrev pub HaveDistinctUids : List (List Line) → Type 0
 HaveDistinctUids cards = IsDistinct same_name (map uid_of cards)
 
--- Added are the cards of whose UIDs nothing was live before all of them, edited those where another card was, and the
--- same those where the same card was.
+-- Added are the cards of whose UIDs nothing was live before all of them, edited those where another
+-- card was, and the same those where the same card was.
 pub record CountsCards {S : Type 0} (live_in : S → List ℕ → Option Stored)
     (book : S) (cards : List (List Line)) (done : Importing S) : Type 0 where
   pub added : done.added ≡ count_by (λ card. is_none (live_in book (uid_of card))) cards
