@@ -2,6 +2,7 @@
 use Rattle.std.specs.Prelude.{◌≡◌, Bool, Result, Ok, Err, if◌then◌else◌}
 use Rattle.book_model.specs.declared.denied.Denied.{Denied}
 use Rattle.book_model.specs.declared.denied.Denied.TheVariants.{Refused, Fault}
+use Rattle.book_model.specs.declared.denied.Fault.{Fault as FaultKind}
 use Rattle.book_model.specs.declared.denied.Fault.TheVariants.{Store, Memory}
 use Rattle.book_model.specs.declared.refusal.Refusal.{Refusal}
 use Rattle.book_model.specs.declared.refusal.Refusal.TheVariants.{BadCard}
@@ -51,6 +52,16 @@ Tells result reading old new = Reads (λ told answer. answer ≡ told) result re
 abbrev pub RefusesFirst : {A T : Type 0} → Result A Denied → Result T Refusal → Type 0
 RefusesFirst result (Ok wanted) = Unit {0}
 RefusesFirst result (Err refusal) = result ≡ Err (Refused refusal)
+
+-- a growth was refused
+abbrev pub IsWantOfMemory : FaultKind → Type 0
+IsWantOfMemory fault = fault ≡ Memory
+
+-- where the call came to a fault, this holds of the fault
+abbrev pub IfFault : {A : Type 0} → Result A Denied → (FaultKind → Type 0) → Type 0
+IfFault (Ok answer) may = Unit {0}
+IfFault (Err (Refused refusal)) may = Unit {0}
+IfFault (Err (Fault fault)) may = may fault
 
 -- the store isn't at fault: what was denied was refused, or memory was wanting
 abbrev pub HasNoStoreFault : {A : Type 0} → Result A Denied → Type 0
