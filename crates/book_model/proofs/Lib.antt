@@ -1,6 +1,7 @@
 pub mod BasicLemmas
 pub mod TextLemmas
 pub mod SameCardLemmas
+pub mod PutLemmas
 pub mod LiveCardLemmas
 pub mod AnswerLemmas
 pub mod ImportCountLemmas

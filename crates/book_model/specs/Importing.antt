@@ -29,6 +29,13 @@ is_key_octet octet =
 abbrev pub is_legal_key : List ℕ → Bool
 is_legal_key key = nat_le 1 (length key) && nat_le (length key) 64 && list_all is_key_octet key
 
+-- ---- one card
+
+-- why an import stores the card, where it does: its UID isn't live, or another card is live there
+abbrev pub import_reason : List Line → Option Stored → Option StoreReason
+import_reason card None = Some Import
+import_reason card (Some stored) = if same_card stored.card card then None else Some ImportEdit
+
 -- ---- cards one after another
 
 -- a book as far as the cards are in it, and how many of them were added, edited and the same
@@ -40,6 +47,10 @@ pub record Importing (S : Type 0) : Type 0 where
 
 abbrev pub importing : {S : Type 0} → S → ℕ → ℕ → ℕ → Importing S
 importing book added edited same = record { book = book; added = added; edited = edited; same = same }
+
+-- the same three counts, whatever is kept of the book
+abbrev pub imported_so_far : ℕ → ℕ → ℕ → Importing (Unit {0})
+imported_so_far added edited same = importing tt added edited same
 
 -- Of any kind of book, by what is live in it at a UID and what becomes of it when a card is stored for a reason.
 module _ {S : Type 0} (live_in : S → List ℕ → Option Stored) (storing : S → List Line → StoreReason → S) where

@@ -20,6 +20,9 @@ pub record Moving : Type 0 where
   pub card : List Line
   pub numbers : Moved
 
+abbrev pub moving_of : List Line → Moved → Moving
+moving_of card numbers = record { card = card; numbers = numbers }
+
 -- the numbers that a move takes, where the book that the card comes to has so many cards, and both books these numbers
 abbrev pub move_numbers : Bounds → ℕ → ℕ → ℕ → Result Moved Refusal
 move_numbers limits cards source target = do

@@ -1,5 +1,5 @@
 -- The page of a book at a mark, by its rows (RFC 6578, sections 3.2 to 3.7).
-use Rattle.std.specs.Prelude.{ℕ, ◌≡◌, ◌==◌, ◌-◌, min, max, Bool, true, false, ◌&&◌, ◌||◌, nat_lt, nat_le, List, length, take, map, filter, slice_get, if◌then◌else◌, Option, Some, None, is_some, Result, Ok}
+use Rattle.std.specs.Prelude.{ℕ, ◌≡◌, ◌==◌, ◌-◌, ◌<◌, ◌≤◌, min, max, Bool, true, false, ◌&&◌, ◌||◌, nat_lt, nat_le, List, length, take, map, filter, slice_get, if◌then◌else◌, Option, Some, None, is_some, Result, Ok}
 use Rattle.std.specs.Option.{option_map_or}
 use Rattle.std.specs.List.Sorted.{IsPermutation, IsNonDecreasingBy}
 use Rattle.std.specs.FinMap as finite
@@ -85,6 +85,23 @@ pub record IsReport (asked : Asked) (page : Page) : Type 0 where
   pub ordered : List Member
   pub by_number : IsByNumber (due_rows asked.book.members asked.mark) ordered
   pub page_is : page ≡ page_of asked.book.id (answer_from asked ordered)
+
+-- the rows are the first of those that are due, in the order of their numbers, and there are more
+pub record AreFirstOfMore (asked : Asked) (rows : List Member) : Type 0 where
+  pub ordered : List Member
+  pub by_number : IsByNumber (due_rows asked.book.members asked.mark) ordered
+  pub first : rows ≡ take asked.size ordered
+  pub some : 1 ≤ asked.size
+  pub more : asked.size < length ordered
+
+-- the rows are all of those that are due, in the order of their numbers, and no more than were asked for
+pub record AreAllDue (asked : Asked) (rows : List Member) : Type 0 where
+  pub by_number : IsByNumber (due_rows asked.book.members asked.mark) rows
+  pub fit : length rows ≤ asked.size
+
+-- the number of the last row, where there is one
+abbrev pub last_number : List Member → ℕ
+last_number rows = number_at rows (length rows - 1)
 
 -- The mark that a token stands for in the book with this id, number and horizon. With no token the device has
 -- heard nothing, and keeps nothing that went before now.

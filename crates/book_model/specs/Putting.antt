@@ -11,10 +11,11 @@ use Rattle.book_model.specs.declared.answers.Stored.{Stored}
 use Rattle.book_model.specs.declared.change.Change.TheVariants.{Stores}
 use Rattle.book_model.specs.declared.change.StoreReason.{StoreReason}
 use Rattle.book_model.specs.declared.change.StoreReason.TheVariants.{Creation, Edit}
+use Rattle.book_model.specs.declared.decisions.finding.Finding.{Finding}
 use Rattle.book_model.specs.declared.refusal.Refusal.{Refusal}
 use Rattle.book_model.specs.declared.refusal.Refusal.TheVariants.{VersionMismatch, BookFull, ChangesSpent}
 use Rattle.book_model.specs.Bounds.{Bounds}
-use Rattle.book_model.specs.Books.{Book, Books, book_named, live_at, with_change}
+use Rattle.book_model.specs.Books.{Book, Books, book_named, live_at, stored_behind, with_change}
 use Rattle.book_model.specs.Counting.{live_count}
 use Rattle.book_model.specs.Outcomes.{◌>>=◌, provided}
 use Rattle.book_model.specs.SameCards.{same_card}
@@ -24,6 +25,13 @@ pub record Found : Type 0 where
   pub live : Option Stored
   pub cards : ℕ
   pub number : ℕ
+
+abbrev pub found_with : Option Stored → ℕ → ℕ → Found
+found_with live cards number = record { live = live; cards = cards; number = number }
+
+-- what a store finds, without the borrows
+abbrev pub found_behind : Finding → Found
+found_behind finding = found_with (stored_behind finding.live) finding.cards finding.number
 
 -- the version of what is live, and 0 where nothing is
 abbrev pub version_of : Option Stored → ℕ
@@ -59,6 +67,12 @@ abbrev pub reason_for : PutAnswer → Option StoreReason
 reason_for (Created version) = Some Creation
 reason_for (Edited version) = Some Edit
 reason_for (Unchanged version) = None
+
+-- the version that the card has then
+abbrev pub version_in : PutAnswer → ℕ
+version_in (Created version) = version
+version_in (Edited version) = version
+version_in (Unchanged version) = version
 
 -- what a change finds in the rows of a book
 abbrev pub found_in : Book → List ℕ → Found

@@ -5,6 +5,7 @@
 pub mod answers;
 pub mod change;
 pub mod counts;
+pub mod decisions;
 pub mod denied;
 pub mod laws;
 pub mod limits;

@@ -1,0 +1,19 @@
+//! What a call comes to, by what it finds: decided alike by every store. Nothing here knows where books are kept, and
+//! nothing changes or takes memory.
+pub mod creating;
+pub mod finding;
+pub mod forgetting;
+pub mod importing;
+pub mod moving;
+pub mod putting;
+pub mod removing;
+pub mod reporting;
+
+pub use creating::{id_of_new_book, is_book_name};
+pub use finding::{Finding, next_number};
+pub use forgetting::{is_remembered, may_forget};
+pub use importing::{is_import_key, reason_to_import, tally_of_import};
+pub use moving::answer_to_move;
+pub use putting::{answer_to_put, reason_of};
+pub use removing::number_of_removal;
+pub use reporting::{is_due, mark_of, size_of_page, truncated_page, whole_page};

@@ -1,0 +1,76 @@
+//! What an import comes to.
+ghost use Rattle.std.specs.Prelude.{◌≡◌, ◌≤◌, IfOk};
+ghost use Rattle.book_model.specs.Importing.{import_reason, import_tally, imported_so_far, is_key_octet, is_legal_key};
+ghost use Rattle.book_model.specs.Books.{stored_behind};
+
+use crate::answers::ImportTally;
+use crate::change::StoreReason;
+use crate::limits::Limits;
+use crate::refusal::Refusal;
+use vcard_text::Card;
+
+fn is_octet_of_key(octet: u8) -> bool
+    ensures { result ≡ is_key_octet octet }
+{
+    matches!(octet, b'A'..=b'Z' | b'a'..=b'z' | b'0'..=b'9' | b'.' | b'_' | b'-')
+}
+
+/// Whether an import may have the key: 1 to 64 of `A` to `Z`, `a` to `z`, `0` to `9`, the dot, the underscore and the
+/// hyphen.
+pub fn is_import_key(key: &str) -> bool
+    ensures { result ≡ is_legal_key key.now }
+{
+    let octets = key.as_bytes();
+    if octets.is_empty() || octets.len() > 64 {
+        return false;
+    }
+    for octet in octets {
+        if !is_octet_of_key(*octet) {
+            return false;
+        }
+    }
+    true
+}
+
+/// Why an import stores the card, by what is live at its UID: `None` where an equal card is.
+pub fn reason_to_import(live: Option<(u64, &Card)>, card: &Card) -> Option<StoreReason>
+    ensures { result ≡ import_reason card.now (stored_behind live.entry) }
+{
+    let Some((_, stored)) = live else {
+        return Some(StoreReason::Import);
+    };
+    if stored.is_same(card) {
+        return None;
+    }
+    Some(StoreReason::ImportEdit)
+}
+
+/// What an import answers that added, edited and found the same so many cards, by the live cards and the number of the
+/// book as it then is.
+///
+/// Refused, by the first that holds, with `BookFull` where cards were added and there are more than the limit;
+/// `ChangesSpent` where cards were stored and the number is above the limit.
+pub fn tally_of_import(
+    limits: Limits,
+    added: u64,
+    edited: u64,
+    same: u64,
+    cards: u64,
+    number: u64,
+) -> Result<ImportTally, Refusal>
+    ensures tally { result ≡
+        import_tally limits (imported_so_far added edited same) cards number }
+{
+    if added > 0 && cards > limits.cards_max() {
+        return Err(Refusal::BookFull);
+    }
+    if (added > 0 || edited > 0) && number > limits.changes_max() {
+        return Err(Refusal::ChangesSpent);
+    }
+    Ok(ImportTally {
+        added,
+        edited,
+        same,
+        number,
+    })
+}

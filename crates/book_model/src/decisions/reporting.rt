@@ -1,0 +1,91 @@
+//! What a report is asked for, and the pages that answer it (RFC 6578, sections 3.2 to 3.7).
+ghost use Rattle.std.specs.Prelude.{◌≡◌, ◌≤◌, IfOk, map, List};
+ghost use Rattle.book_model.specs.Pages.{Asked, Member, entry_in, row_is_due, mark_asked, page_size, IsReport, AreFirstOfMore, AreAllDue, last_number};
+
+use crate::limits::Limits;
+use crate::page::{Entry, Page};
+use crate::refusal::{Refusal, TokenCause};
+use crate::row::Row;
+use crate::token::{Mark, Token};
+use vcard_text::Items;
+
+/// The mark that the token stands for in the book with this id, number and horizon. Without a token it is that of an
+/// initial report.
+///
+/// Refused with `BadToken`, by the first that holds, for `OtherBook`, `TooNew` and `TooOld`.
+pub fn mark_of(id: u64, number: u64, horizon: u64, token: Option<Token>) -> Result<Mark, Refusal>
+    ensures mark { result ≡ mark_asked id number horizon token }
+    ensures at_within { IfOk result (λ mark. mark.at ≤ number) }
+    ensures base_within { IfOk result (λ mark. mark.base ≤ number) }
+{
+    let Some(Token { book, mark }) = token else {
+        return Ok(Mark {
+            at: 0,
+            base: number,
+        });
+    };
+    if book != id {
+        return Err(Refusal::BadToken(TokenCause::OtherBook));
+    }
+    if mark.at > number || mark.base > number {
+        return Err(Refusal::BadToken(TokenCause::TooNew));
+    }
+    if mark.base < horizon {
+        return Err(Refusal::BadToken(TokenCause::TooOld));
+    }
+    Ok(mark)
+}
+
+/// The most entries of the page. Refused with `BadLimit` where the limit is 0.
+pub fn size_of_page(limits: Limits, limit: Option<u64>) -> Result<u64, Refusal>
+    ensures size { result ≡ page_size limits.page_max limit }
+    ensures least { IfOk result (λ size. 1 ≤ size) }
+    ensures within { IfOk result (λ size. size ≤ limits.page_max) }
+{
+    match limit {
+        None => Ok(limits.page_max()),
+        Some(0) => Err(Refusal::BadLimit),
+        Some(limit) => Ok(limit.min(limits.page_max())),
+    }
+}
+
+/// Whether a report at the mark tells of the row: it changed after `at`, and is live or went after `base`.
+pub fn is_due(row: &Row, mark: Mark) -> bool
+    ensures { result ≡ row_is_due mark row.now }
+{
+    row.changed > mark.at && (row.card.is_some() || row.changed > mark.base)
+}
+
+/// The page at the mark of the first due rows, of which the last has this number, where there are more.
+pub fn truncated_page(id: u64, mark: Mark, entries: Items<Entry>, last: u64) -> Page
+    ensures report { (asked : Asked) (rows : List Member) → AreFirstOfMore asked rows
+        → asked.book.id ≡ id → asked.mark ≡ mark → entries ≡ map entry_in rows
+        → last ≡ last_number rows → IsReport asked result }
+{
+    Page {
+        book: id,
+        entries,
+        mark: Mark {
+            at: last,
+            base: last.max(mark.base),
+        },
+        truncated: true,
+    }
+}
+
+/// The page of all due rows, of a book with this number.
+pub fn whole_page(id: u64, number: u64, entries: Items<Entry>) -> Page
+    ensures report { (asked : Asked) (rows : List Member) → AreAllDue asked rows
+        → asked.book.id ≡ id → asked.book.number ≡ number → entries ≡ map entry_in rows
+        → IsReport asked result }
+{
+    Page {
+        book: id,
+        entries,
+        mark: Mark {
+            at: number,
+            base: number,
+        },
+        truncated: false,
+    }
+}
