@@ -1,0 +1,9 @@
+use Rattle.std.proofs.Common.{◌+◌, refl, sym, subst}
+use Rattle.sync_core.specs.KeptBooks.{IsNumbered}
+use Rattle.sync_core.proofs.RowLemmas.{Rows, numbered}
+use Rattle.sync_core.proofs.book.PlainBook.write_over.Goals as goal
+
+pub invariant_of-self-2 : goal.invariant_of-self-2
+invariant_of-self-2 c =
+    subst (λ (m : Rows). IsNumbered (c.self.inside.number + 1) c.add.new.self m) (sym c.in_ok-card.ensures.written)
+    (numbered c.self.inside.number c.self.inside.counts c.add.new.self c.self.inside.members c.args.uid.now _ c.args.change c.self.invariant c.add.ensures refl)

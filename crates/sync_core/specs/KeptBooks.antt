@@ -1,0 +1,21 @@
+-- What the store in memory relies on in its own books. This project's own.
+use Rattle.std.specs.Prelude.{ℕ, ◌≡◌, ◌≤◌, List, Option}
+use Rattle.std.specs.Option.{option_and_then}
+use Rattle.std.specs.List.{AllByRecursion}
+use Rattle.std.specs.FinMap as finite
+use Rattle.vcard_text.specs.TextMaps.{text_cmp}
+use Rattle.vcard_text.specs.declared.line.Line.{Line}
+use Rattle.book_model.specs.declared.counts.Counts.{Counts}
+use Rattle.book_model.specs.declared.row.Row.{Row}
+use Rattle.book_model.specs.Books.{Book}
+use Rattle.book_model.specs.Counting.{total}
+use Rattle.book_model.specs.Pages.{Member}
+
+-- the counts add up to the number, and no row has a later one
+pub record IsNumbered (number : ℕ) (counts : Counts) (members : finite.FinMap text_cmp Row) : Type 0 where
+  pub sum : total counts ≡ number
+  pub rows : AllByRecursion (λ (m : Member). m.1.changed ≤ number) (finite.entries members)
+
+-- the card in the row of the UID
+abbrev pub card_at : Book → List ℕ → Option (List Line)
+card_at book uid = option_and_then (λ row. row.card) (finite.get book.members uid)
