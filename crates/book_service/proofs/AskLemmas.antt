@@ -1,6 +1,6 @@
 -- What a device makes of what a store reported.
-use Rattle.std.proofs.Common.{◌≡◌, ℕ, ◌≤◌, Option, Some, None, Result, Ok, Err, refl, sym, ap, ◌∙◌, subst, inr, arith}
-use Rattle.std.specs.FinMap as finite
+use Rattle.std.proofs.Common.{◌≡◌, ℕ, Option, Result, Ok, Err, refl, sym, ap, ◌∙◌, inr}
+use Rattle.std.proofs.lemmas.Option.{none-some}
 use Rattle.book_model.specs.declared.denied.Denied.TheVariants.{Refused}
 use Rattle.book_model.specs.declared.denied.Fault.TheVariants.{Memory}
 use Rattle.book_model.specs.declared.page.Page.{Page}
@@ -9,16 +9,15 @@ use Rattle.book_model.specs.declared.refusal.Refusal.TheVariants.{NoSuchBook, Bo
 use Rattle.book_model.specs.Bounds.{Bounds}
 use Rattle.book_model.specs.Books.{Books}
 use Rattle.book_model.specs.Devices.{Holding, AppliesFirst, after_page, restarted}
-use Rattle.book_laws.specs.RightDevices.{IsComplete, IsRight, IsRightWith}
-use Rattle.book_laws.specs.DeviceLaws.{PartsKeepAllRight, WholePagesKeepAllRight, LastPagesCompleteAll}
+use Rattle.book_laws.specs.RightDevices.{IsRight}
 use Rattle.book_model.specs.Outcomes.{Reads}
 use Rattle.book_model.specs.Pages.{Asked, IsReport, report_step}
 use Rattle.book_laws.specs.Worlds.{Stories}
-use Rattle.book_laws.specs.Following.{IsWorldOf, PagesFollow}
-use Rattle.book_laws.specs.WorldSteps.{report_meaning}
+use Rattle.book_laws.specs.Following.{PagesFollow}
 use Rattle.book_laws.specs.ReadLaws.{ReportsFollow}
 use Rattle.book_service.specs.declared.reply.Reply.TheVariants as reply
-use Rattle.book_service.specs.Asks.{IsAnswered, after_refusal}
+use Rattle.book_service.specs.Asks.{Answers, after_refusal}
+use Rattle.book_service.specs.Runs.{Moment, IsAt, report_at}
 use Rattle.book_service.proofs.PerformLemmas.{of_world}
 
 -- ---- what was reported is what is meant
@@ -36,9 +35,9 @@ refusal_meant (Err wanted) (Err other) refusal old new follows reads = ap (λ r.
 -- ---- a device without a token is right
 
 restarted_right : (stories : Stories) (holding : Holding) → IsRight stories (restarted holding)
-restarted_right stories holding = elim (finite.get stories holding.book) as (λ o. IsRightWith o (restarted holding)) [ None ↦ refl | Some story ↦ tt ]
+restarted_right stories holding token is = absurd (none-some token is)
 
-refused_right : (stories : Stories) (holding : Holding) (refusal : Refusal) → IsRight stories holding → IsRight stories (after_refusal holding refusal)
+pub refused_right : (stories : Stories) (holding : Holding) (refusal : Refusal) → IsRight stories holding → IsRight stories (after_refusal holding refusal)
 refused_right stories holding (BadToken cause) right = restarted_right stories holding
 refused_right stories holding NoSuchBook right = right
 refused_right stories holding BookExists right = right
@@ -64,38 +63,24 @@ module _ (limits : Bounds) (books after : Books) (law : ReportsFollow) (old new 
   abbrev step : Result Asked Refusal
   step = report_step limits books old.book old.token limit
 
-  abbrev meant : Stories → Result Page Refusal
-  meant stories = report_meaning limits stories old.book old.token limit
+  abbrev meant : Moment → Result Page Refusal
+  meant now = report_at now old.book old.token limit
 
-  follows : (stories : Stories) → IsWorldOf limits stories books → PagesFollow step (meant stories)
-  follows stories w = of_world (λ l s b. PagesFollow (report_step l b old.book old.token limit) (report_meaning l s old.book old.token limit)) w (law w.world old.book old.token limit)
+  follows : (now : Moment) → IsAt now limits books → PagesFollow step (meant now)
+  follows now at =
+      of_world (λ l b. PagesFollow (report_step l b old.book old.token limit) (meant now)) now.world at.limits_are at.stories
+      (law now.world old.book old.token limit at.stories.sound)
 
   -- the page was applied whole
-  pub told_whole : WholePagesKeepAllRight → LastPagesCompleteAll → 1 ≤ limits.page_max → (page : Page) → Reads IsReport (Ok page) step books after → new ≡ after_page old page
-      → (stories : Stories) → IsWorldOf limits stories books → IsAnswered limits stories limit (reply.Page page) old new
-  told_whole whole last room page reads is stories w =
-      let told : meant stories ≡ Ok page = page_meant step (meant stories) page books after (follows stories w) reads in
-      record {
-        answers = (told, is);
-        right = λ right. subst (IsRight stories) (sym is) (whole limits stories old limit page (omega (arith, room)) right told);
-        completes = λ right all. subst (IsComplete stories) (sym is) (last limits stories old limit page right told all);
-      }
+  pub told_whole : (page : Page) → Reads IsReport (Ok page) step books after → new ≡ after_page old page
+      → (now : Moment) → IsAt now limits books → Answers (reply.Page page) (meant now) old new
+  told_whole page reads is now at = (page_meant step (meant now) page books after (follows now at) reads, is)
 
-  -- memory was wanting while it was applied
-  pub told_part : PartsKeepAllRight → (page : Page) → Reads IsReport (Ok page) step books after → AppliesFirst old page new
-      → (stories : Stories) → IsWorldOf limits stories books → IsAnswered limits stories limit (reply.Fault Memory) old new
-  told_part parts page reads first stories w =
-      let told : meant stories ≡ Ok page = page_meant step (meant stories) page books after (follows stories w) reads in
-      record {
-        answers = inr (record { page = page; told = told; part = first; fault_is = refl });
-        right = λ right. parts limits stories old new limit page right told (inr first);
-        completes = λ right. tt;
-      }
+  -- memory ran out while it was applied
+  pub told_part : (page : Page) → Reads IsReport (Ok page) step books after → AppliesFirst old page new
+      → (now : Moment) → IsAt now limits books → Answers (reply.Fault Memory) (meant now) old new
+  told_part page reads first now at = inr (record { page = page; told = page_meant step (meant now) page books after (follows now at) reads; part = first; fault_is = refl })
 
   pub told_refusal : (refusal : Refusal) → Reads {A = Page} IsReport (Err (Refused refusal)) step books after → new ≡ after_refusal old refusal
-      → (stories : Stories) → IsWorldOf limits stories books → IsAnswered limits stories limit (reply.Refused refusal) old new
-  told_refusal refusal reads is stories w = record {
-    answers = (refusal_meant step (meant stories) refusal books after (follows stories w) reads, is);
-    right = λ right. subst (IsRight stories) (sym is) (refused_right stories old refusal right);
-    completes = λ right. tt;
-  }
+      → (now : Moment) → IsAt now limits books → Answers (reply.Refused refusal) (meant now) old new
+  told_refusal refusal reads is now at = (refusal_meant step (meant now) refusal books after (follows now at) reads, is)

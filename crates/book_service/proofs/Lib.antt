@@ -3,8 +3,11 @@ pub mod CallLemmas
 pub mod TextLemmas
 pub mod AskLemmas
 pub mod RunLemmas
+pub mod StepLemmas
 pub mod EventLemmas
 pub mod DriveLemmas
-pub mod LawLemmas
+pub mod PromiseLemmas
+pub mod TokenLemmas
+pub mod PageCountLemmas
 pub mod MirrorLemmas
 pub mod PageTokenLemmas

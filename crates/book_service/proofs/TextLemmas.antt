@@ -43,4 +43,4 @@ module _ (law : (text : List ℕ) → ((lines : List Line) × Spells text lines)
   denied_for BadUid first = bad BadUid first (λ e. cc)
   denied_for Twice first = bad Twice first (λ e. cc)
   denied_for MemberOutsideGroup first = bad MemberOutsideGroup first (λ e. cc)
-  denied_for NoRoom first = some_read law uid text
+  denied_for NoRoom first = (refl, some_read law uid text)

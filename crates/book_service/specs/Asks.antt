@@ -1,15 +1,12 @@
--- What a device makes of the page that it asks for (RFC 6578, sections 3.2 to 3.6). This project's own.
-use Rattle.std.specs.Prelude.{ℕ, ◌≡◌, ◌⊎◌, false, Option, Result, Ok, Err}
+-- What a device makes of the page that it asks for (RFC 6578, sections 3.2 to 3.6). This project's
+-- own.
+use Rattle.std.specs.Prelude.{◌≡◌, ◌⊎◌, Result, Ok, Err}
 use Rattle.book_model.specs.declared.denied.Fault.{Fault}
 use Rattle.book_model.specs.declared.denied.Fault.TheVariants.{Memory}
 use Rattle.book_model.specs.declared.page.Page.{Page}
 use Rattle.book_model.specs.declared.refusal.Refusal.{Refusal}
 use Rattle.book_model.specs.declared.refusal.Refusal.TheVariants.{BadToken}
-use Rattle.book_model.specs.Bounds.{Bounds}
 use Rattle.book_model.specs.Devices.{Holding, AppliesFirst, after_page, restarted}
-use Rattle.book_laws.specs.RightDevices.{IsComplete, IsRight}
-use Rattle.book_laws.specs.Worlds.{Stories}
-use Rattle.book_laws.specs.WorldSteps.{report_meaning}
 use Rattle.book_service.specs.declared.reply.Reply.{Reply}
 use Rattle.book_service.specs.declared.reply.Reply.TheVariants as reply
 
@@ -18,28 +15,19 @@ abbrev pub after_refusal : Holding → Refusal → Holding
 after_refusal holding (BadToken cause) = restarted holding
 after_refusal holding refusal = holding
 
--- memory was wanting while the page was applied: some first entries are, and the token is the old one
-pub record BreaksOff (meant : Result Page Refusal) (fault : Fault) (old new : Holding) : Type 0 where
+-- Memory ran out while the page was applied: some first entries are, and the token is the old one.
+pub record BreaksOff (meant : Result Page Refusal) (fault : Fault) (old new : Holding) : Type 0
+    where
   pub page : Page
   pub told : meant ≡ Ok page
   pub part : AppliesFirst old page new
   pub fault_is : fault ≡ Memory
 
--- What a device was replied to where this report is meant, and what became of the device: it applied the whole page, or
--- was refused, or there was a fault, before the page was applied or in it.
+-- What a device was replied where this report is meant, and what became of it: it applied the whole
+-- page, or was refused, or there was a fault, before the page was applied or in it.
 abbrev pub Answers : Reply → Result Page Refusal → Holding → Holding → Type 0
 Answers (reply.Page page) meant old new = (meant ≡ Ok page) × (new ≡ after_page old page)
-Answers (reply.Refused refusal) meant old new = (meant ≡ Err refusal) × (new ≡ after_refusal old refusal)
+Answers (reply.Refused refusal) meant old new =
+    (meant ≡ Err refusal) × (new ≡ after_refusal old refusal)
 Answers (reply.Fault fault) meant old new = (new ≡ old) ⊎ BreaksOff meant fault old new
 Answers r meant old new = ⊥
-
--- a page that isn't truncated made the copy the live cards of the device's book
-abbrev pub Completes : Stories → Reply → Holding → Type 0
-Completes stories (reply.Page page) new = page.truncated ≡ false → IsComplete stories new
-Completes stories r new = Unit {0}
-
--- an ask was answered, and a right device is right after it
-pub record IsAnswered (limits : Bounds) (stories : Stories) (limit : Option ℕ) (r : Reply) (old new : Holding) : Type 0 where
-  pub answers : Answers r (report_meaning limits stories old.book old.token limit) old new
-  pub right : IsRight stories old → IsRight stories new
-  pub completes : IsRight stories old → Completes stories r new

@@ -1,72 +1,65 @@
--- What each command does to books with their whole histories. This project's own.
-use Rattle.std.specs.Prelude.{ℕ, ◌≡◌, ◌⊎◌, List, Option, Result, Ok, Err}
-use Rattle.vcard_text.specs.declared.line.Line.{Line}
-use Rattle.book_model.specs.declared.answers.BookLine.{BookLine}
-use Rattle.book_model.specs.declared.denied.Denied.{Denied}
+-- What each command means on books with their whole histories. This project's own.
+use Rattle.std.specs.Prelude.{ℕ, ◌≡◌, ◌⊎◌, List, Result, Ok, Err}
 use Rattle.book_model.specs.declared.refusal.Refusal.{Refusal}
-use Rattle.book_model.specs.declared.token.Token.{Token}
-use Rattle.book_model.specs.Bounds.{Bounds}
-use Rattle.book_model.specs.Books.{Books}
-use Rattle.book_laws.specs.Calls.{with_answer, with_reading}
 use Rattle.book_model.specs.Outcomes.{◌>>=◌}
-use Rattle.book_model.specs.Reading.{book_line_step}
-use Rattle.book_laws.specs.Worlds.{Stories}
-use Rattle.book_laws.specs.WorldChanges.{remove_meaning, move_meaning}
-use Rattle.book_laws.specs.WorldReads.{books_meaning, get_meaning, tally_meaning}
-use Rattle.book_laws.specs.WorldSteps.{story_named, create_meaning, put_meaning, report_meaning}
-use Rattle.book_laws.specs.Following.{IsWorldOf}
+use Rattle.book_laws.specs.Calls.{Call, CreatesBook, Puts, Removes, Moves, AsksReport, ListsBooks, Gets, Tallies, Returned, meaning, state_after}
+use Rattle.book_laws.specs.Worlds.{Stories, World}
+use Rattle.book_laws.specs.WorldSteps.{story_named}
 use Rattle.book_service.specs.declared.command.Command.{Command}
 use Rattle.book_service.specs.declared.command.Command.TheVariants.{CreateBook, Books as ListBooks, Get, Put, Remove, MoveCard, Report, TallyOf}
 use Rattle.book_service.specs.declared.reply.Reply.{Reply}
 use Rattle.book_service.specs.declared.reply.Reply.TheVariants as reply
-use Rattle.book_service.specs.Replies.{Meaning, Replies, IsFault, Keeps, card_reply, denied_reply}
+use Rattle.book_service.specs.Replies.{IsFault, Tells}
 use Rattle.book_service.specs.Texts.{ReadsCard, ReadsToken}
 
--- storing what was read of a text: refused first where there is no such book, and then for the text
-abbrev pub put_read : Bounds → Stories → List ℕ → Result (List Line) Refusal → Option ℕ → Meaning
-put_read limits stories book read expect = do
-  story ← story_named stories book
-  card ← read
-  with_answer reply.Put (put_meaning limits stories book card expect)
+-- ---- the call that a command is
 
--- a report from what was read of a token's text: refused first where there is no such book, and then for the text
-abbrev pub report_read : Bounds → Stories → List ℕ → Result (Option Token) Refusal → Option ℕ → Meaning
-report_read limits stories book read limit = do
-  story ← story_named stories book
-  token ← read
-  with_reading reply.Page stories (report_meaning limits stories book token limit)
+-- what a call returns and the stories after it, or its refusal
+abbrev pub Meaning : Type 0
+Meaning = Result (Returned × Stories) Refusal
 
--- what the command is replied to, and the stories after it
-abbrev pub Performs : Bounds → Stories → Command → Reply → Stories → Type 0
-Performs limits stories (CreateBook book) r next = Replies r (with_answer reply.Created (create_meaning limits stories book)) stories next
-Performs limits stories ListBooks r next = Replies r (Ok (reply.Books (books_meaning stories), stories)) stories next
-Performs limits stories (Get book uid) r next = Replies r (with_reading (card_reply uid) stories (get_meaning stories book uid)) stories next
-Performs limits stories (Put book uid expect text) r next =
-    (read : Result (List Line) Refusal) × ReadsCard uid text read × Replies r (put_read limits stories book read expect) stories next
-Performs limits stories (Remove book uid expect) r next = Replies r (with_answer reply.Gone (remove_meaning limits stories book uid expect)) stories next
-Performs limits stories (MoveCard book uid to expect) r next = Replies r (with_answer reply.Moved (move_meaning limits stories book to uid expect)) stories next
-Performs limits stories (Report book token limit) r next =
-    (read : Result (Option Token) Refusal) × ReadsToken token read × Replies r (report_read limits stories book read limit) stories next
-Performs limits stories (TallyOf book) r next = Replies r (with_reading reply.Tally stories (tally_meaning stories book)) stories next
+-- the command is this call
+abbrev pub IsCall : World → Call → Meaning → Type 0
+IsCall world call meant = meant ≡ meaning world.limits world.books call
 
--- the command was performed, and the rows are those of the stories after it
-pub record IsPerformed (limits : Bounds) (stories : Stories) (command : Command) (r : Reply) (books : Books) : Type 0 where
-  pub next : Stories
-  pub performs : Performs limits stories command r next
-  pub world : IsWorldOf limits next books
+-- the call with what was read of a text, refused first where there is no such book, and then for
+-- the text
+abbrev pub meaning_with : {A : Type 0} → World → List ℕ → (A → Call) → Result A Refusal → Meaning
+meaning_with world book call (Ok read) = meaning world.limits world.books (call read)
+meaning_with world book call (Err refusal) =
+    story_named world.books book >>= λ story. Err refusal
 
--- what a command did to the rows of a store
-pub record DoesCommand (limits : Bounds) (old : Books) (command : Command) (r : Reply) (new : Books) : Type 0 where
-  -- a refusal and a fault left them, whatever rows they are
-  pub kept : Keeps r old new
-  -- and where they were those of histories, the command was performed on these
-  pub performed : (stories : Stories) → IsWorldOf limits stories old → IsPerformed limits stories command r new
+-- the command is this call with what is read of a text that it carries
+pub record IsCallWith {A : Type 0} (world : World) (book : List ℕ)
+    (reads : Result A Refusal → Type 0) (call : A → Call) (meant : Meaning) : Type 0 where
+  pub read : Result A Refusal
+  pub read_is : reads read
+  pub meant_is : meant ≡ meaning_with world book call read
 
--- what is replied where a command's own text was denied: that there is no such book, where there is none, and else that denial
-abbrev pub first_denial : Result BookLine Refusal → Denied → Reply
-first_denial (Ok line) denied = denied_reply denied
-first_denial (Err refusal) denied = reply.Refused refusal
+-- what each command means
+abbrev pub Means : World → Command → Meaning → Type 0
+Means world (CreateBook book) meant = IsCall world (CreatesBook book) meant
+Means world ListBooks meant = IsCall world ListsBooks meant
+Means world (Get book uid) meant = IsCall world (Gets book uid) meant
+Means world (Put book uid expect text) meant =
+    IsCallWith world book (ReadsCard uid text) (λ card. Puts book card expect) meant
+Means world (Remove book uid expect) meant = IsCall world (Removes book uid expect) meant
+Means world (MoveCard book uid to expect) meant = IsCall world (Moves book to uid expect) meant
+Means world (Report book token limit) meant =
+    IsCallWith world book (ReadsToken token) (λ from. AsksReport book from limit) meant
+Means world (TallyOf book) meant = IsCall world (Tallies book) meant
 
--- or there was a fault
-abbrev pub DeniesIn : Books → List ℕ → Denied → Reply → Type 0
-DeniesIn books name denied r = (r ≡ first_denial (book_line_step books name) denied) ⊎ IsFault r
+-- ---- the reply
+
+-- the reply tells what was returned, or that it was refused
+abbrev pub TellsOutcome : Command → Meaning → Reply → Type 0
+TellsOutcome command (Ok done) r = Tells command done.0 r
+TellsOutcome command (Err refusal) r = r ≡ reply.Refused refusal
+
+-- The reply and the stories after it are those that the command means, where a refusal leaves the
+-- stories. Or there was a fault, which leaves them too.
+pub record Performs (world : World) (command : Command) (r : Reply) (next : Stories) : Type 0 where
+  pub meant : Meaning
+  pub means : Means world command meant
+  pub replied : (TellsOutcome command meant r × (next ≡ state_after world.books meant))
+      ⊎ (IsFault r × (next ≡ world.books))

@@ -1,8 +1,11 @@
 pub mod Texts
 pub mod Replies
 pub mod Commands
+pub mod OnRows
+pub mod Faults
 pub mod Asks
-pub mod Drives
-pub mod EventLaws
+pub mod Runs
+pub mod Promise
+pub mod PageCounts
 pub mod Mirrors
 pub mod PageTokenLaws

@@ -11,6 +11,7 @@ use Rattle.book_model.specs.declared.refusal.Refusal.{Refusal}
 use Rattle.book_model.specs.declared.refusal.Refusal.TheVariants.{BadCard, UidMismatch, BadToken}
 use Rattle.book_model.specs.declared.refusal.TokenCause.TheVariants.{Malformed}
 use Rattle.book_model.specs.declared.token.Token.{Token}
+use Rattle.book_model.specs.Outcomes.{IsOutOfMemory}
 use Rattle.sync_core.specs.TokenTexts.{IsToken}
 
 -- the text is no card, and the refusal says why
@@ -31,14 +32,17 @@ abbrev pub ReadsCard : List ℕ → List ℕ → Result (List Line) Refusal → 
 ReadsCard uid text (Ok card) = Spells text card × (uid_of card ≡ uid)
 ReadsCard uid text (Err refusal) = IsBadCard text refusal ⊎ IsOthersCard uid text refusal
 
--- what is read of a token's text: no token of the empty text, else the token that it is, or that it is none
+-- what is read of a token's text: no token of the empty text, else the token that it is, or that
+-- it is none
 abbrev pub ReadsToken : List ℕ → Result (Option Token) Refusal → Type 0
 ReadsToken text (Ok None) = text ≡ []
 ReadsToken text (Ok (Some token)) = IsToken text token
-ReadsToken text (Err refusal) = (text ≢ []) × ((token : Token) → IsToken text token → ⊥) × (refusal ≡ BadToken Malformed)
+ReadsToken text (Err refusal) =
+    (text ≢ []) × ((token : Token) → IsToken text token → ⊥) × (refusal ≡ BadToken Malformed)
 
--- a reader answered what is to be read, or there was a fault, and something is to be read all the same
+-- a reader answered what is to be read, or memory ran out, and something is to be read all the same
 abbrev pub IsReadAs : {A : Type 0} → (Result A Refusal → Type 0) → Result A Denied → Type 0
 IsReadAs reads (Ok read) = reads (Ok read)
 IsReadAs {A = A} reads (Err (Refused refusal)) = reads (Err refusal)
-IsReadAs {A = A} reads (Err (Fault fault)) = (read : Result A Refusal) × reads read
+IsReadAs {A = A} reads (Err (Fault fault)) =
+    IsOutOfMemory fault × ((read : Result A Refusal) × reads read)

@@ -1,12 +1,13 @@
 //! A device that asks for its next page.
 ghost use Rattle.std.specs.Prelude.{◌≡◌};
-ghost use Rattle.book_laws.specs.Worlds.{Stories};
-ghost use Rattle.book_laws.specs.Following.{IsWorldOf};
 ghost use Rattle.book_service.specs.declared.reply.Reply.{Reply};
-ghost use Rattle.book_service.specs.Asks.{IsAnswered, after_refusal};
+ghost use Rattle.book_model.specs.Bounds.{IsInRange};
+ghost use Rattle.book_model.specs.Outcomes.{IfFault};
+ghost use Rattle.book_service.specs.Faults.{IsMemoryOr};
+ghost use Rattle.book_service.specs.Asks.{Answers, after_refusal};
 ghost use Rattle.book_service.specs.Replies.{reply_to};
+ghost use Rattle.book_service.specs.Runs.{Moment, IsAt, report_at};
 
-use book_laws::devices::{devices_stay_right_among_books, last_pages_complete_copies};
 use book_laws::following::reports_follow_histories;
 use sync_core::{BookStore, Denied, Device, Fault, Page, Refusal};
 
@@ -28,13 +29,15 @@ pub(crate) fn next_page<S: BookStore>(
     ensures premise { S.premise store.new → S.premise store.old }
     ensures limits { S.limits store.new ≡ S.limits store.old }
     ensures kept { S.premise store.new → S.books store.new ≡ S.books store.old }
-    ensures answers { S.premise store.new → (stories : Stories) → IsWorldOf (S.limits store.old) stories (S.books store.old) →
-        IsAnswered (S.limits store.old) stories limit (reply_to Reply.Page result) device.old device.new }
+    ensures range { IsInRange (S.limits store.new) }
+    ensures fault { IfFault result (IsMemoryOr S.may_fault) }
+    ensures answers { S.premise store.new → (now : Moment) →
+        IsAt now (S.limits store.old) (S.books store.old) →
+        Answers (reply_to Reply.Page result)
+        (report_at now device.old.book device.old.token limit) device.old device.new }
 {
-    // Laws, which do nothing: what the page of a store means, and that it keeps a device right.
+    // A law, which does nothing: what the page of a store means.
     reports_follow_histories();
-    devices_stay_right_among_books();
-    last_pages_complete_copies();
 
     match store.report(device.book(), device.token(), limit) {
         Ok(page) => match device.apply(&page) {

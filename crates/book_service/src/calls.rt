@@ -1,9 +1,17 @@
-//! One function for each command, over any store.
-ghost use Rattle.std.specs.Prelude.{◌≡◌};
-ghost use Rattle.book_service.specs.declared.command.Command.{Command};
-ghost use Rattle.book_service.specs.Commands.{DoesCommand, DeniesIn};
+//! What a command asks of any store.
+ghost use Rattle.std.specs.Prelude.{◌≡◌, ◌⊎◌, Err, IfOk};
+ghost use Rattle.book_laws.specs.ChangeLaws.{CreatingFollows, PuttingFollows, RemovingFollows, MovingFollows};
+ghost use Rattle.book_laws.specs.ReadLaws.{BooksFollow, BookLinesFollow, GettingFollows, TalliesFollow, ReportsFollow};
+ghost use Rattle.book_model.specs.Bounds.{IsInRange};
+ghost use Rattle.book_model.specs.Outcomes.{IfFault};
+ghost use Rattle.book_service.specs.declared.command.Command.{Command as TheCommand};
+ghost use Rattle.book_service.specs.declared.reply.Reply.{Reply as TheReply};
+ghost use Rattle.book_service.specs.Faults.{IfFaultReply, MayComeOf};
+ghost use Rattle.book_service.specs.OnRows.{DoesCommand, DeniesIn};
+ghost use Rattle.book_service.specs.Replies.{denied_reply, reply_to};
 
-use crate::reply::{Reply, created, denied, gone, moved, reported, shown, stored, tallied};
+use crate::command::Command;
+use crate::reply::Reply;
 use crate::texts::{card_for, token_in};
 use book_laws::following::{
     book_lines_follow_histories, cards_follow_histories, creating_follows_histories,
@@ -11,137 +19,157 @@ use book_laws::following::{
     reports_follow_histories, tallies_follow_histories,
 };
 use std::alloc::Global;
-use sync_core::{BookStore, Denied, Fault};
+use sync_core::{BookStore, Denied, Page, PutAnswer, Stored};
 use vcard_text::{Items, Text};
 
-// Each function begins with a law, which does nothing: what a store answers by its rows is what the histories mean.
-
-/// Makes an empty book.
-pub(crate) fn create_book<S: BookStore>(store: &mut S, book: &Text) -> Reply
-    ensures premise { S.premise store.new → S.premise store.old }
-    ensures limits { S.limits store.new ≡ S.limits store.old }
-    ensures does { S.premise store.new → DoesCommand (S.limits store.old) (S.books store.old) (Command.CreateBook book.now) result (S.books store.new) }
+/// What a store answers by its rows is what the histories mean.
+fn calls_follow_histories()
+    ensures creating { CreatingFollows }
+    ensures putting { PuttingFollows }
+    ensures removing { RemovingFollows }
+    ensures moving { MovingFollows }
+    ensures books { BooksFollow }
+    ensures lines { BookLinesFollow }
+    ensures getting { GettingFollows }
+    ensures tallies { TalliesFollow }
+    ensures reports { ReportsFollow }
 {
     creating_follows_histories();
-    created(store.create_book(book.as_str()))
+    putting_follows_histories();
+    removing_follows_histories();
+    moving_follows_histories();
+    book_lines_follow_histories();
+    cards_follow_histories();
+    tallies_follow_histories();
+    reports_follow_histories();
 }
 
-/// Asks for the lines of all books.
-pub(crate) fn list_books<S: BookStore>(store: &mut S) -> Reply
+/// Does the command by the store's call that it is, and answers what is replied.
+pub(crate) fn outcome_of<S: BookStore>(
+    alloc: Global,
+    store: &mut S,
+    command: &Command,
+) -> Result<Reply, Denied>
     ensures premise { S.premise store.new → S.premise store.old }
     ensures limits { S.limits store.new ≡ S.limits store.old }
-    ensures does { S.premise store.new → DoesCommand (S.limits store.old) (S.books store.old) Command.Books result (S.books store.new) }
+    ensures range { IsInRange (S.limits store.new) }
+    ensures fault { IfFault result (MayComeOf S.may_fault command.now) }
+    ensures told { IfOk result (λ r. IfFaultReply r (λ fault. ⊥)) }
+    ensures does { S.premise store.new →
+        DoesCommand (S.limits store.old) (S.books store.old) command.now
+        (reply_to (λ r. r) result) (S.books store.new) }
 {
-    book_lines_follow_histories();
-    match store.books() {
-        Ok(lines) => Reply::Books(Items::from_vec(lines)),
-        Err(error) => denied(error),
+    // A law, which does nothing.
+    calls_follow_histories();
+
+    match command {
+        Command::CreateBook { book } => {
+            let id = store.create_book(book.as_str())?;
+            Ok(Reply::Created { id })
+        }
+        Command::Books => {
+            let lines = store.books()?;
+            Ok(Reply::Books(Items::from_vec(lines)))
+        }
+        Command::Get { book, uid } => {
+            let Stored { version, card } = store.get(book.as_str(), uid.as_str())?;
+            let uid = uid.try_copy()?;
+            Ok(Reply::Card { uid, version, card })
+        }
+        Command::Put {
+            book,
+            uid,
+            expect,
+            text,
+        } => {
+            let answer = put(alloc, store, book, uid, *expect, text)?;
+            Ok(Reply::Put(answer))
+        }
+        Command::Remove { book, uid, expect } => {
+            let number = store.remove(book.as_str(), uid.as_str(), *expect)?;
+            Ok(Reply::Gone { number })
+        }
+        Command::MoveCard {
+            book,
+            uid,
+            to,
+            expect,
+        } => {
+            let numbers = store.move_card(book.as_str(), to.as_str(), uid.as_str(), *expect)?;
+            Ok(Reply::Moved(numbers))
+        }
+        Command::Report { book, token, limit } => {
+            let page = report(store, book, token, *limit)?;
+            Ok(Reply::Page(page))
+        }
+        Command::TallyOf { book } => {
+            let tally = store.tally(book.as_str())?;
+            Ok(Reply::Tally(tally))
+        }
     }
 }
 
-/// Asks for the live card of the UID. The reply has a UID of its own, which is copied first.
-pub(crate) fn get<S: BookStore>(store: &mut S, book: &Text, uid: &Text) -> Reply
-    ensures premise { S.premise store.new → S.premise store.old }
-    ensures limits { S.limits store.new ≡ S.limits store.old }
-    ensures does { S.premise store.new → DoesCommand (S.limits store.old) (S.books store.old) (Command.Get book.now uid.now) result (S.books store.new) }
-{
-    cards_follow_histories();
-    let Ok(name) = uid.try_copy() else {
-        return Reply::Fault(Fault::Memory);
-    };
-    shown(name, store.get(book.as_str(), uid.as_str()))
-}
-
 /// Stores the card that the text spells.
-pub(crate) fn put<S: BookStore>(
+fn put<S: BookStore>(
     alloc: Global,
     store: &mut S,
     book: &Text,
     uid: &Text,
     expect: Option<u64>,
     text: &Items<u8>,
-) -> Reply
+) -> Result<PutAnswer, Denied>
     ensures premise { S.premise store.new → S.premise store.old }
     ensures limits { S.limits store.new ≡ S.limits store.old }
-    ensures does { S.premise store.new → DoesCommand (S.limits store.old) (S.books store.old) (Command.Put book.now uid.now expect text.now) result (S.books store.new) }
+    ensures range { IsInRange (S.limits store.new) }
+    ensures fault { IfFault result
+        (MayComeOf S.may_fault (TheCommand.Put book.now uid.now expect text.now)) }
+    ensures does { S.premise store.new →
+        DoesCommand (S.limits store.old) (S.books store.old)
+        (TheCommand.Put book.now uid.now expect text.now)
+        (reply_to TheReply.Put result) (S.books store.new) }
 {
-    putting_follows_histories();
-    book_lines_follow_histories();
+    calls_follow_histories();
     match card_for(alloc, uid.as_str(), text.as_slice()) {
-        Ok(card) => stored(store.put(book.as_str(), &card, expect)),
-        Err(error) => denied_in(store, book.as_str(), error),
+        Ok(card) => store.put(book.as_str(), &card, expect),
+        Err(error) => Err(first_denial(store, book.as_str(), error)),
     }
 }
 
-/// Takes the live card of the UID away.
-pub(crate) fn remove<S: BookStore>(
-    store: &mut S,
-    book: &Text,
-    uid: &Text,
-    expect: Option<u64>,
-) -> Reply
-    ensures premise { S.premise store.new → S.premise store.old }
-    ensures limits { S.limits store.new ≡ S.limits store.old }
-    ensures does { S.premise store.new → DoesCommand (S.limits store.old) (S.books store.old) (Command.Remove book.now uid.now expect) result (S.books store.new) }
-{
-    removing_follows_histories();
-    gone(store.remove(book.as_str(), uid.as_str(), expect))
-}
-
-/// Moves the live card of the UID to the other book.
-pub(crate) fn move_card<S: BookStore>(
-    store: &mut S,
-    book: &Text,
-    uid: &Text,
-    to: &Text,
-    expect: Option<u64>,
-) -> Reply
-    ensures premise { S.premise store.new → S.premise store.old }
-    ensures limits { S.limits store.new ≡ S.limits store.old }
-    ensures does { S.premise store.new → DoesCommand (S.limits store.old) (S.books store.old) (Command.MoveCard book.now uid.now to.now expect) result (S.books store.new) }
-{
-    moving_follows_histories();
-    moved(store.move_card(book.as_str(), to.as_str(), uid.as_str(), expect))
-}
-
 /// Asks for a page of what changed since the token.
-pub(crate) fn report<S: BookStore>(
+fn report<S: BookStore>(
     store: &mut S,
     book: &Text,
     token: &Text,
     limit: Option<u64>,
-) -> Reply
+) -> Result<Page, Denied>
     ensures premise { S.premise store.new → S.premise store.old }
     ensures limits { S.limits store.new ≡ S.limits store.old }
-    ensures does { S.premise store.new → DoesCommand (S.limits store.old) (S.books store.old) (Command.Report book.now token.now limit) result (S.books store.new) }
+    ensures range { IsInRange (S.limits store.new) }
+    ensures fault { IfFault result S.may_fault }
+    ensures does { S.premise store.new →
+        DoesCommand (S.limits store.old) (S.books store.old)
+        (TheCommand.Report book.now token.now limit)
+        (reply_to TheReply.Page result) (S.books store.new) }
 {
-    reports_follow_histories();
-    book_lines_follow_histories();
+    calls_follow_histories();
     match token_in(token.as_str()) {
-        Ok(from) => reported(store.report(book.as_str(), from, limit)),
-        Err(refusal) => denied_in(store, book.as_str(), Denied::Refused(refusal)),
+        Ok(from) => store.report(book.as_str(), from, limit),
+        Err(refusal) => Err(first_denial(store, book.as_str(), Denied::Refused(refusal))),
     }
 }
 
-/// Asks for the book in numbers.
-pub(crate) fn tally_of<S: BookStore>(store: &mut S, book: &Text) -> Reply
+/// The denial of a command whose own text was denied: a book that isn't there is refused before it.
+fn first_denial<S: BookStore>(store: &mut S, book: &str, error: Denied) -> Denied
     ensures premise { S.premise store.new → S.premise store.old }
     ensures limits { S.limits store.new ≡ S.limits store.old }
-    ensures does { S.premise store.new → DoesCommand (S.limits store.old) (S.books store.old) (Command.TallyOf book.now) result (S.books store.new) }
-{
-    tallies_follow_histories();
-    tallied(store.tally(book.as_str()))
-}
-
-/// What is replied where a command's own text was denied: a book that isn't there is refused before it.
-fn denied_in<S: BookStore>(store: &mut S, book: &str, error: Denied) -> Reply
-    ensures premise { S.premise store.new → S.premise store.old }
-    ensures limits { S.limits store.new ≡ S.limits store.old }
+    ensures range { IsInRange (S.limits store.new) }
     ensures kept { S.premise store.new → S.books store.new ≡ S.books store.old }
-    ensures denies { S.premise store.new → DeniesIn (S.books store.old) book.now error result }
+    ensures fault { (result ≡ error) ⊎ IfFault {A = Unit {0}} (Err result) S.may_fault }
+    ensures denies { S.premise store.new →
+        DeniesIn (S.books store.old) book.now error (denied_reply result) }
 {
     match store.book(book) {
-        Ok(_) => denied(error),
-        Err(first) => denied(first),
+        Ok(_) => error,
+        Err(first) => first,
     }
 }

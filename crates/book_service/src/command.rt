@@ -1,14 +1,19 @@
 //! What a client may ask of a store of books, and how it is done.
 ghost use Rattle.std.specs.Prelude.{◌≡◌};
-ghost use Rattle.book_service.specs.Commands.{DoesCommand};
+ghost use Rattle.book_service.specs.declared.event.Event.TheVariants.{Do};
+ghost use Rattle.book_model.specs.Bounds.{IsInRange};
+ghost use Rattle.book_service.specs.Faults.{IfFaultReply, MayComeOf};
+ghost use Rattle.book_service.specs.Replies.{Keeps};
+ghost use Rattle.book_service.specs.Runs.{Moment, IsAt, LeadsTo};
 
-use crate::calls::{create_book, get, list_books, move_card, put, remove, report, tally_of};
-use crate::reply::Reply;
+use crate::calls::outcome_of;
+use crate::reply::{Reply, denied_reply};
 use std::alloc::Global;
 use sync_core::BookStore;
 use vcard_text::{Items, Text};
 
-/// A command. `expect` is the version that the live card of the UID must have, and `None` where it doesn't matter.
+/// A command. `expect` is the version that the live card of the UID must have, and `None` where it
+/// doesn't matter.
 #[derive(Debug, Drop)]
 pub enum Command {
     /// Makes an empty book.
@@ -22,7 +27,8 @@ pub enum Command {
         book: Text,
         uid: Text,
     },
-    /// Stores the card that the text spells, which must have the UID. An `expect` of 0 is for a UID that isn't live.
+    /// Stores the card that the text spells, which must have the UID. An `expect` of 0 is for a
+    /// UID that isn't live.
     Put {
         book: Text,
         uid: Text,
@@ -42,8 +48,8 @@ pub enum Command {
         to: Text,
         expect: Option<u64>,
     },
-    /// Asks for a page of what changed since the token, whose text is empty for a first report (RFC 6578, section 3.4),
-    /// with at most `limit` entries.
+    /// Asks for a page of what changed since the token, whose text is empty for an initial report
+    /// (RFC 6578, section 3.4), with at most `limit` entries.
     Report {
         book: Text,
         token: Text,
@@ -55,35 +61,36 @@ pub enum Command {
     },
 }
 
-/// Does the command and answers what came of it. After a refusal and after a fault the books are as before.
+/// Does the command and answers what came of it. After a refusal and after a fault the books are
+/// as before.
 ///
-/// A command is refused as the store's call is. A put is refused, by the first that holds, with `NoSuchBook`; `BadCard`
-/// where the text spells no card, with its first fault; `UidMismatch` where the card has another UID; `VersionMismatch`;
-/// `BookFull`; `ChangesSpent`. A report is refused with `NoSuchBook`; `BadToken` with `Malformed` where a text that isn't
-/// empty is no token's, then with `OtherBook`, `TooNew` or `TooOld`; `BadLimit`.
+/// A command is refused as the store's call is. A put is refused, by the first that holds, with
+/// `NoSuchBook`; `BadCard` where the text spells no card, with its first fault; `UidMismatch`
+/// where the card has another UID; `VersionMismatch`; `BookFull`; `ChangesSpent`. A report is
+/// refused with `NoSuchBook`; `BadToken` with `Malformed` where a text that isn't empty is no
+/// token's, then with `OtherBook`, `TooNew` or `TooOld`; `BadLimit`.
+///
+/// `Fault::Store` comes where the store answers it. `Fault::Memory` comes where the store answers
+/// it, and in a put or a get where there is no memory to read the card's text or to copy the UID.
 pub fn perform<S: BookStore>(alloc: Global, store: &mut S, command: &Command) -> Reply
     ensures premise { S.premise store.new → S.premise store.old }
     ensures limits { S.limits store.new ≡ S.limits store.old }
-    ensures does { S.premise store.new → DoesCommand (S.limits store.old) (S.books store.old) command.now result (S.books store.new) }
+    ensures range { IsInRange (S.limits store.new) }
+
+    // Only faults that the store may answer come, and out of memory where a text is read or copied.
+    ensures fault { IfFaultReply result (MayComeOf S.may_fault command.now) }
+
+    // A refusal, a fault and the reply to a reading leave the rows, whatever rows they are.
+    ensures kept { S.premise store.new → Keeps result (S.books store.old) (S.books store.new) }
+
+    // From each world whose rows the store has, the command is one step to a world whose rows it
+    // has now.
+    ensures step { S.premise store.new → (now : Moment) →
+        IsAt now (S.limits store.old) (S.books store.old) →
+        LeadsTo now (Do command.now) result (S.books store.new) now.devices }
 {
-    match command {
-        Command::CreateBook { book } => create_book(store, book),
-        Command::Books => list_books(store),
-        Command::Get { book, uid } => get(store, book, uid),
-        Command::Put {
-            book,
-            uid,
-            expect,
-            text,
-        } => put(alloc, store, book, uid, *expect, text),
-        Command::Remove { book, uid, expect } => remove(store, book, uid, *expect),
-        Command::MoveCard {
-            book,
-            uid,
-            to,
-            expect,
-        } => move_card(store, book, uid, to, *expect),
-        Command::Report { book, token, limit } => report(store, book, token, *limit),
-        Command::TallyOf { book } => tally_of(store, book),
+    match outcome_of(alloc, store, command) {
+        Ok(reply) => reply,
+        Err(error) => denied_reply(error),
     }
 }

@@ -1,14 +1,13 @@
 //! Commands, and devices that ask for pages between them.
 ghost use Rattle.std.specs.Prelude.{◌≡◌, ◌↔◌, length, All, IfOk, IsTrue, OnErr};
-ghost use Rattle.book_laws.specs.Worlds.{Stories};
-ghost use Rattle.book_laws.specs.Following.{IsWorldOf};
-ghost use Rattle.book_service.specs.Drives.{NamesDevice, IsHappened, IsDriven};
+ghost use Rattle.book_service.specs.Faults.{FaultsMayCome, IfFaultReply, MayComeAt};
+ghost use Rattle.book_service.specs.PageCounts.{FewAreTruncated};
+ghost use Rattle.book_service.specs.Runs.{Moment, NamesDevice, IsAt, LeadsTo, RanTo};
 
 use crate::asking::next_page;
 use crate::command::{Command, perform};
-use crate::reply::{Reply, reported};
-use book_laws::devices::devices_stay_right_over_calls;
-use book_laws::histories::changes_are_counted;
+use crate::laws::truncated_pages_are_few;
+use crate::reply::{Reply, denied_reply};
 use std::alloc::Global;
 use sync_core::{BookStore, Device};
 use vcard_text::NoMemory;
@@ -18,8 +17,8 @@ use vcard_text::NoMemory;
 pub enum Event {
     /// A command is performed.
     Do(Command),
-    /// The device with this place in the list, from 0, asks for its next page with at most `limit` entries, and applies
-    /// it.
+    /// The device with this place in the list, from 0, asks for its next page with at most `limit`
+    /// entries, and applies it.
     Ask { device: usize, limit: Option<u64> },
 }
 
@@ -46,25 +45,26 @@ fn do_event<S: BookStore>(
     ensures premise { S.premise store.new → S.premise store.old }
     ensures limits { S.limits store.new ≡ S.limits store.old }
     ensures count { length devices.new.items ≡ length devices.old.items }
-    ensures happens { S.premise store.new → (stories : Stories) → IsWorldOf (S.limits store.old) stories (S.books store.old) →
-        IsHappened (S.limits store.old) stories devices.old.items event.now result (S.books store.new) devices.new.items }
+    ensures fault { IfFaultReply result (MayComeAt S.may_fault event.now) }
+    ensures happens { S.premise store.new → (now : Moment) →
+        IsAt now (S.limits store.old) (S.books store.old) → now.devices ≡ devices.old.items →
+        LeadsTo now event.now result (S.books store.new) devices.new.items }
 {
-    // Laws, which do nothing: no call makes a right device wrong, and the changes of a book add up.
-    devices_stay_right_over_calls();
-    changes_are_counted();
-
     match event {
         Event::Do(command) => perform(alloc, store, command),
-        Event::Ask { device, limit } => reported(next_page(store, &mut devices[*device], *limit)),
+        Event::Ask { device, limit } => match next_page(store, &mut devices[*device], *limit) {
+            Ok(page) => Reply::Page(page),
+            Err(error) => denied_reply(error),
+        },
     }
 }
 
-/// Does the events in their order, and answers the reply to each. A device whose token is refused loses it, so that its
-/// next ask is for a first report.
+/// Does the events in their order, and answers the reply to each. A device whose token is refused
+/// loses it, so that its next ask is for an initial report.
 ///
-/// The caller sees to it that each device number is below the number of devices, which `Event::is_within` tells.
-/// `NoMemory` comes before any event, where there is no room for all replies. Where memory is wanting later, an event's
-/// reply is a fault.
+/// The caller sees to it that each device number is below the number of devices, which
+/// `Event::is_within` tells. `NoMemory` comes before any event, where there is no room for all
+/// replies. Where memory runs out later, an event's reply is a fault.
 pub fn drive<S: BookStore>(
     alloc: Global,
     store: &mut S,
@@ -75,14 +75,28 @@ pub fn drive<S: BookStore>(
     ensures premise { S.premise store.new → S.premise store.old }
     ensures limits { S.limits store.new ≡ S.limits store.old }
 
-    // Where the rows are those of histories, the events happen on these, one by one. After each of them every book adds up,
-    // and every device is right, if each was at first.
-    ensures drives { IfOk result (λ replies. S.premise store.new → (stories : Stories) → IsWorldOf (S.limits store.old) stories (S.books store.old) →
-        IsDriven (S.limits store.old) stories devices.old.items events.now replies.items (S.books store.new) devices.new.items) }
+    // Only faults that the store may answer come, and out of memory where a text is read or copied
+    // or a page applied.
+    ensures faults { IfOk result (λ replies. FaultsMayCome S.may_fault events.now replies.items) }
+
+    // From each world whose rows the store has, the events ran, with these replies, to one whose
+    // rows it has now.
+    ensures runs { IfOk result (λ replies. S.premise store.new → (now : Moment) →
+        IsAt now (S.limits store.old) (S.books store.old) → now.devices ≡ devices.old.items →
+        RanTo now events.now replies.items (S.books store.new) devices.new.items) }
+
+    // Few of the pages that a device is told are truncated.
+    ensures few { IfOk result (λ replies. S.premise store.new → (now : Moment) →
+        IsAt now (S.limits store.old) (S.books store.old) → now.devices ≡ devices.old.items →
+        FewAreTruncated now events.now replies.items (S.books store.new)) }
 
     // Without room for the replies nothing happens.
-    ensures err { OnErr result ((S.books store.new ≡ S.books store.old) × (devices.new.items ≡ devices.old.items)) }
+    ensures err { OnErr result ((S.books store.new ≡ S.books store.old)
+        × (devices.new.items ≡ devices.old.items)) }
 {
+    // A law, which does nothing.
+    truncated_pages_are_few();
+
     let mut replies = Vec::with_capacity(alloc, events.len())?;
     for event in events {
         let reply = do_event(alloc, store, devices, event);

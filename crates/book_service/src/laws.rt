@@ -1,23 +1,74 @@
-//! What holds through all events. Each law is a function that does nothing.
-ghost use Rattle.book_service.specs.EventLaws.{DevicesStartRight, PageTokensStayGood, BooksGoOnThroughEvents};
+//! What holds over every run. Each law is a function that does nothing.
+ghost use Rattle.book_laws.specs.DeviceLaws.{DevicesStartRight};
+ghost use Rattle.book_service.specs.Runs.{NewStoresStart};
+ghost use Rattle.book_service.specs.PageCounts.{TruncatedPagesAreFew};
+ghost use Rattle.book_service.specs.Promise.{Always, LeadsToWorld, BooksAddUp, BooksGoOn, MovesTakeOneCard, DevicesStayRight, LastPagesComplete, TokensGrowOld, RunsAppend};
 
-use book_laws::runs::{books_go_on, tokens_stay_good};
+use book_laws::devices::{
+    devices_start_right, devices_stay_right_among_books, devices_stay_right_over_calls,
+    due_members_are_counted, last_pages_complete_copies,
+};
+use book_laws::following::{empty_stores_have_no_history, rows_are_of_books};
+use book_laws::histories::{changes_are_counted, live_cards_are_stored_last};
+use book_laws::runs::{books_go_on, histories_stay_lawful, moves_take_one_card, tokens_stay_good};
+use sync_core::laws::token_texts_are_one;
 
-/// A device without a token, such as a new one, is right, whether its book is there or not.
-pub fn devices_start_right()
-    ensures { DevicesStartRight }
-{}
+/// The promise, over every run of commands and asks from every sound world, and so from each
+/// moment of a run.
+pub fn runs_keep_the_promise()
+    // Each moment is a world, in which each book holds the cards that came in less those that went.
+    ensures worlds { Always LeadsToWorld }
+    ensures sums { BooksAddUp }
 
-/// Through whatever commands and asks, no book refuses the token of a page that it gave, since no command forgets.
-pub fn page_tokens_stay_good()
-    ensures { PageTokensStayGood }
+    // No book goes away, and nothing that happened to it is undone.
+    ensures books { Always BooksGoOn }
+
+    // A move takes one card between two books and alters nothing else.
+    ensures moves { Always MovesTakeOneCard }
+
+    // A device without a token is right, and a right device stays right, whatever the others are.
+    ensures starts { DevicesStartRight }
+    ensures devices { Always DevicesStayRight }
+
+    // Where a right device is told a page that isn't truncated, it has the live cards of that
+    // moment.
+    ensures whole { Always LastPagesComplete }
+
+    // A book refuses the token of a page that it told only as too old, and only where it was made
+    // to forget since.
+    ensures tokens { TokensGrowOld }
 {
+    histories_stay_lawful();
+    changes_are_counted();
+    live_cards_are_stored_last();
+    books_go_on();
+    moves_take_one_card();
+    devices_start_right();
+    devices_stay_right_over_calls();
+    devices_stay_right_among_books();
+    last_pages_complete_copies();
     tokens_stay_good();
+    token_texts_are_one();
 }
 
-/// Through whatever commands and asks, no book goes away, and nothing that happened to it is undone.
-pub fn books_go_on_through_events()
-    ensures { BooksGoOnThroughEvents }
+/// Two runs are one where the second goes on from the end of the first.
+pub fn runs_append()
+    ensures { RunsAppend }
+{}
+
+/// The entries of a device's truncated pages are fewer than the members that were due and the
+/// events that came meanwhile.
+pub fn truncated_pages_are_few()
+    ensures { TruncatedPagesAreFew }
 {
     books_go_on();
+    due_members_are_counted();
+    rows_are_of_books();
+}
+
+/// A store without books is at each moment that has none.
+pub fn new_stores_start()
+    ensures { NewStoresStart }
+{
+    empty_stores_have_no_history();
 }

@@ -1,15 +1,20 @@
 //! Copies of whole books.
 ghost use Rattle.std.specs.Prelude.{◌≡◌, IfOk, IfErr};
-ghost use Rattle.book_laws.specs.Worlds.{Stories};
-ghost use Rattle.book_laws.specs.Following.{IsWorldOf};
-ghost use Rattle.book_service.specs.Mirrors.{IsMirrored, IsMirrorDenied};
+ghost use Rattle.book_model.specs.Outcomes.{IfFault};
+ghost use Rattle.book_service.specs.Faults.{IsMemoryOr};
+ghost use Rattle.book_service.specs.Mirrors.{IsMirrored, IsMirrorDenied, TakesFewPages};
+ghost use Rattle.book_service.specs.Runs.{Moment, IsAt};
 
 use crate::asking::next_page;
+use book_laws::devices::{
+    devices_stay_right_among_books, due_members_are_counted, last_pages_complete_copies,
+};
 use book_laws::runs::tokens_stay_good;
 use std::alloc::Global;
 use sync_core::{BookStore, Denied, Device};
 
-/// A device that asked for page after page, how many pages it applied, and whether the last one told all that was left.
+/// A device that asked for page after page, how many pages it applied, and whether the last one
+/// told all that was left.
 #[derive(Drop)]
 pub struct Mirrored {
     pub device: Device,
@@ -17,11 +22,12 @@ pub struct Mirrored {
     pub done: bool,
 }
 
-/// Copies a book: a new device asks for pages of at most `limit` entries and applies them, until one isn't truncated or it
-/// has `max_pages` of them (RFC 6578, section 3.6). The store is left as it is.
+/// Copies a book: a new device asks for pages of at most `limit` entries and applies them, until
+/// one isn't truncated or it has `max_pages` of them (RFC 6578, section 3.6). The store is left as
+/// it is.
 ///
-/// With `max_pages` 0 it asks nothing, also where there is no such book. Refused as its first report is: with `NoSuchBook`,
-/// and with `BadLimit` where the limit is 0.
+/// With `max_pages` 0 it asks nothing, also where there is no such book. Refused as its initial
+/// report is: with `NoSuchBook`, and with `BadLimit` where the limit is 0.
 pub fn mirror<S: BookStore>(
     alloc: Global,
     store: &mut S,
@@ -33,16 +39,31 @@ pub fn mirror<S: BookStore>(
     ensures limits { S.limits store.new ≡ S.limits store.old }
     ensures kept { S.premise store.new → S.books store.new ≡ S.books store.old }
 
-    // Where the rows are those of histories, the device got the pages of these, and where it is done, it has the live cards.
-    ensures mirrors { IfOk result (λ mirrored. S.premise store.new → (stories : Stories) → IsWorldOf (S.limits store.old) stories (S.books store.old) →
-        IsMirrored (S.limits store.old) stories book.now limit max_pages mirrored) }
+    // A fault is out of memory, or one that the store may answer.
+    ensures fault { IfFault result (IsMemoryOr S.may_fault) }
 
-    // A refusal is that of the first report.
-    ensures denied { IfErr result (λ denied. S.premise store.new → (stories : Stories) → IsWorldOf (S.limits store.old) stories (S.books store.old) →
-        IsMirrorDenied (S.limits store.old) stories book.now limit max_pages denied) }
+    // From each world whose rows the store has, a new device ran so, and where it is done, it has
+    // the live cards.
+    ensures mirrors { IfOk result (λ mirrored. S.premise store.new → (now : Moment) →
+        IsAt now (S.limits store.old) (S.books store.old) →
+        IsMirrored now book.now limit max_pages mirrored) }
+
+    // It takes just as many pages as the members of the book need, or as many as it may.
+    ensures pages { IfOk result (λ mirrored. S.premise store.new → (now : Moment) →
+        IsAt now (S.limits store.old) (S.books store.old) →
+        TakesFewPages now book.now limit max_pages mirrored) }
+
+    // A refusal is that of the initial report.
+    ensures denied { IfErr result (λ denied. S.premise store.new → (now : Moment) →
+        IsAt now (S.limits store.old) (S.books store.old) →
+        IsMirrorDenied now book.now limit max_pages denied) }
 {
-    // A law, which does nothing: no page's token is refused while nothing is forgotten.
+    // Laws, which do nothing: the device stays right, no page's token is refused, and the pages
+    // are counted.
+    devices_stay_right_among_books();
+    last_pages_complete_copies();
     tokens_stay_good();
+    due_members_are_counted();
 
     let mut device = Device::new(alloc, book)?;
     for pages in 0..max_pages {

@@ -3,8 +3,8 @@ ghost use Rattle.book_service.specs.PageTokenLaws.{PageTokensHaveTexts};
 
 use book_laws::well_formed::pages_fit_well_formed_books;
 
-/// The text that is written of the token of a page of well-formed books is a token's text, so that it's read as this
-/// token again.
+/// The text that is written of the token of a page of well-formed books is a token's text, so that
+/// it's read as this token again.
 pub fn page_tokens_have_texts()
     ensures { PageTokensHaveTexts }
 {

@@ -1,9 +1,8 @@
 //! What a command is answered.
 ghost use Rattle.std.specs.Prelude.{◌≡◌};
-ghost use Rattle.book_service.specs.declared.reply.Reply.{Reply};
-ghost use Rattle.book_service.specs.Replies.{denied_reply, card_reply, reply_to};
+ghost use Rattle.book_service.specs.Replies.{denied_reply as reply_of_denied};
 
-use sync_core::{BookLine, Denied, Fault, Moved, Page, PutAnswer, Refusal, Stored, Tally};
+use sync_core::{BookLine, Denied, Fault, Moved, Page, PutAnswer, Refusal, Tally};
 use vcard_text::{Card, Items, Text};
 
 /// What a command is answered. After `Refused` and `Fault` the books are as before.
@@ -31,82 +30,12 @@ pub enum Reply {
     Fault(Fault),
 }
 
-/// What is said of a call that was denied.
-pub(crate) fn denied(denied: Denied) -> Reply
-    ensures { result ≡ denied_reply denied }
+/// What is replied where a call was denied.
+pub(crate) fn denied_reply(denied: Denied) -> Reply
+    ensures { result ≡ reply_of_denied denied }
 {
     match denied {
         Denied::Refused(refusal) => Reply::Refused(refusal),
         Denied::Fault(fault) => Reply::Fault(fault),
-    }
-}
-
-/// What is said of making a book.
-pub(crate) fn created(outcome: Result<u64, Denied>) -> Reply
-    ensures { result ≡ reply_to Reply.Created outcome }
-{
-    match outcome {
-        Ok(id) => Reply::Created { id },
-        Err(error) => denied(error),
-    }
-}
-
-/// What is said of the card that was asked for under the UID.
-pub(crate) fn shown(uid: Text, outcome: Result<Stored, Denied>) -> Reply
-    ensures { result ≡ reply_to (card_reply uid) outcome }
-{
-    match outcome {
-        Ok(Stored { version, card }) => Reply::Card { uid, version, card },
-        Err(error) => denied(error),
-    }
-}
-
-/// What is said of storing a card.
-pub(crate) fn stored(outcome: Result<PutAnswer, Denied>) -> Reply
-    ensures { result ≡ reply_to Reply.Put outcome }
-{
-    match outcome {
-        Ok(answer) => Reply::Put(answer),
-        Err(error) => denied(error),
-    }
-}
-
-/// What is said of taking a card away.
-pub(crate) fn gone(outcome: Result<u64, Denied>) -> Reply
-    ensures { result ≡ reply_to Reply.Gone outcome }
-{
-    match outcome {
-        Ok(number) => Reply::Gone { number },
-        Err(error) => denied(error),
-    }
-}
-
-/// What is said of moving a card.
-pub(crate) fn moved(outcome: Result<Moved, Denied>) -> Reply
-    ensures { result ≡ reply_to Reply.Moved outcome }
-{
-    match outcome {
-        Ok(numbers) => Reply::Moved(numbers),
-        Err(error) => denied(error),
-    }
-}
-
-/// What is said of a report.
-pub(crate) fn reported(outcome: Result<Page, Denied>) -> Reply
-    ensures { result ≡ reply_to Reply.Page outcome }
-{
-    match outcome {
-        Ok(page) => Reply::Page(page),
-        Err(error) => denied(error),
-    }
-}
-
-/// What is said of a book in numbers.
-pub(crate) fn tallied(outcome: Result<Tally, Denied>) -> Reply
-    ensures { result ≡ reply_to Reply.Tally outcome }
-{
-    match outcome {
-        Ok(tally) => Reply::Tally(tally),
-        Err(error) => denied(error),
     }
 }

@@ -1,5 +1,6 @@
 mod commands;
 mod devices;
+mod failing;
 mod long_run;
 mod mirrors;
 mod plain;
@@ -13,11 +14,11 @@ use crate::reply::Reply;
 use replies::told;
 use scripts::{command_in, event_in};
 use std::alloc::Global;
-use sync_core::{Device, PlainStore};
+use sync_core::{BookStore, Device};
 use vcard_text::NoMemory;
 
 /// Performs a script's commands, a line each, and tells the replies, a line each.
-fn performed(alloc: Global, store: &mut PlainStore, script: &str) -> Result<String, NoMemory> {
+fn performed<S: BookStore>(alloc: Global, store: &mut S, script: &str) -> Result<String, NoMemory> {
     let mut text = String::new(alloc);
     for line in script.lines() {
         let command = command_in(alloc, line)?;
@@ -46,9 +47,9 @@ fn all_told(alloc: Global, replies: &[Reply]) -> Result<String, NoMemory> {
 }
 
 /// Drives a script's events, and tells the replies. Nothing is driven where a device is named that isn't there.
-fn driven(
+fn driven<S: BookStore>(
     alloc: Global,
-    store: &mut PlainStore,
+    store: &mut S,
     devices: &mut Vec<Device>,
     script: &str,
 ) -> Result<String, NoMemory> {

@@ -9,7 +9,8 @@ use vcard_text::{Card, read_card};
 
 /// The card that the text spells, which must have the UID.
 ///
-/// Refused with `BadCard` where the text spells no card, with its first fault, and then with `UidMismatch`.
+/// Refused with `BadCard` where the text spells no card, with its first fault, and then with
+/// `UidMismatch`.
 pub(crate) fn card_for(alloc: Global, uid: &str, text: &[u8]) -> Result<Card, Denied>
     ensures { IsReadAs (ReadsCard uid.now text.now) result }
 {
@@ -25,7 +26,8 @@ pub(crate) fn card_for(alloc: Global, uid: &str, text: &[u8]) -> Result<Card, De
 
 /// The token that the text is, and `None` where it is empty.
 ///
-/// Refused with `BadToken` and the cause `Malformed` where it isn't a token's text. It takes no memory.
+/// Refused with `BadToken` and the cause `Malformed` where it isn't a token's text. It takes no
+/// memory.
 pub(crate) fn token_in(text: &str) -> Result<Option<Token>, Refusal>
     ensures { ReadsToken text.now result }
 {

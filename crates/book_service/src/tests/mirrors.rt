@@ -4,7 +4,7 @@ use crate::mirrored::{Mirrored, mirror};
 use std::alloc::Global;
 use std::process::Abort;
 use std::test::Fail;
-use sync_core::{Denied, Limits, PlainStore, Refusal};
+use sync_core::{Denied, Limits, PlainStore, Refusal, token_text};
 
 /// The book `staff` after five changes: Anna and Cy are live.
 fn store_after_five(alloc: Global) -> Result<PlainStore, Fail> {
@@ -94,6 +94,75 @@ fn a_mirror_of_no_pages_asks_nothing(rt: HostRuntime) -> Result<(), Fail> {
         0,
         "pages 0 and more\nno token",
     )
+}
+
+/// The book `staff` with so many cards, each put once.
+fn store_of(alloc: Global, cards: u64) -> Result<PlainStore, Fail> {
+    let mut store = PlainStore::new(alloc, Limits::standard());
+    performed(alloc, &mut store, "create staff")?;
+    for card in 0..cards {
+        let line = format!(in alloc; "put staff u{card} Name")?;
+        performed(alloc, &mut store, line.as_str())?;
+    }
+    Ok(store)
+}
+
+/// A mirror of a book of so many cards by pages of 100: its pages, whether that was all, its cards, and the token.
+fn pages_of(alloc: Global, cards: u64, max_pages: u64) -> Result<String, Fail> {
+    let mut store = store_of(alloc, cards)?;
+    let mirrored = mirror(alloc, &mut store, "staff", 100, max_pages)?;
+    let end = if mirrored.done { "done" } else { "and more" };
+    let copied = mirrored.device.copy().len();
+    let mut text = format!(in alloc; "pages {} {end}, cards {copied}, ", mirrored.pages)?;
+    if let Some(token) = mirrored.device.token() {
+        text.push_str(token_text(alloc, &token)?.as_str())?;
+    }
+    Ok(text)
+}
+
+#[test]
+fn an_empty_book_takes_one_page(rt: HostRuntime) -> Result<(), Fail> {
+    let told = pages_of(rt.alloc(), 0, 10)?;
+    assert_eq!(rt;
+        told.as_str(),
+        "pages 1 done, cards 0, http://contacts.invalid/sync/1/0/0"
+    );
+    Ok(())
+}
+
+#[test]
+fn two_full_pages_are_all_of_two_hundred(rt: HostRuntime) -> Result<(), Fail> {
+    let told = pages_of(rt.alloc(), 200, 10)?;
+    assert_eq!(rt;
+        told.as_str(),
+        "pages 2 done, cards 200, http://contacts.invalid/sync/1/200/200"
+    );
+    Ok(())
+}
+
+#[test]
+fn one_card_more_takes_one_page_more(rt: HostRuntime) -> Result<(), Fail> {
+    let told = pages_of(rt.alloc(), 201, 10)?;
+    assert_eq!(rt;
+        told.as_str(),
+        "pages 3 done, cards 201, http://contacts.invalid/sync/1/201/201"
+    );
+    Ok(())
+}
+
+#[test]
+fn two_hundred_and_fifty_cards_take_three_pages(rt: HostRuntime) -> Result<(), Fail> {
+    let told = pages_of(rt.alloc(), 250, 10)?;
+    assert_eq!(rt;
+        told.as_str(),
+        "pages 3 done, cards 250, http://contacts.invalid/sync/1/250/250"
+    );
+    let part = pages_of(rt.alloc(), 250, 2)?;
+    assert_eq!(rt;
+        part.as_str(),
+        "pages 2 and more, cards 200, http://contacts.invalid/sync/1/200/250"
+    );
+    Ok(())
 }
 
 #[test]

@@ -35,7 +35,7 @@ pub(super) fn uid_word(uid: u64) -> &'static str {
 
 // What is told, as the store's replies are.
 
-/// A text that words and numbers are written behind, and whether memory was wanting for one of them.
+/// A text that words and numbers are written behind, and whether memory ran out for one of them.
 #[derive(Drop)]
 pub(super) struct Telling {
     text: String,

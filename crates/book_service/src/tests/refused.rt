@@ -37,14 +37,14 @@ ask 1
 ask 0
 ask 2";
 
-/// What the books are, by their numbers and their first reports.
+/// What the books are, by their numbers and their initial reports.
 const STATE: &str = "books
 tally staff
 tally clients
 report staff -
 report clients -";
 
-/// The reply to one event, and none where it wasn't done for want of memory.
+/// The reply to one event, and none where it wasn't done because memory ran out.
 fn reply_to(alloc: Global, office: &mut Office, event: &[Event]) -> Option<Reply> {
     let Office { store, devices } = office;
     let count = devices.len();
@@ -85,7 +85,7 @@ fn reply_told(alloc: Global, reply: &Option<Reply>) -> Result<String, NoMemory> 
     told(alloc, reply)
 }
 
-/// Does the event. Where memory was wanting, the books are those of the twin, and it is done again.
+/// Does the event. Where memory ran out, the books are those of the twin, and it is done again.
 fn done_at_last(
     rt: &impl Abort,
     alloc: Global,
@@ -149,7 +149,7 @@ const TWO_CARDS: &str = "create staff
 put staff a Ann
 put staff b Bob";
 
-/// Mirrors the book. Where memory was wanting, it is done again.
+/// Mirrors the book. Where memory ran out, it is done again.
 fn pages_at_last(alloc: Global, store: &mut PlainStore) -> Result<u64, Denied> {
     if let Ok(mirrored) = mirror(alloc, store, "staff", 1, 10) {
         return Ok(mirrored.pages);
@@ -158,7 +158,7 @@ fn pages_at_last(alloc: Global, store: &mut PlainStore) -> Result<u64, Denied> {
     Ok(mirrored.pages)
 }
 
-/// Where memory was wanting for the two cards, there is nothing to see.
+/// Where memory ran out for the two cards, there is nothing to see.
 #[test]
 fn a_mirror_that_finds_no_memory_leaves_the_books(rt: HostRuntime) -> Result<(), Fail> {
     let alloc = rt.alloc();

@@ -1,9 +1,8 @@
-use Rattle.std.proofs.Common.{ℕ, ◌≤◌, List, Option, Ok, Err, Result, subst}
+use Rattle.std.proofs.Common.{ℕ, List, Option, Ok, Err, Result, subst}
 use Rattle.book_model.specs.declared.denied.Denied.{Denied}
 use Rattle.book_model.specs.declared.denied.Denied.TheVariants.{Refused}
 use Rattle.book_model.specs.declared.page.Page.{Page}
 use Rattle.book_model.specs.declared.token.Token.{Token}
-use Rattle.book_model.specs.Bounds.{Bounds}
 use Rattle.book_model.specs.Outcomes.{Reads}
 use Rattle.book_model.specs.Pages.{IsReport, report_step}
 use Rattle.book_service.proofs.AskLemmas.{told_whole, told_part, told_refusal}
@@ -23,14 +22,11 @@ read g c r reads =
 pub returns-in-Ok-apply-clause-answers : goal.returns-in-Ok-apply-clause-answers
 returns-in-Ok-apply-clause-answers g c = λ premise.
     told_whole (g.S.BookStore.limits c.args.store.now) (g.S.BookStore.books c.args.store.now) (g.S.BookStore.books c.report.new.self) c.reports_follow_histories.ensures c.args.device.now c.apply.new.self c.args.limit
-    c.devices_stay_right_among_books.ensures.pages c.last_pages_complete_copies.ensures.all
-    (subst (λ (l : Bounds). 1 ≤ l.page_max) c.in-Ok.ensures.limits c.in-Ok.ensures.page_has_room)
     c.in-Ok.page (read g (goal.at.returns-in-Ok-apply-clause-answers g c).After-report (Ok c.in-Ok.page) (c.in-Ok.ensures.does premise)) c.in-Ok-apply.ensures.ok
 
 pub returns-in-Err-clause-answers : goal.returns-in-Err-clause-answers
 returns-in-Err-clause-answers g c = λ premise.
     told_part (g.S.BookStore.limits c.args.store.now) (g.S.BookStore.books c.args.store.now) (g.S.BookStore.books c.report.new.self) c.reports_follow_histories.ensures c.args.device.now c.apply.new.self c.args.limit
-    c.devices_stay_right_among_books.ensures.parts
     c.in-Ok.page (read g (goal.at.returns-in-Err-clause-answers g c).After-report (Ok c.in-Ok.page) (c.in-Ok.ensures.does premise)) c.in-Err.ensures.part
 
 pub returns-in-Err-Refused-clause-answers : goal.returns-in-Err-Refused-clause-answers

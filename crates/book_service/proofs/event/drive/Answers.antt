@@ -2,8 +2,9 @@ use Rattle.std.proofs.Common.{List, [], length, refl, sym, ap, ◌∙◌, subst,
 use Rattle.std.proofs.lemmas.List.{take_all}
 use Rattle.book_service.specs.declared.event.Event.{Event}
 use Rattle.book_service.specs.declared.reply.Reply.{Reply}
-use Rattle.book_service.specs.Drives.{IsDriven}
-use Rattle.book_service.proofs.DriveLemmas.{driven_start, driven_more}
+use Rattle.book_service.specs.Faults.{FaultsMayCome}
+use Rattle.book_service.specs.Runs.{RanTo}
+use Rattle.book_service.proofs.DriveLemmas.{ran_nowhere, ran_more, faults_more, ran_few}
 use Rattle.book_service.proofs.event.drive.Goals as goal
 
 pub loop-event-init : goal.loop-event-init
@@ -13,9 +14,10 @@ loop-event-init g c = record {
   count = refl;
   limits = refl;
   premise = λ premise. premise;
-  driven = λ premise stories w.
-      subst (λ (rs : List Reply). IsDriven (g.S.BookStore.limits c.args.store.now) stories c.args.devices.now.items [] rs (g.S.BookStore.books c.args.store.now) c.args.devices.now.items) (sym c.in_ok-replies.ensures.items)
-      (driven_start (g.S.BookStore.limits c.args.store.now) stories (g.S.BookStore.books c.args.store.now) c.args.devices.now.items w);
+  faults = subst (λ (rs : List Reply). FaultsMayCome g.S.BookStore.may_fault [] rs) (sym c.in_ok-replies.ensures.items) (λ k d lt. absurd (omega (arith, lt)));
+  ran = λ premise now at held.
+      subst (λ (rs : List Reply). RanTo now [] rs (g.S.BookStore.books c.args.store.now) c.args.devices.now.items) (sym c.in_ok-replies.ensures.items)
+      (ran_nowhere now (g.S.BookStore.limits c.args.store.now) (g.S.BookStore.books c.args.store.now) c.args.devices.now.items at held);
 }
 
 pub loop-event-preserved : goal.loop-event-preserved
@@ -25,15 +27,31 @@ loop-event-preserved g c = record {
   count = c.do_event-reply.ensures.count ∙ c.loop-event.invariant.count;
   limits = c.do_event-reply.ensures.limits ∙ c.loop-event.invariant.limits;
   premise = λ premise. c.loop-event.invariant.premise (c.do_event-reply.ensures.premise premise);
-  driven = λ premise stories w.
-      driven_more (g.S.BookStore.limits c.args.store.now) (g.S.BookStore.limits c.loop-event.store) c.loop-event.invariant.limits stories (g.S.BookStore.books c.loop-event.store) (g.S.BookStore.books c.do_event-reply.new.store) c.args.devices.now.items c.loop-event.devices.items c.do_event-reply.new.devices.items
+  faults =
+      faults_more g.S.BookStore.may_fault c.args.events.now c.loop-event.event-index c.loop-event.replies.items c.push.new.self.items c.event-item.result c.do_event-reply.result
+      c.loop-event-test.true c.event-item.is c.loop-event.invariant.told c.in_ok-push.ensures.items c.loop-event.invariant.faults c.do_event-reply.ensures.fault;
+  ran = λ premise now at held.
+      ran_more now (g.S.BookStore.limits c.loop-event.store) (g.S.BookStore.books c.loop-event.store) (g.S.BookStore.books c.do_event-reply.new.store) c.loop-event.devices.items c.do_event-reply.new.devices.items
       c.args.events.now c.loop-event.event-index c.loop-event.replies.items c.push.new.self.items c.event-item.result c.do_event-reply.result
-      c.loop-event-test.true c.event-item.is c.in_ok-push.ensures.items
-      (c.loop-event.invariant.driven (c.do_event-reply.ensures.premise premise) stories w) (c.do_event-reply.ensures.happens premise);
+      (at.limits_are ∙ sym c.loop-event.invariant.limits) c.loop-event-test.true c.event-item.is c.in_ok-push.ensures.items
+      (c.loop-event.invariant.ran (c.do_event-reply.ensures.premise premise) now at held) (c.do_event-reply.ensures.happens premise);
 }
 
-pub returns-clause-drives : goal.returns-clause-drives
-returns-clause-drives g c = λ premise stories w.
-    subst (λ (es : List Event). IsDriven (g.S.BookStore.limits c.args.store.now) stories c.args.devices.now.items es c.loop-event.replies.items (g.S.BookStore.books c.loop-event.store) c.loop-event.devices.items)
+pub returns-clause-runs : goal.returns-clause-runs
+returns-clause-runs g c = λ premise now at held.
+    subst (λ (es : List Event). RanTo now es c.loop-event.replies.items (g.S.BookStore.books c.loop-event.store) c.loop-event.devices.items)
     (take_all c.loop-event.event-index c.args.events.now (omega arith))
-    (c.loop-event.invariant.driven premise stories w)
+    (c.loop-event.invariant.ran premise now at held)
+
+pub returns-clause-faults : goal.returns-clause-faults
+returns-clause-faults g c =
+    subst (λ (es : List Event). FaultsMayCome g.S.BookStore.may_fault es c.loop-event.replies.items)
+    (take_all c.loop-event.event-index c.args.events.now (omega arith))
+    c.loop-event.invariant.faults
+
+pub returns-clause-few : goal.returns-clause-few
+returns-clause-few g c = λ premise now at held.
+    ran_few c.truncated_pages_are_few.ensures now c.args.events.now c.loop-event.replies.items (g.S.BookStore.books c.loop-event.store) c.loop-event.devices.items
+    (subst (λ (es : List Event). RanTo now es c.loop-event.replies.items (g.S.BookStore.books c.loop-event.store) c.loop-event.devices.items)
+    (take_all c.loop-event.event-index c.args.events.now (omega arith))
+    (c.loop-event.invariant.ran premise now at held))

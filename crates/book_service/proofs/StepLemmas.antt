@@ -1,0 +1,80 @@
+-- One step, and what it leads to.
+use Rattle.std.proofs.Common.{◌≡◌, List, [], ◌∷◌, ◌++◌, refl, sym, ap, ◌∙◌, subst, ◌≢◌, ℕ, zero, suc, Some, None, slice_get, slice_set, ⊎_elim, inl, inr, ◌⊎◌, arith}
+use Rattle.std.proofs.lemmas.Option.{same_Some}
+use Rattle.book_model.specs.Bounds.{Bounds, IsInRange}
+use Rattle.book_laws.specs.RunLaws.{StaysSound}
+use Rattle.book_laws.specs.Worlds.{AreSound, IsSoundWorld}
+use Rattle.book_service.specs.declared.event.Event.{Event}
+use Rattle.book_service.specs.declared.event.Event.TheVariants.{Do, Ask}
+use Rattle.book_service.specs.declared.reply.Reply.{Reply}
+use Rattle.book_service.specs.Promise.{Always, RunsAppend}
+use Rattle.book_service.specs.Runs.{Moment, Step, Happening, Run, end_of}
+use Rattle.book_service.proofs.RunLemmas.{Leads, leads_on, leads_nowhere, performs_leads}
+
+-- ---- a place in a list
+
+-- what stands at a place after one was set
+pub place_set : {A : Type 0} (xs : List A) (i j : ℕ) (x old was : A) → slice_get xs i ≡ Some old → slice_get xs j ≡ Some was
+    → ((j ≡ i) × (slice_get (slice_set xs j x) i ≡ Some x) × (was ≡ old)) ⊎ ((j ≢ i) × (slice_get (slice_set xs j x) i ≡ Some old))
+place_set [] i j x old was a b = absurd (let no : None ≡ Some old = a in cc)
+place_set (y ∷ ys) zero zero x old was a b = inl (refl, refl, same_Some was old (sym b ∙ a))
+place_set (y ∷ ys) zero (suc j) x old was a b = inr (λ e. absurd (omega (arith, e)), a)
+place_set (y ∷ ys) (suc i) zero x old was a b = inr (λ e. absurd (omega (arith, e)), a)
+place_set (y ∷ ys) (suc i) (suc j) x old was a b =
+    ⊎_elim (λ same. inl (ap (λ n. suc n) same.0, same.1, same.2)) (λ other. inr (λ e. other.0 (omega (arith, e)), other.1)) (place_set ys i j x old was a b)
+
+-- ---- one step
+
+pub step_limits : (now next : Moment) (event : Event) (r : Reply) → Step now event r next → next.world.limits ≡ now.world.limits
+step_limits now next (Do command) r s = ap (λ (m : Moment). m.world.limits) s.next_is
+step_limits now next (Ask i limit) r s = ap (λ (m : Moment). m.world.limits) s.next_is
+
+-- calls that forget nothing lead from the books to the next
+pub step_leads : (now next : Moment) (event : Event) (r : Reply) → Step now event r next → Leads now.world.limits now.world.books next.world.books
+step_leads now next (Do command) r s =
+    subst (Leads now.world.limits now.world.books) (sym (ap (λ (m : Moment). m.world.books) s.next_is)) (performs_leads now.world command r s.books s.performs)
+step_leads now next (Ask i limit) r s = leads_nowhere now.world.limits now.world.books next.world.books (ap (λ (m : Moment). m.world.books) s.next_is)
+
+-- calls lead from a sound world to a sound world
+pub leads_world : StaysSound → (now next : Moment) → IsSoundWorld now.world → next.world.limits ≡ now.world.limits → Leads now.world.limits now.world.books next.world.books → IsSoundWorld next.world
+leads_world stays now next w same leads = record {
+  limits = subst IsInRange (sym same) w.limits;
+  books = subst AreSound (sym leads.new_is) (stays now.world leads.calls w.books);
+}
+
+pub step_world : StaysSound → (now next : Moment) (event : Event) (r : Reply) → IsSoundWorld now.world → Step now event r next → IsSoundWorld next.world
+step_world stays now next event r w s = leads_world stays now next w (step_limits now next event r s) (step_leads now next event r s)
+
+-- ---- runs
+
+-- what holds of each step from a world holds at each step of a run
+pub always : StaysSound → (holds : Moment → Event → Reply → Moment → Type 0)
+    → ((now next : Moment) (event : Event) (r : Reply) → IsSoundWorld now.world → Step now event r next → holds now event r next) → Always holds
+always stays holds each now [] w run = tt
+always stays holds each now (h ∷ rest) w run =
+    (each now h.after h.event h.reply w run.0, always stays holds each h.after rest (step_world stays now h.after h.event h.reply w run.0) run.1)
+
+pub run_limits : (now : Moment) (run : List Happening) → Run now run → (end_of now run).world.limits ≡ now.world.limits
+run_limits now [] steps = refl
+run_limits now (h ∷ run) steps = run_limits h.after run steps.1 ∙ step_limits now h.after h.event h.reply steps.0
+
+pub run_leads : (now : Moment) (run : List Happening) → Run now run → Leads now.world.limits now.world.books (end_of now run).world.books
+run_leads now [] steps = leads_nowhere now.world.limits now.world.books now.world.books refl
+run_leads now (h ∷ run) steps =
+    leads_on now.world.limits now.world.books h.after.world.books (end_of h.after run).world.books (step_leads now h.after h.event h.reply steps.0)
+    (subst (λ (l : Bounds). Leads l h.after.world.books (end_of h.after run).world.books) (step_limits now h.after h.event h.reply steps.0) (run_leads h.after run steps.1))
+
+pub runs_split : (now : Moment) (run more : List Happening) → Run now (run ++ more) → Run now run × Run (end_of now run) more
+runs_split now [] more steps = (tt, steps)
+runs_split now (h ∷ run) more steps = let rest = runs_split h.after run more steps.1 in ((steps.0, rest.0), rest.1)
+
+pub runs_join : (now : Moment) (run more : List Happening) → Run now run → Run (end_of now run) more → Run now (run ++ more)
+runs_join now [] more steps then = then
+runs_join now (h ∷ run) more steps then = (steps.0, runs_join h.after run more steps.1 then)
+
+pub end-append : (now : Moment) (run more : List Happening) → end_of now (run ++ more) ≡ end_of (end_of now run) more
+end-append now [] more = refl
+end-append now (h ∷ run) more = end-append h.after run more
+
+pub runs_append : RunsAppend
+runs_append now run more = (λ all. runs_split now run more all, λ both. runs_join now run more both.0 both.1)

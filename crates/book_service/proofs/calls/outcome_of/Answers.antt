@@ -1,0 +1,172 @@
+use Rattle.std.proofs.Common.{◌≡◌, ℕ, List, Result, Ok, Err, sym, ap, ◌∙◌, subst}
+use Rattle.std.proofs.lemmas.Result.{err_from_is_err_and}
+use Rattle.book_model.specs.declared.answers.Stored.{Stored}
+use Rattle.book_model.specs.declared.denied.Denied.{Denied}
+use Rattle.book_model.specs.declared.denied.Denied.TheVariants.{Fault}
+use Rattle.book_model.specs.declared.denied.Fault.TheVariants.{Memory}
+use Rattle.book_model.specs.Bounds.{Bounds}
+use Rattle.book_model.specs.Books.{Books}
+use Rattle.book_model.specs.Creating.{create_step}
+use Rattle.book_model.specs.Moving.{move_step}
+use Rattle.book_model.specs.Outcomes.{Does, Tells}
+use Rattle.book_model.specs.Reading.{get_step, tally_step}
+use Rattle.book_model.specs.Removing.{remove_step}
+use Rattle.book_service.specs.declared.command.Command.{Command}
+use Rattle.book_service.specs.declared.command.Command.TheVariants.{CreateBook, Books as ListBooks, Get, Put, Remove, MoveCard, TallyOf}
+use Rattle.book_service.specs.declared.reply.Reply.{Reply}
+use Rattle.book_service.specs.declared.reply.Reply.TheVariants as reply
+use Rattle.book_service.specs.OnRows.{DoesCommand}
+use Rattle.book_service.specs.Replies.{denied_reply, reply_to}
+use Rattle.book_service.proofs.CallLemmas.{creates, removes, moves, gets, gets_not, tallies, lists, lists_not}
+use Rattle.book_service.proofs.PerformLemmas.{read_keeps}
+use Rattle.book_service.proofs.calls.outcome_of.Goals as goal
+
+-- the command is the one whose arm this is
+done : (limits : Bounds) (old new : Books) (command own : Command) (r : Reply) → command ≡ own → DoesCommand limits old own r new → DoesCommand limits old command r new
+done limits old new command own r is does = subst (λ (c : Command). DoesCommand limits old c r new) (sym is) does
+
+denied : (limits : Bounds) (old new : Books) (command own : Command) (outcome : Result Reply Denied) (error : Denied) → command ≡ own → outcome ≡ Err error → DoesCommand limits old own (denied_reply error) new
+    → DoesCommand limits old command (reply_to (λ (r : Reply). r) outcome) new
+denied limits old new command own outcome error is same does =
+    done limits old new command own (reply_to (λ (r : Reply). r) outcome) is (subst (λ (o : Result Reply Denied). DoesCommand limits old own (reply_to (λ (r : Reply). r) o) new) (sym same) does)
+
+pub returns-in_err-id-in-CreateBook-clause-does : goal.returns-in_err-id-in-CreateBook-clause-does
+returns-in_err-id-in-CreateBook-clause-does g c = λ premise.
+    let limits = g.S.BookStore.limits c.args.store.now in
+    let old = g.S.BookStore.books c.args.store.now in
+    let new = g.S.BookStore.books c.create_book.new.self in
+    let p = err_from_is_err_and c.from_residual.result c.from_residual.ensures.1 in
+    denied limits old new c.args.command.now (CreateBook c.in-CreateBook.book) c.from_residual.result c.in_err-id-in-CreateBook.field-0.0 c.in-CreateBook.is (p.1 ∙ ap (λ (d : Denied). Err d) p.2)
+    (creates limits old new c.calls_follow_histories.ensures.creating c.in-CreateBook.book (Err c.in_err-id-in-CreateBook.field-0.0)
+    (subst (λ (name : List ℕ). Does (Err c.in_err-id-in-CreateBook.field-0.0) (create_step limits old name) old new) c.as_str.ensures (c.in_err-id-in-CreateBook.ensures.does premise)))
+
+pub returns-in_ok-id-in-CreateBook-clause-does : goal.returns-in_ok-id-in-CreateBook-clause-does
+returns-in_ok-id-in-CreateBook-clause-does g c = λ premise.
+    let limits = g.S.BookStore.limits c.args.store.now in
+    let old = g.S.BookStore.books c.args.store.now in
+    let new = g.S.BookStore.books c.create_book.new.self in
+    done limits old new c.args.command.now (CreateBook c.in-CreateBook.book) (reply.Created c.in_ok-id-in-CreateBook.id) c.in-CreateBook.is
+    (creates limits old new c.calls_follow_histories.ensures.creating c.in-CreateBook.book (Ok c.in_ok-id-in-CreateBook.id)
+    (subst (λ (name : List ℕ). Does (Ok c.in_ok-id-in-CreateBook.id) (create_step limits old name) old new) c.as_str.ensures (c.in_ok-id-in-CreateBook.ensures.does premise)))
+
+pub returns-in_err-lines-in-Books-clause-does : goal.returns-in_err-lines-in-Books-clause-does
+returns-in_err-lines-in-Books-clause-does g c = λ premise.
+    let limits = g.S.BookStore.limits c.args.store.now in
+    let old = g.S.BookStore.books c.args.store.now in
+    let new = g.S.BookStore.books c.books.new.self in
+    let p = err_from_is_err_and c.from_residual-in_err-lines-in-Books.result c.from_residual-in_err-lines-in-Books.ensures.1 in
+    denied limits old new c.args.command.now ListBooks c.from_residual-in_err-lines-in-Books.result c.in_err-lines-in-Books.field-0.0 c.in-Books.is (p.1 ∙ ap (λ (d : Denied). Err d) p.2)
+    (lists_not limits old new _ c.books.result c.in_err-lines-in-Books.field-0.0 c.in_err-lines-in-Books.was (c.books.ensures.does premise))
+
+pub returns-in_ok-lines-in-Books-clause-does : goal.returns-in_ok-lines-in-Books-clause-does
+returns-in_ok-lines-in-Books-clause-does g c = λ premise.
+    let limits = g.S.BookStore.limits c.args.store.now in
+    let old = g.S.BookStore.books c.args.store.now in
+    let new = g.S.BookStore.books c.books.new.self in
+    done limits old new c.args.command.now ListBooks (reply.Books c.from_vec.result) c.in-Books.is
+    (let told = c.in_ok-lines-in-Books.ensures.does premise in
+    lists limits old new c.calls_follow_histories.ensures.books c.from_vec.result (c.from_vec.ensures ∙ told.0, told.1))
+
+pub returns-in_err-version-in-Get-clause-does : goal.returns-in_err-version-in-Get-clause-does
+returns-in_err-version-in-Get-clause-does g c = λ premise.
+    let limits = g.S.BookStore.limits c.args.store.now in
+    let old = g.S.BookStore.books c.args.store.now in
+    let new = g.S.BookStore.books c.get.new.self in
+    let p = err_from_is_err_and c.from_residual-in_err-version-in-Get.result c.from_residual-in_err-version-in-Get.ensures.1 in
+    denied limits old new c.args.command.now (Get c.in-Get.book c.in-Get.uid) c.from_residual-in_err-version-in-Get.result c.in_err-version-in-Get.field-0.0 c.in-Get.is (p.1 ∙ ap (λ (d : Denied). Err d) p.2)
+    (gets limits old new c.calls_follow_histories.ensures.getting c.in-Get.book c.in-Get.uid (Err c.in_err-version-in-Get.field-0.0)
+    (subst (λ (book : List ℕ). Tells (Err c.in_err-version-in-Get.field-0.0) (get_step old book c.in-Get.uid) old new) c.as_str-in-Get.ensures
+    (subst (λ (uid : List ℕ). Tells (Err c.in_err-version-in-Get.field-0.0) (get_step old c.as_str-in-Get.result.now uid) old new) c.as_str-in-Get-2.ensures (c.in_err-version-in-Get.ensures.does premise))))
+
+pub returns-in_err-uid-in-Get-clause-does : goal.returns-in_err-uid-in-Get-clause-does
+returns-in_err-uid-in-Get-clause-does g c = λ premise.
+    let limits = g.S.BookStore.limits c.args.store.now in
+    let old = g.S.BookStore.books c.args.store.now in
+    let new = g.S.BookStore.books c.get.new.self in
+    let p = err_from_is_err_and c.from_residual-in_err-uid-in-Get.result c.from_residual-in_err-uid-in-Get.ensures.1 in
+    let told : Tells (Ok c.in_ok-version-in-Get.field-0) (get_step old c.as_str-in-Get.result.now c.as_str-in-Get-2.result.now) old new = c.in_ok-version-in-Get.ensures.does premise in
+    denied limits old new c.args.command.now (Get c.in-Get.book c.in-Get.uid) c.from_residual-in_err-uid-in-Get.result (Fault Memory) c.in-Get.is (p.1 ∙ ap (λ (d : Denied). Err d) p.2)
+    (gets_not limits old new c.in-Get.book c.in-Get.uid Memory (read_keeps (λ (t a : Stored). a ≡ t) old new (Ok c.in_ok-version-in-Get.field-0) (get_step old c.as_str-in-Get.result.now c.as_str-in-Get-2.result.now) told))
+
+pub returns-in_ok-uid-in-Get-clause-does : goal.returns-in_ok-uid-in-Get-clause-does
+returns-in_ok-uid-in-Get-clause-does g c = λ premise.
+    let limits = g.S.BookStore.limits c.args.store.now in
+    let old = g.S.BookStore.books c.args.store.now in
+    let new = g.S.BookStore.books c.get.new.self in
+    let stored : Stored = c.in_ok-version-in-Get.field-0 in
+    done limits old new c.args.command.now (Get c.in-Get.book c.in-Get.uid) (reply.Card c.in_ok-uid-in-Get.uid stored.version stored.card) c.in-Get.is
+    (subst (λ (uid : List ℕ). DoesCommand limits old (Get c.in-Get.book c.in-Get.uid) (reply.Card uid stored.version stored.card) new) (sym c.in_ok-uid-in-Get.ensures)
+    (gets limits old new c.calls_follow_histories.ensures.getting c.in-Get.book c.in-Get.uid (Ok stored)
+    (subst (λ (book : List ℕ). Tells (Ok stored) (get_step old book c.in-Get.uid) old new) c.as_str-in-Get.ensures
+    (subst (λ (uid : List ℕ). Tells (Ok stored) (get_step old c.as_str-in-Get.result.now uid) old new) c.as_str-in-Get-2.ensures (c.in_ok-version-in-Get.ensures.does premise)))))
+
+pub returns-in_ok-answer-in-Put-clause-does : goal.returns-in_ok-answer-in-Put-clause-does
+returns-in_ok-answer-in-Put-clause-does g c = λ premise.
+    let limits = g.S.BookStore.limits c.args.store.now in
+    let old = g.S.BookStore.books c.args.store.now in
+    let new = g.S.BookStore.books c.put.new.store in
+    done limits old new c.args.command.now (Put c.in-Put.book c.in-Put.uid c.in-Put.expect c.in-Put.text) (reply.Put c.in_ok-answer-in-Put.answer) c.in-Put.is
+    (c.in_ok-answer-in-Put.ensures.does premise)
+
+pub returns-in_err-number-in-Remove-clause-does : goal.returns-in_err-number-in-Remove-clause-does
+returns-in_err-number-in-Remove-clause-does g c = λ premise.
+    let limits = g.S.BookStore.limits c.args.store.now in
+    let old = g.S.BookStore.books c.args.store.now in
+    let new = g.S.BookStore.books c.remove.new.self in
+    let p = err_from_is_err_and c.from_residual-in_err-number-in-Remove.result c.from_residual-in_err-number-in-Remove.ensures.1 in
+    denied limits old new c.args.command.now (Remove c.in-Remove.book c.in-Remove.uid c.in-Remove.expect) c.from_residual-in_err-number-in-Remove.result c.in_err-number-in-Remove.field-0.0 c.in-Remove.is (p.1 ∙ ap (λ (d : Denied). Err d) p.2)
+    (removes limits old new c.calls_follow_histories.ensures.removing c.in-Remove.book c.in-Remove.uid c.in-Remove.expect (Err c.in_err-number-in-Remove.field-0.0)
+    (subst (λ (book : List ℕ). Does (Err c.in_err-number-in-Remove.field-0.0) (remove_step limits old book c.in-Remove.uid c.in-Remove.expect) old new) c.as_str-in-Remove.ensures
+    (subst (λ (uid : List ℕ). Does (Err c.in_err-number-in-Remove.field-0.0) (remove_step limits old c.as_str-in-Remove.result.now uid c.in-Remove.expect) old new) c.as_str-in-Remove-2.ensures (c.in_err-number-in-Remove.ensures.does premise))))
+
+pub returns-in_ok-number-in-Remove-clause-does : goal.returns-in_ok-number-in-Remove-clause-does
+returns-in_ok-number-in-Remove-clause-does g c = λ premise.
+    let limits = g.S.BookStore.limits c.args.store.now in
+    let old = g.S.BookStore.books c.args.store.now in
+    let new = g.S.BookStore.books c.remove.new.self in
+    done limits old new c.args.command.now (Remove c.in-Remove.book c.in-Remove.uid c.in-Remove.expect) (reply.Gone c.in_ok-number-in-Remove.number) c.in-Remove.is
+    (removes limits old new c.calls_follow_histories.ensures.removing c.in-Remove.book c.in-Remove.uid c.in-Remove.expect (Ok c.in_ok-number-in-Remove.number)
+    (subst (λ (book : List ℕ). Does (Ok c.in_ok-number-in-Remove.number) (remove_step limits old book c.in-Remove.uid c.in-Remove.expect) old new) c.as_str-in-Remove.ensures
+    (subst (λ (uid : List ℕ). Does (Ok c.in_ok-number-in-Remove.number) (remove_step limits old c.as_str-in-Remove.result.now uid c.in-Remove.expect) old new) c.as_str-in-Remove-2.ensures (c.in_ok-number-in-Remove.ensures.does premise))))
+
+pub returns-in_err-numbers-in-MoveCard-clause-does : goal.returns-in_err-numbers-in-MoveCard-clause-does
+returns-in_err-numbers-in-MoveCard-clause-does g c = λ premise.
+    let limits = g.S.BookStore.limits c.args.store.now in
+    let old = g.S.BookStore.books c.args.store.now in
+    let new = g.S.BookStore.books c.move_card.new.self in
+    let p = err_from_is_err_and c.from_residual-in_err-numbers-in-MoveCard.result c.from_residual-in_err-numbers-in-MoveCard.ensures.1 in
+    denied limits old new c.args.command.now (MoveCard c.in-MoveCard.book c.in-MoveCard.uid c.in-MoveCard.to c.in-MoveCard.expect) c.from_residual-in_err-numbers-in-MoveCard.result c.in_err-numbers-in-MoveCard.field-0.0 c.in-MoveCard.is (p.1 ∙ ap (λ (d : Denied). Err d) p.2)
+    (moves limits old new c.calls_follow_histories.ensures.moving c.in-MoveCard.book c.in-MoveCard.to c.in-MoveCard.uid c.in-MoveCard.expect (Err c.in_err-numbers-in-MoveCard.field-0.0)
+    (subst (λ (book : List ℕ). Does (Err c.in_err-numbers-in-MoveCard.field-0.0) (move_step limits old book c.in-MoveCard.to c.in-MoveCard.uid c.in-MoveCard.expect) old new) c.as_str-in-MoveCard.ensures
+    (subst (λ (to : List ℕ). Does (Err c.in_err-numbers-in-MoveCard.field-0.0) (move_step limits old c.as_str-in-MoveCard.result.now to c.in-MoveCard.uid c.in-MoveCard.expect) old new) c.as_str-in-MoveCard-2.ensures
+    (subst (λ (uid : List ℕ). Does (Err c.in_err-numbers-in-MoveCard.field-0.0) (move_step limits old c.as_str-in-MoveCard.result.now c.as_str-in-MoveCard-2.result.now uid c.in-MoveCard.expect) old new) c.as_str-in-MoveCard-3.ensures (c.in_err-numbers-in-MoveCard.ensures.does premise)))))
+
+pub returns-in_ok-numbers-in-MoveCard-clause-does : goal.returns-in_ok-numbers-in-MoveCard-clause-does
+returns-in_ok-numbers-in-MoveCard-clause-does g c = λ premise.
+    let limits = g.S.BookStore.limits c.args.store.now in
+    let old = g.S.BookStore.books c.args.store.now in
+    let new = g.S.BookStore.books c.move_card.new.self in
+    done limits old new c.args.command.now (MoveCard c.in-MoveCard.book c.in-MoveCard.uid c.in-MoveCard.to c.in-MoveCard.expect) (reply.Moved c.in_ok-numbers-in-MoveCard.numbers) c.in-MoveCard.is
+    (moves limits old new c.calls_follow_histories.ensures.moving c.in-MoveCard.book c.in-MoveCard.to c.in-MoveCard.uid c.in-MoveCard.expect (Ok c.in_ok-numbers-in-MoveCard.numbers)
+    (subst (λ (book : List ℕ). Does (Ok c.in_ok-numbers-in-MoveCard.numbers) (move_step limits old book c.in-MoveCard.to c.in-MoveCard.uid c.in-MoveCard.expect) old new) c.as_str-in-MoveCard.ensures
+    (subst (λ (to : List ℕ). Does (Ok c.in_ok-numbers-in-MoveCard.numbers) (move_step limits old c.as_str-in-MoveCard.result.now to c.in-MoveCard.uid c.in-MoveCard.expect) old new) c.as_str-in-MoveCard-2.ensures
+    (subst (λ (uid : List ℕ). Does (Ok c.in_ok-numbers-in-MoveCard.numbers) (move_step limits old c.as_str-in-MoveCard.result.now c.as_str-in-MoveCard-2.result.now uid c.in-MoveCard.expect) old new) c.as_str-in-MoveCard-3.ensures (c.in_ok-numbers-in-MoveCard.ensures.does premise)))))
+
+pub returns-in_err-tally-in-TallyOf-clause-does : goal.returns-in_err-tally-in-TallyOf-clause-does
+returns-in_err-tally-in-TallyOf-clause-does g c = λ premise.
+    let limits = g.S.BookStore.limits c.args.store.now in
+    let old = g.S.BookStore.books c.args.store.now in
+    let new = g.S.BookStore.books c.tally.new.self in
+    let p = err_from_is_err_and c.from_residual-in_err-tally-in-TallyOf.result c.from_residual-in_err-tally-in-TallyOf.ensures.1 in
+    denied limits old new c.args.command.now (TallyOf c.in-TallyOf.book) c.from_residual-in_err-tally-in-TallyOf.result c.in_err-tally-in-TallyOf.field-0.0 c.in-TallyOf.is (p.1 ∙ ap (λ (d : Denied). Err d) p.2)
+    (tallies limits old new c.calls_follow_histories.ensures.tallies c.in-TallyOf.book (Err c.in_err-tally-in-TallyOf.field-0.0)
+    (subst (λ (book : List ℕ). Tells (Err c.in_err-tally-in-TallyOf.field-0.0) (tally_step old book) old new) c.as_str-in-TallyOf.ensures (c.in_err-tally-in-TallyOf.ensures.does premise)))
+
+pub returns-in_ok-tally-in-TallyOf-clause-does : goal.returns-in_ok-tally-in-TallyOf-clause-does
+returns-in_ok-tally-in-TallyOf-clause-does g c = λ premise.
+    let limits = g.S.BookStore.limits c.args.store.now in
+    let old = g.S.BookStore.books c.args.store.now in
+    let new = g.S.BookStore.books c.tally.new.self in
+    done limits old new c.args.command.now (TallyOf c.in-TallyOf.book) (reply.Tally c.in_ok-tally-in-TallyOf.tally) c.in-TallyOf.is
+    (tallies limits old new c.calls_follow_histories.ensures.tallies c.in-TallyOf.book (Ok c.in_ok-tally-in-TallyOf.tally)
+    (subst (λ (book : List ℕ). Tells (Ok c.in_ok-tally-in-TallyOf.tally) (tally_step old book) old new) c.as_str-in-TallyOf.ensures (c.in_ok-tally-in-TallyOf.ensures.does premise)))

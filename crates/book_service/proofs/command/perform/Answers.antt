@@ -1,0 +1,36 @@
+use Rattle.std.proofs.Common.{sym, subst}
+use Rattle.book_service.specs.declared.event.Event.TheVariants.{Do}
+use Rattle.book_service.specs.declared.reply.Reply.{Reply}
+use Rattle.book_service.specs.declared.reply.Reply.TheVariants as reply
+use Rattle.book_service.specs.Faults.{IfFaultReply, MayComeOf}
+use Rattle.book_service.specs.Replies.{denied_reply}
+use Rattle.book_service.specs.Runs.{LeadsTo}
+use Rattle.book_model.specs.declared.denied.Fault.{Fault as FaultKind}
+use Rattle.book_service.proofs.EventLemmas.{command_happens}
+use Rattle.book_service.proofs.command.perform.Goals as goal
+
+-- what is no fault's reply is no matter
+no_fault : (may : FaultKind → Type 0) (r : Reply) → IfFaultReply r (λ fault. ⊥) → IfFaultReply r may
+no_fault may (reply.Fault fault) none = absurd none
+no_fault may (reply.Refused refusal) none = tt
+no_fault may (reply.Created id) none = tt
+no_fault may (reply.Books lines) none = tt
+no_fault may (reply.Card uid version card) none = tt
+no_fault may (reply.Put answer) none = tt
+no_fault may (reply.Gone number) none = tt
+no_fault may (reply.Moved numbers) none = tt
+no_fault may (reply.Page page) none = tt
+no_fault may (reply.Tally tally) none = tt
+
+pub returns-in-Ok-clause-fault : goal.returns-in-Ok-clause-fault
+returns-in-Ok-clause-fault g c = no_fault (MayComeOf g.S.BookStore.may_fault c.args.command.now) c.in-Ok.reply c.in-Ok.ensures.told
+
+pub returns-in-Ok-clause-step : goal.returns-in-Ok-clause-step
+returns-in-Ok-clause-step g c = λ premise now at.
+    command_happens (g.S.BookStore.limits c.args.store.now) (g.S.BookStore.books c.args.store.now) (g.S.BookStore.books c.outcome_of.new.store) c.in-Ok.reply now at c.args.command.now (c.in-Ok.ensures.does premise)
+
+pub returns-in-Err-clause-step : goal.returns-in-Err-clause-step
+returns-in-Err-clause-step g c = λ premise now at.
+    let new = g.S.BookStore.books c.outcome_of.new.store in
+    subst (λ (r : Reply). LeadsTo now (Do c.args.command.now) r new now.devices) (sym c.denied_reply.ensures)
+    (command_happens (g.S.BookStore.limits c.args.store.now) (g.S.BookStore.books c.args.store.now) new (denied_reply c.in-Err.error) now at c.args.command.now (c.in-Err.ensures.does premise))

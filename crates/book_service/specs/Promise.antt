@@ -1,0 +1,125 @@
+-- What holds over every run. This project's own.
+use Rattle.std.specs.Prelude.{ℕ, ◌+◌, ◌≡◌, ◌⊎◌, false, List, [], ◌∷◌, ◌++◌, length, ◌↔◌, Option, Some, Ok, slice_get}
+use Rattle.std.specs.FinMap as finite
+use Rattle.book_model.specs.declared.answers.Moved.{Moved as Numbers}
+use Rattle.book_model.specs.declared.answers.Stored.{Stored}
+use Rattle.book_model.specs.declared.page.Page.{Page as Told}
+use Rattle.book_model.specs.declared.refusal.Refusal.TheVariants.{BadToken}
+use Rattle.book_model.specs.declared.refusal.TokenCause.{TokenCause}
+use Rattle.book_model.specs.declared.refusal.TokenCause.TheVariants.{TooOld}
+use Rattle.book_model.specs.declared.token.Token.{Token}
+use Rattle.book_model.specs.Counting.{total, arrivals, departures}
+use Rattle.book_model.specs.Devices.{Holding}
+use Rattle.book_laws.specs.CountLaws.{CountsReasons}
+use Rattle.book_laws.specs.LiveLaws.{IsStoredLast}
+use Rattle.book_laws.specs.HistoryCounts.{counts_of}
+use Rattle.book_laws.specs.Histories.{live}
+use Rattle.book_laws.specs.Lawful.{IsLawful}
+use Rattle.book_laws.specs.CardMoves.{TakesOneCard}
+use Rattle.book_laws.specs.RightDevices.{IsComplete, IsRight}
+use Rattle.book_laws.specs.GoingOn.{GoesOn}
+use Rattle.book_laws.specs.TokenLaws.{token_of}
+use Rattle.book_laws.specs.Worlds.{Story, IsSoundWorld, World}
+use Rattle.book_service.specs.declared.command.Command.TheVariants.{MoveCard, Report}
+use Rattle.book_service.specs.declared.event.Event.{Event}
+use Rattle.book_service.specs.declared.event.Event.TheVariants.{Do, Ask}
+use Rattle.book_service.specs.declared.reply.Reply.{Reply}
+use Rattle.book_service.specs.declared.reply.Reply.TheVariants.{Moved, Page, Refused}
+use Rattle.book_service.specs.Runs.{Moment, Happening, AtEachStep, Run, end_of}
+use Rattle.book_service.specs.Texts.{ReadsToken}
+
+-- over every run from every sound world it holds from each moment to the next
+abbrev pub Always : (Moment → Event → Reply → Moment → Type 0) → Type 0
+Always holds = (now : Moment) (run : List Happening) →
+    IsSoundWorld now.world → Run now run → AtEachStep holds now run
+
+-- ---- the books
+
+-- the next moment is of a sound world: its limits are in range, and each history can be a book's
+abbrev pub LeadsToWorld : Moment → Event → Reply → Moment → Type 0
+LeadsToWorld now event r next = IsSoundWorld next.world
+
+-- The history is lawful, and a card is live just where its UID's last change stored it. Its changes
+-- are all counted, each under its reason, and its live cards with those that went are those that
+-- came.
+pub record AddsUp (story : Story) : Type 0 where
+  pub lawful : IsLawful story.history
+  pub live_cards : (uid : List ℕ) (stored : Stored) →
+      (finite.get (live story.history) uid ≡ Some stored) ↔ IsStoredLast story.history uid stored
+  pub changes : total (counts_of story.history) ≡ length story.history
+  pub reasons : CountsReasons story.history
+  pub cards : finite.len (live story.history) + departures (counts_of story.history)
+      ≡ arrivals (counts_of story.history)
+
+-- each book of each sound world adds up, and so of each moment of a run
+abbrev pub BooksAddUp : Type 0
+BooksAddUp = (world : World) (name : List ℕ) (story : Story) → IsSoundWorld world →
+    finite.get world.books name ≡ Some story → AddsUp story
+
+-- no book goes away, and nothing that happened to it is undone
+abbrev pub BooksGoOn : Moment → Event → Reply → Moment → Type 0
+BooksGoOn now event r next = (name : List ℕ) (old : Story) →
+    finite.get now.world.books name ≡ Some old →
+    (new : Story) × (finite.get next.world.books name ≡ Some new) × GoesOn old new
+
+-- a move that was answered takes one card between two books and alters nothing else
+abbrev pub MovesTakeOneCard : Moment → Event → Reply → Moment → Type 0
+MovesTakeOneCard now event r next =
+    (book uid to : List ℕ) (expect : Option ℕ) (numbers : Numbers) →
+    event ≡ Do (MoveCard book uid to expect) → r ≡ Moved numbers →
+    TakesOneCard now.world.books book to uid numbers next.world.books
+
+-- ---- the devices
+
+-- a device that is right before the step is right after it, whatever the others are
+abbrev pub DevicesStayRight : Moment → Event → Reply → Moment → Type 0
+DevicesStayRight now event r next = (i : ℕ) (old : Holding) →
+    slice_get now.devices i ≡ Some old → IsRight now.world.books old →
+    (new : Holding) × (slice_get next.devices i ≡ Some new) × IsRight next.world.books new
+
+-- where a right device is told a page that isn't truncated, its copy becomes the live cards of that
+-- moment, versions included
+abbrev pub LastPagesComplete : Moment → Event → Reply → Moment → Type 0
+LastPagesComplete now event r next =
+    (i : ℕ) (limit : Option ℕ) (page : Told) (old : Holding) →
+    event ≡ Ask i limit → r ≡ Page page → page.truncated ≡ false →
+    slice_get now.devices i ≡ Some old → IsRight now.world.books old →
+    (new : Holding) × (slice_get next.devices i ≡ Some new) × IsComplete next.world.books new
+
+-- ---- the tokens
+
+-- the event asks the book of this name for the page after this token
+abbrev pub AsksAfter : Moment → Event → List ℕ → Option Token → Type 0
+AsksAfter now (Do (Report book text limit)) name token =
+    (book ≡ name) × ReadsToken text (Ok token)
+AsksAfter now (Ask i limit) name token = (device : Holding) ×
+    (slice_get now.devices i ≡ Some device) × (device.book ≡ name) × (device.token ≡ token)
+AsksAfter now event name token = ⊥
+
+-- The event made the book of this name forget what was removed up to a number above this one, and
+-- was not refused. No command does so yet.
+abbrev pub ForgetsAbove : List ℕ → ℕ → Event → Reply → Type 0
+ForgetsAbove name base event r = ⊥
+
+-- it holds of some event and its reply
+abbrev pub AtSomeStep : (Event → Reply → Type 0) → List Happening → Type 0
+AtSomeStep holds [] = ⊥
+AtSomeStep holds (h ∷ run) = holds h.event h.reply ⊎ AtSomeStep holds run
+
+-- A book told a page, and refuses the page's token later in the run: only as too old, and only
+-- where it was made to forget above the token's base since it told the page.
+abbrev pub TokensGrowOld : Type 0
+TokensGrowOld = (now : Moment) (told again : Happening) (between : List Happening)
+    (name : List ℕ) (token : Option Token) (page : Told) (cause : TokenCause) →
+    IsSoundWorld now.world → Run now (told ∷ (between ++ again ∷ [])) →
+    AsksAfter now told.event name token → told.reply ≡ Page page →
+    AsksAfter (end_of told.after between) again.event name (Some (token_of page)) →
+    again.reply ≡ Refused (BadToken cause) →
+    (cause ≡ TooOld) × AtSomeStep (ForgetsAbove name page.mark.base) between
+
+-- ---- runs
+
+-- two runs are one where the second goes on from the end of the first
+abbrev pub RunsAppend : Type 0
+RunsAppend = (now : Moment) (run more : List Happening) →
+    Run now (run ++ more) ↔ (Run now run × Run (end_of now run) more)
