@@ -109,7 +109,7 @@ changes_are_events = simp gets
 pub changes_are_tallied : answers_to standard (only_staff 0 five) (Tallies staff ∷ []) ≡ Ok (GaveTally (record { number = 5; horizon = 0; cards = 2; created = 3; edited = 1; imported = 0; import_edited = 0; moved_in = 0; deleted = 1; moved_out = 0; remembered = 1 })) ∷ []
 changes_are_tallied = simp gets
 
--- ---- a first report in pages, and a whole one
+-- ---- an initial report in pages, and a whole one
 
 pub first_page_is_cut : answers_to standard (only_staff 0 five) (AsksReport staff None (Some 1) ∷ []) ≡ cut (Changed c 3 cy ∷ []) 3 5 ∷ []
 first_page_is_cut = simp gets

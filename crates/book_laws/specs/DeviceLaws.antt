@@ -19,7 +19,7 @@ use Rattle.book_model.specs.Devices.{AppliesInPart, Holding, after_page, applied
 
 -- ---- what holds of all copies
 
--- an empty copy is right for a first report
+-- an empty copy is right for an initial report
 abbrev pub EmptyIsRight : Type 0
 EmptyIsRight = (h : List BookEvent) → Agrees finite.empty (first_mark h) h
 

@@ -25,7 +25,8 @@ pub record IsStoredLast (h : List BookEvent) (uid : List ℕ) (stored : Stored) 
   pub why : StoreReason
   pub change : IsLastChange h uid stored.version (Stores stored.card why)
 
--- a card is live where the last change of its UID stored it, with that change's number as its version
+-- a card is live where the last change of its UID stored it, with that change's number as its
+-- version
 abbrev pub LiveAreStoredLast : Type 0
 LiveAreStoredLast = (h : List BookEvent) (uid : List ℕ) (stored : Stored) →
     (finite.get (live h) uid ≡ Some stored) ↔ IsStoredLast h uid stored

@@ -1,4 +1,5 @@
-//! That the rows of a store stand for histories: what a call answers and leaves by its rows is what it means on these.
+//! That the rows of a store stand for histories: what a call answers and leaves by its rows is
+//! what it means on these.
 ghost use Rattle.book_laws.specs.ChangeLaws.{RemovingFollows, MovingFollows, ImportingFollows, ForgettingFollows, NothingFollows, CreatingFollows, PuttingFollows};
 ghost use Rattle.book_laws.specs.RowLaws.{RowsAreOfBooks};
 ghost use Rattle.book_laws.specs.ReadLaws.{BooksFollow, BookLinesFollow, GettingFollows, CardsFollow, KeptImportsFollow, TalliesFollow, ReportsFollow};
@@ -33,7 +34,8 @@ pub fn moving_follows_histories()
     ensures { MovingFollows }
 {}
 
-/// Cards that are imported in the rows are imported in the histories, one after another; a repeated key acts in neither.
+/// Cards that are imported in the rows are imported in the histories, one after another; a
+/// repeated key acts in neither.
 pub fn importing_follows_histories()
     ensures { ImportingFollows }
 {}

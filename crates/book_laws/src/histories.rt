@@ -11,13 +11,14 @@ ghost use Rattle.book_laws.specs.ReportLaws.{DueHaveEvents};
 
 use vcard_text::laws::equal_texts;
 
-/// A card is live where the last change of its UID stored it, and that change's number is its version.
+/// A card is live where the last change of its UID stored it, and that change's number is its
+/// version.
 pub fn live_cards_are_stored_last()
     ensures { LiveAreStoredLast }
 {}
 
-/// Each of a history's counts is the number of its events with that reason. They add up to the number of all events, and
-/// tell how many cards are live.
+/// Each of a history's counts is the number of its events with that reason. They add up to the
+/// number of all events, and tell how many cards are live.
 pub fn changes_are_counted()
     ensures reasons { ReasonsAreCounted }
     ensures events { EventsAreCounted }
@@ -29,8 +30,8 @@ pub fn versions_are_last()
     ensures { VersionsAreLast }
 {}
 
-/// An import of cards with distinct UIDs counts them by what was live before all of them. Each that it adds or edits is an
-/// event, and each that it adds is one more live card.
+/// An import of cards with distinct UIDs counts them by what was live before all of them. Each
+/// that it adds or edits is an event, and each that it adds is one more live card.
 pub fn imports_count_live_cards()
     ensures counts { ImportsCountLiveCards }
     ensures events { ImportsTakeEvents }
@@ -41,7 +42,8 @@ pub fn due_members_have_events()
     ensures { DueHaveEvents }
 {}
 
-/// The test by which a put knows the same card again is equality of cards, and so of their canonical texts.
+/// The test by which a put knows the same card again is equality of cards, and so of their
+/// canonical texts.
 pub fn same_cards_are_equal()
     ensures lines { (a b : List Line) → (same_card a b ≡ true) ↔ (a ≡ b) }
     ensures texts { (a b : List Line) → IsCard a → IsCard b →

@@ -3,38 +3,40 @@ ghost use Rattle.book_laws.specs.RunLaws.{StaysSound, RowsAreEnough, BooksGoOn, 
 ghost use Rattle.book_laws.specs.TokenLaws.{TokensStayGood};
 ghost use Rattle.book_laws.specs.MoveLaws.{MovesTakeOneCard};
 
-/// Over every list of calls each history stays lawful: cards come in where their UIDs aren't live, and are edited and go
-/// where they are.
+/// Over every list of calls each history stays lawful: cards come in where their UIDs aren't live,
+/// and are edited and go where they are.
 pub fn histories_stay_lawful()
     ensures { StaysSound }
 {}
 
-/// Where two stores have the same limits and rows, every list of calls is answered alike and leaves the same rows,
-/// whatever histories led to them: the rows forget nothing that a later call asks for.
+/// Where two stores have the same limits and rows, every list of calls is answered alike and
+/// leaves the same rows, whatever histories led to them: the rows forget nothing that a later call
+/// asks for.
 pub fn rows_are_enough()
     ensures { RowsAreEnough }
 {}
 
-/// No call takes a book away or undoes what happened to it: it keeps its id, its events and what it keeps of imports, and
-/// its horizon doesn't fall.
+/// No call takes a book away or undoes what happened to it: it keeps its id, its events and what
+/// it keeps of imports, and its horizon doesn't fall.
 pub fn books_go_on()
     ensures { BooksGoOn }
 {}
 
-/// An import key acts once: after an import that was answered, whatever calls come between, another with the key is
-/// answered the same and changes nothing.
+/// An import key acts once: after an import that was answered, whatever calls come between,
+/// another with the key is answered the same and changes nothing.
 pub fn imports_act_once()
     ensures { ImportsActOnce }
 {}
 
-/// The book of a page refuses its token only as too old, and only where it was made to forget above the token's base
-/// since the page was made.
+/// The book of a page refuses its token only as too old, and only where it was made to forget
+/// above the token's base since the page was made.
 pub fn tokens_stay_good()
     ensures { TokensStayGood }
 {}
 
-/// A move takes one card between two books and alters nothing else: an event in each of two histories, with the same card;
-/// every other book and card is as before, and the cards of all books together number the same.
+/// A move takes one card between two books and alters nothing else: an event in each of two
+/// histories, with the same card; every other book and card is as before, and the cards of all
+/// books together number the same.
 pub fn moves_take_one_card()
     ensures { MovesTakeOneCard }
 {}

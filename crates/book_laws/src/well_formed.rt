@@ -21,8 +21,8 @@ pub fn calls_keep_books_well_formed()
     ensures { CallsKeepForm }
 {}
 
-/// A page of well-formed books is in order and tells cards under their own UIDs, a text has room for its token, and
-/// the token of another book is refused.
+/// A page of well-formed books is in order and tells cards under their own UIDs, a text has room
+/// for its token, and the token of another book is refused.
 pub fn pages_fit_well_formed_books()
     ensures fit { PagesFitBooks }
     ensures short_numbers { PagesHaveShortNumbers }

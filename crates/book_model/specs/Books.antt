@@ -16,8 +16,9 @@ use Rattle.book_model.specs.declared.refusal.Refusal.TheVariants.{NoSuchBook}
 use Rattle.book_model.specs.declared.row.Row.{Row}
 use Rattle.book_model.specs.Counting.{no_counts, counted}
 
--- A book: its id, the number of its last change, the number up to which removed members may be forgotten,
--- how many changes had each reason, a row for each member by UID, and what imports answered by their keys.
+-- A book: its id, the number of its last change, the number up to which removed members may be
+-- forgotten, how many changes had each reason, a row for each member by UID, and what imports
+-- answered by their keys.
 pub record Book : Type 0 where
   pub id : ℕ
   pub number : ℕ
@@ -39,7 +40,14 @@ same_name a b = eq_by_cmp text_cmp a b
 
 -- a book to which nothing happened
 abbrev pub empty_book : ℕ → Book
-empty_book id = record { id = id; number = 0; horizon = 0; counts = no_counts; members = finite.empty; imports = finite.empty }
+empty_book id = record {
+  id = id;
+  number = 0;
+  horizon = 0;
+  counts = no_counts;
+  members = finite.empty;
+  imports = finite.empty;
+}
 
 abbrev pub book_named : Books → List ℕ → Result Book Refusal
 book_named books name = option_map_or Ok (finite.get books name) (Err NoSuchBook)
@@ -65,5 +73,6 @@ abbrev pub with_change : Book → List ℕ → Change → Book
 with_change book uid change = record book {
   number = book.number + 1;
   counts = counted change book.counts;
-  members = finite.insert book.members uid (record { changed = book.number + 1; card = card_after change });
+  members = finite.insert book.members uid
+      (record { changed = book.number + 1; card = card_after change });
 }

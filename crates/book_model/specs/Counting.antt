@@ -7,7 +7,15 @@ use Rattle.book_model.specs.declared.change.StoreReason.TheVariants.{Creation, E
 use Rattle.book_model.specs.declared.change.RemovalReason.TheVariants.{Deletion, MoveOut}
 
 abbrev pub no_counts : Counts
-no_counts = record { created = 0; edited = 0; imported = 0; import_edited = 0; moved_in = 0; deleted = 0; moved_out = 0 }
+no_counts = record {
+  created = 0;
+  edited = 0;
+  imported = 0;
+  import_edited = 0;
+  moved_in = 0;
+  deleted = 0;
+  moved_out = 0;
+}
 
 -- one more of the change's reason
 abbrev pub counted : Change → Counts → Counts

@@ -11,7 +11,8 @@ use Rattle.book_model.specs.Books.{LiveCards}
 
 -- what is said of one member is written over what the copy had of it
 abbrev pub applied_one : LiveCards → Entry → LiveCards
-applied_one copy (Changed uid version card) = finite.insert copy uid (record { version = version; card = card })
+applied_one copy (Changed uid version card) =
+    finite.insert copy uid (record { version = version; card = card })
 applied_one copy (Removed uid) = finite.remove copy uid
 
 -- the copy after the entries, in their order
@@ -49,7 +50,10 @@ after_page holding page = record holding {
 pub record AppliesFirst (holding : Holding) (page : Page) (after : Holding) : Type 0 where
   pub count : ℕ
   pub within : count ≤ length page.entries
-  pub after_is : after ≡ record holding { copy = applied (ready_copy holding) (take count page.entries) }
+  pub after_is : after ≡ record holding {
+    copy = applied (ready_copy holding)
+        (take count page.entries);
+  }
 
 -- or nothing happened at all
 abbrev pub AppliesInPart : Holding → Page → Holding → Type 0

@@ -1,4 +1,5 @@
--- Importing cards under a key, which is kept with the answer so that the same import acts once. This project's own.
+-- Importing cards under a key, which is kept with the answer so that the same import acts once.
+-- This project's own.
 use Rattle.std.specs.Prelude.{ℕ, ◌+◌, ◌==◌, Bool, ◌&&◌, ◌||◌, nat_le, List, length, fold, Option, Some, None, Result, Ok, if◌then◌else◌}
 use Rattle.std.specs.List.{list_all}
 use Rattle.std.specs.FinMap as finite
@@ -22,7 +23,8 @@ use Rattle.book_model.specs.SameCards.{same_card}
 -- A to Z, a to z, 0 to 9, the dot, the underscore and the hyphen
 abbrev pub is_key_octet : ℕ → Bool
 is_key_octet octet =
-    (nat_le 65 octet && nat_le octet 90) || (nat_le 97 octet && nat_le octet 122) || (nat_le 48 octet && nat_le octet 57)
+    (nat_le 65 octet && nat_le octet 90) || (nat_le 97 octet && nat_le octet 122)
+    || (nat_le 48 octet && nat_le octet 57)
     || (octet == 46) || (octet == 95) || (octet == 45)
 
 -- 1 to 64 of them
@@ -46,19 +48,24 @@ pub record Importing (S : Type 0) : Type 0 where
   pub same : ℕ
 
 abbrev pub importing : {S : Type 0} → S → ℕ → ℕ → ℕ → Importing S
-importing book added edited same = record { book = book; added = added; edited = edited; same = same }
+importing book added edited same =
+    record { book = book; added = added; edited = edited; same = same }
 
 -- the same three counts, whatever is kept of the book
 abbrev pub imported_so_far : ℕ → ℕ → ℕ → Importing (Unit {0})
 imported_so_far added edited same = importing tt added edited same
 
--- Of any kind of book, by what is live in it at a UID and what becomes of it when a card is stored for a reason.
-module _ {S : Type 0} (live_in : S → List ℕ → Option Stored) (storing : S → List Line → StoreReason → S) where
+-- Of any kind of book, by what is live in it at a UID and what becomes of it when a card is stored
+-- for a reason.
+module _ {S : Type 0} (live_in : S → List ℕ → Option Stored)
+    (storing : S → List Line → StoreReason → S) where
   -- a card is added where its UID isn't live, replaces another one, or is there already
   abbrev pub import_over : Importing S → List Line → Option Stored → Importing S
-  import_over state card None = importing (storing state.book card Import) (state.added + 1) state.edited state.same
+  import_over state card None =
+      importing (storing state.book card Import) (state.added + 1) state.edited state.same
   import_over state card (Some stored) =
-      if same_card stored.card card then importing state.book state.added state.edited (state.same + 1)
+      if same_card stored.card card then importing state.book state.added state.edited
+      (state.same + 1)
       else importing (storing state.book card ImportEdit) state.added (state.edited + 1) state.same
 
   abbrev pub import_card : Importing S → List Line → Importing S
@@ -67,11 +74,13 @@ module _ {S : Type 0} (live_in : S → List ℕ → Option Stored) (storing : S 
   abbrev pub import_cards : S → List (List Line) → Importing S
   import_cards book cards = fold import_card (importing book 0 0 0) cards
 
--- There is room for what was added and edited: by the live cards and the number of the book as it is then.
+-- There is room for what was added and edited: by the live cards and the number of the book as it
+-- is then.
 abbrev pub import_tally : {S : Type 0} → Bounds → Importing S → ℕ → ℕ → Result ImportTally Refusal
 import_tally limits state cards number = do
   room ← provided ((state.added == 0) || nat_le cards limits.cards_max) BookFull
-  left ← provided ((state.added + state.edited == 0) || nat_le number limits.changes_max) ChangesSpent
+  left ← provided ((state.added + state.edited == 0) || nat_le number limits.changes_max)
+      ChangesSpent
   Ok (record { added = state.added; edited = state.edited; same = state.same; number = number })
 
 -- ---- the rows
@@ -84,13 +93,21 @@ abbrev pub keeping : Book → List ℕ → ImportTally → Book
 keeping book key tally = record book { imports = finite.insert book.imports key tally }
 
 -- with a kept key the answer is what is kept, and nothing changes
-abbrev pub import_under : Bounds → Books → List ℕ → Book → List ℕ → List (List Line) → Option ImportTally → Result (ImportTally × Books) Refusal
+abbrev pub import_under : Bounds → Books → List ℕ → Book → List ℕ → List (List Line)
+    → Option ImportTally → Result (ImportTally × Books) Refusal
 import_under limits books name book key cards (Some kept) = Ok (kept, books)
 import_under limits books name book key cards None = do
-  tally ← import_tally limits (import_cards live_at storing_in book cards) (live_count (import_cards live_at storing_in book cards).book.counts) (import_cards live_at storing_in book cards).book.number
-  Ok (tally, finite.insert books name (keeping (import_cards live_at storing_in book cards).book key tally))
+  tally ← import_tally limits (import_cards live_at storing_in book cards)
+      (live_count (import_cards live_at storing_in book cards).book.counts)
+      (import_cards live_at storing_in book cards).book.number
+  Ok (
+    tally,
+    finite.insert books name (keeping (import_cards live_at storing_in book cards).book
+        key tally),
+  )
 
-abbrev pub import_step : Bounds → Books → List ℕ → List ℕ → List (List Line) → Result (ImportTally × Books) Refusal
+abbrev pub import_step : Bounds → Books → List ℕ → List ℕ → List (List Line)
+    → Result (ImportTally × Books) Refusal
 import_step limits books name key cards = do
   book ← book_named books name
   legal ← provided (is_legal_key key) BadKey

@@ -1,5 +1,5 @@
--- Moving a card from one book to another: it is a removed member of the one and a changed member of the other
--- (RFC 6578, section 3.5). The tests are this project's own.
+-- Moving a card from one book to another: it is a removed member of the one and a changed member
+-- of the other (RFC 6578, section 3.5). The tests are this project's own.
 use Rattle.std.specs.Prelude.{ℕ, ◌<◌, not, nat_lt, List, is_some, IsSome, Option, Result, Ok}
 use Rattle.std.specs.FinMap as finite
 use Rattle.vcard_text.specs.declared.line.Line.{Line}
@@ -23,7 +23,8 @@ pub record Moving : Type 0 where
 abbrev pub moving_of : List Line → Moved → Moving
 moving_of card numbers = record { card = card; numbers = numbers }
 
--- the numbers that a move takes, where the book that the card comes to has so many cards, and both books these numbers
+-- the numbers that a move takes, where the book that the card comes to has so many cards, and both
+-- books these numbers
 abbrev pub move_numbers : Bounds → ℕ → ℕ → ℕ → Result Moved Refusal
 move_numbers limits cards source target = do
   room ← provided (nat_lt cards limits.cards_max) BookFull
@@ -31,7 +32,8 @@ move_numbers limits cards source target = do
   version ← next_number limits target
   Ok (record { from = from; version = version })
 
--- what a move comes to, by what it finds at the UID in the book that the card leaves and in the other
+-- what a move comes to, by what it finds at the UID in the book that the card leaves and in the
+-- other
 abbrev pub move_answer : Bounds → Found → Found → Option ℕ → Result Moving Refusal
 move_answer limits source target expect = do
   stored ← live_card source.live
@@ -43,9 +45,11 @@ move_answer limits source target expect = do
 -- the books after a move from the one to the other
 abbrev pub books_after_move : Books → List ℕ → List ℕ → List ℕ → Book → Book → List Line → Books
 books_after_move books from to uid source target card =
-    finite.insert (finite.insert books to (with_change target uid (Stores card MoveIn))) from (with_change source uid (TakesAway MoveOut))
+    finite.insert (finite.insert books to (with_change target uid (Stores card MoveIn))) from
+    (with_change source uid (TakesAway MoveOut))
 
-abbrev pub move_step : Bounds → Books → List ℕ → List ℕ → List ℕ → Option ℕ → Result (Moved × Books) Refusal
+abbrev pub move_step : Bounds → Books → List ℕ → List ℕ → List ℕ → Option ℕ
+    → Result (Moved × Books) Refusal
 move_step limits books from to uid expect = do
   source ← book_named books from
   target ← book_named books to

@@ -10,7 +10,8 @@ use Rattle.vcard_text.specs.declared.fault.CardFault.{CardFault}
 use Rattle.vcard_text.specs.declared.fault.CardFault.TheVariants.{Memory as NoRoom}
 use Rattle.vcard_text.specs.TextReading.{reading}
 
--- A step is a function into an answer and the state after it, or a refusal. Its tests stand in their order.
+-- A step is a function into an answer and the state after it, or a refusal. Its tests stand in
+-- their order.
 infixl 10 ◌>>=◌
 abbrev pub ◌>>=◌ : {A B : Type 0} → Result A Refusal → (A → Result B Refusal) → Result B Refusal
 (Ok x) >>= f = f x
@@ -27,8 +28,9 @@ abbrev pub denied_card : CardFault → Denied
 denied_card NoRoom = no_memory
 denied_card fault = Refused (BadCard fault)
 
--- What a call returned and left, against its step: the step's answer and the state after it, or the step's
--- refusal and the old state. A fault may come in place of either, and leaves the old state too.
+-- What a call returned and left, against its step: the step's answer and the state after it, or
+-- the step's refusal and the old state. A fault may come in place of either, and leaves the old
+-- state too.
 abbrev pub Does : {A S : Type 0} → Result A Denied → Result (A × S) Refusal → S → S → Type 0
 Does (Ok answer) (Ok done) old new = (answer ≡ done.0) × (new ≡ done.1)
 Does (Ok answer) (Err refusal) old new = ⊥
@@ -37,7 +39,8 @@ Does (Err (Refused refusal)) (Err wanted) old new = (refusal ≡ wanted) × (new
 Does (Err (Fault fault)) step old new = new ≡ old
 
 -- The same of a call that changes nothing. Its answer is one that what was asked for allows.
-abbrev pub Reads : {T A S : Type 0} → (T → A → Type 0) → Result A Denied → Result T Refusal → S → S → Type 0
+abbrev pub Reads : {T A S : Type 0} → (T → A → Type 0) → Result A Denied → Result T Refusal → S → S
+    → Type 0
 Reads allows (Ok answer) (Ok asked) old new = allows asked answer × (new ≡ old)
 Reads allows (Ok answer) (Err refusal) old new = ⊥
 Reads allows (Err (Refused refusal)) (Ok asked) old new = ⊥
@@ -54,18 +57,11 @@ RefusesFirst result (Ok wanted) = Unit {0}
 RefusesFirst result (Err refusal) = result ≡ Err (Refused refusal)
 
 -- a growth was refused
-abbrev pub IsWantOfMemory : FaultKind → Type 0
-IsWantOfMemory fault = fault ≡ Memory
+abbrev pub IsOutOfMemory : FaultKind → Type 0
+IsOutOfMemory fault = fault ≡ Memory
 
 -- where the call came to a fault, this holds of the fault
 abbrev pub IfFault : {A : Type 0} → Result A Denied → (FaultKind → Type 0) → Type 0
 IfFault (Ok answer) may = Unit {0}
 IfFault (Err (Refused refusal)) may = Unit {0}
 IfFault (Err (Fault fault)) may = may fault
-
--- the store isn't at fault: what was denied was refused, or memory was wanting
-abbrev pub HasNoStoreFault : {A : Type 0} → Result A Denied → Type 0
-HasNoStoreFault (Ok answer) = Unit {0}
-HasNoStoreFault (Err (Refused refusal)) = Unit {0}
-HasNoStoreFault (Err (Fault Store)) = ⊥
-HasNoStoreFault (Err (Fault Memory)) = Unit {0}

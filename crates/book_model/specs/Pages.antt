@@ -29,7 +29,8 @@ abbrev pub mark_after : Mark → ℕ → Mark
 mark_after mark number = record { at = number; base = max number mark.base }
 
 abbrev pub page_of : ℕ → Answer → Page
-page_of id answer = record { book = id; entries = answer.entries; mark = answer.mark; truncated = answer.truncated }
+page_of id answer =
+    record { book = id; entries = answer.entries; mark = answer.mark; truncated = answer.truncated }
 
 -- ---- the rows that are due
 
@@ -39,7 +40,8 @@ Member = List ℕ × Row
 
 -- a row is due where it changed after `at`, and is live or went after `base`
 abbrev pub row_is_due : Mark → Row → Bool
-row_is_due mark row = nat_lt mark.at row.changed && (is_some row.card || nat_lt mark.base row.changed)
+row_is_due mark row =
+    nat_lt mark.at row.changed && (is_some row.card || nat_lt mark.base row.changed)
 
 abbrev pub due_rows : finite.FinMap text_cmp Row → Mark → List Member
 due_rows members mark = filter (λ m. row_is_due mark m.1) (finite.entries members)
@@ -78,7 +80,8 @@ pub record Asked : Type 0 where
   pub size : ℕ
 
 abbrev pub answer_from : Asked → List Member → Answer
-answer_from asked ordered = if nat_lt asked.size (length ordered) then cut_rows asked.mark ordered asked.size else whole_rows asked.book.number ordered
+answer_from asked ordered = if nat_lt asked.size (length ordered) then cut_rows asked.mark ordered
+    asked.size else whole_rows asked.book.number ordered
 
 -- the page has the due members with the least numbers, in their order
 pub record IsReport (asked : Asked) (page : Page) : Type 0 where
@@ -94,7 +97,8 @@ pub record AreFirstOfMore (asked : Asked) (rows : List Member) : Type 0 where
   pub some : 1 ≤ asked.size
   pub more : asked.size < length ordered
 
--- the rows are all of those that are due, in the order of their numbers, and no more than were asked for
+-- the rows are all of those that are due, in the order of their numbers, and no more than were
+-- asked for
 pub record AreAllDue (asked : Asked) (rows : List Member) : Type 0 where
   pub by_number : IsByNumber (due_rows asked.book.members asked.mark) rows
   pub fit : length rows ≤ asked.size
@@ -103,8 +107,8 @@ pub record AreAllDue (asked : Asked) (rows : List Member) : Type 0 where
 abbrev pub last_number : List Member → ℕ
 last_number rows = number_at rows (length rows - 1)
 
--- The mark that a token stands for in the book with this id, number and horizon. With no token the device has
--- heard nothing, and keeps nothing that went before now.
+-- The mark that a token stands for in the book with this id, number and horizon. With no token the
+-- device has heard nothing, and keeps nothing that went before now.
 abbrev pub mark_asked : ℕ → ℕ → ℕ → Option Token → Result Mark Refusal
 mark_asked id number horizon None = Ok (record { at = 0; base = number })
 mark_asked id number horizon (Some token) = do

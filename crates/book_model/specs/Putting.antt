@@ -1,5 +1,6 @@
--- Storing a card under its UID. A member that has a card already is modified, and else it is newly mapped
--- (RFC 6578, section 3.5.1). The tests and the version that is expected are this project's own.
+-- Storing a card under its UID. A member that has a card already is modified, and else it is newly
+-- mapped (RFC 6578, section 3.5.1). The tests and the version that is expected are this project's
+-- own.
 use Rattle.std.specs.Prelude.{ℕ, ◌+◌, ◌==◌, Bool, true, nat_lt, List, Option, Some, None, Result, Ok, if◌then◌else◌}
 use Rattle.std.specs.Option.{option_map_or}
 use Rattle.std.specs.FinMap as finite
@@ -20,7 +21,8 @@ use Rattle.book_model.specs.Counting.{live_count}
 use Rattle.book_model.specs.Outcomes.{◌>>=◌, provided}
 use Rattle.book_model.specs.SameCards.{same_card}
 
--- what a change of one member finds: what is live at its UID, how many cards are live, and the book's number
+-- what a change of one member finds: what is live at its UID, how many cards are live, and the
+-- book's number
 pub record Found : Type 0 where
   pub live : Option Stored
   pub cards : ℕ
@@ -59,7 +61,8 @@ answer_over limits found card (Some stored) =
 
 abbrev pub put_answer : Bounds → Found → List Line → Option ℕ → Result PutAnswer Refusal
 put_answer limits found card expect = do
-  expected ← provided (is_expected expect (version_of found.live)) (VersionMismatch (version_of found.live))
+  expected ← provided (is_expected expect (version_of found.live))
+      (VersionMismatch (version_of found.live))
   answer_over limits found card found.live
 
 -- why the card is stored, where it is
@@ -76,13 +79,16 @@ version_in (Unchanged version) = version
 
 -- what a change finds in the rows of a book
 abbrev pub found_in : Book → List ℕ → Found
-found_in book uid = record { live = live_at book uid; cards = live_count book.counts; number = book.number }
+found_in book uid =
+    record { live = live_at book uid; cards = live_count book.counts; number = book.number }
 
 abbrev pub books_after_put : Books → List ℕ → Book → List Line → Option StoreReason → Books
 books_after_put books name book card None = books
-books_after_put books name book card (Some why) = finite.insert books name (with_change book (uid_of card) (Stores card why))
+books_after_put books name book card (Some why) =
+    finite.insert books name (with_change book (uid_of card) (Stores card why))
 
-abbrev pub put_step : Bounds → Books → List ℕ → List Line → Option ℕ → Result (PutAnswer × Books) Refusal
+abbrev pub put_step : Bounds → Books → List ℕ → List Line → Option ℕ
+    → Result (PutAnswer × Books) Refusal
 put_step limits books name card expect = do
   book ← book_named books name
   answer ← put_answer limits (found_in book (uid_of card)) card expect

@@ -48,7 +48,8 @@ live_cards book = finite.from_entries (flat_map live_entry (finite.entries book.
 
 -- the cards with a member's, where it is live
 abbrev pub with_live : LiveCards → List ℕ × Row → LiveCards
-with_live cards member = option_map_or (λ stored. finite.insert cards member.0 stored) (stored_in member.1) cards
+with_live cards member =
+    option_map_or (λ stored. finite.insert cards member.0 stored) (stored_in member.1) cards
 
 abbrev pub cards_step : Books → List ℕ → Result LiveCards Refusal
 cards_step books name = do
@@ -78,14 +79,16 @@ is_removed_after horizon row = not (is_some row.card) && nat_lt horizon row.chan
 
 -- how many members were removed after the horizon
 abbrev pub removed_after : finite.FinMap text_cmp Row → ℕ → ℕ
-removed_after members horizon = length (filter (λ member. is_removed_after horizon member.1) (finite.entries members))
+removed_after members horizon =
+    length (filter (λ member. is_removed_after horizon member.1) (finite.entries members))
 
 -- the removed members that a book remembers
 abbrev pub remembered_in : Book → ℕ
 remembered_in book = removed_after book.members book.horizon
 
 abbrev pub tally_of : Book → Tally
-tally_of book = tally_with book.number book.horizon (live_count book.counts) book.counts (remembered_in book)
+tally_of book =
+    tally_with book.number book.horizon (live_count book.counts) book.counts (remembered_in book)
 
 abbrev pub tally_step : Books → List ℕ → Result Tally Refusal
 tally_step books name = do

@@ -1,6 +1,6 @@
--- The numbers and the words under which refusals, faults and the causes of a refused token are reported.
--- `valid-sync-token` and `number-of-matches-within-limits` are the preconditions of RFC 6578, sections 3.2 and 3.7;
--- the others are this project's own.
+-- The numbers and the words under which refusals, faults and the causes of a refused token are
+-- reported. `valid-sync-token` and `number-of-matches-within-limits` are the preconditions of RFC
+-- 6578, sections 3.2 and 3.7; the others are this project's own.
 use Rattle.std.specs.Prelude.{ℕ, List, codes}
 use Rattle.book_model.specs.declared.refusal.Refusal.{Refusal}
 use Rattle.book_model.specs.declared.refusal.Refusal.TheVariants.{NoSuchBook, BookExists, BadBookName, NoSuchCard, BadCard, UidMismatch, VersionMismatch, UidTaken, SameBook, BadToken, BadLimit, BookFull, ChangesSpent, BadImport, BadKey, BadForget, NotGroup, TooManyBooks}

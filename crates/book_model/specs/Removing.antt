@@ -1,4 +1,5 @@
--- Taking a card away: the member's mapping is removed (RFC 6578, section 3.5.2). The tests are this project's own.
+-- Taking a card away: the member's mapping is removed (RFC 6578, section 3.5.2). The tests are
+-- this project's own.
 use Rattle.std.specs.Prelude.{ℕ, List, Option, Result, Ok, Err}
 use Rattle.std.specs.Option.{option_map_or}
 use Rattle.std.specs.FinMap as finite

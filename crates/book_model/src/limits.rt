@@ -18,19 +18,37 @@ impl Model for Limits {
 
     ghost Value = { Bounds };
 
-    ghost view = { λ l. record { page_max = l.page_max; cards_max = l.cards_max; changes_max = l.changes_max; books_max = l.books_max } };
+    ghost view = { λ l. record {
+      page_max = l.page_max;
+      cards_max = l.cards_max;
+      changes_max = l.changes_max;
+      books_max = l.books_max;
+    } };
 
-    ghost inverse = { λ b. record { page_max = b.page_max; cards_max = b.cards_max; changes_max = b.changes_max; books_max = b.books_max } };
+    ghost inverse = { λ b. record {
+      page_max = b.page_max;
+      cards_max = b.cards_max;
+      changes_max = b.changes_max;
+      books_max = b.books_max;
+    } };
 
-    ghost invariant = { λ l. IsInRange (record { page_max = l.page_max; cards_max = l.cards_max; changes_max = l.changes_max; books_max = l.books_max }) };
+    ghost invariant = { λ l. IsInRange (record {
+      page_max = l.page_max;
+      cards_max = l.cards_max;
+      changes_max = l.changes_max;
+      books_max = l.books_max;
+    }) };
 }
 
 impl Limits {
-    /// These limits, where each is at least 1, a page has at most 1,000 entries, a book at most 10,000 live cards and
-    /// 1,000,000,000,000 changes, and the store at most 100 books. It takes no memory.
+    /// These limits, where each is at least 1, a page has at most 1,000 entries, a book at most
+    /// 10,000 live cards and 1,000,000,000,000 changes, and the store at most 100 books. It takes
+    /// no memory.
     pub fn new(page_max: u64, cards_max: u64, changes_max: u64, books_max: u64) -> Option<Limits>
-        ensures some { IfSome result (λ limits. limits ≡ bounds_of page_max cards_max changes_max books_max) }
-        ensures range { IsSome result ↔ IsInRange (bounds_of page_max cards_max changes_max books_max) }
+        ensures some { IfSome result (λ limits. limits ≡ bounds_of page_max cards_max changes_max
+            books_max) }
+        ensures range { IsSome result ↔ IsInRange (bounds_of page_max cards_max changes_max
+            books_max) }
     {
         let pages = matches!(page_max, 1..=1_000);
         let cards = matches!(cards_max, 1..=10_000);
@@ -47,7 +65,8 @@ impl Limits {
         })
     }
 
-    /// A page of 100 entries, 10,000 live cards and 1,000,000,000,000 changes in a book, and 100 books.
+    /// A page of 100 entries, 10,000 live cards and 1,000,000,000,000 changes in a book, and 100
+    /// books.
     pub fn standard() -> Limits
         ensures page { result.page_max ≡ 100 }
         ensures cards { result.cards_max ≡ 10000 }

@@ -56,7 +56,8 @@ pub enum Refusal {
     SameBook,
     /// The sync token isn't taken.
     BadToken(TokenCause),
-    /// A page of no entries was asked for (RFC 6578, section 3.7: `number-of-matches-within-limits`).
+    /// A page of no entries was asked for (RFC 6578, section 3.7:
+    /// `number-of-matches-within-limits`).
     BadLimit,
     /// The book has as many live cards as it may have.
     BookFull,

@@ -5,7 +5,8 @@
 pub struct Mark {
     /// Members whose last change has at most this number have been told.
     pub at: u64,
-    /// Members that went by a change with at most this number needn't be told: the device doesn't hold them.
+    /// Members that went by a change with at most this number needn't be told: the device doesn't
+    /// hold them.
     pub base: u64,
 }
 

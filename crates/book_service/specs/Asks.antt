@@ -17,11 +17,11 @@ after_refusal holding refusal = holding
 
 -- Memory ran out while the page was applied: some first entries are, and the token is the old one.
 pub record BreaksOff (meant : Result Page Refusal) (fault : Fault) (old new : Holding) : Type 0
-    where
-  pub page : Page
-  pub told : meant ≡ Ok page
-  pub part : AppliesFirst old page new
-  pub fault_is : fault ≡ Memory
+  where
+    pub page : Page
+    pub told : meant ≡ Ok page
+    pub part : AppliesFirst old page new
+    pub fault_is : fault ≡ Memory
 
 -- What a device was replied where this report is meant, and what became of it: it applied the whole
 -- page, or was refused, or there was a fault, before the page was applied or in it.

@@ -1,4 +1,5 @@
--- Who a group reaches through its members (RFC 6350, section 6.6.5). That groups of groups are followed, and that a value may name a card behind urn:uuid:, is this project's own.
+-- Who a group reaches through its members (RFC 6350, section 6.6.5). That groups of groups are
+-- followed, and that a value may name a card behind urn:uuid:, is this project's own.
 use Rattle.std.specs.Prelude.{ℕ, ◌≡◌, ◌≢◌, ◌↔◌, ◌⊎◌, Bool, ◌&&◌, List, take, drop, codes, Option, Some, None, if◌then◌else◌}
 use Rattle.std.specs.List.{Contains}
 use Rattle.std.specs.List.Sorted.{IsStrictlySortedBy}
@@ -19,11 +20,13 @@ Cards = finite.FinMap text_cmp (List Line)
 abbrev pub begins_with_urn : List ℕ → Bool
 begins_with_urn value = str_eq_ignore_ascii_case (take 9 value) (codes "urn:uuid:")
 
--- the UID of the card that a value names: the value itself, and only where no card has that, what follows urn:uuid:
+-- the UID of the card that a value names: the value itself, and only where no card has that, what
+-- follows urn:uuid:
 abbrev pub named_by : Cards → List ℕ → Option (List ℕ)
 named_by cards value =
     if finite.contains_key cards value then Some value
-    else (if begins_with_urn value && finite.contains_key cards (drop 9 value) then Some (drop 9 value)
+    else (if begins_with_urn value && finite.contains_key cards (drop 9 value) then Some
+    (drop 9 value)
     else None)
 
 -- ---- groups and their members
@@ -56,7 +59,8 @@ pub record Leads (cards : Cards) (group uid : List ℕ) : Type 0 where
 -- A chain of one or more members leads from the group to the card; all before the card are groups.
 pub data Reaches (cards : Cards) (group : List ℕ) : List ℕ → Type 0 where
   at_once : (uid : List ℕ) → Leads cards group uid → Reaches cards group uid
-  by_way_of : (way uid : List ℕ) → Reaches cards group way → Leads cards way uid → Reaches cards group uid
+  by_way_of : (way uid : List ℕ) → Reaches cards group way → Leads cards way uid
+      → Reaches cards group uid
 
 -- ---- an expansion
 

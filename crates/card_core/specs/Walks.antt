@@ -30,14 +30,21 @@ pub record SameGroups (old new : Walk) : Type 0 where
 
 -- A group is met, again or for the first time.
 pub data MeetsGroup (uid : List ℕ) (lines : List Line) (old new : Walk) : Type 0 where
-  again : Contains old.groups uid → SameExpansion old new → SameGroups old new → MeetsGroup uid lines old new
-  first : ¬ (Contains old.groups uid) → Gains old.groups new.groups uid → waiting_cards new ≡ waiting_cards old ++ lines ∷ [] → SameExpansion old new → MeetsGroup uid lines old new
+  again : Contains old.groups uid → SameExpansion old new → SameGroups old new
+      → MeetsGroup uid lines old new
+  first : ¬ (Contains old.groups uid) → Gains old.groups new.groups uid
+      → waiting_cards new ≡ waiting_cards old ++ lines ∷ [] → SameExpansion old new
+      → MeetsGroup uid lines old new
 
 -- A member value names no card, a card that is no group, or a group.
 pub data NotesMember (cards : Cards) (value : List ℕ) (old new : Walk) : Type 0 where
-  finds_none : named_by cards value ≡ None → Gains old.missing new.missing value → new.people ≡ old.people → SameGroups old new → NotesMember cards value old new
-  finds_other : (uid : List ℕ) (lines : List Line) → Names cards value uid lines → kind_of lines ≢ Group → Gains old.people new.people uid → new.missing ≡ old.missing → SameGroups old new → NotesMember cards value old new
-  finds_group : (uid : List ℕ) (lines : List Line) → Names cards value uid lines → kind_of lines ≡ Group → MeetsGroup uid lines old new → NotesMember cards value old new
+  finds_none : named_by cards value ≡ None → Gains old.missing new.missing value
+      → new.people ≡ old.people → SameGroups old new → NotesMember cards value old new
+  finds_other : (uid : List ℕ) (lines : List Line) → Names cards value uid lines
+      → kind_of lines ≢ Group → Gains old.people new.people uid → new.missing ≡ old.missing
+      → SameGroups old new → NotesMember cards value old new
+  finds_group : (uid : List ℕ) (lines : List Line) → Names cards value uid lines
+      → kind_of lines ≡ Group → MeetsGroup uid lines old new → NotesMember cards value old new
 
 -- ---- between steps
 
@@ -53,12 +60,15 @@ pub record IsReached (cards : Cards) (group : List ℕ) (walk : Walk) : Type 0 w
   pub people : (uid : List ℕ) → Contains walk.people uid → IsPerson cards group uid
   pub groups : (uid : List ℕ) → Contains walk.groups uid → (uid ≡ group) ⊎ Reaches cards group uid
   pub missing : (value : List ℕ) → Contains walk.missing value → IsMissing cards group value
-  pub waiting : (lines : List Line) → Contains (waiting_cards walk) lines → IsHolder cards group lines
+  pub waiting : (lines : List Line) → Contains (waiting_cards walk) lines
+      → IsHolder cards group lines
 
 -- What the value names was found, or that it names none.
 pub record IsNoted (cards : Cards) (walk : Walk) (value : List ℕ) : Type 0 where
-  pub group : (uid : List ℕ) (lines : List Line) → Names cards value uid lines → kind_of lines ≡ Group → Contains walk.groups uid
-  pub other : (uid : List ℕ) (lines : List Line) → Names cards value uid lines → kind_of lines ≢ Group → Contains walk.people uid
+  pub group : (uid : List ℕ) (lines : List Line) → Names cards value uid lines
+      → kind_of lines ≡ Group → Contains walk.groups uid
+  pub other : (uid : List ℕ) (lines : List Line) → Names cards value uid lines
+      → kind_of lines ≢ Group → Contains walk.people uid
   pub none : named_by cards value ≡ None → Contains walk.missing value
 
 pub record AreNoted (cards : Cards) (walk : Walk) (values : List (List ℕ)) : Type 0 where
@@ -68,18 +78,24 @@ pub record AreNoted (cards : Cards) (walk : Walk) (values : List (List ℕ)) : T
 pub record IsWalk (cards : Cards) (group : List ℕ) (walk : Walk) : Type 0 where
   pub reached : IsReached cards group walk
   pub begun : Contains walk.groups group
-  pub met : (uid : List ℕ) (lines : List Line) → Contains walk.groups uid → finite.get cards uid ≡ Some lines → Contains (waiting_cards walk) lines ⊎ AreNoted cards walk (members_of lines)
+  pub met : (uid : List ℕ) (lines : List Line) → Contains walk.groups uid
+      → finite.get cards uid ≡ Some lines → Contains (waiting_cards walk) lines
+      ⊎ AreNoted cards walk (members_of lines)
 
 -- The same, but for the members of one group, which are being noted.
-pub record IsWalkBut (cards : Cards) (group : List ℕ) (open_group : List Line) (walk : Walk) : Type 0 where
+pub record IsWalkBut (cards : Cards) (group : List ℕ) (open_group : List Line) (walk : Walk) : Type
+    0 where
   pub reached : IsReached cards group walk
   pub begun : Contains walk.groups group
   pub holder : IsHolder cards group open_group
-  pub met : (uid : List ℕ) (lines : List Line) → Contains walk.groups uid → finite.get cards uid ≡ Some lines → (lines ≡ open_group) ⊎ (Contains (waiting_cards walk) lines ⊎ AreNoted cards walk (members_of lines))
+  pub met : (uid : List ℕ) (lines : List Line) → Contains walk.groups uid
+      → finite.get cards uid ≡ Some lines → (lines ≡ open_group)
+      ⊎ (Contains (waiting_cards walk) lines ⊎ AreNoted cards walk (members_of lines))
 
 -- the UIDs of cards that are none of the groups met
 abbrev pub unmet : Cards → List (List ℕ) → List (List ℕ)
-unmet cards groups = filter (λ uid. not (list_any (eq_by_cmp text_cmp uid) groups)) (finite.keys cards)
+unmet cards groups =
+    filter (λ uid. not (list_any (eq_by_cmp text_cmp uid) groups)) (finite.keys cards)
 
 -- how many groups wait or may still come to wait
 abbrev pub count_left : Cards → Walk → ℕ

@@ -11,16 +11,19 @@ use crate::walk::{is_group, walk_from};
 use std::alloc::Global;
 use vcard_text::Card;
 
-/// Whom the group of this UID reaches, through its members and those of each group among them, in whatever circles they
-/// lead (RFC 6350, section 6.6.5). Each key of the map is its card's UID.
+/// Whom the group of this UID reaches, through its members and those of each group among them, in
+/// whatever circles they lead (RFC 6350, section 6.6.5). Each key of the map is its card's UID.
 ///
-/// A member's value names the card of that UID, and where there is none and the value begins with `urn:uuid:` in any case,
-/// the card whose UID is the rest.
+/// A member's value names the card of that UID, and where there is none and the value begins with
+/// `urn:uuid:` in any case, the card whose UID is the rest.
 ///
-/// `NoSuchCard` where no card has the UID, `NotGroup` where its kind isn't group, and `Memory` where a growth was refused.
+/// `NoSuchCard` where no card has the UID, `NotGroup` where its kind isn't group, and `Memory`
+/// where a growth was refused.
 pub fn expand<C: CardsByUid>(alloc: Global, cards: &C, group: &str) -> Result<Expansion, GroupFault>
-    ensures expansion { IfOk result (λ expansion. IsExpansion (C.cards cards.now) group.now expansion) }
-    ensures no_such_card { (result ≡ Err NoSuchCard) ↔ (finite.get (C.cards cards.now) group.now ≡ None) }
+    ensures expansion { IfOk result (λ expansion. IsExpansion (C.cards cards.now) group.now
+        expansion) }
+    ensures no_such_card { (result ≡ Err NoSuchCard) ↔ (finite.get (C.cards cards.now) group.now
+        ≡ None) }
     ensures not_group { (result ≡ Err NotGroup) ↔ IsOtherCard (C.cards cards.now) group.now }
 {
     let Some(card) = cards.card_of(group) else {

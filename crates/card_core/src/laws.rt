@@ -5,5 +5,6 @@ ghost use Rattle.card_core.specs.declared.expansion.Expansion.{Expansion};
 
 /// A group has at most one expansion.
 pub fn expansion_is_one()
-    ensures { (cards : Cards) (group : List ℕ) (a b : Expansion) → IsExpansion cards group a → IsExpansion cards group b → a ≡ b }
+    ensures { (cards : Cards) (group : List ℕ) (a b : Expansion) → IsExpansion cards group a
+        → IsExpansion cards group b → a ≡ b }
 {}

@@ -1,4 +1,5 @@
-//! The walk from a group to all whom it reaches. Groups wait in a list, so that a chain of them may have any length.
+//! The walk from a group to all whom it reaches. Groups wait in a list, so that a chain of them
+//! may have any length.
 ghost use Rattle.std.specs.Prelude.{◌≡◌, ◌≤◌, ◌↔◌, ℕ, List, [], Some, IsTrue, IfOk, OnOk};
 ghost use Rattle.std.specs.FinMap as finite;
 ghost use Rattle.vcard_text.specs.Cards.{kind_of};
@@ -11,7 +12,8 @@ use crate::text_set::TextSet;
 use std::alloc::Global;
 use vcard_text::{Card, Kind, NoMemory};
 
-/// What was found so far. It grows with the members of the groups that were met, and never with all cards.
+/// What was found so far. It grows with the members of the groups that were met, and never with
+/// all cards.
 #[derive(Drop)]
 pub(crate) struct Walk<'a> {
     /// The UIDs of the cards met that are no groups.
@@ -73,8 +75,10 @@ fn note_members<'a, C: CardsByUid>(
     card: &'a Card,
     walk: &mut Walk<'a>,
 ) -> Result<(), NoMemory>
-    ensures goes_on { OnOk result ((group : List ℕ) → IsWalkBut (C.cards cards.now) group card.now walk.old → IsWalk (C.cards cards.now) group walk.new) }
-    ensures ends { OnOk result (count_left (C.cards cards.now) walk.new ≤ count_left (C.cards cards.now) walk.old) }
+    ensures goes_on { OnOk result ((group : List ℕ) → IsWalkBut (C.cards cards.now) group card.now
+        walk.old → IsWalk (C.cards cards.now) group walk.new) }
+    ensures ends { OnOk result (count_left (C.cards cards.now) walk.new
+        ≤ count_left (C.cards cards.now) walk.old) }
 {
     for line in card.lines() {
         if line.name.as_str() == "MEMBER" {
@@ -90,7 +94,8 @@ fn note_waiting<'a, C: CardsByUid>(
     cards: &'a C,
     walk: &mut Walk<'a>,
 ) -> Result<(), NoMemory>
-    ensures goes_on { OnOk result ((group : List ℕ) → IsWalk (C.cards cards.now) group walk.old → IsWalk (C.cards cards.now) group walk.new) }
+    ensures goes_on { OnOk result ((group : List ℕ) → IsWalk (C.cards cards.now) group walk.old
+        → IsWalk (C.cards cards.now) group walk.new) }
     ensures none_waits { OnOk result (walk.new.waiting.items ≡ []) }
 {
     while let Some(card) = walk.waiting.pop() {

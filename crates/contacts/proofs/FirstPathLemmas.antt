@@ -16,14 +16,13 @@ use Rattle.book_model.specs.declared.answers.PutAnswer.TheVariants.{Created}
 use Rattle.book_model.specs.declared.answers.Stored.{Stored}
 use Rattle.book_model.specs.declared.denied.Denied.{Denied}
 use Rattle.book_model.specs.declared.denied.Denied.TheVariants.{Refused, Fault}
-use Rattle.book_model.specs.declared.denied.Fault.TheVariants.{Store, Memory}
 use Rattle.book_model.specs.declared.page.Page.{Page}
 use Rattle.book_model.specs.declared.refusal.Refusal.{Refusal}
 use Rattle.book_model.specs.declared.refusal.Refusal.TheVariants.{NoSuchBook, BookFull, ChangesSpent, TooManyBooks}
 use Rattle.book_model.specs.Bounds.{Bounds}
 use Rattle.book_model.specs.Books.{Books}
 use Rattle.book_model.specs.Creating.{new_id, create_step}
-use Rattle.book_model.specs.Outcomes.{◌>>=◌, provided, Does, Reads, HasNoStoreFault, no_memory, denied_card}
+use Rattle.book_model.specs.Outcomes.{◌>>=◌, provided, Does, Reads, IfFault, IsOutOfMemory, no_memory, denied_card}
 use Rattle.book_model.specs.Pages.{Asked, IsReport, mark_asked, page_size, report_step, page_of}
 use Rattle.book_model.specs.Putting.{answer_over, put_answer, next_number, reason_for, put_step}
 use Rattle.book_laws.specs.Reports.{report}
@@ -92,43 +91,41 @@ abbrev pub Did : {A : Type 0} → Result A Denied → A → Stories → Books �
 Did result answer stories books = MatchResult result (λ a. (a ≡ answer) × AreStoriesOf books stories) (λ denied. denied ≡ no_memory)
 
 pub did : {A : Type 0} (result : Result A Denied) (step : Result (A × Books) Refusal) (meaning : Result (A × Stories) Refusal) (answer : A) (stories : Stories) (old new : Books)
-    → Does result step old new → Follows step meaning → meaning ≡ Ok (answer, stories) → HasNoStoreFault result → Did result answer stories new
+    → Does result step old new → Follows step meaning → meaning ≡ Ok (answer, stories) → IfFault result IsOutOfMemory → Did result answer stories new
 did {A} result step meaning answer stories old new does follows is sound =
     by_result result step does (subst (Follows step) is follows) sound
   where
-    by_result : (r : Result A Denied) (done : Result (A × Books) Refusal) → Does r done old new → Follows done (Ok (answer, stories)) → HasNoStoreFault r → Did r answer stories new
+    by_result : (r : Result A Denied) (done : Result (A × Books) Refusal) → Does r done old new → Follows done (Ok (answer, stories)) → IfFault r IsOutOfMemory → Did r answer stories new
     by_result (Ok a) (Ok done) d f n = (d.0 ∙ f.0, subst (λ (books : Books). AreStoriesOf books stories) (sym d.1) f.1)
     by_result (Ok a) (Err refusal) d f n = absurd d
     by_result (Err (Refused refusal)) (Ok done) d f n = absurd d
     by_result (Err (Refused refusal)) (Err other) d f n = absurd f
-    by_result (Err (Fault Store)) done d f n = absurd n
-    by_result (Err (Fault Memory)) done d f n = refl
+    by_result (Err (Fault fault)) done d f n = ap Fault n
 
 pub gave : (result : Result Page Denied) (step : Result Asked Refusal) (meaning : Result Page Refusal) (page : Page) (old new : Books)
-    → Reads IsReport result step old new → PagesFollow step meaning → meaning ≡ Ok page → HasNoStoreFault result → MatchResult result (λ p. p ≡ page) (λ denied. denied ≡ no_memory)
+    → Reads IsReport result step old new → PagesFollow step meaning → meaning ≡ Ok page → IfFault result IsOutOfMemory → MatchResult result (λ p. p ≡ page) (λ denied. denied ≡ no_memory)
 gave result step meaning page old new reads reports is sound =
     by_result result step reads (subst (PagesFollow step) is reports) sound
   where
-    by_result : (r : Result Page Denied) (asked : Result Asked Refusal) → Reads IsReport r asked old new → PagesFollow asked (Ok page) → HasNoStoreFault r → MatchResult r (λ p. p ≡ page) (λ denied. denied ≡ no_memory)
+    by_result : (r : Result Page Denied) (asked : Result Asked Refusal) → Reads IsReport r asked old new → PagesFollow asked (Ok page) → IfFault r IsOutOfMemory → MatchResult r (λ p. p ≡ page) (λ denied. denied ≡ no_memory)
     by_result (Ok p) (Ok asked) d f n = f p d.0
     by_result (Ok p) (Err refusal) d f n = absurd d
     by_result (Err (Refused refusal)) (Ok asked) d f n = absurd d
     by_result (Err (Refused refusal)) (Err other) d f n = absurd f
-    by_result (Err (Fault Store)) asked d f n = absurd n
-    by_result (Err (Fault Memory)) asked d f n = refl
+    by_result (Err (Fault fault)) asked d f n = ap Fault n
 
 -- ---- the three calls, by the laws of stores
 
 module _ (limits : Bounds) (s : AreStandard limits) where
   pub book_made : NothingFollows → CreatingFollows → (result : Result ℕ Denied) (old new : Books) → old ≡ finite.empty
-      → Does result (create_step limits old name) old new → HasNoStoreFault result → Did result 1 with_book new
+      → Does result (create_step limits old name) old new → IfFault result IsOutOfMemory → Did result 1 with_book new
   book_made nothing creating result old new empty does sound =
       did result (create_step limits old name) (create_meaning limits finite.empty name) 1 with_book old new does
       (subst (λ (books : Books). Follows (create_step limits books name) (create_meaning limits finite.empty name)) (nothing.rows_are ∙ sym empty) (creating (world_of limits finite.empty) name nothing.sound))
       (created limits s) sound
 
   pub card_put : PuttingFollows → (card : List Line) (result : Result PutAnswer Denied) (old new : Books) → AreStoriesOf old with_book
-      → Does result (put_step limits old name card None) old new → HasNoStoreFault result → Did result (Created 1) (with_card card) new
+      → Does result (put_step limits old name card None) old new → IfFault result IsOutOfMemory → Did result (Created 1) (with_card card) new
   card_put putting card result old new w does sound =
       did result (put_step limits old name card None) (put_meaning limits with_book name card None) (Created 1) (with_card card) old new does
       (subst (λ (books : Books). Follows (put_step limits books name card None) (put_meaning limits with_book name card None)) w.rows_are
@@ -136,7 +133,7 @@ module _ (limits : Bounds) (s : AreStandard limits) where
       (stored limits s card) sound
 
   pub page_given : ReportsFollow → (card : List Line) (result : Result Page Denied) (old new : Books) → AreStoriesOf old (with_card card)
-      → Reads IsReport result (report_step limits old name None None) old new → HasNoStoreFault result → MatchResult result (λ p. p ≡ first_page card) (λ denied. denied ≡ no_memory)
+      → Reads IsReport result (report_step limits old name None None) old new → IfFault result IsOutOfMemory → MatchResult result (λ p. p ≡ first_page card) (λ denied. denied ≡ no_memory)
   page_given reporting card result old new w reads sound =
       gave result (report_step limits old name None None) (report_meaning limits (with_card card) name None None) (first_page card) old new reads
       (subst (λ (books : Books). PagesFollow (report_step limits books name None None) (report_meaning limits (with_card card) name None None)) w.rows_are
@@ -166,7 +163,7 @@ denied_for text Twice first = record { fault = Twice; refusal_is = refl; first =
 denied_for text MemberOutsideGroup first = record { fault = MemberOutsideGroup; refusal_is = refl; first = first (λ e. cc) }
 denied_for text NoRoom first = tt
 
--- a text that spells a card is denied for want of memory alone
+-- a text that spells a card is denied for memory alone
 pub denied_memory : (fault : CardFault) (card : List Line) → (read_as fault ≢ Err NoRoom → read_as fault ≡ Ok card) → denied_card fault ≡ no_memory
 denied_memory TooLong card h = absurd (not_read TooLong card (h (λ e. cc)))
 denied_memory NotUtf8 card h = absurd (not_read NotUtf8 card (h (λ e. cc)))

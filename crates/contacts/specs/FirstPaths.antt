@@ -23,11 +23,12 @@ use Rattle.contacts.specs.declared.first_path.FirstPath.{FirstPath}
 abbrev pub one_creation : List Line → List BookEvent
 one_creation card = record { uid = uid_of card; change = Stores card Creation } ∷ []
 
--- the first report of that book, which is the store's first: 100 is the most entries of a page
+-- the initial report of that book, which is the store's first: 100 is the most entries of a page
 abbrev pub first_page : List Line → Page
-first_page card = page_of 1 (report (one_creation card) (record { at = 0; base = length (one_creation card) }) 100)
+first_page card = page_of 1 (report (one_creation card)
+    (record { at = 0; base = length (one_creation card) }) 100)
 
--- the put created the card with version 1, and the page is the first report after it
+-- the put created the card with version 1, and the page is the initial report after it
 pub record IsPathOf (card : List Line) (path : FirstPath) : Type 0 where
   pub put : path.put ≡ Created 1
   pub page : path.page ≡ first_page card
@@ -44,7 +45,7 @@ pub record IsRefusedFor (text : List ℕ) (refusal : Refusal) : Type 0 where
   pub refusal_is : refusal ≡ BadCard fault
   pub first : first_fault text ≡ Some fault
 
--- it was refused for what it is, or memory was wanting
+-- it was refused for what it is, or memory ran out
 abbrev pub IsDeniedFor : List ℕ → Denied → Type 0
 IsDeniedFor text (Refused refusal) = IsRefusedFor text refusal
 IsDeniedFor text (Fault Store) = ⊥

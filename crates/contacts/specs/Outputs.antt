@@ -19,7 +19,9 @@ put_line (Unchanged version) = codes "put unchanged " ++ (decimal version ++ 10 
 -- a line, and for a live member the card's canonical text
 abbrev pub entry_lines : Entry → List ℕ
 entry_lines (Changed uid version card) =
-    codes "card " ++ (uid ++ (codes " version " ++ (decimal version ++ (codes " octets " ++ (decimal (length (canonical_text card)) ++ 10 ∷ canonical_text card)))))
+    codes "card " ++ (uid ++ (codes " version " ++ (decimal version
+    ++ (codes " octets " ++ (decimal (length (canonical_text card))
+    ++ 10 ∷ canonical_text card)))))
 entry_lines (Removed uid) = codes "removed " ++ (uid ++ 10 ∷ [])
 
 abbrev pub entries_lines : List Entry → List ℕ
@@ -32,7 +34,8 @@ yes_or_no holds = if holds then codes "yes" else codes "no"
 abbrev pub page_lines : Page → List ℕ
 page_lines page =
     entries_lines page.entries
-    ++ (codes "token " ++ (token_octets (record { book = page.book; mark = page.mark }) ++ (10 ∷ codes "truncated " ++ (yes_or_no page.truncated ++ 10 ∷ []))))
+    ++ (codes "token " ++ (token_octets (record { book = page.book; mark = page.mark })
+    ++ (10 ∷ codes "truncated " ++ (yes_or_no page.truncated ++ 10 ∷ []))))
 
 abbrev pub path_lines : FirstPath → List ℕ
 path_lines path = put_line path.put ++ page_lines path.page

@@ -24,18 +24,19 @@ status_of Device = 3
 
 -- the line that standard error has of it: what kind it is, its text and its number
 abbrev pub stop_line : Stop → List ℕ
-stop_line (Refused refusal) = codes "refused " ++ (refusal_text refusal ++ 32 ∷ decimal (refusal_number refusal))
+stop_line (Refused refusal) =
+    codes "refused " ++ (refusal_text refusal ++ 32 ∷ decimal (refusal_number refusal))
 stop_line (Fault fault) = codes "fault " ++ (fault_text fault ++ 32 ∷ decimal (fault_number fault))
 stop_line Device = codes "fault device 1"
 
--- memory was wanting, or the reader failed
+-- memory ran out, or the reader failed
 abbrev pub IsInputStop : Stop → Type 0
 IsInputStop (Refused refusal) = ⊥
 IsInputStop (Fault Store) = ⊥
 IsInputStop (Fault Memory) = Unit {0}
 IsInputStop Device = Unit {0}
 
--- a refusal is of the text's first fault; else memory was wanting, or the reader or the writer failed
+-- a refusal is of the text's first fault; else memory ran out, or the reader or the writer failed
 abbrev pub IsStopFor : List ℕ → Stop → Type 0
 IsStopFor text (Refused refusal) = IsRefusedFor text refusal
 IsStopFor text (Fault Store) = ⊥

@@ -1,4 +1,4 @@
-//! One card into an empty book, and the book's first report.
+//! One card into an empty book, and the book's initial report.
 ghost use Rattle.std.specs.Prelude.{◌≡◌, List, IfOk, IfErr};
 ghost use Rattle.vcard_text.specs.declared.line.Line.{Line};
 ghost use Rattle.vcard_text.specs.Spelling.{Spells};
@@ -13,14 +13,15 @@ use std::alloc::Global;
 use sync_core::{BookStore, Denied, Limits, Page, PlainStore, PutAnswer};
 use vcard_text::{Card, read_card};
 
-/// What the put answered, and the first report after it.
+/// What the put answered, and the initial report after it.
 #[derive(Debug, Drop)]
 pub(crate) struct FirstPath {
     pub(crate) put: PutAnswer,
     pub(crate) page: Page,
 }
 
-/// Puts the card into the empty book `try` of a new store in memory, and asks for the first report.
+/// Puts the card into the empty book `try` of a new store in memory, and asks for the initial
+/// report.
 fn put_and_report(alloc: Global, card: &Card) -> Result<FirstPath, Denied>
     ensures path { IfOk result (IsPathOf card.now) }
     ensures denied { IfErr result (λ denied. denied ≡ no_memory) }
@@ -38,15 +39,17 @@ fn put_and_report(alloc: Global, card: &Card) -> Result<FirstPath, Denied>
     Ok(FirstPath { put, page })
 }
 
-/// Reads a card, puts it into the empty book `try` of a new store in memory, and asks for the first report.
+/// Reads a card, puts it into the empty book `try` of a new store in memory, and asks for the
+/// initial report.
 ///
 /// Refused with `BadCard` where the text spells no card, with the text's first fault.
 pub(crate) fn first_path(alloc: Global, text: &[u8]) -> Result<FirstPath, Denied>
     // The text spells a card, the put created it with version 1, and the report has it alone.
     ensures path { IfOk result (IsFirstPath text.now) }
 
-    // For a text that spells a card nothing but memory can be wanting.
-    ensures every { (lines : List Line) → Spells text.now lines → IfErr result (λ denied. denied ≡ no_memory) }
+    // For a text that spells a card nothing but memory can run out.
+    ensures every { (lines : List Line) → Spells text.now lines
+        → IfErr result (λ denied. denied ≡ no_memory) }
 
     // A refusal is of the text's first fault.
     ensures denied { IfErr result (IsDeniedFor text.now) }

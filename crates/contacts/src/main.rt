@@ -1,5 +1,5 @@
-//! The program `contacts`: it reads one vCard from standard input, puts it into an empty book in memory, and prints the
-//! book's first report.
+//! The program `contacts`: it reads one vCard from standard input, puts it into an empty book in
+//! memory, and prints the book's initial report.
 #![tactic(auto)]
 
 mod first_path;

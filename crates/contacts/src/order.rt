@@ -12,7 +12,8 @@ pub(crate) enum Order {
     Usage,
 }
 
-/// The order of the first two words behind the program's name: `Try` of none or of `try` alone, and else `Usage`.
+/// The order of the first two words behind the program's name: `Try` of none or of `try` alone,
+/// and else `Usage`.
 pub(crate) fn order_of(first: Option<String>, second: Option<String>) -> Order
     ensures { result ≡ order_of (option_map string_bytes first) (option_map string_bytes second) }
 {

@@ -59,7 +59,8 @@ fn yes_or_no(holds: bool) -> &'static str
     if holds { "yes" } else { "no" }
 }
 
-/// Writes a page: its entries, the token from which the next report goes on, and whether it is truncated.
+/// Writes a page: its entries, the token from which the next report goes on, and whether it is
+/// truncated.
 fn write_page(out: &mut Vec<u8>, page: &Page) -> Result<(), NoMemory>
     ensures { OnOk result (out.new.items ≡ out.old.items ++ page_lines page.now) }
 {

@@ -15,7 +15,8 @@ use std::io::{Read, Write};
 
 /// Writes all output in one call, and flushes it.
 fn write_output<W: Write>(writer: &mut W, octets: &[u8]) -> Result<(), Stop>
-    ensures written { OnOk result (Appends (W.contents writer.old) (W.contents writer.new) octets.now) }
+    ensures written { OnOk result (Appends (W.contents writer.old) (W.contents writer.new)
+        octets.now) }
     ensures stop { IfErr result (λ stop. stop ≡ Stop.Device) }
 {
     if writer.write_all(octets).is_err() || writer.flush().is_err() {
@@ -24,8 +25,8 @@ fn write_output<W: Write>(writer: &mut W, octets: &[u8]) -> Result<(), Stop>
     Ok(())
 }
 
-/// Reads at most 262,145 octets of a card, puts it into an empty book, and writes what the put answered and the book's
-/// first report. Nothing is written before all of it is made.
+/// Reads at most 262,145 octets of a card, puts it into an empty book, and writes what the put
+/// answered and the book's initial report. Nothing is written before all of it is made.
 pub(crate) fn run_try<R: Read, W: Write>(
     alloc: Global,
     reader: &mut R,
@@ -33,13 +34,16 @@ pub(crate) fn run_try<R: Read, W: Write>(
 ) -> Result<(), Stop>
     // What is written is the first path of what was read.
     ensures printed { OnOk result (IfSome (R.remaining reader.old)
-        (λ input. Prints (take INPUT_OCTETS_MAX input) (W.contents writer.old) (W.contents writer.new))) }
+        (λ input. Prints (take INPUT_OCTETS_MAX input) (W.contents writer.old)
+        (W.contents writer.new))) }
 
-    // Where it is refused, or memory is wanting, nothing is written.
-    ensures kept { IfErr result (λ stop. stop ≢ Stop.Device → Keeps (W.contents writer.old) (W.contents writer.new)) }
+    // Where it is refused, or memory runs out, nothing is written.
+    ensures kept { IfErr result (λ stop. stop ≢ Stop.Device
+        → Keeps (W.contents writer.old) (W.contents writer.new)) }
 
     // A refusal is of the first fault of what was read.
-    ensures refused { IfErr result (λ stop. IfSome (R.remaining reader.old) (λ input. IsStopFor (take INPUT_OCTETS_MAX input) stop)) }
+    ensures refused { IfErr result (λ stop. IfSome (R.remaining reader.old)
+        (λ input. IsStopFor (take INPUT_OCTETS_MAX input) stop)) }
 {
     let octets = read_input(alloc, reader)?;
     let path = first_path(alloc, octets.as_slice())?;

@@ -1,4 +1,5 @@
--- What a card in memory keeps beside its lines: its kind, and where its UID stands. It carries no rule of its own.
+-- What a card in memory keeps beside its lines: its kind, and where its UID stands. It carries no
+-- rule of its own.
 use Rattle.std.specs.Prelude.{ℕ, ◌≡◌, List, [], slice_get}
 use Rattle.std.specs.Option.{option_map_or}
 use Rattle.vcard_text.specs.declared.kind.Kind.{Kind}

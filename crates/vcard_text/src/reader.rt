@@ -48,7 +48,8 @@ fn take_line(alloc: Global, scan: Scan, line: &str) -> Result<Scan, CardFault>
 /// Reads a physical line: it goes on with the logical line so far, or ends it and begins the next.
 fn take_piece(alloc: Global, scan: Scan, line: &mut String, piece: &str) -> Result<Scan, CardFault>
     ensures goes_on { IfOk result (λ next. (pieces : List (List ℕ)) →
-        card_from scan (unfolded_from (string_bytes line.old) (piece.now ∷ pieces)) ≡ card_from next (unfolded_from (string_bytes line.new) pieces)) }
+        card_from scan (unfolded_from (string_bytes line.old) (piece.now ∷ pieces))
+        ≡ card_from next (unfolded_from (string_bytes line.new) pieces)) }
     ensures ends { IfErr result (λ fault. fault ≢ Memory → (pieces : List (List ℕ)) →
         card_from scan (unfolded_from (string_bytes line.old) (piece.now ∷ pieces)) ≡ Err fault) }
 {
@@ -62,7 +63,8 @@ fn take_piece(alloc: Global, scan: Scan, line: &mut String, piece: &str) -> Resu
     Ok(next)
 }
 
-/// The lines of the card that a text's logical lines spell, or their first fault. One logical line is kept at a time.
+/// The lines of the card that a text's logical lines spell, or their first fault. One logical line
+/// is kept at a time.
 fn read_lines(alloc: Global, text: &str) -> Result<Items<Line>, CardFault>
     ensures { Gives (λ lines. lines) result (card_of_texts (logical_lines text.now)) }
 {
@@ -113,19 +115,20 @@ fn read_text(alloc: Global, text: &[u8]) -> Result<Items<Line>, CardFault>
     within_bounds(alloc, lines)
 }
 
-/// Reads the card that a text spells (RFC 6350, section 3): at most 262,144 octets of UTF-8, one byte order mark in front
-/// or none, folded or not, its lines ended by CRLF or LF.
+/// Reads the card that a text spells (RFC 6350, section 3): at most 262,144 octets of UTF-8, one
+/// byte order mark in front or none, folded or not, its lines ended by CRLF or LF.
 ///
-/// An `Err` is the text's first fault: `TooLong` or `NotUtf8`, then the first fault of the first logical line that has one,
-/// then that of a text which ends too early (`NoBegin`, `BadVersion` or `NoEnd`), then `NoName`, `NoUid`,
-/// `MemberOutsideGroup`, and then `TooLong` for the canonical text. `Memory` comes in place of any answer where a growth was
-/// refused.
+/// An `Err` is the text's first fault: `TooLong` or `NotUtf8`, then the first fault of the first
+/// logical line that has one, then that of a text which ends too early (`NoBegin`, `BadVersion` or
+/// `NoEnd`), then `NoName`, `NoUid`, `MemberOutsideGroup`, and then `TooLong` for the canonical
+/// text. `Memory` comes in place of any answer where a growth was refused.
 pub fn read_card(alloc: Global, text: &[u8]) -> Result<Card, CardFault>
     // What is read is the card that the text spells.
     ensures card { IfOk result (λ card. Spells text.now card) }
 
     // A text that spells a card is read, unless memory runs out.
-    ensures every { (lines : List Line) → Spells text.now lines → result ≢ Err Memory → result ≡ Ok lines }
+    ensures every { (lines : List Line) → Spells text.now lines → result ≢ Err Memory
+        → result ≡ Ok lines }
 
     // What is refused is refused for its first fault, unless memory ran out.
     ensures fault { IfErr result (λ fault. fault ≢ Memory → first_fault text.now ≡ Some fault) }

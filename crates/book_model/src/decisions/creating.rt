@@ -30,8 +30,8 @@ pub fn is_book_name(name: &str) -> bool
 
 /// The id of a new book of the name, in a store of so many books.
 ///
-/// Refused, by the first that holds, with `BadBookName`; `BookExists` where a book has the name; `TooManyBooks` where
-/// the store has as many books as its limit.
+/// Refused, by the first that holds, with `BadBookName`; `BookExists` where a book has the name;
+/// `TooManyBooks` where the store has as many books as its limit.
 pub fn id_of_new_book(
     limits: Limits,
     name: &str,

@@ -6,7 +6,8 @@ use crate::limits::Limits;
 use crate::refusal::Refusal;
 use vcard_text::Card;
 
-/// The live card of the UID with its version, how many cards are live in the book, and the book's number.
+/// The live card of the UID with its version, how many cards are live in the book, and the book's
+/// number.
 #[derive(Clone, Copy)]
 pub struct Finding<'a> {
     pub live: Option<(u64, &'a Card)>,
@@ -14,8 +15,8 @@ pub struct Finding<'a> {
     pub number: u64,
 }
 
-/// The number of the next change of a book with this number. Refused with `ChangesSpent` where the book took as many
-/// changes as its limit.
+/// The number of the next change of a book with this number. Refused with `ChangesSpent` where the
+/// book took as many changes as its limit.
 pub fn next_number(limits: Limits, number: u64) -> Result<u64, Refusal>
     ensures value { result ≡ next_number limits number }
     ensures within { IfOk result (λ next. next ≤ limits.changes_max) }

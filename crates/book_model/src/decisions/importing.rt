@@ -15,8 +15,8 @@ fn is_octet_of_key(octet: u8) -> bool
     matches!(octet, b'A'..=b'Z' | b'a'..=b'z' | b'0'..=b'9' | b'.' | b'_' | b'-')
 }
 
-/// Whether an import may have the key: 1 to 64 of `A` to `Z`, `a` to `z`, `0` to `9`, the dot, the underscore and the
-/// hyphen.
+/// Whether an import may have the key: 1 to 64 of `A` to `Z`, `a` to `z`, `0` to `9`, the dot, the
+/// underscore and the hyphen.
 pub fn is_import_key(key: &str) -> bool
     ensures { result ≡ is_legal_key key.now }
 {
@@ -45,11 +45,11 @@ pub fn reason_to_import(live: Option<(u64, &Card)>, card: &Card) -> Option<Store
     Some(StoreReason::ImportEdit)
 }
 
-/// What an import answers that added, edited and found the same so many cards, by the live cards and the number of the
-/// book as it then is.
+/// What an import answers that added, edited and found the same so many cards, by the live cards
+/// and the number of the book as it then is.
 ///
-/// Refused, by the first that holds, with `BookFull` where cards were added and there are more than the limit;
-/// `ChangesSpent` where cards were stored and the number is above the limit.
+/// Refused, by the first that holds, with `BookFull` where cards were added and there are more
+/// than the limit; `ChangesSpent` where cards were stored and the number is above the limit.
 pub fn tally_of_import(
     limits: Limits,
     added: u64,

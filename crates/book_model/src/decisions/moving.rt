@@ -24,10 +24,11 @@ fn numbers_of_move(limits: Limits, cards: u64, from: u64, to: u64) -> Result<Mov
     Ok(Moved { from, version })
 }
 
-/// The numbers that a move takes, by what is found at the UID in the book that the card leaves and in the other.
+/// The numbers that a move takes, by what is found at the UID in the book that the card leaves and
+/// in the other.
 ///
-/// Refused, by the first that holds, with `NoSuchCard`; `UidTaken` where a card is live in the other book;
-/// `VersionMismatch`; `BookFull` of the other book; `ChangesSpent` of either.
+/// Refused, by the first that holds, with `NoSuchCard`; `UidTaken` where a card is live in the
+/// other book; `VersionMismatch`; `BookFull` of the other book; `ChangesSpent` of either.
 pub fn answer_to_move(
     limits: Limits,
     source: Finding,

@@ -34,8 +34,8 @@ fn answer_over(limits: Limits, found: Finding, card: &Card) -> Result<PutAnswer,
 
 /// What a put of the card comes to, by what is found at its UID.
 ///
-/// Refused, by the first that holds, with `VersionMismatch`; and for a card that isn't live already, `BookFull` and
-/// `ChangesSpent`.
+/// Refused, by the first that holds, with `VersionMismatch`; and for a card that isn't live
+/// already, `BookFull` and `ChangesSpent`.
 pub fn answer_to_put(
     limits: Limits,
     found: Finding,

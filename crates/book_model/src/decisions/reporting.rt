@@ -9,8 +9,8 @@ use crate::row::Row;
 use crate::token::{Mark, Token};
 use vcard_text::Items;
 
-/// The mark that the token stands for in the book with this id, number and horizon. Without a token it is that of an
-/// initial report.
+/// The mark that the token stands for in the book with this id, number and horizon. Without a
+/// token it is that of an initial report.
 ///
 /// Refused with `BadToken`, by the first that holds, for `OtherBook`, `TooNew` and `TooOld`.
 pub fn mark_of(id: u64, number: u64, horizon: u64, token: Option<Token>) -> Result<Mark, Refusal>
@@ -49,14 +49,16 @@ pub fn size_of_page(limits: Limits, limit: Option<u64>) -> Result<u64, Refusal>
     }
 }
 
-/// Whether a report at the mark tells of the row: it changed after `at`, and is live or went after `base`.
+/// Whether a report at the mark tells of the row: it changed after `at`, and is live or went after
+/// `base`.
 pub fn is_due(row: &Row, mark: Mark) -> bool
     ensures { result ≡ row_is_due mark row.now }
 {
     row.changed > mark.at && (row.card.is_some() || row.changed > mark.base)
 }
 
-/// The page at the mark of the first due rows, of which the last has this number, where there are more.
+/// The page at the mark of the first due rows, of which the last has this number, where there are
+/// more.
 pub fn truncated_page(id: u64, mark: Mark, entries: Items<Entry>, last: u64) -> Page
     ensures report { (asked : Asked) (rows : List Member) → AreFirstOfMore asked rows
         → asked.book.id ≡ id → asked.mark ≡ mark → entries ≡ map entry_in rows

@@ -107,7 +107,7 @@ impl<'a> Read for BrokenReader<'a> {
 
 #[test]
 fn tells_a_failing_input(rt: HostRuntime) -> Result<(), Fail> {
-    // An input that is at a want of memory itself isn't this program's.
+    // An input that is out of memory itself isn't this program's.
     for kind in [io::ErrorKind::BrokenPipe, io::ErrorKind::OutOfMemory] {
         let octets = TYPED_ANN.as_bytes();
         let mut reader = BrokenReader { octets, kind };

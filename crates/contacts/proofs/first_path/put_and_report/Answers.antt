@@ -6,7 +6,7 @@ use Rattle.book_model.specs.declared.answers.PutAnswer.TheVariants.{Created}
 use Rattle.book_model.specs.declared.denied.Denied.{Denied}
 use Rattle.book_model.specs.declared.page.Page.{Page}
 use Rattle.book_model.specs.Bounds.{Bounds}
-use Rattle.book_model.specs.Outcomes.{Does, Reads, HasNoStoreFault, no_memory}
+use Rattle.book_model.specs.Outcomes.{Does, Reads, IfFault, IsOutOfMemory, no_memory}
 use Rattle.book_model.specs.Pages.{IsReport, report_step}
 use Rattle.book_model.specs.Putting.{put_step}
 use Rattle.book_laws.specs.Following.{AreStoriesOf}
@@ -30,10 +30,10 @@ returns-in_err-create_book-clause-denied c =
     let p = err_from_is_err_and c.from_residual.result c.from_residual.ensures.1 in
     rw (p.1, p.2) (book_made c.new-store.result.limits (standard (goal.at.returns-in_err-create_book-clause-denied c).After-create_book)
     c.empty_stores_have_no_history.ensures c.creating_follows_histories.ensures (Err c.in_err-create_book.field-0.0) _ _ c.new-store.ensures.books
-    c.in_err-create_book.ensures.does c.in_err-create_book.ensures.no_store_fault)
+    c.in_err-create_book.ensures.does c.in_err-create_book.ensures.fault)
 
 -- the limits stay, so the second call's step is one under the first limits
-put_did : (c : After-put) (r : Result PutAnswer Denied) → Does r (put_step c.create_book.new.self.limits c.create_book.new.self.books (codes "try") c.args.card.now None) c.create_book.new.self.books c.put.new.self.books → HasNoStoreFault r
+put_did : (c : After-put) (r : Result PutAnswer Denied) → Does r (put_step c.create_book.new.self.limits c.create_book.new.self.books (codes "try") c.args.card.now None) c.create_book.new.self.books c.put.new.self.books → IfFault r IsOutOfMemory
     → Did r (Created 1) (with_card c.args.card.now) c.put.new.self.books
 put_did c r does sound = card_put c.new-store.result.limits (standard (goal.at.After-put c).After-create_book) c.putting_follows_histories.ensures c.args.card.now r _ _
     (with_book_made (goal.at.After-put c).In_ok-create_book)
@@ -43,9 +43,9 @@ put_did c r does sound = card_put c.new-store.result.limits (standard (goal.at.A
 pub returns-in_err-put-clause-denied : goal.returns-in_err-put-clause-denied
 returns-in_err-put-clause-denied c =
     let p = err_from_is_err_and c.from_residual-in_err-put.result c.from_residual-in_err-put.ensures.1 in
-    rw (p.1, p.2) (put_did (goal.at.returns-in_err-put-clause-denied c).After-put (Err c.in_err-put.field-0.0) c.in_err-put.ensures.does c.in_err-put.ensures.no_store_fault)
+    rw (p.1, p.2) (put_did (goal.at.returns-in_err-put-clause-denied c).After-put (Err c.in_err-put.field-0.0) c.in_err-put.ensures.does c.in_err-put.ensures.fault)
 
-report_gave : (c : After-report) (r : Result Page Denied) → Reads IsReport r (report_step c.put.new.self.limits c.put.new.self.books (codes "try") None None) c.put.new.self.books c.report.new.self.books → HasNoStoreFault r
+report_gave : (c : After-report) (r : Result Page Denied) → Reads IsReport r (report_step c.put.new.self.limits c.put.new.self.books (codes "try") None None) c.put.new.self.books c.report.new.self.books → IfFault r IsOutOfMemory
     → MatchResult r (λ p. p ≡ first_page c.args.card.now) (λ denied. denied ≡ no_memory)
 report_gave c r reads sound = page_given c.new-store.result.limits (standard (goal.at.After-report c).After-create_book) c.reports_follow_histories.ensures c.args.card.now r _ _
     (put_did (goal.at.After-report c).After-put (Ok c.in_ok-put.put) c.in_ok-put.ensures.does tt).1
@@ -55,7 +55,7 @@ report_gave c r reads sound = page_given c.new-store.result.limits (standard (go
 pub returns-in_err-page-clause-denied : goal.returns-in_err-page-clause-denied
 returns-in_err-page-clause-denied c =
     let p = err_from_is_err_and c.from_residual-in_err-page.result c.from_residual-in_err-page.ensures.1 in
-    rw (p.1, p.2) (report_gave (goal.at.returns-in_err-page-clause-denied c).After-report (Err c.in_err-page.field-0.0) c.in_err-page.ensures.does c.in_err-page.ensures.no_store_fault)
+    rw (p.1, p.2) (report_gave (goal.at.returns-in_err-page-clause-denied c).After-report (Err c.in_err-page.field-0.0) c.in_err-page.ensures.does c.in_err-page.ensures.fault)
 
 pub returns-clause-path : goal.returns-clause-path
 returns-clause-path c = record {
