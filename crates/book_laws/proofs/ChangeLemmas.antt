@@ -5,7 +5,7 @@ use Rattle.std.specs.FinMap as finite
 use Rattle.std.specs.FinMap.{get-empty, get-insert, get-remove}
 use Rattle.std.proofs.lemmas.Bool.{cases_Bool, cond-true}
 use Rattle.std.proofs.lemmas.Option.{same_Some}
-use Rattle.vcard_text.specs.TextMaps.{text_cmp}
+use Rattle.base_types.specs.TextMaps.{text_cmp}
 use Rattle.vcard_text.specs.declared.line.Line.{Line}
 use Rattle.vcard_text.specs.Cards.{uid_of}
 use Rattle.book_model.specs.declared.answers.Moved.{Moved}
@@ -31,7 +31,7 @@ use Rattle.book_laws.specs.WorldSteps.{with_event, found_of}
 use Rattle.book_laws.specs.Following.{AreStoriesOf, Follows}
 use Rattle.book_laws.proofs.FollowLemmas.{follow_named, follow_test, follow_given, sound_with}
 use Rattle.book_laws.proofs.HistoryLemmas.{get-changed}
-use Rattle.book_model.proofs.TextLemmas.{text_total, same-equal}
+use Rattle.base_types.proofs.TextLemmas.{text_total, same-equal}
 use Rattle.book_model.proofs.AnswerLemmas.{live_first, found_to_move, FoundToMove}
 use Rattle.book_laws.proofs.WorldLemmas.{rows-insert, sound-insert, wrote_story, book_of-with_event, found_is}
 

@@ -4,7 +4,7 @@ use Rattle.std.specs.FinMap as finite
 use Rattle.std.specs.FinMap.{get-empty, len-insert, len-remove, len-empty}
 use Rattle.std.proofs.lemmas.Bool.{cond-true, cond-false, both_ways}
 use Rattle.std.proofs.lemmas.List.Recursion.{is_count_by}
-use Rattle.vcard_text.specs.TextMaps.{text_cmp}
+use Rattle.base_types.specs.TextMaps.{text_cmp}
 use Rattle.vcard_text.specs.declared.line.Line.{Line}
 use Rattle.book_model.specs.declared.answers.Stored.{Stored}
 use Rattle.book_model.specs.declared.change.Change.{Change}
@@ -20,7 +20,7 @@ use Rattle.book_laws.specs.Reasons.{is_creation, is_edit, is_import, is_import_e
 use Rattle.book_laws.specs.Histories.{BookEvent, cards_after_change, live}
 use Rattle.book_model.specs.Books.{LiveCards}
 use Rattle.book_laws.specs.Lawful.{MayHappen, IsLawful}
-use Rattle.book_model.proofs.TextLemmas.{text_total}
+use Rattle.base_types.proofs.TextLemmas.{text_total}
 
 pub total-counted : (change : Change) (c : Counts) → total (counted change c) ≡ total c + 1
 total-counted (Stores card Creation) c = omega arith

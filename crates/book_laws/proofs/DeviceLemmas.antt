@@ -8,7 +8,7 @@ use Rattle.std.proofs.lemmas.Bool.Decides.{Decides-eqb}
 use Rattle.std.proofs.lemmas.List.{take-map}
 use Rattle.std.proofs.lemmas.Option.{same_Some}
 use Rattle.std.proofs.lemmas.Map.Lookups.{exact_bytes}
-use Rattle.vcard_text.specs.TextMaps.{text_cmp}
+use Rattle.base_types.specs.TextMaps.{text_cmp}
 use Rattle.book_model.specs.declared.page.Entry.TheVariants.{Changed, Removed}
 use Rattle.book_model.specs.declared.page.Page.{Page}
 use Rattle.book_model.specs.declared.refusal.Refusal.{Refusal}
@@ -29,7 +29,7 @@ use Rattle.book_laws.specs.RightDevices.{Agrees, IsRightAt, IsRight}
 use Rattle.book_laws.specs.Paging.{mark_under, page_for}
 use Rattle.book_laws.specs.DeviceLaws.{EmptyIsRight, CopiesStayRight, PartsKeepCopiesRight, WholePagesKeepCopiesRight, LastPagesCompleteCopies, DevicesStartRight, NobodyDueIsComplete, LiveAreDueFirst, NewBooksKeepAllRight, LastPagesCompleteAll, RightTokensAreKnown, RightTokensGrowOld, EventsKeepAllRight, PartsKeepAllRight, WholePagesKeepAllRight}
 use Rattle.book_model.proofs.BasicLemmas.{both, is_some-false}
-use Rattle.book_model.proofs.TextLemmas.{text_total, same-equal}
+use Rattle.base_types.proofs.TextLemmas.{text_total, same-equal}
 use Rattle.book_laws.proofs.HistoryLemmas.{has, last-le, last_here, last_other, last_event, event-le, Rises, get-changed}
 use Rattle.book_laws.proofs.DueLemmas.{has-due, due_have_events, above_first, due-rises}
 

@@ -8,7 +8,7 @@ use Rattle.book_laws.specs.Histories.{BookEvent, same_uid, last, touched, HasEve
 use Rattle.book_laws.specs.Reports.{is_due, due}
 use Rattle.book_laws.specs.ReportLaws.{DueHaveEvents}
 use Rattle.book_model.proofs.BasicLemmas.{both}
-use Rattle.book_model.proofs.TextLemmas.{same_equiv, same-equal}
+use Rattle.base_types.proofs.TextLemmas.{same_equiv, same-equal}
 use Rattle.book_laws.proofs.HistoryLemmas.{has, last_event, event-le, has-touched, Rises, touched-rises}
 
 -- who is due is in the list

@@ -8,7 +8,7 @@ use Rattle.std.specs.List.{AllByRecursion}
 use Rattle.std.proofs.lemmas.Bool.{cases_Bool, cases_lt, cond-true, cond-false, and_parts, leb-true, le-leb, lt-ltb, false_from_ne_true, ltb-true}
 use Rattle.std.proofs.lemmas.List.{length-append}
 use Rattle.std.proofs.lemmas.Map.Lookups.{exact_bytes}
-use Rattle.vcard_text.specs.TextMaps.{text_cmp}
+use Rattle.base_types.specs.TextMaps.{text_cmp}
 use Rattle.book_model.specs.declared.answers.Stored.{Stored}
 use Rattle.book_model.specs.declared.row.Row.{Row}
 use Rattle.book_model.specs.declared.refusal.Refusal.TheVariants.{BadForget}
@@ -25,7 +25,7 @@ use Rattle.book_laws.proofs.FollowLemmas.{follow_named, follow_test}
 use Rattle.book_laws.proofs.ReportLemmas.{each_found}
 use Rattle.book_model.proofs.LiveCardLemmas.{Members}
 use Rattle.book_laws.proofs.RowLemmas.{row_at, get-kept_rows, get-all_rows}
-use Rattle.book_model.proofs.TextLemmas.{text_total, same_self, same-equal}
+use Rattle.base_types.proofs.TextLemmas.{text_total, same_self, same-equal}
 use Rattle.book_laws.proofs.WorldLemmas.{wrote_story}
 
 abbrev Rows : Type 0

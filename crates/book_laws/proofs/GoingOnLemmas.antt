@@ -33,7 +33,7 @@ use Rattle.book_model.specs.SameCards.{same_card}
 use Rattle.book_laws.specs.Worlds.{Story, Stories}
 use Rattle.book_laws.specs.WorldChanges.{event, is_forgotten, live_of, storing_event, story_import, story_keeping, import_meaning_under, with_horizon, forget_meaning, stories_after_move}
 use Rattle.book_laws.specs.WorldSteps.{with_event, empty_story, story_named, found_of, stories_after_put}
-use Rattle.book_model.proofs.TextLemmas.{text_total, same-equal}
+use Rattle.base_types.proofs.TextLemmas.{text_total, same-equal}
 
 -- a forgetting that was answered raised the book's horizon to this number
 pub record Raised (limits : Bounds) (stories : Stories) (call : Call) (name : List ℕ) (upto : ℕ) : Type 0 where

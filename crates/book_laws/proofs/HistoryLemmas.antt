@@ -7,13 +7,13 @@ use Rattle.std.proofs.lemmas.Bool.{cases_Bool, or_left, or_right, cond-true, con
 use Rattle.std.proofs.lemmas.List.Folds.{list_any-append}
 use Rattle.std.proofs.lemmas.Map.Views.{any-filter_same}
 use Rattle.std.proofs.lemmas.Option.{same_Some}
-use Rattle.vcard_text.specs.TextMaps.{text_cmp}
+use Rattle.base_types.specs.TextMaps.{text_cmp}
 use Rattle.book_model.specs.declared.answers.Stored.{Stored}
 use Rattle.book_model.specs.declared.change.Change.{Change}
 use Rattle.book_model.specs.declared.change.Change.TheVariants.{Stores, TakesAway}
 use Rattle.book_laws.specs.Histories.{BookEvent, IsEventOf, same_uid, cards_after_change, live, last, touched}
 use Rattle.book_model.specs.Books.{LiveCards}
-use Rattle.book_model.proofs.TextLemmas.{text_total, same_self, same-equal}
+use Rattle.base_types.proofs.TextLemmas.{text_total, same_self, same-equal}
 
 -- whether a UID is in the list
 abbrev pub has : List (List ℕ) → List ℕ → Bool

@@ -17,7 +17,7 @@ use Rattle.book_laws.specs.Worlds.{Story}
 use Rattle.book_laws.specs.WorldChanges.{live_of, storing_event}
 use Rattle.book_laws.proofs.CountLemmas.{stored_new, stored_over}
 use Rattle.book_model.proofs.ImportCountLemmas.{apart_turned, counts_cards}
-use Rattle.book_model.proofs.TextLemmas.{text_total}
+use Rattle.base_types.proofs.TextLemmas.{text_total}
 
 story_apart : (story : Story) (card : List Line) (why : StoreReason) (uid : List ℕ) → same_name (uid_of card) uid ≡ false → live_of (storing_event story card why) uid ≡ live_of story uid
 story_apart story card why uid e = get-insert text_total (live story.history) (uid_of card) (record { version = length story.history + 1; card = card }) uid ∙ cond-false _ _ _ (apart_turned (uid_of card) uid e)

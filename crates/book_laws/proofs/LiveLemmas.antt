@@ -5,13 +5,13 @@ use Rattle.std.specs.FinMap.{get-empty, get-insert, get-remove}
 use Rattle.std.proofs.lemmas.Bool.{cases_Bool, cond-true}
 use Rattle.std.proofs.lemmas.List.Elements.{All-nil, All-cons, All-head, All-tail}
 use Rattle.std.proofs.lemmas.Option.{same_Some}
-use Rattle.vcard_text.specs.TextMaps.{text_cmp}
+use Rattle.base_types.specs.TextMaps.{text_cmp}
 use Rattle.vcard_text.specs.declared.line.Line.{Line}
 use Rattle.book_model.specs.declared.answers.Stored.{Stored}
 use Rattle.book_model.specs.declared.change.Change.{Change}
 use Rattle.book_model.specs.declared.change.Change.TheVariants.{Stores, TakesAway}
 use Rattle.book_model.specs.declared.change.StoreReason.{StoreReason}
-use Rattle.book_model.proofs.TextLemmas.{text_total, same_self, same-equal, same-other}
+use Rattle.base_types.proofs.TextLemmas.{text_total, same_self, same-equal, same-other}
 use Rattle.book_laws.specs.Histories.{BookEvent, same_uid, cards_after_change, live}
 use Rattle.book_laws.specs.LiveLaws.{IsOfAnother, IsStoredLast, LiveAreStoredLast}
 use Rattle.book_laws.proofs.HistoryLemmas.{get-changed}

@@ -8,7 +8,7 @@ use Rattle.std.specs.FinMap.Entries.{find, put, by_order, below_all, is_sorted}
 use Rattle.std.proofs.lemmas.Bool.{cond-true, cond-false}
 use Rattle.std.proofs.lemmas.List.Sums.{sum_by-cons}
 use Rattle.std.proofs.lemmas.Option.{same_Some}
-use Rattle.vcard_text.specs.TextMaps.{text_cmp}
+use Rattle.base_types.specs.TextMaps.{text_cmp}
 use Rattle.vcard_text.specs.declared.line.Line.{Line}
 use Rattle.book_model.specs.declared.answers.Moved.{Moved}
 use Rattle.book_model.specs.declared.answers.Stored.{Stored}
@@ -31,7 +31,7 @@ use Rattle.book_laws.specs.WorldSteps.{with_event, story_named, found_of}
 use Rattle.book_model.proofs.BasicLemmas.{T_parts, T_both}
 use Rattle.book_model.proofs.AnswerLemmas.{found_to_move, live_first, free_first, expected_first, same_answer, no_answer}
 use Rattle.book_laws.proofs.CountLemmas.{len-removed}
-use Rattle.book_model.proofs.TextLemmas.{text_total, same_self, same_equiv, get-insert_here}
+use Rattle.base_types.proofs.TextLemmas.{text_total, same_self, same_equiv, get-insert_here}
 
 -- ---- a sum over the entries of a map, where one is written over
 

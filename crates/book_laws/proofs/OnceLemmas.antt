@@ -15,7 +15,7 @@ use Rattle.book_laws.specs.RunLaws.{ImportsActOnce}
 use Rattle.book_laws.specs.Worlds.{Story, Stories}
 use Rattle.book_laws.specs.WorldChanges.{story_import, story_keeping, import_meaning_under}
 use Rattle.book_laws.proofs.GoingOnLemmas.{books_go_on}
-use Rattle.book_model.proofs.TextLemmas.{get-insert_here}
+use Rattle.base_types.proofs.TextLemmas.{get-insert_here}
 
 -- the book keeps the answer under the key
 record IsKept (stories : Stories) (name key : List ℕ) (tally : ImportTally) : Type 0 where

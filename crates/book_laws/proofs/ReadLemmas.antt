@@ -4,7 +4,7 @@ use Rattle.std.specs.Option.{option_map, option_map_or, option_and_then}
 use Rattle.std.specs.FinMap as finite
 use Rattle.std.specs.FinMap.{get-from_entries, same_map}
 use Rattle.std.proofs.lemmas.Map.Lookups.{exact_bytes}
-use Rattle.vcard_text.specs.TextMaps.{text_cmp}
+use Rattle.base_types.specs.TextMaps.{text_cmp}
 use Rattle.book_model.specs.declared.answers.Stored.{Stored}
 use Rattle.book_model.specs.declared.refusal.Refusal.{Refusal}
 use Rattle.book_model.specs.declared.refusal.Refusal.TheVariants.{NoSuchBook}
@@ -24,7 +24,7 @@ use Rattle.book_model.proofs.BasicLemmas.{is_some-map}
 use Rattle.book_laws.proofs.CountLemmas.{live_count_is}
 use Rattle.book_laws.proofs.ForgetLemmas.{passing_rows}
 use Rattle.book_laws.proofs.RowLemmas.{row_at, live_by_row}
-use Rattle.book_model.proofs.TextLemmas.{text_total}
+use Rattle.base_types.proofs.TextLemmas.{text_total}
 use Rattle.book_model.proofs.LiveCardLemmas.{find_live}
 use Rattle.book_laws.proofs.WorldLemmas.{get-rows, entries-rows}
 

@@ -15,7 +15,7 @@ use Rattle.std.proofs.lemmas.Map.Entries.{lookup_from_place}
 use Rattle.std.proofs.lemmas.Map.Keys.{IsDistinct-cons, IsDistinct-head, IsDistinct-tail, IsDistinct-IsPermutation}
 use Rattle.std.proofs.lemmas.Map.Made.{IsDistinct-keys_filter}
 use Rattle.std.proofs.lemmas.Option.{slice_get-get_or, slice_get-map, same_Some}
-use Rattle.vcard_text.specs.TextMaps.{text_cmp}
+use Rattle.base_types.specs.TextMaps.{text_cmp}
 use Rattle.book_model.specs.declared.answers.Stored.{Stored}
 use Rattle.book_model.specs.declared.page.Entry.{Entry}
 use Rattle.book_model.specs.declared.page.Entry.TheVariants.{Changed, Removed}
@@ -28,7 +28,7 @@ use Rattle.book_laws.specs.Reports.{is_due, due, entry_of, cut_page, whole_page,
 use Rattle.book_laws.specs.Rows.{kept_rows}
 use Rattle.book_laws.specs.Worlds.{Story, book_of}
 use Rattle.book_model.proofs.BasicLemmas.{T_parts}
-use Rattle.book_model.proofs.TextLemmas.{same_equiv, same-equal}
+use Rattle.base_types.proofs.TextLemmas.{same_equiv, same-equal}
 use Rattle.book_laws.proofs.HistoryLemmas.{has, last-le, last_here, last_other, Rises, version_is}
 use Rattle.book_laws.proofs.DueLemmas.{has-due, any_passes, due-rises, same_rising}
 use Rattle.book_laws.proofs.RowLemmas.{row_at, row_known, due_by_row, due_row}

@@ -6,7 +6,7 @@ use Rattle.std.specs.FinMap.{get-empty, get-insert, get-remove, get-retain_keys,
 use Rattle.std.proofs.lemmas.Bool.{cases_Bool, cond-true, cond-false, or_left, or_right, or_cases, and_parts, ltb-true, lt-ltb}
 use Rattle.std.proofs.lemmas.Map.Lookups.{exact_bytes}
 use Rattle.std.proofs.lemmas.Option.{cond_some}
-use Rattle.vcard_text.specs.TextMaps.{text_cmp}
+use Rattle.base_types.specs.TextMaps.{text_cmp}
 use Rattle.vcard_text.specs.declared.line.Line.{Line}
 use Rattle.book_model.specs.declared.answers.Stored.{Stored}
 use Rattle.book_model.specs.declared.change.Change.{Change}
@@ -19,7 +19,7 @@ use Rattle.book_model.specs.Pages.{row_is_due}
 use Rattle.book_laws.specs.Reports.{is_due}
 use Rattle.book_laws.specs.Rows.{all_rows, is_kept, kept_rows}
 use Rattle.book_model.proofs.BasicLemmas.{is_some-map}
-use Rattle.book_model.proofs.TextLemmas.{text_total}
+use Rattle.base_types.proofs.TextLemmas.{text_total}
 use Rattle.book_laws.proofs.HistoryLemmas.{last_here, last_other, get-changed, version_is}
 
 -- what a history says of a member

@@ -6,7 +6,7 @@ use Rattle.std.specs.FinMap.{get-empty, get-insert, get-remove, get-retain_keys,
 use Rattle.std.proofs.lemmas.Bool.{cases_Bool, cond-true, cond-false, ltb-true}
 use Rattle.std.proofs.lemmas.Map.Lookups.{exact_bytes}
 use Rattle.std.proofs.lemmas.Option.{same_Some, cond_some}
-use Rattle.vcard_text.specs.TextMaps.{text_cmp}
+use Rattle.base_types.specs.TextMaps.{text_cmp}
 use Rattle.vcard_text.specs.declared.line.Line.{Line}
 use Rattle.vcard_text.specs.Cards.{uid_of}
 use Rattle.book_model.specs.declared.answers.ImportTally.{ImportTally}
@@ -27,7 +27,7 @@ use Rattle.book_model.specs.Importing.{is_legal_key, keeping}
 use Rattle.book_model.specs.Reading.{live_cards}
 use Rattle.book_model.specs.WellFormed.{IsWellFormedRow, IsWellFormedImport, IsWellFormedBook, IsWellFormed}
 use Rattle.book_model.proofs.LiveCardLemmas.{find_live}
-use Rattle.book_model.proofs.TextLemmas.{text_total, same-equal}
+use Rattle.base_types.proofs.TextLemmas.{text_total, same-equal}
 use Rattle.book_laws.proofs.CountLemmas.{total-counted, len-removed}
 
 -- what stands in a map after a write was written, or was there before

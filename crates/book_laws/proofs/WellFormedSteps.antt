@@ -35,7 +35,7 @@ use Rattle.book_model.specs.Removing.{live_card, remove_number}
 use Rattle.book_model.specs.SameCards.{same_card}
 use Rattle.book_model.specs.WellFormed.{IsWellFormedBook, IsWellFormed}
 use Rattle.book_laws.specs.WellFormedLaws.{LeavesWellFormed, CreatingKeepsForm, PuttingKeepsForm, RemovingKeepsForm, MovingKeepsForm, ImportingKeepsForm, ForgettingKeepsForm}
-use Rattle.book_model.proofs.TextLemmas.{text_total}
+use Rattle.base_types.proofs.TextLemmas.{text_total}
 use Rattle.book_laws.proofs.PassedLemmas.{after_test, after_known, after_named}
 use Rattle.book_laws.proofs.WellFormedBooks.{Fits, well_changed, within, well_kept, well_forgotten, well_over, well_new}
 

@@ -7,7 +7,7 @@ use Rattle.std.specs.FinMap.Entries.{find, below_all, is_sorted}
 use Rattle.std.proofs.lemmas.Bool.{leb-true}
 use Rattle.std.proofs.lemmas.List.{length-map, nil_from_length}
 use Rattle.std.proofs.lemmas.Map.Lookups.{exact_bytes}
-use Rattle.vcard_text.specs.TextMaps.{text_cmp}
+use Rattle.base_types.specs.TextMaps.{text_cmp}
 use Rattle.vcard_text.specs.Cards.{uid_of}
 use Rattle.book_model.specs.declared.answers.PutAnswer.{PutAnswer}
 use Rattle.book_model.specs.declared.answers.Stored.{Stored}
@@ -38,7 +38,7 @@ use Rattle.book_laws.specs.Following.{AreStoriesOf, Follows, PagesFollow}
 use Rattle.book_laws.specs.ChangeLaws.{NothingFollows, CreatingFollows, PuttingFollows}
 use Rattle.book_laws.specs.ReadLaws.{ReportsFollow}
 use Rattle.book_model.proofs.BasicLemmas.{T_parts, T_both, is_some-map}
-use Rattle.book_model.proofs.TextLemmas.{text_total}
+use Rattle.base_types.proofs.TextLemmas.{text_total}
 use Rattle.book_laws.proofs.CountLemmas.{live_count_is}
 use Rattle.book_laws.proofs.PutLemmas.{may_store}
 use Rattle.book_laws.proofs.ReportLemmas.{page_is_report}

@@ -4,7 +4,7 @@
 use Rattle.std.specs.Prelude.{ℕ, ◌+◌, ◌≡◌, ◌<◌, Bool, not, List, [], ◌∷◌, ◌++◌, length, filter, if◌then◌else◌}
 use Rattle.std.specs.Ordering.{eq_by_cmp}
 use Rattle.std.specs.FinMap as finite
-use Rattle.vcard_text.specs.TextMaps.{text_cmp}
+use Rattle.base_types.specs.TextMaps.{text_cmp}
 use Rattle.book_model.specs.declared.change.Change.{Change}
 use Rattle.book_model.specs.declared.change.Change.TheVariants.{Stores, TakesAway}
 use Rattle.book_model.specs.Books.{LiveCards}

@@ -1,7 +1,7 @@
 -- The rows that a store keeps of a history. This project's own.
 use Rattle.std.specs.Prelude.{ℕ, ◌+◌, Bool, ◌||◌, nat_lt, List, [], ◌∷◌, length, is_some}
 use Rattle.std.specs.FinMap as finite
-use Rattle.vcard_text.specs.TextMaps.{text_cmp}
+use Rattle.base_types.specs.TextMaps.{text_cmp}
 use Rattle.book_model.specs.declared.row.Row.{Row}
 use Rattle.book_model.specs.Books.{card_after}
 use Rattle.book_laws.specs.Histories.{BookEvent, live, last}

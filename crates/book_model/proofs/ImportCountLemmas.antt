@@ -16,7 +16,7 @@ use Rattle.book_model.specs.Counting.{arrivals, departures}
 use Rattle.book_model.specs.Importing.{Importing, importing, import_over, import_card, import_cards, storing_in}
 use Rattle.book_model.specs.ImportLaws.{is_replaced, is_there, HaveDistinctUids, CountsCards, ImportsCountCards, ImportsTakeNumbers}
 use Rattle.book_model.specs.SameCards.{same_card}
-use Rattle.book_model.proofs.TextLemmas.{text_total, same_self, same-equal}
+use Rattle.base_types.proofs.TextLemmas.{text_total, same_self, same-equal}
 
 abbrev one_if : Bool → ℕ
 one_if b = cond b 1 0

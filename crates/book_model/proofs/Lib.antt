@@ -1,5 +1,4 @@
 pub mod BasicLemmas
-pub mod TextLemmas
 pub mod SameCardLemmas
 pub mod PutLemmas
 pub mod LiveCardLemmas

@@ -7,13 +7,13 @@ use Rattle.std.specs.FinMap.Entries.{find, below_all, is_sorted}
 use Rattle.std.specs.Ordering.{is_lt, is_eq}
 use Rattle.std.proofs.lemmas.Bool.{cond-true, cond-false}
 use Rattle.std.proofs.lemmas.Map.Lookups.{exact_bytes}
-use Rattle.vcard_text.specs.TextMaps.{text_cmp}
+use Rattle.base_types.specs.TextMaps.{text_cmp}
 use Rattle.book_model.specs.declared.answers.Stored.{Stored}
 use Rattle.book_model.specs.declared.row.Row.{Row}
 use Rattle.book_model.specs.Books.{stored_in, LiveCards}
 use Rattle.book_model.specs.Reading.{with_live, live_entry}
 use Rattle.book_model.proofs.BasicLemmas.{T_parts}
-use Rattle.book_model.proofs.TextLemmas.{text_total, same-equal, same}
+use Rattle.base_types.proofs.TextLemmas.{text_total, same-equal, same}
 
 abbrev pub Members : Type 0
 Members = List (List ℕ × Row)

@@ -2,7 +2,7 @@
 use Rattle.std.specs.Prelude.{ℕ, Bool, List, Option, refl}
 use Rattle.std.specs.FinMap as finite
 use Rattle.std.specs.Coded.{Coded, code_by, coded×, coded_ℕ, coded_bool, coded_list, coded_option}
-use Rattle.vcard_text.specs.TextMaps.{text_cmp, coded_text}
+use Rattle.base_types.specs.TextMaps.{text_cmp, coded_text}
 use Rattle.vcard_text.specs.declared.line.Line.{Line}
 use Rattle.vcard_text.specs.declared.line.Param.{Param}
 use Rattle.vcard_text.specs.declared.line.ParamValue.{ParamValue}

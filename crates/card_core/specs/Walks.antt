@@ -3,7 +3,7 @@ use Rattle.std.specs.Prelude.{ℕ, ◌≡◌, ◌≢◌, ◌+◌, ◌↔◌, ◌
 use Rattle.std.specs.List.{Contains, list_any}
 use Rattle.std.specs.Ordering.{eq_by_cmp}
 use Rattle.std.specs.FinMap as finite
-use Rattle.vcard_text.specs.TextMaps.{text_cmp}
+use Rattle.base_types.specs.TextMaps.{text_cmp}
 use Rattle.vcard_text.specs.declared.kind.Kind.TheVariants.{Group}
 use Rattle.vcard_text.specs.declared.line.Line.{Line}
 use Rattle.vcard_text.specs.Cards.{kind_of, members_of}

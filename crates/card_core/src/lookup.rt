@@ -1,12 +1,12 @@
 //! Cards that are looked up by their UIDs.
 ghost use Rattle.std.specs.Prelude.{◌≡◌, option_copied};
 ghost use Rattle.std.specs.FinMap as finite;
-ghost use Rattle.vcard_text.specs.TextMaps.{texts};
+ghost use Rattle.base_types.specs.TextMaps.{texts};
 ghost use Rattle.card_core.specs.Groups.{Cards};
 
+use base_types::value_at;
 use std::collections::BTreeMap;
 use vcard_text::Card;
-use vcard_text::text_map::value_at;
 
 /// Cards by their UIDs, in a map or wherever else a card can be borrowed from.
 pub trait CardsByUid {

@@ -1,7 +1,7 @@
 //! A set of texts that contracts see as the list of their octets.
 ghost use Rattle.std.specs.Prelude.{◌≡◌, ◌↔◌, IsTrue, OnOk, IfOk, Contains, []};
 ghost use Rattle.std.specs.List.Sorted.{IsStrictlySortedBy};
-ghost use Rattle.vcard_text.specs.TextMaps.{text_cmp};
+ghost use Rattle.base_types.specs.TextMaps.{text_cmp};
 ghost use Rattle.card_core.specs.TextSets.{Gains};
 
 use std::alloc::Global;

@@ -10,7 +10,7 @@ use Rattle.vcard_text.specs.declared.fault.CardFault.TheVariants.{TooLong, NotUt
 use Rattle.vcard_text.specs.declared.line.Line.{Line}
 use Rattle.vcard_text.specs.Cards.{uid_of}
 use Rattle.vcard_text.specs.Faults.{first_fault}
-use Rattle.vcard_text.specs.TextMaps.{text_cmp}
+use Rattle.base_types.specs.TextMaps.{text_cmp}
 use Rattle.book_model.specs.declared.answers.PutAnswer.{PutAnswer}
 use Rattle.book_model.specs.declared.answers.PutAnswer.TheVariants.{Created}
 use Rattle.book_model.specs.declared.answers.Stored.{Stored}

@@ -4,8 +4,8 @@ use Rattle.std.specs.FinMap as finite
 use Rattle.std.specs.FinMap.{get-insert, same_map}
 use Rattle.std.proofs.lemmas.Bool.{cond-false}
 use Rattle.std.proofs.lemmas.Map.Lookups.{exact_bytes}
-use Rattle.vcard_text.specs.TextMaps.{text_cmp}
-use Rattle.book_model.proofs.TextLemmas.{text_total, same, same-equal, same-other, insert_over, insert-insert, get-insert_here}
+use Rattle.base_types.specs.TextMaps.{text_cmp}
+use Rattle.base_types.proofs.TextLemmas.{text_total, same, same-equal, same-other, insert_over, insert-insert, get-insert_here}
 
 module _ {X : Type 0} (m : finite.FinMap text_cmp X) where
   -- what is there is written over itself

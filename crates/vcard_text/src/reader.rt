@@ -11,10 +11,10 @@ ghost use Rattle.vcard_text.specs.declared.line.Line.{Line};
 use crate::bounds::TEXT_OCTETS_MAX;
 use crate::card::Card;
 use crate::fault::CardFault;
-use crate::items::Items;
 use crate::line::Line;
 use crate::scan::Scan;
 use crate::writer::canonical_len;
+use base_types::Items;
 use std::alloc::Global;
 
 /// Whether a physical line continues the one before it.

@@ -12,7 +12,7 @@ struct Borrowed<'a> {
 }
 
 impl<'a> CardsByUid for Borrowed<'a> {
-    ghost use Rattle.vcard_text.specs.TextMaps.{texts};
+    ghost use Rattle.base_types.specs.TextMaps.{texts};
 
     ghost cards = { λ borrowed. texts borrowed.cards.now };
 

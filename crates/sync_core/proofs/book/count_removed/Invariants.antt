@@ -1,7 +1,7 @@
 use Rattle.std.proofs.Common.{◌≡◌, ◌+◌, ◌≤◌, map, length, filter}
 use Rattle.std.specs.BTreeMap.{btree_map_len}
 use Rattle.std.specs.Map.Iter.{deref_pair}
-use Rattle.vcard_text.proofs.TextMapLemmas.{octet_entry}
+use Rattle.base_types.proofs.TextMapLemmas.{octet_entry}
 use Rattle.book_model.specs.Pages.{Member}
 use Rattle.book_model.specs.Reading.{is_removed_after}
 use Rattle.sync_core.proofs.book.count_removed.Given as goal

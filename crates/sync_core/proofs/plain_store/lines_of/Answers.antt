@@ -1,7 +1,7 @@
 use Rattle.std.proofs.Common.{rules, ◌≡◌, map, sym, ap, ◌∙◌}
 use Rattle.std.specs.Map.Iter.{deref_pair}
 use Rattle.std.proofs.lemmas.Map.Iter.{iter_end}
-use Rattle.vcard_text.proofs.TextMapLemmas.{octet_entry, entries-texts}
+use Rattle.base_types.proofs.TextMapLemmas.{octet_entry, entries-texts}
 use Rattle.book_model.specs.Reading.{book_line, book_lines}
 use Rattle.sync_core.proofs.plain_store.lines_of.Goals as goal
 

@@ -1,7 +1,7 @@
 use Rattle.std.proofs.Common.{rules, ◌≡◌, filter, map, sym, ap, ◌∙◌, List}
 use Rattle.std.specs.Map.Iter.{deref_pair}
 use Rattle.std.proofs.lemmas.Map.Iter.{iter_end}
-use Rattle.vcard_text.proofs.TextMapLemmas.{octet_entry, entries-texts}
+use Rattle.base_types.proofs.TextMapLemmas.{octet_entry, entries-texts}
 use Rattle.book_model.specs.Pages.{Member, row_is_due, due_rows}
 use Rattle.sync_core.proofs.report.due_members.Goals as goal
 

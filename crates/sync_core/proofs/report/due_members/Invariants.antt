@@ -1,6 +1,6 @@
 use Rattle.std.proofs.Common.{◌≡◌, map, filter}
 use Rattle.std.specs.Map.Iter.{deref_pair}
-use Rattle.vcard_text.proofs.TextMapLemmas.{octet_entry}
+use Rattle.base_types.proofs.TextMapLemmas.{octet_entry}
 use Rattle.book_model.specs.Pages.{Member, row_is_due}
 use Rattle.sync_core.proofs.report.due_members.Given as goal
 

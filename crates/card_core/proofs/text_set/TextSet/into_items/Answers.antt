@@ -2,7 +2,7 @@ use Rattle.std.proofs.Common.{◌≡◌, rules, map, string_bytes, sym, ap, subs
 use Rattle.std.specs.List.Sorted.{IsStrictlySortedBy}
 use Rattle.std.proofs.lemmas.List.{map-id}
 use Rattle.std.proofs.lemmas.Map.Iter.{iter_end}
-use Rattle.vcard_text.specs.TextMaps.{text_cmp}
+use Rattle.base_types.specs.TextMaps.{text_cmp}
 use Rattle.card_core.proofs.TextSetLemmas.{texts_rise}
 use Rattle.card_core.proofs.text_set.TextSet.into_items.Goals as goal
 

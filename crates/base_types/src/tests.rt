@@ -1,0 +1,51 @@
+use crate::items::Items;
+use crate::memory::NoMemory;
+use crate::text::Text;
+use crate::text_map::TextMap;
+use std::alloc::Global;
+use std::collections::BTreeMap;
+use std::test::Fail;
+
+fn two_texts(alloc: Global) -> Result<Vec<Text>, NoMemory> {
+    let mut texts = Vec::new(alloc);
+    texts.push(Text::copy_of(alloc, "a")?)?;
+    texts.push(Text::copy_of(alloc, "b")?.try_copy()?)?;
+    Ok(texts)
+}
+
+#[test]
+fn keeps_texts_and_items(rt: HostRuntime) -> Result<(), Fail> {
+    let items = Items::from_vec(two_texts(rt.alloc())?);
+    for (text, wanted) in items.as_slice().iter().zip(["a", "b"]) {
+        assert_eq!(rt; text.as_str(), wanted);
+    }
+    assert_eq!(rt; items.into_vec().len(), 2);
+    assert_eq!(rt; Text::copy_of(rt.alloc(), "a")?.into_string().as_str(), "a");
+    Ok(())
+}
+
+#[test]
+fn keeps_maps(rt: HostRuntime) -> Result<(), Fail> {
+    let mut map = TextMap::new(rt.alloc());
+    for (key, value) in [("b", 2), ("a", 1), ("b", 3)] {
+        map.insert(String::from_str(rt.alloc(), key)?, value)?;
+    }
+    assert_eq!(rt; map.get("b"), Some(&3));
+    let entries = map.entries(rt.alloc())?;
+    for (entry, wanted) in entries.iter().zip([("a", 1), ("b", 3)]) {
+        assert_eq!(rt; entry.0, wanted.0);
+        assert_eq!(rt; *entry.1, wanted.1);
+    }
+    drop(entries);
+    assert_eq!(rt; map.as_map().len(), 2);
+    assert_eq!(rt; map.replace("b", 4), Some(3));
+    assert_eq!(rt; map.replace("c", 5), None);
+    assert_eq!(rt; map.get("c"), None);
+    assert_eq!(rt; map.remove("b"), Some(4));
+    assert_eq!(rt; map.get("b"), None);
+    map.clear();
+    assert_eq!(rt; map.get("a"), None);
+    let empty: TextMap<u8> = TextMap::from_map(BTreeMap::new(rt.alloc()));
+    assert_eq!(rt; empty.get("a"), None);
+    Ok(())
+}

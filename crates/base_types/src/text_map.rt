@@ -1,0 +1,170 @@
+//! A map from texts that contracts see as a finite map from their octets.
+ghost use Rattle.std.specs.Prelude.{◌≡◌, IfNone, IfOk, IfSome, OnOk, OnErr, string_bytes, option_copied, map, None};
+ghost use Rattle.std.specs.Map.Iter.{deref_pair};
+ghost use Rattle.std.specs.FinMap as finite;
+ghost use Rattle.base_types.specs.TextMaps.{texts};
+
+use crate::memory::NoMemory;
+use std::alloc::Global;
+use std::collections::BTreeMap;
+use std::marker::Model;
+use std::mem;
+
+/// A `BTreeMap` with text keys, whose contracts name what stands at each key.
+#[derive(Debug, Drop)]
+pub struct TextMap<V> {
+    inner: BTreeMap<String, V>,
+}
+
+impl<V> Model for TextMap<V> {
+    ghost use Rattle.std.specs.FinMap as finite;
+    ghost use Rattle.base_types.specs.TextMaps.{text_cmp, coded_text, texts};
+
+    ghost Value = { finite.FinMap text_cmp V };
+
+    ghost coded = { finite.code coded_text V.code };
+
+    ghost view = { λ text_map. texts text_map.inner };
+}
+
+/// What stands at the key of a `BTreeMap` with text keys.
+pub fn value_at<'a, V>(map: &'a BTreeMap<String, V>, key: &str) -> Option<&'a V>
+    ensures { option_copied result ≡ finite.get (texts map.now) key.now }
+{
+    map.get(key)
+}
+
+impl<V: Drop> TextMap<V> {
+    /// An empty map, which takes no memory.
+    pub fn new(alloc: Global) -> TextMap<V>
+        ensures { result ≡ finite.empty }
+    {
+        TextMap {
+            inner: BTreeMap::new(alloc),
+        }
+    }
+
+    /// The map of a `BTreeMap`, which takes no memory.
+    pub fn from_map(map: BTreeMap<String, V>) -> TextMap<V>
+        ensures { result ≡ texts map }
+    {
+        TextMap { inner: map }
+    }
+
+    /// The `BTreeMap` itself, borrowed.
+    pub fn as_map(&self) -> &BTreeMap<String, V>
+        ensures { texts result.now ≡ self.now }
+    {
+        &self.inner
+    }
+
+    /// The `BTreeMap` itself, which takes no memory.
+    pub fn into_map(self) -> BTreeMap<String, V>
+        ensures { texts result ≡ self }
+    {
+        let TextMap { inner: whole } = self;
+        whole
+    }
+
+    /// The values, by the octets of their keys.
+    pub fn into_values(self, alloc: Global) -> Result<Vec<V>, NoMemory>
+        ensures { IfOk result (λ values. values.items ≡ finite.values self) }
+    {
+        let TextMap { inner } = self;
+        let mut values = Vec::with_capacity(alloc, inner.len())?;
+        for (_, value) in inner {
+            values.push(value)?;
+        }
+        Ok(values)
+    }
+
+    /// How many entries there are.
+    pub fn len(&self) -> usize
+        ensures { result ≡ finite.len self.now }
+    {
+        self.inner.len()
+    }
+
+    /// Takes every entry out.
+    pub fn clear(&mut self)
+        ensures { self.new ≡ finite.empty }
+    {
+        self.inner.clear();
+    }
+
+    /// What stands at the key.
+    pub fn get(&self, key: &str) -> Option<&V>
+        ensures { option_copied result ≡ finite.get self.now key.now }
+    {
+        value_at(&self.inner, key)
+    }
+
+    /// Puts the value at the key. An `Err` leaves the map as it was, and comes only where the key
+    /// wasn't there.
+    pub fn insert(&mut self, key: String, value: V) -> Result<(), NoMemory>
+        ensures ok { OnOk result (self.new ≡ finite.insert self.old (string_bytes key) value) }
+        ensures err { OnErr result (self.new ≡ self.old) }
+        ensures absent { OnErr result (finite.get self.old (string_bytes key) ≡ None) }
+    {
+        self.inner.insert(key, value)?;
+        Ok(())
+    }
+
+    /// Writes the value over what stands at the key, which takes no memory, and answers what stood
+    /// there. Where nothing stands there nothing changes: the value is let go, and the answer is
+    /// `None`.
+    pub fn replace(&mut self, key: &str, value: V) -> Option<V>
+        ensures value { result ≡ finite.get self.old key.now }
+        ensures written { IfSome result (λ _. self.new ≡ finite.insert self.old key.now value) }
+        ensures absent { IfNone result (self.new ≡ self.old) }
+    {
+        let there = self.inner.get_mut(key)?;
+        Some(mem::replace(there, value))
+    }
+
+    /// Takes the entry at the key out, and answers what stood there.
+    pub fn remove(&mut self, key: &str) -> Option<V>
+        ensures value { result ≡ finite.get self.old key.now }
+        ensures removed { self.new ≡ finite.remove self.old key.now }
+    {
+        self.inner.remove(key)
+    }
+
+    /// The entries, by the octets of their keys.
+    pub fn entries(&self, alloc: Global) -> Result<Vec<(&str, &V)>, NoMemory>
+        ensures { IfOk result (λ entries. map deref_pair entries.items ≡ finite.entries self.now) }
+    {
+        let mut entries = Vec::new(alloc);
+        for (key, value) in self.inner.iter() {
+            entries.push((key.as_str(), value))?;
+        }
+        Ok(entries)
+    }
+}
+
+impl<V: PartialEq> PartialEq for TextMap<V> {
+    ghost use Rattle.std.specs.FinMap as finite;
+    ghost use Rattle.std.specs.Cmp.{on_per, and_per, partial_equiv_from_equiv};
+    ghost use Rattle.std.specs.Cmp.Lexicographic.{pointwise, lists_per, nat_list_eq_equiv};
+    ghost use Rattle.base_types.specs.TextMaps.{same_entry};
+
+    ghost eq = { λ a b. pointwise (same_entry V.eq) (finite.entries a) (finite.entries b) };
+
+    ghost laws = { on_per finite.entries (lists_per (and_per
+        (on_per (λ e. e.0) (partial_equiv_from_equiv nat_list_eq_equiv))
+        (on_per (λ e. e.1) V.laws))) };
+
+    fn eq(&self, other: &TextMap<V>) -> bool {
+        self.inner.len() == other.inner.len() && self.inner == other.inner
+    }
+}
+
+impl<V: Eq> Eq for TextMap<V> {
+    ghost use Rattle.std.specs.FinMap as finite;
+    ghost use Rattle.std.specs.Cmp.{on_equiv, and_equiv};
+    ghost use Rattle.std.specs.Cmp.Lexicographic.{lists_equiv, nat_list_eq_equiv};
+
+    ghost laws = { on_equiv finite.entries (lists_equiv (and_equiv
+        (on_equiv (λ e. e.0) nat_list_eq_equiv)
+        (on_equiv (λ e. e.1) V.Eq.laws))) };
+}
