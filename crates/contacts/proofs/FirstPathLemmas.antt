@@ -31,7 +31,8 @@ use Rattle.book_laws.specs.WorldSteps.{empty_story, story_named, create_meaning,
 use Rattle.book_laws.specs.Following.{AreStoriesOf, Follows, PagesFollow}
 use Rattle.book_laws.specs.ChangeLaws.{NothingFollows, CreatingFollows, PuttingFollows}
 use Rattle.book_laws.specs.ReadLaws.{ReportsFollow}
-use Rattle.contacts.specs.FirstPaths.{one_creation, first_page, IsDeniedFor}
+use Rattle.contacts.specs.FirstPaths.{one_creation, first_page}
+use Rattle.contacts.specs.Stops.{IsStopFor, stop_of}
 
 -- the limits that the program's store has
 pub record AreStandard (limits : Bounds) : Type 0 where
@@ -148,7 +149,7 @@ read_as fault = Err fault
 not_read : (fault : CardFault) (card : List Line) → read_as fault ≡ Ok card → ⊥
 not_read fault card e = cc
 
-pub denied_for : (text : List ℕ) (fault : CardFault) → ((fault ≡ NoRoom → ⊥) → first_fault text ≡ Some fault) → IsDeniedFor text (denied_card fault)
+pub denied_for : (text : List ℕ) (fault : CardFault) → ((fault ≡ NoRoom → ⊥) → first_fault text ≡ Some fault) → IsStopFor text (stop_of (denied_card fault))
 denied_for text TooLong first = record { fault = TooLong; refusal_is = refl; first = first (λ e. cc) }
 denied_for text NotUtf8 first = record { fault = NotUtf8; refusal_is = refl; first = first (λ e. cc) }
 denied_for text BadChar first = record { fault = BadChar; refusal_is = refl; first = first (λ e. cc) }
@@ -161,7 +162,7 @@ denied_for text NoUid first = record { fault = NoUid; refusal_is = refl; first =
 denied_for text BadUid first = record { fault = BadUid; refusal_is = refl; first = first (λ e. cc) }
 denied_for text Twice first = record { fault = Twice; refusal_is = refl; first = first (λ e. cc) }
 denied_for text MemberOutsideGroup first = record { fault = MemberOutsideGroup; refusal_is = refl; first = first (λ e. cc) }
-denied_for text NoRoom first = tt
+denied_for text NoRoom first = refl
 
 -- a text that spells a card is denied for memory alone
 pub denied_memory : (fault : CardFault) (card : List Line) → (read_as fault ≢ Err NoRoom → read_as fault ≡ Ok card) → denied_card fault ≡ no_memory

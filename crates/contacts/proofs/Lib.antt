@@ -1,1 +1,3 @@
 pub mod FirstPathLemmas
+pub mod OctetLemmas
+pub mod LongTextLemmas

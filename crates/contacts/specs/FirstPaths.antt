@@ -8,9 +8,6 @@ use Rattle.vcard_text.specs.Faults.{first_fault}
 use Rattle.book_model.specs.declared.answers.PutAnswer.TheVariants.{Created}
 use Rattle.book_model.specs.declared.change.Change.TheVariants.{Stores}
 use Rattle.book_model.specs.declared.change.StoreReason.TheVariants.{Creation}
-use Rattle.book_model.specs.declared.denied.Denied.{Denied}
-use Rattle.book_model.specs.declared.denied.Denied.TheVariants.{Refused, Fault}
-use Rattle.book_model.specs.declared.denied.Fault.TheVariants.{Store, Memory}
 use Rattle.book_model.specs.declared.page.Page.{Page}
 use Rattle.book_model.specs.declared.refusal.Refusal.{Refusal}
 use Rattle.book_model.specs.declared.refusal.Refusal.TheVariants.{BadCard}
@@ -44,9 +41,3 @@ pub record IsRefusedFor (text : List ℕ) (refusal : Refusal) : Type 0 where
   pub fault : CardFault
   pub refusal_is : refusal ≡ BadCard fault
   pub first : first_fault text ≡ Some fault
-
--- it was refused for what it is, or memory ran out
-abbrev pub IsDeniedFor : List ℕ → Denied → Type 0
-IsDeniedFor text (Refused refusal) = IsRefusedFor text refusal
-IsDeniedFor text (Fault Store) = ⊥
-IsDeniedFor text (Fault Memory) = Unit {0}

@@ -1,4 +1,6 @@
 pub mod Orders
+pub mod Inputs
 pub mod Stops
 pub mod FirstPaths
 pub mod Outputs
+pub mod Endings

@@ -1,6 +1,6 @@
 -- The octets that are printed of the first path. This project's own.
-use Rattle.std.specs.Prelude.{ℕ, Bool, List, [], ◌∷◌, ◌++◌, length, flat_map, codes, decimal, Option, if◌then◌else◌}
-use Rattle.std.specs.Io.KnownBytes.{Appends}
+use Rattle.std.specs.Prelude.{ℕ, Bool, List, [], ◌∷◌, ◌++◌, ◌⊎◌, length, take, flat_map, codes, decimal, Option, if◌then◌else◌}
+use Rattle.std.specs.Io.KnownBytes.{Appends, Keeps}
 use Rattle.vcard_text.specs.Cards.{canonical_text}
 use Rattle.book_model.specs.declared.answers.PutAnswer.{PutAnswer}
 use Rattle.book_model.specs.declared.answers.PutAnswer.TheVariants.{Created, Edited, Unchanged}
@@ -9,6 +9,8 @@ use Rattle.book_model.specs.declared.page.Entry.TheVariants.{Changed, Removed}
 use Rattle.book_model.specs.declared.page.Page.{Page}
 use Rattle.sync_core.specs.TokenTexts.{token_octets}
 use Rattle.contacts.specs.declared.first_path.FirstPath.{FirstPath}
+use Rattle.contacts.specs.declared.stop.Stop.{Stop}
+use Rattle.contacts.specs.declared.stop.Stop.TheVariants.{Refused, Fault, Device}
 use Rattle.contacts.specs.FirstPaths.{IsFirstPath}
 
 abbrev pub put_line : PutAnswer → List ℕ
@@ -40,8 +42,28 @@ page_lines page =
 abbrev pub path_lines : FirstPath → List ℕ
 path_lines path = put_line path.put ++ page_lines path.page
 
--- what is written is the first path of the text
+-- ---- what a writer has of it
+
+-- what was written is some first octets of the text, perhaps none
+pub record WritesFront (text : List ℕ) (before after : Option (List ℕ)) : Type 0 where
+  pub count : ℕ
+  pub written : Appends before after (take count text)
+
+-- what was written is the first path of the text
 pub record Prints (text : List ℕ) (before after : Option (List ℕ)) : Type 0 where
   pub path : FirstPath
   pub is : IsFirstPath text path
   pub written : Appends before after (path_lines path)
+
+-- what was written is some first octets of the first path of the text
+pub record PrintsFront (text : List ℕ) (before after : Option (List ℕ)) : Type 0 where
+  pub path : FirstPath
+  pub is : IsFirstPath text path
+  pub front : WritesFront (path_lines path) before after
+
+-- A refusal and a fault leave the output as it was. A device that fails does so before the output,
+-- or in its course.
+abbrev pub LeavesOutput : Stop → List ℕ → Option (List ℕ) → Option (List ℕ) → Type 0
+LeavesOutput (Refused refusal) text before after = Keeps before after
+LeavesOutput (Fault fault) text before after = Keeps before after
+LeavesOutput Device text before after = Keeps before after ⊎ PrintsFront text before after

@@ -1,8 +1,8 @@
 -- How the program ends without its output. This project's own.
-use Rattle.std.specs.Prelude.{ℕ, List, ◌∷◌, ◌++◌, codes, decimal}
+use Rattle.std.specs.Prelude.{ℕ, ◌≡◌, List, ◌∷◌, ◌++◌, codes, decimal}
 use Rattle.book_model.specs.declared.denied.Denied.{Denied}
 use Rattle.book_model.specs.declared.denied.Denied.TheVariants.{Refused as WasRefused, Fault as WasFault}
-use Rattle.book_model.specs.declared.denied.Fault.TheVariants.{Store, Memory}
+use Rattle.book_model.specs.declared.denied.Fault.TheVariants.{Memory}
 use Rattle.book_model.specs.RefusalNumbers.{refusal_number, refusal_text, fault_number, fault_text}
 use Rattle.contacts.specs.declared.stop.Stop.{Stop}
 use Rattle.contacts.specs.declared.stop.Stop.TheVariants.{Refused, Fault, Device}
@@ -29,16 +29,9 @@ stop_line (Refused refusal) =
 stop_line (Fault fault) = codes "fault " ++ (fault_text fault ++ 32 ∷ decimal (fault_number fault))
 stop_line Device = codes "fault device 1"
 
--- memory ran out, or the reader failed
-abbrev pub IsInputStop : Stop → Type 0
-IsInputStop (Refused refusal) = ⊥
-IsInputStop (Fault Store) = ⊥
-IsInputStop (Fault Memory) = Unit {0}
-IsInputStop Device = Unit {0}
-
--- a refusal is of the text's first fault; else memory ran out, or the reader or the writer failed
+-- A refusal is of the text's first fault; else memory ran out, or the reader or the writer failed.
+-- What stops whatever the text is, is no refusal.
 abbrev pub IsStopFor : List ℕ → Stop → Type 0
 IsStopFor text (Refused refusal) = IsRefusedFor text refusal
-IsStopFor text (Fault Store) = ⊥
-IsStopFor text (Fault Memory) = Unit {0}
+IsStopFor text (Fault fault) = fault ≡ Memory
 IsStopFor text Device = Unit {0}

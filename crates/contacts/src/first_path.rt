@@ -3,7 +3,8 @@ ghost use Rattle.std.specs.Prelude.{◌≡◌, List, IfOk, IfErr};
 ghost use Rattle.vcard_text.specs.declared.line.Line.{Line};
 ghost use Rattle.vcard_text.specs.Spelling.{Spells};
 ghost use Rattle.book_model.specs.Outcomes.{no_memory};
-ghost use Rattle.contacts.specs.FirstPaths.{IsPathOf, IsFirstPath, IsDeniedFor};
+ghost use Rattle.contacts.specs.FirstPaths.{IsPathOf, IsFirstPath};
+ghost use Rattle.contacts.specs.Stops.{IsStopFor, stop_of};
 
 use book_laws::following::{
     creating_follows_histories, empty_stores_have_no_history, putting_follows_histories,
@@ -52,7 +53,7 @@ pub(crate) fn first_path(alloc: Global, text: &[u8]) -> Result<FirstPath, Denied
         → IfErr result (λ denied. denied ≡ no_memory) }
 
     // A refusal is of the text's first fault.
-    ensures denied { IfErr result (IsDeniedFor text.now) }
+    ensures denied { IfErr result (λ denied. IsStopFor text.now (stop_of denied)) }
 {
     let card = read_card(alloc, text)?;
     put_and_report(alloc, &card)

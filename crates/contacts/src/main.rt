@@ -2,6 +2,7 @@
 //! memory, and prints the book's initial report.
 #![tactic(auto)]
 
+mod ending;
 mod first_path;
 mod input;
 mod order;
@@ -10,10 +11,11 @@ mod stop;
 #[cfg(test)]
 mod tests;
 mod tried;
+mod writing;
 
+use crate::ending::run;
 use crate::order::{Order, order_of};
 use crate::stop::Stop;
-use crate::tried::run_try;
 use std::env;
 use std::io::ErrorKind;
 use std::process::ExitCode;
@@ -34,17 +36,11 @@ fn read_words<R: Env + AllocGlobal>(rt: &R) -> Result<Order, Stop> {
 }
 
 fn main(rt: HostRuntime) -> ExitCode {
-    let done = match read_words(&rt) {
-        Ok(Order::Try) => run_try(rt.alloc(), &mut rt.stdin(), &mut rt.stdout()),
-        Ok(Order::Usage) => {
-            let _unprinted = eprintln!(rt; "usage: contacts [try]");
-            return ExitCode::from(2);
-        }
-        Err(stop) => Err(stop),
-    };
-    let Err(stop) = done else {
-        return ExitCode::SUCCESS;
-    };
-    let _unprinted = eprintln!(rt; "{stop}");
-    ExitCode::from(stop.status())
+    ExitCode::from(run(
+        rt.alloc(),
+        read_words(&rt),
+        &mut rt.stdin(),
+        &mut rt.stdout(),
+        &mut rt.stderr(),
+    ))
 }

@@ -1,6 +1,8 @@
 //! Commands that end without output: what is said of them, and their status.
 use super::{TYPED_ANN, printed_ann, tried};
-use crate::input::{INPUT_OCTETS_MAX, read_input};
+use crate::ending::run;
+use crate::input::read_input;
+use crate::order::Order;
 use crate::stop::Stop;
 use crate::tried::run_try;
 use std::alloc::Global;
@@ -181,11 +183,42 @@ fn letters(alloc: Global, count: usize) -> Result<Vec<u8>, Fail> {
 
 #[test]
 fn reads_one_octet_more_than_a_card_has(rt: HostRuntime) -> Result<(), Fail> {
-    assert_eq!(rt; INPUT_OCTETS_MAX, 262_145);
     for (count, wanted) in [(0, 0), (7, 7), (262_145, 262_145), (262_146, 262_145)] {
         let octets = letters(rt.alloc(), count)?;
         let read = read_input(rt.alloc(), &mut octets.as_slice())?;
         assert_eq!(rt; read.as_slice(), octets.get(..wanted).unwrap_or_default());
     }
     Ok(())
+}
+
+/// What standard output and standard error have of the words and the input, and the status.
+fn is_ended(
+    rt: &impl Abort,
+    alloc: Global,
+    order: Result<Order, Stop>,
+    input: &str,
+    wanted: (&str, &str, u8),
+) -> Result<(), Fail> {
+    let mut reader = input.as_bytes();
+    let mut writer = Vec::new(alloc);
+    let mut errors = Vec::new(alloc);
+    let status = run(alloc, order, &mut reader, &mut writer, &mut errors);
+    assert!(rt; writer.as_slice() == wanted.0.as_bytes());
+    assert!(rt; errors.as_slice() == wanted.1.as_bytes());
+    assert_eq!(rt; status, wanted.2);
+    Ok(())
+}
+
+#[test]
+fn says_how_it_ends(rt: HostRuntime) -> Result<(), Fail> {
+    let alloc = rt.alloc();
+    let printed = printed_ann(alloc)?;
+    let done = (printed.as_str(), "", 0);
+    let refused = ("", "refused bad-card 5\n", 1);
+    let unknown = ("", "usage: contacts [try]\n", 2);
+    let memory = ("", "fault no-memory 20\n", 3);
+    is_ended(&rt, alloc, Ok(Order::Try), TYPED_ANN, done)?;
+    is_ended(&rt, alloc, Ok(Order::Try), "BEGIN:VCARD", refused)?;
+    is_ended(&rt, alloc, Ok(Order::Usage), TYPED_ANN, unknown)?;
+    is_ended(&rt, alloc, Err(Stop::no_memory()), TYPED_ANN, memory)
 }

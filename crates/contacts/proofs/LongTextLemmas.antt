@@ -1,0 +1,87 @@
+-- A text that is longer than what is read of it.
+use Rattle.std.proofs.Common.{◌≡◌, ℕ, ◌≤◌, ◌<◌, false, cond, nat_le, List, length, take, Some, None, Option, IfSome, Result, Ok, Err, sym, ap, subst, ◌∙◌, ⊎_elim, inr, OnOk, IfErr, arith}
+use Rattle.std.specs.Str.{is_utf8}
+use Rattle.std.specs.Io.KnownBytes.{Appends}
+use Rattle.std.proofs.lemmas.Bool.{cases_Bool, leb-true, leb-false, lt-leb}
+use Rattle.std.proofs.lemmas.List.{take_all, length-take-le}
+use Rattle.vcard_text.specs.declared.bounds.TheConstants.{TEXT_OCTETS_MAX}
+use Rattle.vcard_text.specs.declared.fault.CardFault.{CardFault}
+use Rattle.vcard_text.specs.declared.fault.CardFault.TheVariants.{TooLong, NotUtf8}
+use Rattle.vcard_text.specs.Steps.{◌>>=◌}
+use Rattle.vcard_text.specs.Spelling.{without_mark}
+use Rattle.vcard_text.specs.Unfolding.{logical_lines}
+use Rattle.vcard_text.specs.Faults.{card_of_text, card_of_texts, within_bounds, first_fault, fault_of}
+use Rattle.contacts.specs.declared.first_path.FirstPath.{FirstPath}
+use Rattle.contacts.specs.declared.stop.Stop.{Stop}
+use Rattle.contacts.specs.declared.stop.Stop.TheVariants.{Refused, Fault, Device}
+use Rattle.contacts.specs.FirstPaths.{IsFirstPath}
+use Rattle.contacts.specs.Inputs.{read_octets_max}
+use Rattle.contacts.specs.Outputs.{Prints, WritesFront, LeavesOutput, path_lines}
+use Rattle.contacts.specs.Stops.{IsStopFor}
+
+abbrev front : List ℕ → List ℕ
+front input = take read_octets_max input
+
+whole_front : (input : List ℕ) → length input ≤ read_octets_max → front input ≡ input
+whole_front input l = take_all read_octets_max input l
+
+-- a front that is no longer than a text may be is the whole
+short_front : (input : List ℕ) → length (front input) ≤ TEXT_OCTETS_MAX → front input ≡ input
+short_front input l = ⊎_elim
+    (λ within. whole_front input (leb-true _ _ within))
+    (λ over. absurd (too_long over))
+    (cases_Bool (nat_le (length input) read_octets_max))
+  where
+    too_long : nat_le (length input) read_octets_max ≡ false → ⊥
+    too_long over =
+        let longer = leb-false (length input) read_octets_max over in
+        let full : length (front input) ≡ read_octets_max = length-take-le read_octets_max input (omega arith) in
+        omega arith
+
+-- a text that is too long is refused for that
+long_fault : (text : List ℕ) → TEXT_OCTETS_MAX < length text → first_fault text ≡ Some TooLong
+unfolding card_of_text
+long_fault text l = ap (λ t. fault_of (cond t (cond (is_utf8 text) (card_of_texts (logical_lines (without_mark text)) >>= within_bounds) (Err NotUtf8)) (Err TooLong))) (lt-leb (length text) TEXT_OCTETS_MAX l)
+
+pub fault_of_front : (input : List ℕ) (fault : CardFault) → first_fault (front input) ≡ Some fault → first_fault input ≡ Some fault
+fault_of_front input fault e = ⊎_elim
+    (λ within. ap first_fault (sym (whole_front input (leb-true _ _ within))) ∙ e)
+    (λ over.
+    let longer = leb-false (length input) read_octets_max over in
+    let full : length (front input) ≡ read_octets_max = length-take-le read_octets_max input (omega arith) in
+    long_fault input (omega arith) ∙ sym (long_fault (front input) (omega arith)) ∙ e)
+    (cases_Bool (nat_le (length input) read_octets_max))
+
+-- ---- what came of the front came of the whole
+
+pub path_of_front : (input : List ℕ) (path : FirstPath) → IsFirstPath (front input) path → IsFirstPath input path
+path_of_front input path p = subst (λ text. IsFirstPath text path) (short_front input p.spelled.within) p
+
+pub stop_for_front : (input : List ℕ) (stop : Stop) → IsStopFor (front input) stop → IsStopFor input stop
+stop_for_front input (Refused refusal) s = record { fault = s.fault; refusal_is = s.refusal_is; first = fault_of_front input s.fault s.first }
+stop_for_front input (Fault fault) s = s
+stop_for_front input Device s = tt
+
+pub stopped_for_all : (a : Option (List ℕ)) (stop : Stop) → ((text : List ℕ) → IsStopFor text stop) → IfSome a (λ input. IsStopFor input stop)
+stopped_for_all None stop s = tt
+stopped_for_all (Some input) stop s = s input
+
+abbrev IsFrontOf : List ℕ → Option (List ℕ) → Type 0
+IsFrontOf octets a = IfSome a (λ input. octets ≡ take read_octets_max input)
+
+pub stopped_for_input : (a : Option (List ℕ)) (octets : List ℕ) (stop : Stop) → IsFrontOf octets a → IsStopFor octets stop → IfSome a (λ input. IsStopFor input stop)
+stopped_for_input None octets stop is s = tt
+stopped_for_input (Some input) octets stop is s = stop_for_front input stop (subst (λ text. IsStopFor text stop) is s)
+
+pub printed_of_input : {E : Type 0} (r : Result (Unit {0}) E) (a before after : Option (List ℕ)) (octets : List ℕ) (path : FirstPath) → IsFrontOf octets a → IsFirstPath octets path
+    → OnOk r (Appends before after (path_lines path)) → OnOk r (IfSome a (λ input. Prints input before after))
+printed_of_input (Err e) a before after octets path is p w = tt
+printed_of_input (Ok x) None before after octets path is p w = tt
+printed_of_input (Ok x) (Some input) before after octets path is p w = record { path = path; is = path_of_front input path (subst (λ text. IsFirstPath text path) is p); written = w }
+
+pub left_of_input : (r : Result (Unit {0}) Stop) (a before after : Option (List ℕ)) (octets : List ℕ) (path : FirstPath) → IsFrontOf octets a → IsFirstPath octets path
+    → IfErr r (λ stop. stop ≡ Device) → WritesFront (path_lines path) before after → IfErr r (λ stop. IfSome a (λ input. LeavesOutput stop input before after))
+left_of_input (Ok x) a before after octets path is p d w = tt
+left_of_input (Err stop) None before after octets path is p d w = tt
+left_of_input (Err stop) (Some input) before after octets path is p d w =
+    subst (λ (s : Stop). LeavesOutput s input before after) (sym d) (inr (record { path = path; is = path_of_front input path (subst (λ text. IsFirstPath text path) is p); front = w }))
