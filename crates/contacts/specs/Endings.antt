@@ -1,13 +1,14 @@
 -- How the program ends: what standard error has of it, and its status. This project's own.
 use Rattle.std.specs.Prelude.{ℕ, ◌≡◌, ◌⊎◌, ◌∷◌, ◌++◌, [], List, Option, codes}
 use Rattle.std.specs.Io.KnownBytes.{Keeps}
+use Rattle.base_types.specs.Octets.{line_feed}
 use Rattle.contacts.specs.declared.stop.Stop.{Stop}
 use Rattle.contacts.specs.Outputs.{LeavesOutput, Prints, WritesFront}
 use Rattle.contacts.specs.Stops.{IsStopFor, no_memory, status_of, stop_line}
 
 -- a line, ended by a line feed
 abbrev pub ended : List ℕ → List ℕ
-ended line = line ++ 10 ∷ []
+ended line = line ++ line_feed ∷ []
 
 abbrev pub usage_line : List ℕ
 usage_line = ended (codes "usage: contacts [try]")

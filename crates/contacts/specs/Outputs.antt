@@ -2,6 +2,7 @@
 use Rattle.std.specs.Prelude.{ℕ, Bool, List, [], ◌∷◌, ◌++◌, ◌⊎◌, length, take, flat_map, codes, decimal, Option, if◌then◌else◌}
 use Rattle.std.specs.Io.KnownBytes.{Appends, Keeps}
 use Rattle.vcard_text.specs.Cards.{canonical_text}
+use Rattle.base_types.specs.Octets.{line_feed}
 use Rattle.book_model.specs.declared.answers.PutAnswer.{PutAnswer}
 use Rattle.book_model.specs.declared.answers.PutAnswer.TheVariants.{Created, Edited, Unchanged}
 use Rattle.book_model.specs.declared.page.Entry.{Entry}
@@ -14,17 +15,17 @@ use Rattle.contacts.specs.declared.stop.Stop.TheVariants.{Refused, Fault, Device
 use Rattle.contacts.specs.FirstPaths.{IsFirstPath}
 
 abbrev pub put_line : PutAnswer → List ℕ
-put_line (Created version) = codes "put created " ++ (decimal version ++ 10 ∷ [])
-put_line (Edited version) = codes "put edited " ++ (decimal version ++ 10 ∷ [])
-put_line (Unchanged version) = codes "put unchanged " ++ (decimal version ++ 10 ∷ [])
+put_line (Created version) = codes "put created " ++ (decimal version ++ line_feed ∷ [])
+put_line (Edited version) = codes "put edited " ++ (decimal version ++ line_feed ∷ [])
+put_line (Unchanged version) = codes "put unchanged " ++ (decimal version ++ line_feed ∷ [])
 
 -- a line, and for a live member the card's canonical text
 abbrev pub entry_lines : Entry → List ℕ
 entry_lines (Changed uid version card) =
     codes "card " ++ (uid ++ (codes " version " ++ (decimal version
     ++ (codes " octets " ++ (decimal (length (canonical_text card))
-    ++ 10 ∷ canonical_text card)))))
-entry_lines (Removed uid) = codes "removed " ++ (uid ++ 10 ∷ [])
+    ++ line_feed ∷ canonical_text card)))))
+entry_lines (Removed uid) = codes "removed " ++ (uid ++ line_feed ∷ [])
 
 abbrev pub entries_lines : List Entry → List ℕ
 entries_lines entries = flat_map entry_lines entries
@@ -37,7 +38,7 @@ abbrev pub page_lines : Page → List ℕ
 page_lines page =
     entries_lines page.entries
     ++ (codes "token " ++ (token_octets (record { book = page.book; mark = page.mark })
-    ++ (10 ∷ codes "truncated " ++ (yes_or_no page.truncated ++ 10 ∷ []))))
+    ++ (line_feed ∷ codes "truncated " ++ (yes_or_no page.truncated ++ line_feed ∷ []))))
 
 abbrev pub path_lines : FirstPath → List ℕ
 path_lines path = put_line path.put ++ page_lines path.page

@@ -1,5 +1,6 @@
 -- How the program ends without its output. This project's own.
 use Rattle.std.specs.Prelude.{ℕ, ◌≡◌, List, ◌∷◌, ◌++◌, codes, decimal}
+use Rattle.base_types.specs.Octets.{space}
 use Rattle.book_model.specs.declared.denied.Denied.{Denied}
 use Rattle.book_model.specs.declared.denied.Denied.TheVariants.{Refused as WasRefused, Fault as WasFault}
 use Rattle.book_model.specs.declared.denied.Fault.TheVariants.{Memory}
@@ -25,8 +26,8 @@ status_of Device = 3
 -- the line that standard error has of it: what kind it is, its text and its number
 abbrev pub stop_line : Stop → List ℕ
 stop_line (Refused refusal) =
-    codes "refused " ++ (refusal_text refusal ++ 32 ∷ decimal (refusal_number refusal))
-stop_line (Fault fault) = codes "fault " ++ (fault_text fault ++ 32 ∷ decimal (fault_number fault))
+    codes "refused " ++ (refusal_text refusal ++ space ∷ decimal (refusal_number refusal))
+stop_line (Fault fault) = codes "fault " ++ (fault_text fault ++ space ∷ decimal (fault_number fault))
 stop_line Device = codes "fault device 1"
 
 -- A refusal is of the text's first fault; else memory ran out, or the reader or the writer failed.
