@@ -14,7 +14,7 @@ use vcard_text::{Items, Text};
 
 /// A command. `expect` is the version that the live card of the UID must have, and `None` where it
 /// doesn't matter.
-#[derive(Debug, Drop)]
+#[derive(Debug, Drop, PartialEq, Eq)]
 pub enum Command {
     /// Makes an empty book.
     CreateBook {

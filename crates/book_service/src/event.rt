@@ -13,7 +13,7 @@ use sync_core::{BookStore, Device};
 use vcard_text::NoMemory;
 
 /// What happens to a store and to devices.
-#[derive(Debug, Drop)]
+#[derive(Debug, Drop, PartialEq, Eq)]
 pub enum Event {
     /// A command is performed.
     Do(Command),

@@ -15,7 +15,7 @@ use sync_core::{BookStore, Denied, Device};
 
 /// A device that asked for page after page, how many pages it applied, and whether the last one
 /// told all that was left.
-#[derive(Drop)]
+#[derive(Debug, Drop, PartialEq, Eq)]
 pub struct Mirrored {
     pub device: Device,
     pub pages: u64,

@@ -6,7 +6,7 @@ use sync_core::{BookLine, Denied, Fault, Moved, Page, PutAnswer, Refusal, Tally}
 use vcard_text::{Card, Items, Text};
 
 /// What a command is answered. After `Refused` and `Fault` the books are as before.
-#[derive(Debug, Drop)]
+#[derive(Debug, Drop, PartialEq, Eq)]
 pub enum Reply {
     /// The book was made and has this id.
     Created { id: u64 },
