@@ -28,7 +28,7 @@ fn write_entry(out: &mut Vec<u8>, entry: &Entry) -> Result<(), NoMemory>
     let alloc = *out.allocator();
     match entry {
         Entry::Changed { uid, version, card } => {
-            let text = write_card(card)?;
+            let text = write_card(alloc, card)?;
             let uid = uid.as_str();
             let octets = text.len();
             let line = format!(in alloc; "card {uid} version {version} octets {octets}\n")?;

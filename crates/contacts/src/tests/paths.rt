@@ -29,7 +29,10 @@ fn creates_and_reports_the_card(rt: HostRuntime) -> Result<(), Fail> {
         };
         assert_eq!(rt; uid.as_str(), "a");
         assert_eq!(rt; *version, 1);
-        assert_eq!(rt; write_card(card)?.as_slice(), KEPT_ANN.as_bytes());
+        assert_eq!(rt;
+            write_card(rt.alloc(), card)?.as_slice(),
+            KEPT_ANN.as_bytes()
+        );
     }
     let octets = path_octets(rt.alloc(), &path)?;
     assert_eq!(rt; octets.as_slice(), printed_ann(rt.alloc())?.as_bytes());
@@ -41,7 +44,10 @@ fn copies_a_typed_card(rt: HostRuntime) -> Result<(), Fail> {
     let card = read_card(rt.alloc(), TYPED_ANN.as_bytes())?;
     let copy = card.try_copy()?;
     assert!(rt; copy.is_same(&card));
-    assert_eq!(rt; write_card(&copy)?.as_slice(), KEPT_ANN.as_bytes());
+    assert_eq!(rt;
+        write_card(rt.alloc(), &copy)?.as_slice(),
+        KEPT_ANN.as_bytes()
+    );
     Ok(())
 }
 
