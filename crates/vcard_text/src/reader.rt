@@ -132,6 +132,9 @@ pub fn read_card(alloc: Global, text: &[u8]) -> Result<Card, CardFault>
 
     // What is refused is refused for its first fault, unless memory ran out.
     ensures fault { IfErr result (λ fault. fault ≢ Memory → first_fault text.now ≡ Some fault) }
+
+    // The answer is the one that computing the text's card gives, unless memory ran out.
+    ensures computed { result ≢ Err Memory → result ≡ card_of_text text.now }
 {
     let lines = read_text(alloc, text)?;
     Ok(Card::from_lines(lines))

@@ -1,0 +1,10 @@
+-- The bounds of this profile, which the constants of the code have to equal. This project's own.
+use Rattle.std.specs.Prelude.{ℕ}
+
+-- the most octets of a text that is read, and of a canonical text
+abbrev pub text_octets_max : ℕ
+text_octets_max = 262144
+
+-- the most octets of a UID
+abbrev pub uid_octets_max : ℕ
+uid_octets_max = 255
