@@ -4,7 +4,7 @@ use Rattle.std.specs.Str.{is_utf8}
 use Rattle.std.specs.Io.KnownBytes.{Appends}
 use Rattle.std.proofs.lemmas.Bool.{cases_Bool, leb-true, leb-false, lt-leb}
 use Rattle.std.proofs.lemmas.List.{take_all, length-take-le}
-use Rattle.vcard_text.specs.declared.bounds.TheConstants.{TEXT_OCTETS_MAX}
+use Rattle.vcard_text.specs.Bounds.{text_octets_max}
 use Rattle.vcard_text.specs.declared.fault.CardFault.{CardFault}
 use Rattle.vcard_text.specs.declared.fault.CardFault.TheVariants.{TooLong, NotUtf8}
 use Rattle.vcard_text.specs.Steps.{◌>>=◌}
@@ -26,7 +26,7 @@ whole_front : (input : List ℕ) → length input ≤ read_octets_max → front 
 whole_front input l = take_all read_octets_max input l
 
 -- a front that is no longer than a text may be is the whole
-short_front : (input : List ℕ) → length (front input) ≤ TEXT_OCTETS_MAX → front input ≡ input
+short_front : (input : List ℕ) → length (front input) ≤ text_octets_max → front input ≡ input
 short_front input l = ⊎_elim
     (λ within. whole_front input (leb-true _ _ within))
     (λ over. absurd (too_long over))
@@ -39,9 +39,9 @@ short_front input l = ⊎_elim
         omega arith
 
 -- a text that is too long is refused for that
-long_fault : (text : List ℕ) → TEXT_OCTETS_MAX < length text → first_fault text ≡ Some TooLong
+long_fault : (text : List ℕ) → text_octets_max < length text → first_fault text ≡ Some TooLong
 unfolding card_of_text
-long_fault text l = ap (λ t. fault_of (cond t (cond (is_utf8 text) (card_of_texts (logical_lines (without_mark text)) >>= within_bounds) (Err NotUtf8)) (Err TooLong))) (lt-leb (length text) TEXT_OCTETS_MAX l)
+long_fault text l = ap (λ t. fault_of (cond t (cond (is_utf8 text) (card_of_texts (logical_lines (without_mark text)) >>= within_bounds) (Err NotUtf8)) (Err TooLong))) (lt-leb (length text) text_octets_max l)
 
 pub fault_of_front : (input : List ℕ) (fault : CardFault) → first_fault (front input) ≡ Some fault → first_fault input ≡ Some fault
 fault_of_front input fault e = ⊎_elim
