@@ -1,3 +1,4 @@
+mod command_rows;
 mod commands;
 mod devices;
 mod failing;
@@ -8,6 +9,7 @@ mod plain_replies;
 mod refused;
 mod replies;
 mod scripts;
+mod stores;
 
 use crate::event::{Event, drive};
 use crate::reply::Reply;

@@ -1,21 +1,23 @@
+//! What devices are told among commands, and what they have then.
 use super::replies::entries_told;
+use super::stores::{InMemory, Stores};
 use super::{driven, performed};
 use std::alloc::Global;
 use std::process::Abort;
 use std::test::Fail;
-use sync_core::{Device, Limits, PlainStore, Token, token_text};
+use sync_core::{BookStore, Device, Limits, Token, token_text};
 use vcard_text::NoMemory;
 
 /// A store, two devices of its book `staff`, and one of its book `clients`.
 #[derive(Drop)]
-pub(super) struct Office {
-    pub(super) store: PlainStore,
+pub(super) struct Office<S> {
+    pub(super) store: S,
     pub(super) devices: Vec<Device>,
 }
 
 /// Nothing happened, and nobody has heard anything.
-pub(super) fn new_office(alloc: Global) -> Result<Office, NoMemory> {
-    let store = PlainStore::new(alloc, Limits::standard());
+pub(super) fn new_office<K: Stores>(kind: &K, alloc: Global) -> Result<Office<K::Store>, Fail> {
+    let store = kind.new_store(alloc, Limits::standard())?;
     let mut devices = Vec::new(alloc);
     for book in ["staff", "clients", "staff"] {
         devices.push(Device::new(alloc, book)?)?;
@@ -24,12 +26,59 @@ pub(super) fn new_office(alloc: Global) -> Result<Office, NoMemory> {
 }
 
 /// The replies to the script's events.
-fn happens(alloc: Global, office: &mut Office, script: &str) -> Result<String, NoMemory> {
+fn happens<S: BookStore>(
+    alloc: Global,
+    office: &mut Office<S>,
+    script: &str,
+) -> Result<String, NoMemory> {
     let Office { store, devices } = office;
     driven(alloc, store, devices, script)
 }
 
-/// Three cards come to the new book `staff`, one is edited and one goes, and the first device hears a page of one entry.
+/// The copy of a device by UIDs, and its token's text.
+pub(super) fn device_told(alloc: Global, device: &Device) -> Result<String, NoMemory> {
+    let mut text = entries_told(alloc, device.copy())?;
+    text.push_str(token_told(alloc, device.token())?.as_str())?;
+    Ok(text)
+}
+
+fn token_told(alloc: Global, token: Option<Token>) -> Result<String, NoMemory> {
+    match token {
+        Some(token) => Ok(token_text(alloc, &token)?),
+        None => Ok(String::from_str(alloc, "no token")?),
+    }
+}
+
+/// Adds the copy and token of the device.
+fn tell_device<S>(
+    alloc: Global,
+    text: &mut String,
+    office: &Office<S>,
+    device: usize,
+) -> Result<(), NoMemory> {
+    if let Some(device) = office.devices.get(device) {
+        text.push_str(device_told(alloc, device)?.as_str())?;
+    }
+    Ok(())
+}
+
+/// Scripts that happen one after another in a new office, a device, and what is replied to the last script and what the
+/// device has then.
+struct Row {
+    scripts: &'static [&'static str],
+    device: usize,
+    wanted: &'static str,
+}
+
+/// Three cards come to the new book `staff`, one is edited and one goes.
+const CHANGES: &str = "create staff
+put staff a Ann
+put staff b Bob
+put staff c Cy
+put staff a Anna
+remove staff b";
+
+/// The same, and the first device hears a page of one entry.
 const FIVE_CHANGES: &str = "create staff
 put staff a Ann
 put staff b Bob
@@ -53,49 +102,12 @@ ask 0";
 const A_MOVE: &str = "create clients
 move staff a clients";
 
-/// The replies to the last of the scripts, which happen one after another, and then the copy and token of the device.
-fn last_replies(alloc: Global, scripts: &[&str], device: usize) -> Result<String, NoMemory> {
-    let mut office = new_office(alloc)?;
-    let mut text = String::new(alloc);
-    for script in scripts {
-        text = happens(alloc, &mut office, script)?;
-    }
-    if let Some(device) = office.devices.get(device) {
-        text.push_str(device_told(alloc, device)?.as_str())?;
-    }
-    Ok(text)
-}
-
-/// The copy of a device by UIDs, and its token's text.
-pub(super) fn device_told(alloc: Global, device: &Device) -> Result<String, NoMemory> {
-    let mut text = entries_told(alloc, device.copy())?;
-    text.push_str(token_told(alloc, device.token())?.as_str())?;
-    Ok(text)
-}
-
-fn token_told(alloc: Global, token: Option<Token>) -> Result<String, NoMemory> {
-    match token {
-        Some(token) => Ok(token_text(alloc, &token)?),
-        None => Ok(String::from_str(alloc, "no token")?),
-    }
-}
-
-/// The last of the scripts is replied so, and the device ends so.
-fn is_replied(
-    rt: &impl Abort,
-    alloc: Global,
-    scripts: &[&str],
-    device: usize,
-    wanted: &str,
-) -> Result<(), Fail> {
-    let replies = last_replies(alloc, scripts, device)?;
-    assert_eq!(rt; replies.as_str(), wanted);
-    Ok(())
-}
-
-#[test]
-fn a_truncated_page_is_applied(rt: HostRuntime) -> Result<(), Fail> {
-    let wanted = "book 1
+const ROWS: [Row; 13] = [
+    // A truncated page is applied.
+    Row {
+        scripts: &[FIVE_CHANGES],
+        device: 0,
+        wanted: "book 1
 created 1
 created 2
 created 3
@@ -103,88 +115,133 @@ edited 4
 gone 5
 c 3 Cy, 1/3/5 and more
 c 3 Cy
-http://contacts.invalid/sync/1/3/5";
-    is_replied(&rt, rt.alloc(), &[FIVE_CHANGES], 0, wanted)
-}
-
-#[test]
-fn a_device_that_goes_on_has_the_book(rt: HostRuntime) -> Result<(), Fail> {
-    let wanted = "a 4 Anna, 1/5/5
+http://contacts.invalid/sync/1/3/5",
+    },
+    // A device that goes on has the book.
+    Row {
+        scripts: &[FIVE_CHANGES, "ask 0 1"],
+        device: 0,
+        wanted: "a 4 Anna, 1/5/5
 a 4 Anna
 c 3 Cy
-http://contacts.invalid/sync/1/5/5";
-    is_replied(&rt, rt.alloc(), &[FIVE_CHANGES, "ask 0 1"], 0, wanted)
-}
-
-#[test]
-fn changes_between_pages_are_heard(rt: HostRuntime) -> Result<(), Fail> {
-    let wanted = "gone 6
+http://contacts.invalid/sync/1/5/5",
+    },
+    // A page tells of a card as it is now.
+    Row {
+        scripts: &[
+            "create staff
+put staff a Ann
+put staff b Bob
+put staff c Cy
+put staff a Anna
+ask 0 2
+put staff b Rob
+ask 0 2
+ask 0 2",
+        ],
+        device: 0,
+        wanted: "book 1
+created 1
+created 2
+created 3
+edited 4
+b 2 Bob, c 3 Cy, 1/3/4 and more
+edited 5
+a 4 Anna, b 5 Rob, 1/5/5
+1/5/5
+a 4 Anna
+b 5 Rob
+c 3 Cy
+http://contacts.invalid/sync/1/5/5",
+    },
+    // A device of an empty book has nothing but a token.
+    Row {
+        scripts: &[
+            "create staff
+ask 0",
+        ],
+        device: 0,
+        wanted: "book 1
+1/0/0
+http://contacts.invalid/sync/1/0/0",
+    },
+    // Changes between pages are heard.
+    Row {
+        scripts: &[FIVE_CHANGES, TWO_MORE],
+        device: 0,
+        wanted: "gone 6
 created 7
 a 4 Anna, 1/4/5 and more
 c gone, b 7 Bob, 1/7/7
 a 4 Anna
 b 7 Bob
-http://contacts.invalid/sync/1/7/7";
-    is_replied(&rt, rt.alloc(), &[FIVE_CHANGES, TWO_MORE], 0, wanted)
-}
-
-#[test]
-fn pages_of_one_entry_lead_to_the_same(rt: HostRuntime) -> Result<(), Fail> {
-    let script = "remove staff c
+http://contacts.invalid/sync/1/7/7",
+    },
+    // Pages of one entry lead to the same.
+    Row {
+        scripts: &[
+            FIVE_CHANGES,
+            "remove staff c
 put staff b Bob
 ask 0 1
 ask 0 1
-ask 0 1";
-    let wanted = "gone 6
+ask 0 1",
+        ],
+        device: 0,
+        wanted: "gone 6
 created 7
 a 4 Anna, 1/4/5 and more
 c gone, 1/6/6 and more
 b 7 Bob, 1/7/7
 a 4 Anna
 b 7 Bob
-http://contacts.invalid/sync/1/7/7";
-    is_replied(&rt, rt.alloc(), &[FIVE_CHANGES, script], 0, wanted)
-}
-
-#[test]
-fn a_card_that_came_and_went_leaves_no_copy(rt: HostRuntime) -> Result<(), Fail> {
-    let wanted = "created 8
+http://contacts.invalid/sync/1/7/7",
+    },
+    // A card that came and went leaves no copy.
+    Row {
+        scripts: &[FIVE_CHANGES, TWO_MORE, DEE],
+        device: 0,
+        wanted: "created 8
 gone 9
 d gone, 1/9/9
 a 4 Anna
 b 7 Bob
-http://contacts.invalid/sync/1/9/9";
-    is_replied(&rt, rt.alloc(), &[FIVE_CHANGES, TWO_MORE, DEE], 0, wanted)
-}
-
-#[test]
-fn a_moved_card_leaves_the_copy(rt: HostRuntime) -> Result<(), Fail> {
-    let script = "ask 1
+http://contacts.invalid/sync/1/9/9",
+    },
+    // A moved card leaves the copy.
+    Row {
+        scripts: &[
+            FIVE_CHANGES,
+            TWO_MORE,
+            DEE,
+            A_MOVE,
+            "ask 1
 ask 0
-ask 1";
-    let wanted = "a 1 Anna, 2/1/1
+ask 1",
+        ],
+        device: 0,
+        wanted: "a 1 Anna, 2/1/1
 a gone, 1/10/10
 2/1/1
 b 7 Bob
-http://contacts.invalid/sync/1/10/10";
-    is_replied(
-        &rt,
-        rt.alloc(),
-        &[FIVE_CHANGES, TWO_MORE, DEE, A_MOVE, script],
-        0,
-        wanted,
-    )
-}
-
-#[test]
-fn a_moved_card_comes_to_the_other_copy(rt: HostRuntime) -> Result<(), Fail> {
-    let script = "ask 1
+http://contacts.invalid/sync/1/10/10",
+    },
+    // A moved card comes to the other copy. Nothing is heard of what is refused or changes nothing.
+    Row {
+        scripts: &[
+            FIVE_CHANGES,
+            TWO_MORE,
+            DEE,
+            A_MOVE,
+            "ask 1
 put clients b Bob
 move staff b clients
 put staff b Bob
 ask 1 1
-ask 0";
-    let wanted = "a 1 Anna, 2/1/1
+ask 0",
+        ],
+        device: 1,
+        wanted: "a 1 Anna, 2/1/1
 created 2
 refused 8
 unchanged 7
@@ -192,84 +249,98 @@ b 2 Bob, 2/2/2
 a gone, 1/10/10
 a 1 Anna
 b 2 Bob
-http://contacts.invalid/sync/2/2/2";
-    is_replied(
-        &rt,
-        rt.alloc(),
-        &[FIVE_CHANGES, TWO_MORE, DEE, A_MOVE, script],
-        1,
-        wanted,
-    )
-}
-
-#[test]
-fn a_new_device_hears_of_both_cards_at_once(rt: HostRuntime) -> Result<(), Fail> {
-    let script = "put clients b Bob
+http://contacts.invalid/sync/2/2/2",
+    },
+    // A new device hears of both cards at once.
+    Row {
+        scripts: &[
+            FIVE_CHANGES,
+            TWO_MORE,
+            DEE,
+            A_MOVE,
+            "put clients b Bob
 ask 1
-ask 0";
-    let wanted = "created 2
+ask 0",
+        ],
+        device: 1,
+        wanted: "created 2
 a 1 Anna, b 2 Bob, 2/2/2
 a gone, 1/10/10
 a 1 Anna
 b 2 Bob
-http://contacts.invalid/sync/2/2/2";
-    is_replied(
-        &rt,
-        rt.alloc(),
-        &[FIVE_CHANGES, TWO_MORE, DEE, A_MOVE, script],
-        1,
-        wanted,
-    )
-}
-
-#[test]
-fn an_old_token_is_taken(rt: HostRuntime) -> Result<(), Fail> {
-    let late = "ask 2 1";
-    let wanted = "c gone, b 7 Bob, d gone, a gone, 1/10/10
+http://contacts.invalid/sync/2/2/2",
+    },
+    // A device that was long away hears all at once.
+    Row {
+        scripts: &[CHANGES, "ask 2 1", TWO_MORE, DEE, A_MOVE, "ask 2"],
+        device: 2,
+        wanted: "c gone, b 7 Bob, d gone, a gone, 1/10/10
 b 7 Bob
-http://contacts.invalid/sync/1/10/10";
-    let changes = "create staff
-put staff a Ann
-put staff b Bob
-put staff c Cy
-put staff a Anna
-remove staff b";
-    is_replied(
-        &rt,
-        rt.alloc(),
-        &[changes, late, TWO_MORE, DEE, A_MOVE, "ask 2"],
-        2,
-        wanted,
-    )
-}
-
-#[test]
-fn refused_asks_change_nothing(rt: HostRuntime) -> Result<(), Fail> {
-    let wanted = "refused 11
+http://contacts.invalid/sync/1/10/10",
+    },
+    // Asks that are refused change nothing.
+    Row {
+        scripts: &[
+            FIVE_CHANGES,
+            "ask 0 0
+ask 1
+put staff z Zoe",
+        ],
+        device: 0,
+        wanted: "refused 11
 refused 1
 created 6
 c 3 Cy
-http://contacts.invalid/sync/1/3/5";
-    let script = "ask 0 0
-ask 1
-put staff z Zoe";
-    is_replied(&rt, rt.alloc(), &[FIVE_CHANGES, script], 0, wanted)
+http://contacts.invalid/sync/1/3/5",
+    },
+    // No events have no replies.
+    Row {
+        scripts: &[""],
+        device: 0,
+        wanted: "no token",
+    },
+];
+
+/// The replies to the last of the scripts, which happen one after another, and then the copy and token of the device.
+fn last_replies<K: Stores>(
+    kind: &K,
+    alloc: Global,
+    scripts: &[&str],
+    device: usize,
+) -> Result<String, Fail> {
+    let mut office = new_office(kind, alloc)?;
+    let mut text = String::new(alloc);
+    for script in scripts {
+        text = happens(alloc, &mut office, script)?;
+    }
+    tell_device(alloc, &mut text, &office, device)?;
+    Ok(text)
+}
+
+/// All rows are replied as they say.
+fn rows_are_replied<K: Stores>(rt: &impl Abort, kind: &K, alloc: Global) -> Result<(), Fail> {
+    for row in &ROWS {
+        let replies = last_replies(kind, alloc, row.scripts, row.device)?;
+        assert_eq!(rt; replies.as_str(), row.wanted, "{:?}", row.scripts);
+    }
+    Ok(())
 }
 
 /// The device of a book of five changes asks another store, whose book has fewer.
-#[test]
-fn a_device_whose_token_is_refused_starts_again(rt: HostRuntime) -> Result<(), Fail> {
-    let mut office = new_office(rt.alloc())?;
-    happens(rt.alloc(), &mut office, FIVE_CHANGES)?;
-    office.store = PlainStore::new(rt.alloc(), Limits::standard());
+fn a_refused_token_is_given_up<K: Stores>(
+    rt: &impl Abort,
+    kind: &K,
+    alloc: Global,
+) -> Result<(), Fail> {
+    let mut office = new_office(kind, alloc)?;
+    happens(alloc, &mut office, FIVE_CHANGES)?;
+    office.store = kind.new_store(alloc, Limits::standard())?;
     let script = "create staff
 put staff z Zoe
 ask 0
 ask 0";
-    let mut text = happens(rt.alloc(), &mut office, script)?;
-    if let Some(device) = office.devices.get(0) {
-        text.push_str(device_told(rt.alloc(), device)?.as_str())?;
-    }
+    let mut text = happens(alloc, &mut office, script)?;
+    tell_device(alloc, &mut text, &office, 0)?;
     let wanted = "book 1
 created 1
 refused 10 cause 3
@@ -280,20 +351,26 @@ http://contacts.invalid/sync/1/1/1";
     Ok(())
 }
 
-#[test]
-fn a_restarted_device_hears_a_first_report(rt: HostRuntime) -> Result<(), Fail> {
-    let mut office = new_office(rt.alloc())?;
-    happens(rt.alloc(), &mut office, FIVE_CHANGES)?;
-    performed(rt.alloc(), &mut office.store, "remove staff c")?;
+fn a_restarted_device_hears_an_initial_report<K: Stores>(
+    rt: &impl Abort,
+    kind: &K,
+    alloc: Global,
+) -> Result<(), Fail> {
+    let mut office = new_office(kind, alloc)?;
+    happens(alloc, &mut office, FIVE_CHANGES)?;
+    performed(alloc, &mut office.store, "remove staff c")?;
     if let Some(device) = office.devices.get_mut(0) {
         device.restart();
     }
-    let text = happens(rt.alloc(), &mut office, "ask 0")?;
+    let text = happens(alloc, &mut office, "ask 0")?;
     assert_eq!(rt; text.as_str(), "a 4 Anna, 1/6/6\n");
     Ok(())
 }
 
 #[test]
-fn no_events_have_no_replies(rt: HostRuntime) -> Result<(), Fail> {
-    is_replied(&rt, rt.alloc(), &[""], 0, "no token")
+fn devices_hear_of_books_in_memory(rt: HostRuntime) -> Result<(), Fail> {
+    let alloc = rt.alloc();
+    rows_are_replied(&rt, &InMemory, alloc)?;
+    a_refused_token_is_given_up(&rt, &InMemory, alloc)?;
+    a_restarted_device_hears_an_initial_report(&rt, &InMemory, alloc)
 }

@@ -12,10 +12,11 @@ use super::plain::{
 use super::plain_replies::{
     Telling, book_word, tell_event, tell_place, tell_plain_device, uid_word,
 };
+use super::stores::{InMemory, Stores};
 use std::alloc::Global;
 use std::process::Abort;
 use std::test::Fail;
-use sync_core::{Device, Limits, Mark, PlainStore};
+use sync_core::{BookStore, Device, Limits, Mark};
 use vcard_text::NoMemory;
 
 const EVENTS: u64 = 500;
@@ -284,9 +285,9 @@ fn plain_office(alloc: Global) -> PlainOffice {
 
 /// The events as a script, what a store and its devices tell of them, and what the second computation tells.
 #[derive(Drop)]
-struct LongRun {
+struct LongRun<S> {
     script: Telling,
-    store: PlainStore,
+    store: S,
     devices: Vec<Device>,
     told: Telling,
     office: PlainOffice,
@@ -302,13 +303,13 @@ fn new_devices(alloc: Global) -> Result<Vec<Device>, NoMemory> {
 }
 
 /// Nothing happened yet.
-fn new_run(alloc: Global) -> Result<LongRun, Fail> {
+fn new_run<K: Stores>(kind: &K, alloc: Global) -> Result<LongRun<K::Store>, Fail> {
     let limits = Limits::new(PAGE_MAX, CARDS_MAX, CHANGES_MAX, BOOKS_MAX);
     let limits = limits.ok_or("no legal limits")?;
     let devices = new_devices(alloc)?;
     Ok(LongRun {
         script: Telling::new(alloc),
-        store: PlainStore::new(alloc, limits),
+        store: kind.new_store(alloc, limits)?,
         devices,
         told: Telling::new(alloc),
         office: plain_office(alloc),
@@ -317,14 +318,14 @@ fn new_run(alloc: Global) -> Result<LongRun, Fail> {
 }
 
 /// One more event is drawn, and happens to the second computation.
-fn go_on(dice: &mut Dice, run: &mut LongRun) -> Result<(), NoMemory> {
+fn go_on<S>(dice: &mut Dice, run: &mut LongRun<S>) -> Result<(), NoMemory> {
     let event = draw_event(dice, &run.office.books);
     write_event(&mut run.script, &event);
     tell_event(&mut run.wanted, &mut run.office, &event)
 }
 
 /// All events are drawn and happen to the second computation, and then it tells its devices.
-fn draw_all(run: &mut LongRun) -> Result<(), NoMemory> {
+fn draw_all<S>(run: &mut LongRun<S>) -> Result<(), NoMemory> {
     let mut dice = Dice { state: SEED };
     for _ in 0..EVENTS {
         go_on(&mut dice, run)?;
@@ -345,7 +346,7 @@ fn tell_devices(alloc: Global, telling: &mut Telling, devices: &[Device]) -> Res
 }
 
 /// The whole script happens to the store and the devices.
-fn drive_all(alloc: Global, run: &mut LongRun) -> Result<(), NoMemory> {
+fn drive_all<S: BookStore>(alloc: Global, run: &mut LongRun<S>) -> Result<(), NoMemory> {
     let script = run.script.text()?;
     let replies = driven(alloc, &mut run.store, &mut run.devices, script)?;
     run.told.words(replies.as_str());
@@ -401,7 +402,7 @@ fn missing(told: &str, copies: Copies) -> &'static str {
 }
 
 /// The store and devices told what the second computation did, all kinds of replies are in it, and its copies were whole.
-fn is_as_wanted(rt: &impl Abort, run: &LongRun) -> Result<(), Fail> {
+fn is_as_wanted<S>(rt: &impl Abort, run: &LongRun<S>) -> Result<(), Fail> {
     let wanted = run.wanted.text()?;
     let told = run.told.text()?;
     assert_eq!(rt; told, wanted);
@@ -409,10 +410,17 @@ fn is_as_wanted(rt: &impl Abort, run: &LongRun) -> Result<(), Fail> {
     Ok(())
 }
 
-#[test]
-fn a_long_run_is_replied_as_a_plain_computation_says(rt: HostRuntime) -> Result<(), Fail> {
-    let mut run = new_run(rt.alloc())?;
+/// A long run on a store of the kind.
+fn runs_as_wanted<K: Stores>(rt: &impl Abort, kind: &K, alloc: Global) -> Result<(), Fail> {
+    let mut run = new_run(kind, alloc)?;
     draw_all(&mut run)?;
-    drive_all(rt.alloc(), &mut run)?;
-    is_as_wanted(&rt, &run)
+    drive_all(alloc, &mut run)?;
+    is_as_wanted(rt, &run)
+}
+
+#[test]
+fn a_long_run_in_memory_is_replied_as_a_plain_computation_says(
+    rt: HostRuntime,
+) -> Result<(), Fail> {
+    runs_as_wanted(&rt, &InMemory, rt.alloc())
 }

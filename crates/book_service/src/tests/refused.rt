@@ -1,6 +1,7 @@
 //! What stands after a growth was refused. Nothing is refused where the tests are run as they are; `rt try --test
 //! --fail-alloc N` refuses the N-th growth of each test.
 use super::devices::{Office, device_told, new_office};
+use super::stores::{InMemory, Stores};
 use super::{events_in, performed};
 use crate::event::{Event, drive};
 use crate::mirrored::mirror;
@@ -9,7 +10,7 @@ use crate::tests::replies::told;
 use std::alloc::Global;
 use std::process::Abort;
 use std::test::Fail;
-use sync_core::{Denied, PlainStore};
+use sync_core::{BookStore, Denied};
 use vcard_text::NoMemory;
 
 /// Cards come to `staff`, are edited and go, and two devices hear of it page by page.
@@ -45,7 +46,7 @@ report staff -
 report clients -";
 
 /// The reply to one event, and none where it wasn't done because memory ran out.
-fn reply_to(alloc: Global, office: &mut Office, event: &[Event]) -> Option<Reply> {
+fn reply_to<S: BookStore>(alloc: Global, office: &mut Office<S>, event: &[Event]) -> Option<Reply> {
     let Office { store, devices } = office;
     let count = devices.len();
     if !event.iter().all(|event| event.is_within(count)) {
@@ -66,7 +67,7 @@ fn is_done(reply: &Option<Reply>) -> bool {
 }
 
 /// What the books are. A growth is refused once, so that the second try tells it.
-fn state(alloc: Global, store: &mut PlainStore) -> Result<String, NoMemory> {
+fn state<S: BookStore>(alloc: Global, store: &mut S) -> Result<String, NoMemory> {
     if let Ok(text) = performed(alloc, store, STATE) {
         if !text.as_str().contains("fault") {
             return Ok(text);
@@ -86,11 +87,11 @@ fn reply_told(alloc: Global, reply: &Option<Reply>) -> Result<String, NoMemory> 
 }
 
 /// Does the event. Where memory ran out, the books are those of the twin, and it is done again.
-fn done_at_last(
+fn done_at_last<S: BookStore>(
     rt: &impl Abort,
     alloc: Global,
-    office: &mut Office,
-    twin: &mut PlainStore,
+    office: &mut Office<S>,
+    twin: &mut S,
     event: &[Event],
 ) -> Result<Option<Reply>, Fail> {
     let reply = reply_to(alloc, office, event);
@@ -104,11 +105,11 @@ fn done_at_last(
 }
 
 /// Does the event in the twin office too, and compares the replies.
-fn does_the_same(
+fn does_the_same<S: BookStore>(
     rt: &impl Abort,
     alloc: Global,
-    office: &mut Office,
-    twin: &mut Office,
+    office: &mut Office<S>,
+    twin: &mut Office<S>,
     event: &[Event],
 ) -> Result<(), Fail> {
     let reply = done_at_last(rt, alloc, office, &mut twin.store, event)?;
@@ -122,7 +123,7 @@ fn does_the_same(
     Ok(())
 }
 
-fn all_devices_told(alloc: Global, office: &Office) -> Result<String, NoMemory> {
+fn all_devices_told<S>(alloc: Global, office: &Office<S>) -> Result<String, NoMemory> {
     let mut text = String::new(alloc);
     for device in &office.devices {
         text.push_str(device_told(alloc, device)?.as_str())?;
@@ -130,14 +131,13 @@ fn all_devices_told(alloc: Global, office: &Office) -> Result<String, NoMemory> 
     Ok(text)
 }
 
-#[test]
-fn an_event_that_finds_no_memory_leaves_the_books(rt: HostRuntime) -> Result<(), Fail> {
-    let alloc = rt.alloc();
-    let mut office = new_office(alloc)?;
-    let mut twin = new_office(alloc)?;
+/// Each event of the script is done alike by two offices of the kind.
+fn events_are_done_alike<K: Stores>(rt: &impl Abort, kind: &K, alloc: Global) -> Result<(), Fail> {
+    let mut office = new_office(kind, alloc)?;
+    let mut twin = new_office(kind, alloc)?;
     let events = events_in(alloc, SCRIPT)?;
     for event in events.chunks(1) {
-        does_the_same(&rt, alloc, &mut office, &mut twin, event)?;
+        does_the_same(rt, alloc, &mut office, &mut twin, event)?;
     }
     let devices = all_devices_told(alloc, &office)?;
     let wanted = all_devices_told(alloc, &twin)?;
@@ -145,12 +145,17 @@ fn an_event_that_finds_no_memory_leaves_the_books(rt: HostRuntime) -> Result<(),
     Ok(())
 }
 
+#[test]
+fn an_event_that_finds_no_memory_leaves_the_books(rt: HostRuntime) -> Result<(), Fail> {
+    events_are_done_alike(&rt, &InMemory, rt.alloc())
+}
+
 const TWO_CARDS: &str = "create staff
 put staff a Ann
 put staff b Bob";
 
 /// Mirrors the book. Where memory ran out, it is done again.
-fn pages_at_last(alloc: Global, store: &mut PlainStore) -> Result<u64, Denied> {
+fn pages_at_last<S: BookStore>(alloc: Global, store: &mut S) -> Result<u64, Denied> {
     if let Ok(mirrored) = mirror(alloc, store, "staff", 1, 10) {
         return Ok(mirrored.pages);
     }
@@ -158,11 +163,13 @@ fn pages_at_last(alloc: Global, store: &mut PlainStore) -> Result<u64, Denied> {
     Ok(mirrored.pages)
 }
 
-/// Where memory ran out for the two cards, there is nothing to see.
-#[test]
-fn a_mirror_that_finds_no_memory_leaves_the_books(rt: HostRuntime) -> Result<(), Fail> {
-    let alloc = rt.alloc();
-    let mut office = new_office(alloc)?;
+/// A mirror leaves the books. Where memory ran out for the two cards, there is nothing to see.
+fn a_mirror_leaves_the_books<K: Stores>(
+    rt: &impl Abort,
+    kind: &K,
+    alloc: Global,
+) -> Result<(), Fail> {
+    let mut office = new_office(kind, alloc)?;
     let cards = performed(alloc, &mut office.store, TWO_CARDS)?;
     if cards.as_str().contains("fault") {
         return Ok(());
@@ -173,4 +180,9 @@ fn a_mirror_that_finds_no_memory_leaves_the_books(rt: HostRuntime) -> Result<(),
     let after = state(alloc, &mut office.store)?;
     assert_eq!(rt; before.as_str(), after.as_str());
     Ok(())
+}
+
+#[test]
+fn a_mirror_that_finds_no_memory_leaves_the_books(rt: HostRuntime) -> Result<(), Fail> {
+    a_mirror_leaves_the_books(&rt, &InMemory, rt.alloc())
 }
