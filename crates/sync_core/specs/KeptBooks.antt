@@ -12,8 +12,8 @@ use Rattle.book_model.specs.Counting.{total}
 use Rattle.book_model.specs.Pages.{Member}
 
 -- the counts add up to the number, and no row has a later one
-pub record IsNumbered (number : ℕ) (counts : Counts) (members : finite.FinMap text_cmp Row) : Type
-    0 where
+pub record IsNumbered (number : ℕ) (counts : Counts)
+    (members : finite.FinMap text_cmp Row) : Type 0 where
   pub sum : total counts ≡ number
   pub rows : AllByRecursion (λ (m : Member). m.1.changed ≤ number) (finite.entries members)
 
