@@ -6,7 +6,8 @@ ghost use Rattle.book_model.specs.Outcomes.{IfFault};
 ghost use Rattle.book_service.specs.Faults.{IsMemoryOr};
 ghost use Rattle.book_service.specs.Asks.{Answers, after_refusal};
 ghost use Rattle.book_service.specs.Replies.{reply_to};
-ghost use Rattle.book_service.specs.Runs.{Moment, IsAt, report_at};
+ghost use Rattle.book_service.specs.Mirrors.{report_at};
+ghost use Rattle.book_service.specs.Runs.{Moment, IsAt};
 
 use book_laws::following::reports_follow_histories;
 use sync_core::{BookStore, Denied, Device, Fault, Page, Refusal};
