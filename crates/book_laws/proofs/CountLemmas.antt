@@ -16,7 +16,7 @@ use Rattle.book_model.specs.declared.counts.Counts.{Counts}
 use Rattle.book_model.specs.Counting.{counted, total, arrivals, departures, live_count}
 use Rattle.book_laws.specs.HistoryCounts.{counts_of}
 use Rattle.book_laws.specs.CountLaws.{EventsAreCounted, LiveAreCounted, ReasonsAreCounted}
-use Rattle.book_laws.specs.Reasons.{is_creation, is_edit, is_import, is_import_edit, is_move_in, is_deletion, is_move_out}
+use Rattle.book_laws.specs.Reasons.{is_stored_for, is_taken_away_for}
 use Rattle.book_laws.specs.Histories.{BookEvent, cards_after_change, live}
 use Rattle.book_model.specs.Books.{LiveCards}
 use Rattle.book_laws.specs.Lawful.{MayHappen, IsLawful}
@@ -76,7 +76,7 @@ live_count_is h lawful = let so = live_are_counted h lawful in omega (arith, so)
 
 -- ---- each count is the number of the events with its reason
 
-created_more : (change : Change) (c : Counts) → (counted change c).created ≡ cond (is_creation change) (1 + c.created) c.created
+created_more : (change : Change) (c : Counts) → (counted change c).created ≡ cond (is_stored_for Creation change) (1 + c.created) c.created
 created_more (Stores card Creation) c = omega arith
 created_more (Stores card Edit) c = refl
 created_more (Stores card Import) c = refl
@@ -85,7 +85,7 @@ created_more (Stores card MoveIn) c = refl
 created_more (TakesAway Deletion) c = refl
 created_more (TakesAway MoveOut) c = refl
 
-edited_more : (change : Change) (c : Counts) → (counted change c).edited ≡ cond (is_edit change) (1 + c.edited) c.edited
+edited_more : (change : Change) (c : Counts) → (counted change c).edited ≡ cond (is_stored_for Edit change) (1 + c.edited) c.edited
 edited_more (Stores card Creation) c = refl
 edited_more (Stores card Edit) c = omega arith
 edited_more (Stores card Import) c = refl
@@ -94,7 +94,7 @@ edited_more (Stores card MoveIn) c = refl
 edited_more (TakesAway Deletion) c = refl
 edited_more (TakesAway MoveOut) c = refl
 
-imported_more : (change : Change) (c : Counts) → (counted change c).imported ≡ cond (is_import change) (1 + c.imported) c.imported
+imported_more : (change : Change) (c : Counts) → (counted change c).imported ≡ cond (is_stored_for Import change) (1 + c.imported) c.imported
 imported_more (Stores card Creation) c = refl
 imported_more (Stores card Edit) c = refl
 imported_more (Stores card Import) c = omega arith
@@ -103,7 +103,7 @@ imported_more (Stores card MoveIn) c = refl
 imported_more (TakesAway Deletion) c = refl
 imported_more (TakesAway MoveOut) c = refl
 
-import_edited_more : (change : Change) (c : Counts) → (counted change c).import_edited ≡ cond (is_import_edit change) (1 + c.import_edited) c.import_edited
+import_edited_more : (change : Change) (c : Counts) → (counted change c).import_edited ≡ cond (is_stored_for ImportEdit change) (1 + c.import_edited) c.import_edited
 import_edited_more (Stores card Creation) c = refl
 import_edited_more (Stores card Edit) c = refl
 import_edited_more (Stores card Import) c = refl
@@ -112,7 +112,7 @@ import_edited_more (Stores card MoveIn) c = refl
 import_edited_more (TakesAway Deletion) c = refl
 import_edited_more (TakesAway MoveOut) c = refl
 
-moved_in_more : (change : Change) (c : Counts) → (counted change c).moved_in ≡ cond (is_move_in change) (1 + c.moved_in) c.moved_in
+moved_in_more : (change : Change) (c : Counts) → (counted change c).moved_in ≡ cond (is_stored_for MoveIn change) (1 + c.moved_in) c.moved_in
 moved_in_more (Stores card Creation) c = refl
 moved_in_more (Stores card Edit) c = refl
 moved_in_more (Stores card Import) c = refl
@@ -121,7 +121,7 @@ moved_in_more (Stores card MoveIn) c = omega arith
 moved_in_more (TakesAway Deletion) c = refl
 moved_in_more (TakesAway MoveOut) c = refl
 
-deleted_more : (change : Change) (c : Counts) → (counted change c).deleted ≡ cond (is_deletion change) (1 + c.deleted) c.deleted
+deleted_more : (change : Change) (c : Counts) → (counted change c).deleted ≡ cond (is_taken_away_for Deletion change) (1 + c.deleted) c.deleted
 deleted_more (Stores card Creation) c = refl
 deleted_more (Stores card Edit) c = refl
 deleted_more (Stores card Import) c = refl
@@ -130,7 +130,7 @@ deleted_more (Stores card MoveIn) c = refl
 deleted_more (TakesAway Deletion) c = omega arith
 deleted_more (TakesAway MoveOut) c = refl
 
-moved_out_more : (change : Change) (c : Counts) → (counted change c).moved_out ≡ cond (is_move_out change) (1 + c.moved_out) c.moved_out
+moved_out_more : (change : Change) (c : Counts) → (counted change c).moved_out ≡ cond (is_taken_away_for MoveOut change) (1 + c.moved_out) c.moved_out
 moved_out_more (Stores card Creation) c = refl
 moved_out_more (Stores card Edit) c = refl
 moved_out_more (Stores card Import) c = refl
@@ -141,11 +141,11 @@ moved_out_more (TakesAway MoveOut) c = omega arith
 
 pub reasons_are_counted : ReasonsAreCounted
 reasons_are_counted h = record {
-  created = is_count_by (λ h. (counts_of h).created) (λ (e : BookEvent). is_creation e.change) refl (λ e h. created_more e.change (counts_of h)) h;
-  edited = is_count_by (λ h. (counts_of h).edited) (λ (e : BookEvent). is_edit e.change) refl (λ e h. edited_more e.change (counts_of h)) h;
-  imported = is_count_by (λ h. (counts_of h).imported) (λ (e : BookEvent). is_import e.change) refl (λ e h. imported_more e.change (counts_of h)) h;
-  import_edited = is_count_by (λ h. (counts_of h).import_edited) (λ (e : BookEvent). is_import_edit e.change) refl (λ e h. import_edited_more e.change (counts_of h)) h;
-  moved_in = is_count_by (λ h. (counts_of h).moved_in) (λ (e : BookEvent). is_move_in e.change) refl (λ e h. moved_in_more e.change (counts_of h)) h;
-  deleted = is_count_by (λ h. (counts_of h).deleted) (λ (e : BookEvent). is_deletion e.change) refl (λ e h. deleted_more e.change (counts_of h)) h;
-  moved_out = is_count_by (λ h. (counts_of h).moved_out) (λ (e : BookEvent). is_move_out e.change) refl (λ e h. moved_out_more e.change (counts_of h)) h;
+  created = is_count_by (λ h. (counts_of h).created) (λ (e : BookEvent). is_stored_for Creation e.change) refl (λ e h. created_more e.change (counts_of h)) h;
+  edited = is_count_by (λ h. (counts_of h).edited) (λ (e : BookEvent). is_stored_for Edit e.change) refl (λ e h. edited_more e.change (counts_of h)) h;
+  imported = is_count_by (λ h. (counts_of h).imported) (λ (e : BookEvent). is_stored_for Import e.change) refl (λ e h. imported_more e.change (counts_of h)) h;
+  import_edited = is_count_by (λ h. (counts_of h).import_edited) (λ (e : BookEvent). is_stored_for ImportEdit e.change) refl (λ e h. import_edited_more e.change (counts_of h)) h;
+  moved_in = is_count_by (λ h. (counts_of h).moved_in) (λ (e : BookEvent). is_stored_for MoveIn e.change) refl (λ e h. moved_in_more e.change (counts_of h)) h;
+  deleted = is_count_by (λ h. (counts_of h).deleted) (λ (e : BookEvent). is_taken_away_for Deletion e.change) refl (λ e h. deleted_more e.change (counts_of h)) h;
+  moved_out = is_count_by (λ h. (counts_of h).moved_out) (λ (e : BookEvent). is_taken_away_for MoveOut e.change) refl (λ e h. moved_out_more e.change (counts_of h)) h;
 }

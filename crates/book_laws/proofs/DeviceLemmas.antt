@@ -24,7 +24,7 @@ use Rattle.book_model.specs.Pages.{mark_asked, page_size, mark_after, page_of}
 use Rattle.book_laws.specs.Reports.{first_mark, is_due, due, entry_of, cut_page, whole_page, report}
 use Rattle.book_laws.specs.Worlds.{Story, Stories}
 use Rattle.book_laws.specs.WorldSteps.{empty_story, with_event, report_meaning}
-use Rattle.book_model.specs.Devices.{applied, applied_one, Holding, copy_under, ready_copy, after_page}
+use Rattle.book_model.specs.Devices.{applied, applied_one, Holding, copy_under, after_page}
 use Rattle.book_laws.specs.RightDevices.{Agrees, IsRightAt, IsRight}
 use Rattle.book_laws.specs.Paging.{mark_under, page_for}
 use Rattle.book_laws.specs.DeviceLaws.{EmptyIsRight, CopiesStayRight, PartsKeepCopiesRight, WholePagesKeepCopiesRight, LastPagesCompleteCopies, DevicesStartRight, NobodyDueIsComplete, LiveAreDueFirst, NewBooksKeepAllRight, LastPagesCompleteAll, RightTokensAreKnown, RightTokensGrowOld, EventsKeepAllRight, PartsKeepAllRight, WholePagesKeepAllRight}
@@ -275,7 +275,7 @@ new_books_keep_all_right stories name id device none right token at =
 -- of the book that a right device names
 module _ (stories : Stories) (device : Holding) (story : Story) (found : finite.get stories device.book ≡ Some story) (right : IsRight stories device) where
   -- what a page is applied to agrees at the mark that asks
-  pub ready : Agrees (ready_copy device) (mark_under story.history device.token) story.history
+  pub ready : Agrees (copy_under device.token device.copy) (mark_under story.history device.token) story.history
   ready = by_token device.token right
     where
       by_token : (token : Option Token) → ((t : Token) → token ≡ Some t → IsRightAt stories device t) → Agrees (copy_under token device.copy) (mark_under story.history token) story.history
@@ -284,7 +284,7 @@ module _ (stories : Stories) (device : Holding) (story : Story) (found : finite.
           let r = right token refl in
           subst (λ (s : Story). Agrees device.copy token.mark s.history) (same_Some r.story story (sym r.found ∙ found)) r.agrees
 
-  right_in_part : (k count : ℕ) → IsRight stories (record device { copy = applied (ready_copy device) (take count (page_for story device k).entries) })
+  right_in_part : (k count : ℕ) → IsRight stories (record device { copy = applied (copy_under device.token device.copy) (take count (page_for story device k).entries) })
   right_in_part k count token at =
       let r = right token at in
       record {
@@ -292,8 +292,8 @@ module _ (stories : Stories) (device : Holding) (story : Story) (found : finite.
         found = found;
         own = r.own ∙ ap (λ (s : Story). s.id) (same_Some r.story story (sym r.found ∙ found));
         agrees =
-            subst (λ (t : Option Token). Agrees (applied (ready_copy device) (take count (page_for story device k).entries)) (mark_under story.history t) story.history) at
-            (parts_keep_copies_right (ready_copy device) (mark_under story.history device.token) story.history k count ready);
+            subst (λ (t : Option Token). Agrees (applied (copy_under device.token device.copy) (take count (page_for story device k).entries)) (mark_under story.history t) story.history) at
+            (parts_keep_copies_right (copy_under device.token device.copy) (mark_under story.history device.token) story.history k count ready);
       }
 
   right_after_page : (k : ℕ) → 0 < k → IsRight stories (after_page device (page_for story device k))
@@ -301,11 +301,11 @@ module _ (stories : Stories) (device : Holding) (story : Story) (found : finite.
     story = story;
     found = found;
     own = refl;
-    agrees = whole_pages_keep_copies_right (ready_copy device) (mark_under story.history device.token) story.history k some ready;
+    agrees = whole_pages_keep_copies_right (copy_under device.token device.copy) (mark_under story.history device.token) story.history k some ready;
   })
 
   complete_after_page : (k : ℕ) → (page_for story device k).truncated ≡ false → (after_page device (page_for story device k)).copy ≡ live story.history
-  complete_after_page k = last_pages_complete_copies (ready_copy device) (mark_under story.history device.token) story.history k ready
+  complete_after_page k = last_pages_complete_copies (copy_under device.token device.copy) (mark_under story.history device.token) story.history k ready
 
 -- a page that a report means is one that the device's book has for it
 record IsFrom (limits : Bounds) (o : Option Story) (device : Holding) (page : Page) : Type 0 where
@@ -370,7 +370,7 @@ parts_keep_all_right limits stories device after limit page right e part =
     let from = told_from limits stories device limit page e in ⊎_elim
     (λ same. subst (IsRight stories) (sym same) right)
     (λ first. subst (IsRight stories) (sym first.after_is)
-    (subst (λ (p : Page). IsRight stories (record device { copy = applied (ready_copy device) (take first.count p.entries) })) (sym from.page_is)
+    (subst (λ (p : Page). IsRight stories (record device { copy = applied (copy_under device.token device.copy) (take first.count p.entries) })) (sym from.page_is)
     (right_in_part stories device from.story from.story_is right from.size first.count)))
     part
 

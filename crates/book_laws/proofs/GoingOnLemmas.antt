@@ -1,5 +1,5 @@
 -- What a call leaves of the stories that it found: events are added, a horizon rises, an import is kept, and nothing else.
-use Rattle.std.proofs.Common.{◌≡◌, ℕ, ◌≤◌, ◌⊎◌, inl, inr, Bool, true, false, cond, not, List, [], ◌∷◌, ◌++◌, length, fold, Option, Some, None, Result, Ok, Err, ◌+◌, is_some, filter, refl, sym, ap, ◌∙◌, subst, ⊎_elim, append_assoc, arith}
+use Rattle.std.proofs.Common.{◌≡◌, ℕ, ◌≤◌, ◌⊎◌, inl, inr, Bool, true, false, cond, not, List, [], ◌∷◌, ◌++◌, length, fold, Option, Some, None, Result, Ok, Err, is_some, filter, refl, sym, ap, ◌∙◌, subst, ⊎_elim, append_assoc, arith}
 use Rattle.std.specs.Option.{option_map_or}
 use Rattle.std.specs.FinMap as finite
 use Rattle.std.specs.FinMap.{get-insert}
@@ -22,7 +22,7 @@ use Rattle.book_laws.specs.Calls.{Call, CreatesBook, Puts, Removes, Moves, Impor
 use Rattle.book_model.specs.Creating.{new_id}
 use Rattle.book_model.specs.Forgetting.{may_forget}
 use Rattle.book_laws.specs.Histories.{BookEvent, live, touched}
-use Rattle.book_model.specs.Importing.{Importing, importing, import_over, import_card, import_tally, is_legal_key}
+use Rattle.book_model.specs.Importing.{Importing, importing, import_card, import_tally, is_legal_key, import_for, import_reason}
 use Rattle.book_model.specs.Moving.{move_answer}
 use Rattle.book_model.specs.Outcomes.{◌>>=◌, provided}
 use Rattle.book_model.specs.Putting.{put_answer, reason_for}
@@ -115,11 +115,11 @@ module _ (limits : Bounds) (stories : Stories) (call : Call) where
 
 -- ---- an import, card by card
 
-over_goes_on : (state : Importing Story) (card : List Line) (found : Option Stored) → (GoesOn state.book (import_over live_of storing_event state card found).book) × ((import_over live_of storing_event state card found).book.horizon ≡ state.book.horizon)
+over_goes_on : (state : Importing Story) (card : List Line) (found : Option Stored) → (GoesOn state.book (import_for storing_event state card (import_reason card found)).book) × ((import_for storing_event state card (import_reason card found)).book.horizon ≡ state.book.horizon)
 over_goes_on state card None = (by_event state.book (event (uid_of card) (Stores card Import)), refl)
 over_goes_on state card (Some stored) =
-    elim (same_card stored.card card) as (λ b. GoesOn state.book (cond b (importing state.book state.added state.edited (state.same + 1)) (importing (storing_event state.book card ImportEdit) state.added (state.edited + 1) state.same)).book
-    × ((cond b (importing state.book state.added state.edited (state.same + 1)) (importing (storing_event state.book card ImportEdit) state.added (state.edited + 1) state.same)).book.horizon ≡ state.book.horizon)) [
+    elim (same_card stored.card card) as (λ b. GoesOn state.book (import_for storing_event state card (cond b None (Some ImportEdit))).book
+    × ((import_for storing_event state card (cond b None (Some ImportEdit))).book.horizon ≡ state.book.horizon)) [
       | true ↦ (same_story state.book, refl)
       | false ↦ (by_event state.book (event (uid_of card) (Stores card ImportEdit)), refl)
     ]
@@ -159,9 +159,9 @@ imports_same : (cards : List (List Line)) (state : Importing Story) → (fold (i
 imports_same [] state = refl
 imports_same (card ∷ cards) state = imports_same cards (import_card live_of storing_event state card) ∙ one (live_of state.book (uid_of card))
   where
-    one : (found : Option Stored) → (import_over live_of storing_event state card found).book.imports ≡ state.book.imports
+    one : (found : Option Stored) → (import_for storing_event state card (import_reason card found)).book.imports ≡ state.book.imports
     one None = refl
-    one (Some stored) = elim (same_card stored.card card) as (λ b. (cond b (importing state.book state.added state.edited (state.same + 1)) (importing (storing_event state.book card ImportEdit) state.added (state.edited + 1) state.same)).book.imports ≡ state.book.imports) [ true ↦ refl | false ↦ refl ]
+    one (Some stored) = elim (same_card stored.card card) as (λ b. (import_for storing_event state card (cond b None (Some ImportEdit))).book.imports ≡ state.book.imports) [ true ↦ refl | false ↦ refl ]
 
 -- ---- each call
 

@@ -9,7 +9,7 @@ use Rattle.book_model.specs.declared.answers.Stored.{Stored}
 use Rattle.book_model.specs.declared.change.StoreReason.{StoreReason}
 use Rattle.book_model.specs.declared.change.StoreReason.TheVariants.{Import, ImportEdit}
 use Rattle.book_model.specs.Books.{same_name}
-use Rattle.book_model.specs.Importing.{Importing, importing, import_over, import_card}
+use Rattle.book_model.specs.Importing.{Importing, importing, import_card, import_for, import_reason}
 use Rattle.book_model.specs.SameCards.{same_card}
 use Rattle.book_laws.specs.Histories.{live}
 use Rattle.book_laws.specs.ImportLaws.{ImportsCountLiveCards, ImportsTakeEvents}
@@ -36,9 +36,9 @@ record Takes (from to : Importing Story) : Type 0 where
 takes_one : (state : Importing Story) (card : List Line) → Takes state (import_card live_of storing_event state card)
 takes_one state card = by (live_of state.book (uid_of card)) refl
   where
-    by : (found : Option Stored) → live_of state.book (uid_of card) ≡ found → Takes state (import_over live_of storing_event state card found)
+    by : (found : Option Stored) → live_of state.book (uid_of card) ≡ found → Takes state (import_for storing_event state card (import_reason card found))
     by None e = let more = stored_new (live state.book.history) (uid_of card) card (length state.book.history + 1) Import e in record { events = omega arith; cards = omega (arith, more) }
-    by (Some stored) e = elim (same_card stored.card card) as (λ b. Takes state (cond b (importing state.book state.added state.edited (state.same + 1)) (importing (storing_event state.book card ImportEdit) state.added (state.edited + 1) state.same))) [
+    by (Some stored) e = elim (same_card stored.card card) as (λ b. Takes state (import_for storing_event state card (cond b None (Some ImportEdit)))) [
       | true ↦ record { events = refl; cards = refl }
       | false ↦ let same = stored_over (live state.book.history) (uid_of card) card (length state.book.history + 1) ImportEdit (ap is_some e) in record { events = omega arith; cards = omega (arith, same) }
     ]

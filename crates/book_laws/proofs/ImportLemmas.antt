@@ -17,7 +17,7 @@ use Rattle.book_laws.specs.ChangeLaws.{ImportingFollows}
 use Rattle.book_laws.specs.HistoryCounts.{counts_of}
 use Rattle.book_model.specs.Counting.{live_count}
 use Rattle.book_laws.specs.Histories.{live}
-use Rattle.book_model.specs.Importing.{Importing, importing, import_over, import_card, import_cards, import_tally, is_legal_key, storing_in, keeping, import_under}
+use Rattle.book_model.specs.Importing.{Importing, importing, import_card, import_cards, import_tally, is_legal_key, storing_in, keeping, import_under, import_for, import_reason}
 use Rattle.book_laws.specs.Lawful.{MayStore}
 use Rattle.book_model.specs.Outcomes.{◌>>=◌}
 use Rattle.book_model.specs.SameCards.{same_card}
@@ -50,16 +50,16 @@ module _ (state : Importing Story) (card : List Line) (sound : IsSound state.boo
   stored_sound why may = sound_with state.book (event (uid_of card) (Stores card why)) sound (refl, may)
 
   over : (found : Option Stored) → live_of state.book (uid_of card) ≡ found
-      → (import_over live_at storing_in (rows_so_far state) card found ≡ rows_so_far (import_over live_of storing_event state card found)) × IsSound (import_over live_of storing_event state card found).book
+      → (import_for storing_in (rows_so_far state) card (import_reason card found) ≡ rows_so_far (import_for storing_event state card (import_reason card found))) × IsSound (import_for storing_event state card (import_reason card found)).book
   over None e = (
     ap (λ (b : Book). importing b (state.added + 1) state.edited state.same) (stored_follows Import),
     stored_sound Import e,
   )
   over (Some stored) e =
       elim (same_card stored.card card) as (λ t. same_card stored.card card ≡ t
-      → (cond t (importing (book_of state.book) state.added state.edited (state.same + 1)) (importing (storing_in (book_of state.book) card ImportEdit) state.added (state.edited + 1) state.same)
-      ≡ rows_so_far (cond t (importing state.book state.added state.edited (state.same + 1)) (importing (storing_event state.book card ImportEdit) state.added (state.edited + 1) state.same)))
-      × IsSound (cond t (importing state.book state.added state.edited (state.same + 1)) (importing (storing_event state.book card ImportEdit) state.added (state.edited + 1) state.same)).book) [
+      → (import_for storing_in (rows_so_far state) card (cond t None (Some ImportEdit))
+      ≡ rows_so_far (import_for storing_event state card (cond t None (Some ImportEdit))))
+      × IsSound (import_for storing_event state card (cond t None (Some ImportEdit))).book) [
         | true ↦ λ t. (refl, sound)
         | false ↦ λ t. (
           ap (λ (b : Book). importing b state.added (state.edited + 1) state.same) (stored_follows ImportEdit),
@@ -71,7 +71,7 @@ module _ (state : Importing Story) (card : List Line) (sound : IsSound state.boo
   keeps =
       let o = over (live_of state.book (uid_of card)) refl in
       record {
-        same = ap (import_over live_at storing_in (rows_so_far state) card) (live_by_row state.book.history state.book.horizon (uid_of card)) ∙ o.0;
+        same = ap (λ found. import_for storing_in (rows_so_far state) card (import_reason card found)) (live_by_row state.book.history state.book.horizon (uid_of card)) ∙ o.0;
         sound = o.1;
       }
 

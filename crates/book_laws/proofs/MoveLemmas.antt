@@ -31,7 +31,7 @@ use Rattle.book_laws.specs.WorldSteps.{with_event, story_named, found_of}
 use Rattle.book_model.proofs.BasicLemmas.{T_parts, T_both}
 use Rattle.book_model.proofs.AnswerLemmas.{found_to_move, live_first, free_first, expected_first, same_answer, no_answer}
 use Rattle.book_laws.proofs.CountLemmas.{len-removed}
-use Rattle.base_types.proofs.TextLemmas.{text_total, same_self, same_equiv, get-insert_here}
+use Rattle.base_types.proofs.TextLemmas.{text_total, same_self, same_equiv, same-other, get-insert_here}
 
 -- ---- a sum over the entries of a map, where one is written over
 
@@ -183,23 +183,31 @@ moves_take_one_card world from to uid expect moved after e =
     subst (λ (stories : Stories). TakesOneCard world.books from to uid moved stories) m.after_is
     (subst (λ (card : List Line). TakesOneCard world.books from to uid moved (stories_after_move world.books from to uid m.source m.target card)) (sym f.card)
     (record {
-      source = m.source;
-      target = m.target;
       stored = f.stored;
-      found_source = m.found_source;
-      found_target = m.found_target;
+      left = record {
+        old = m.source;
+        new = with_event m.source (event uid (TakesAway MoveOut));
+        was = m.found_source;
+        is = get-insert_here (finite.insert world.books to (with_event m.target (event uid (Stores f.stored.card MoveIn)))) from (with_event m.source (event uid (TakesAway MoveOut)));
+        goes_on = refl;
+        member = get-remove text_total (live m.source.history) uid uid ∙ cond-true _ _ _ (same_self uid);
+        others = λ other differs. get-remove text_total (live m.source.history) uid other ∙ cond-false _ _ _ (same-other other uid differs);
+      };
+      came = record {
+        old = m.target;
+        new = with_event m.target (event uid (Stores f.stored.card MoveIn));
+        was = m.found_target;
+        is = target_there world.books from to uid m.source m.target f.stored f.stored.card m.found_source m.found_target m.apart f.live f.free;
+        goes_on = refl;
+        member =
+            get-insert_here (live m.target.history) uid (record { version = length m.target.history + 1; card = f.stored.card })
+            ∙ ap (λ n. Some (version_card n f.stored.card)) (sym (ap (λ (x : Moved). x.version) (sym m.moved_is ∙ numbers)));
+        others = λ other differs. get-insert text_total (live m.target.history) uid (record { version = length m.target.history + 1; card = f.stored.card }) other ∙ cond-false _ _ _ (same-other other uid differs);
+      };
       card = f.live;
       free = f.free;
-      left = get-insert_here (finite.insert world.books to (with_event m.target (event uid (Stores f.stored.card MoveIn)))) from (with_event m.source (event uid (TakesAway MoveOut)));
-      came = target_there world.books from to uid m.source m.target f.stored f.stored.card m.found_source m.found_target m.apart f.live f.free;
       numbers = sym m.moved_is ∙ numbers;
-      other_books = others world.books from to uid m.source m.target f.stored f.stored.card m.found_source m.found_target m.apart f.live f.free;
-      gone = get-remove text_total (live m.source.history) uid uid ∙ cond-true _ _ _ (same_self uid);
-      there =
-          get-insert_here (live m.target.history) uid (record { version = length m.target.history + 1; card = f.stored.card })
-          ∙ ap (λ n. Some (version_card n f.stored.card)) (sym (ap (λ (x : Moved). x.version) (sym m.moved_is ∙ numbers)));
-      others_left = λ other differs. get-remove text_total (live m.source.history) uid other ∙ cond-false _ _ _ differs;
-      others_came = λ other differs. get-insert text_total (live m.target.history) uid (record { version = length m.target.history + 1; card = f.stored.card }) other ∙ cond-false _ _ _ differs;
+      other_books = λ name a b. others world.books from to uid m.source m.target f.stored f.stored.card m.found_source m.found_target m.apart f.live f.free name (same-other name from a) (same-other name to b);
       as_many = as_many world.books from to uid m.source m.target f.stored f.stored.card m.found_source m.found_target m.apart f.live f.free;
     }))
   where

@@ -13,7 +13,7 @@ use Rattle.book_model.specs.Books.{LiveCards}
 use Rattle.book_model.specs.Pages.{Answer, mark_after}
 use Rattle.book_laws.specs.Reports.{is_due, due, entry_of, cut_page, whole_page, report}
 use Rattle.book_laws.specs.Worlds.{Story}
-use Rattle.book_model.specs.Devices.{applied, ready_copy, after_page}
+use Rattle.book_model.specs.Devices.{applied, copy_under, after_page}
 use Rattle.book_laws.specs.RightDevices.{Agrees}
 use Rattle.book_laws.specs.DeviceLaws.{DueRises, EntriesAreFirstDue, PagesFit}
 use Rattle.book_laws.specs.Paging.{Place, mark_under, page_for, with_events, next_report, after_turn, due_count, one_where, truncated_pages, events_to_last, after_pages}
@@ -256,5 +256,5 @@ quiet_devices_catch_up stories device story k (suc n) some pages right found le 
     let mark = mark_under story.history device.token in
     let next : Token = record { book = story.id; mark = (report story.history mark k).mark } in
     caught_up k story n device.book (after_page device (page_for story device k)).copy next some
-    (whole_pages_keep_copies_right (ready_copy device) mark story.history k some (ready stories device story found right))
+    (whole_pages_keep_copies_right (copy_under device.token device.copy) mark story.history k some (ready stories device story found right))
     (quiet_turn k (record { history = story.history; mark = mark }) n some (let same : suc n ≡ 1 + n = omega arith in subst (λ m. length (due story.history mark) ≤ m * k) same le))

@@ -1,5 +1,6 @@
 -- Lists of calls, by the rows.
 use Rattle.std.proofs.Common.{◌≡◌, [], ◌∷◌, Result, Ok, Err, refl, sym, ap, ◌∙◌, subst}
+use Rattle.std.specs.Result.{result_unwrap_or}
 use Rattle.book_model.specs.declared.page.Page.{Page}
 use Rattle.book_model.specs.declared.refusal.Refusal.{Refusal}
 use Rattle.book_model.specs.Bounds.{Bounds}
@@ -13,7 +14,8 @@ use Rattle.book_model.specs.Pages.{Asked, Member, due_rows, IsReport, answer_fro
 use Rattle.book_model.specs.Putting.{put_step}
 use Rattle.book_model.specs.Reading.{book_lines, book_line_step, get_step, cards_step, tally_step}
 use Rattle.book_model.specs.Removing.{remove_step}
-use Rattle.book_laws.specs.RunLaws.{StaysSound, RowsAreEnough}
+use Rattle.book_laws.specs.RunLaws.{StaysSound, RowsFollowCalls, RowsAreEnough}
+use Rattle.book_laws.specs.RowsAfterCalls.{rows_left, rows_after, rows_after_all}
 use Rattle.book_laws.specs.Worlds.{Stories, AreSound, World, rows}
 use Rattle.book_laws.specs.WorldChanges.{remove_meaning, move_meaning, import_meaning, forget_meaning}
 use Rattle.book_laws.specs.WorldSteps.{create_meaning, put_meaning, report_meaning}
@@ -60,6 +62,40 @@ next world call = record { limits = world.limits; books = stories_after world.li
 pub stays_sound : StaysSound
 stays_sound world [] sound = sound
 stays_sound world (call ∷ calls) sound = stays_sound (next world call) calls (sound_after world call sound)
+
+-- ---- the rows that calls leave
+
+rows_by : {A : Type 0} (stories : Stories) (f : A → Returned) (step : Result (A × Books) Refusal) (meant : Result (A × Stories) Refusal) → Follows step meant
+    → result_unwrap_or (rows_left step) (rows stories) ≡ rows (state_after stories (with_answer f meant))
+rows_by stories f (Ok done) (Ok meant) follows = sym follows.1.rows_are
+rows_by stories f (Ok done) (Err refusal) follows = absurd follows
+rows_by stories f (Err refusal) (Ok meant) follows = absurd follows
+rows_by stories f (Err refusal) (Err other) follows = refl
+
+rows_by_reading : {A : Type 0} (stories : Stories) (f : A → Returned) (reading : Result A Refusal) → rows stories ≡ rows (state_after stories (with_reading f stories reading))
+rows_by_reading stories f (Ok told) = refl
+rows_by_reading stories f (Err refusal) = refl
+
+rows_follow : (world : World) (call : Call) → AreSound world.books → rows_after world.limits (rows world.books) call ≡ rows (stories_after world.limits world.books call)
+rows_follow world (CreatesBook name) sound = rows_by world.books MadeBook _ _ (creating_follows world name sound)
+rows_follow world (Puts name card expect) sound = rows_by world.books DidPut _ _ (putting_follows world name card expect sound)
+rows_follow world (Removes name uid expect) sound = rows_by world.books DidRemove _ _ (removing_follows world name uid expect sound)
+rows_follow world (Moves from to uid expect) sound = rows_by world.books DidMove _ _ (moving_follows world from to uid expect sound)
+rows_follow world (Imports name key cards) sound = rows_by world.books DidImport _ _ (importing_follows world name key cards sound)
+rows_follow world (Forgets name upto) sound = rows_by world.books DidForget _ _ (forgetting_follows world.books name upto sound)
+rows_follow world (AsksReport name token limit) sound = rows_by_reading world.books GavePage _
+rows_follow world (AsksImport name key) sound = rows_by_reading world.books GaveImport _
+rows_follow world ListsBooks sound = refl
+rows_follow world (ShowsBook name) sound = rows_by_reading world.books GaveBook _
+rows_follow world (Gets name uid) sound = rows_by_reading world.books GaveCard _
+rows_follow world (ListsCards name) sound = rows_by_reading world.books GaveCards _
+rows_follow world (Tallies name) sound = rows_by_reading world.books GaveTally _
+
+pub rows_follow_calls : RowsFollowCalls
+rows_follow_calls world [] sound = refl
+rows_follow_calls world (call ∷ calls) sound =
+    ap (λ (books : Books). rows_after_all world.limits books calls) (rows_follow world call sound)
+    ∙ rows_follow_calls (next world call) calls (sound_after world call sound)
 
 -- ---- one call of two worlds with the same rows
 

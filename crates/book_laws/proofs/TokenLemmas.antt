@@ -17,9 +17,9 @@ use Rattle.book_model.specs.Bounds.{Bounds}
 use Rattle.book_laws.specs.Calls.{Call, stories_after, stories_after_all}
 use Rattle.book_laws.specs.Histories.{last}
 use Rattle.book_model.specs.Outcomes.{◌>>=◌, provided}
-use Rattle.book_model.specs.Pages.{mark_asked, page_size, page_of}
+use Rattle.book_model.specs.Pages.{mark_asked, page_size, page_of, token_of}
 use Rattle.book_laws.specs.Reports.{due, cut_page, whole_page, report}
-use Rattle.book_laws.specs.TokenLaws.{token_of, ForgotAbove, TokensStayGood}
+use Rattle.book_laws.specs.TokenLaws.{ForgotAbove, TokensStayGood}
 use Rattle.book_laws.specs.Worlds.{Story, Stories, IsSound, AreSound, World}
 use Rattle.book_laws.specs.WorldSteps.{report_meaning}
 use Rattle.book_model.proofs.AnswerLemmas.{same_answer, no_answer}

@@ -27,7 +27,7 @@ use Rattle.book_model.specs.Books.{Book, Books, empty_book, live_at, same_name, 
 use Rattle.book_model.specs.Counting.{live_count}
 use Rattle.book_model.specs.Creating.{new_id}
 use Rattle.book_model.specs.Forgetting.{forgotten, may_forget}
-use Rattle.book_model.specs.Importing.{Importing, importing, import_over, import_card, import_cards, import_tally, import_under, is_legal_key, keeping, storing_in}
+use Rattle.book_model.specs.Importing.{Importing, importing, import_card, import_cards, import_tally, import_under, is_legal_key, keeping, storing_in, import_for, import_reason}
 use Rattle.book_model.specs.Moving.{Moving, move_numbers, move_answer, books_after_move}
 use Rattle.book_model.specs.Outcomes.{◌>>=◌, provided}
 use Rattle.book_model.specs.Putting.{Found, answer_over, books_after_put, found_in, is_expected, next_number, put_answer, reason_for, version_of}
@@ -221,11 +221,11 @@ module _ (start : Book) (state : Importing Book) (card : List Line) (is : IsImpo
   import_stored : (why : StoreReason) → Fits (Stores card why) (live_at state.book (uid_of card)) → IsWellFormedBook (one_more state.book.number) (storing_in state.book card why)
   import_stored why fits = well_changed is.limits (one_more state.book.number) state.book (uid_of card) (Stores card why) is.form (omega arith) fits refl
 
-  over : (o : Option Stored) → live_at state.book (uid_of card) ≡ o → IsImporting start (import_over live_at storing_in state card o)
+  over : (o : Option Stored) → live_at state.book (uid_of card) ≡ o → IsImporting start (import_for storing_in state card (import_reason card o))
   over None none =
       let n = is.number_is in
       record { limits = one_more state.book.number; form = import_stored Import none; same_id = is.same_id; number_is = omega (arith, n) }
-  over (Some stored) some = elim (same_card stored.card card) as (λ b. IsImporting start (cond b (importing state.book state.added state.edited (state.same + 1)) (importing (storing_in state.book card ImportEdit) state.added (state.edited + 1) state.same))) [
+  over (Some stored) some = elim (same_card stored.card card) as (λ b. IsImporting start (import_for storing_in state card (cond b None (Some ImportEdit)))) [
     | true ↦ record { limits = is.limits; form = is.form; same_id = is.same_id; number_is = is.number_is }
     | false ↦
         let n = is.number_is in

@@ -8,12 +8,19 @@ use Rattle.book_laws.specs.Calls.{Call, Imports, DidImport, meaning, answer_of, 
 use Rattle.book_model.specs.Devices.{Holding}
 use Rattle.book_laws.specs.RightDevices.{IsRight}
 use Rattle.book_laws.specs.GoingOn.{GoesOn}
+use Rattle.book_laws.specs.RowsAfterCalls.{rows_after_all}
 use Rattle.book_laws.specs.Worlds.{Story, Stories, AreSound, World, rows}
 
 -- Every history stays lawful, and no horizon gets past its history.
 abbrev pub StaysSound : Type 0
 StaysSound = (world : World) (calls : List Call) → AreSound world.books →
     AreSound (stories_after_all world.limits world.books calls)
+
+-- The rows that calls leave are those of the histories that they leave.
+abbrev pub RowsFollowCalls : Type 0
+RowsFollowCalls = (world : World) (calls : List Call) → AreSound world.books →
+    rows_after_all world.limits (rows world.books) calls
+    ≡ rows (stories_after_all world.limits world.books calls)
 
 -- Where two worlds have the same limits and rows, every list of calls is answered alike, and leaves
 -- the same rows: the rows forget nothing that a later call asks for.

@@ -6,14 +6,11 @@ use Rattle.book_model.specs.declared.refusal.TokenCause.{TokenCause}
 use Rattle.book_model.specs.declared.refusal.TokenCause.TheVariants.{TooOld}
 use Rattle.book_model.specs.declared.token.Token.{Token}
 use Rattle.book_model.specs.Bounds.{Bounds}
+use Rattle.book_model.specs.Pages.{token_of}
 use Rattle.book_laws.specs.Calls.{Call, Forgets, stories_after_all}
 use Rattle.book_laws.specs.Worlds.{Stories, AreSound, World}
 use Rattle.book_laws.specs.WorldChanges.{forget_meaning}
 use Rattle.book_laws.specs.WorldSteps.{report_meaning}
-
--- the token that a device keeps of a page
-abbrev pub token_of : Page → Token
-token_of page = record { book = page.book; mark = page.mark }
 
 -- Among the calls there was one that made the book forget what was removed up to a number above
 -- this one, and it was accepted.

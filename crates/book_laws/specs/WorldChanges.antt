@@ -38,19 +38,12 @@ remove_meaning limits stories name uid expect = do
 
 -- ---- moving a card
 
--- the book that the card of the UID left, and the one to which this card came
-abbrev pub story_left : Story → List ℕ → Story
-story_left source uid = with_event source (event uid (TakesAway MoveOut))
-
-abbrev pub story_joined : Story → List ℕ → List Line → Story
-story_joined target uid card = with_event target (event uid (Stores card MoveIn))
-
 -- one event in each of both histories, with the same card
 abbrev pub stories_after_move
     : Stories → List ℕ → List ℕ → List ℕ → Story → Story → List Line → Stories
 stories_after_move stories from to uid source target card =
-    finite.insert (finite.insert stories to (story_joined target uid card)) from
-    (story_left source uid)
+    finite.insert (finite.insert stories to (with_event target (event uid (Stores card MoveIn))))
+    from (with_event source (event uid (TakesAway MoveOut)))
 
 abbrev pub move_meaning : Bounds → Stories → List ℕ → List ℕ → List ℕ → Option ℕ
     → Result (Moved × Stories) Refusal

@@ -1,5 +1,5 @@
 //! What holds over every list of calls.
-ghost use Rattle.book_laws.specs.RunLaws.{StaysSound, RowsAreEnough, BooksGoOn, ImportsActOnce};
+ghost use Rattle.book_laws.specs.RunLaws.{StaysSound, RowsFollowCalls, RowsAreEnough, BooksGoOn, ImportsActOnce};
 ghost use Rattle.book_laws.specs.TokenLaws.{TokensStayGood};
 ghost use Rattle.book_laws.specs.MoveLaws.{MovesTakeOneCard};
 
@@ -7,6 +7,11 @@ ghost use Rattle.book_laws.specs.MoveLaws.{MovesTakeOneCard};
 /// and are edited and go where they are.
 pub fn histories_stay_lawful()
     ensures { StaysSound }
+{}
+
+/// Over every list of calls the rows that it leaves are those of the histories that it leaves.
+pub fn rows_follow_calls()
+    ensures { RowsFollowCalls }
 {}
 
 /// Where two stores have the same limits and rows, every list of calls is answered alike and

@@ -13,7 +13,7 @@ use Rattle.book_model.specs.declared.change.StoreReason.{StoreReason}
 use Rattle.book_model.specs.declared.change.StoreReason.TheVariants.{Import, ImportEdit}
 use Rattle.book_model.specs.Books.{Book, same_name, stored_in, live_at}
 use Rattle.book_model.specs.Counting.{arrivals, departures}
-use Rattle.book_model.specs.Importing.{Importing, importing, import_over, import_card, import_cards, storing_in}
+use Rattle.book_model.specs.Importing.{Importing, importing, import_card, import_cards, storing_in, import_for, import_reason}
 use Rattle.book_model.specs.ImportLaws.{is_replaced, is_there, HaveDistinctUids, CountsCards, ImportsCountCards, ImportsTakeNumbers}
 use Rattle.book_model.specs.SameCards.{same_card}
 use Rattle.base_types.proofs.TextLemmas.{text_total, same_self, same-equal}
@@ -45,9 +45,9 @@ module _ {S : Type 0} (live_in : S → List ℕ → Option Stored) (storing : S 
   others_stay : (state : Importing S) (card : List Line) (uid : List ℕ) → same_name (uid_of card) uid ≡ false → live_in (next state card).book uid ≡ live_in state.book uid
   others_stay state card uid e = by (live_in state.book (uid_of card))
     where
-      by : (found : Option Stored) → live_in (import_over live_in storing state card found).book uid ≡ live_in state.book uid
+      by : (found : Option Stored) → live_in (import_for storing state card (import_reason card found)).book uid ≡ live_in state.book uid
       by None = apart state.book card Import uid e
-      by (Some stored) = elim (same_card stored.card card) as (λ b. live_in (cond b (importing state.book state.added state.edited (state.same + 1)) (importing (storing state.book card ImportEdit) state.added (state.edited + 1) state.same)).book uid ≡ live_in state.book uid) [
+      by (Some stored) = elim (same_card stored.card card) as (λ b. live_in (import_for storing state card (cond b None (Some ImportEdit))).book uid ≡ live_in state.book uid) [
         | true ↦ refl
         | false ↦ apart state.book card ImportEdit uid e
       ]
@@ -76,9 +76,9 @@ module _ {S : Type 0} (live_in : S → List ℕ → Option Stored) (storing : S 
   one_added : (state : Importing S) (card : List Line) → (next state card).added ≡ state.added + one_if (is_none (live_in state.book (uid_of card)))
   one_added state card = by (live_in state.book (uid_of card))
     where
-      by : (found : Option Stored) → (import_over live_in storing state card found).added ≡ state.added + one_if (is_none found)
+      by : (found : Option Stored) → (import_for storing state card (import_reason card found)).added ≡ state.added + one_if (is_none found)
       by None = refl
-      by (Some stored) = elim (same_card stored.card card) as (λ b. (cond b (importing state.book state.added state.edited (state.same + 1)) (importing (storing state.book card ImportEdit) state.added (state.edited + 1) state.same)).added ≡ state.added + 0) [
+      by (Some stored) = elim (same_card stored.card card) as (λ b. (import_for storing state card (cond b None (Some ImportEdit))).added ≡ state.added + 0) [
         | true ↦ omega arith
         | false ↦ omega arith
       ]
@@ -86,9 +86,9 @@ module _ {S : Type 0} (live_in : S → List ℕ → Option Stored) (storing : S 
   one_edited : (state : Importing S) (card : List Line) → (next state card).edited ≡ state.edited + one_if (is_replaced (live_in state.book (uid_of card)) card)
   one_edited state card = by (live_in state.book (uid_of card))
     where
-      by : (found : Option Stored) → (import_over live_in storing state card found).edited ≡ state.edited + one_if (is_replaced found card)
+      by : (found : Option Stored) → (import_for storing state card (import_reason card found)).edited ≡ state.edited + one_if (is_replaced found card)
       by None = omega arith
-      by (Some stored) = elim (same_card stored.card card) as (λ b. (cond b (importing state.book state.added state.edited (state.same + 1)) (importing (storing state.book card ImportEdit) state.added (state.edited + 1) state.same)).edited ≡ state.edited + one_if (not b)) [
+      by (Some stored) = elim (same_card stored.card card) as (λ b. (import_for storing state card (cond b None (Some ImportEdit))).edited ≡ state.edited + one_if (not b)) [
         | true ↦ omega arith
         | false ↦ omega arith
       ]
@@ -96,9 +96,9 @@ module _ {S : Type 0} (live_in : S → List ℕ → Option Stored) (storing : S 
   one_same : (state : Importing S) (card : List Line) → (next state card).same ≡ state.same + one_if (is_there (live_in state.book (uid_of card)) card)
   one_same state card = by (live_in state.book (uid_of card))
     where
-      by : (found : Option Stored) → (import_over live_in storing state card found).same ≡ state.same + one_if (is_there found card)
+      by : (found : Option Stored) → (import_for storing state card (import_reason card found)).same ≡ state.same + one_if (is_there found card)
       by None = omega arith
-      by (Some stored) = elim (same_card stored.card card) as (λ b. (cond b (importing state.book state.added state.edited (state.same + 1)) (importing (storing state.book card ImportEdit) state.added (state.edited + 1) state.same)).same ≡ state.same + one_if b) [
+      by (Some stored) = elim (same_card stored.card card) as (λ b. (import_for storing state card (cond b None (Some ImportEdit))).same ≡ state.same + one_if b) [
         | true ↦ omega arith
         | false ↦ omega arith
       ]
@@ -128,9 +128,9 @@ record Takes (from to : Importing Book) : Type 0 where
 takes_one : (state : Importing Book) (card : List Line) → Takes state (import_card live_at storing_in state card)
 takes_one state card = by (live_at state.book (uid_of card))
   where
-    by : (found : Option Stored) → Takes state (import_over live_at storing_in state card found)
+    by : (found : Option Stored) → Takes state (import_for storing_in state card (import_reason card found))
     by None = record { number = omega arith; arrived = omega arith; departed = refl }
-    by (Some stored) = elim (same_card stored.card card) as (λ b. Takes state (cond b (importing state.book state.added state.edited (state.same + 1)) (importing (storing_in state.book card ImportEdit) state.added (state.edited + 1) state.same))) [
+    by (Some stored) = elim (same_card stored.card card) as (λ b. Takes state (import_for storing_in state card (cond b None (Some ImportEdit)))) [
       | true ↦ record { number = refl; arrived = refl; departed = refl }
       | false ↦ record { number = omega arith; arrived = omega arith; departed = refl }
     ]

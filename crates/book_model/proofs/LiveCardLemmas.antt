@@ -11,7 +11,8 @@ use Rattle.base_types.specs.TextMaps.{text_cmp}
 use Rattle.book_model.specs.declared.answers.Stored.{Stored}
 use Rattle.book_model.specs.declared.row.Row.{Row}
 use Rattle.book_model.specs.Books.{stored_in, LiveCards}
-use Rattle.book_model.specs.Reading.{with_live, live_entry}
+use Rattle.book_model.specs.LoopSteps.{with_live}
+use Rattle.book_model.specs.Reading.{live_entry}
 use Rattle.book_model.proofs.BasicLemmas.{T_parts}
 use Rattle.base_types.proofs.TextLemmas.{text_total, same-equal, same}
 

@@ -6,6 +6,7 @@ use Rattle.book_model.specs.declared.page.Entry.TheVariants.{Changed, Removed}
 use Rattle.book_model.specs.declared.page.Page.{Page}
 use Rattle.book_model.specs.declared.token.Token.{Token}
 use Rattle.book_model.specs.Books.{LiveCards}
+use Rattle.book_model.specs.Pages.{token_of}
 
 -- ---- a copy
 
@@ -27,23 +28,16 @@ pub record Holding : Type 0 where
   pub copy : LiveCards
   pub token : Option Token
 
--- the token is taken away, and nothing else
-abbrev pub restarted : Holding → Holding
-restarted holding = record holding { token = None }
-
 -- without a token the copy is emptied before a page is applied
 abbrev pub copy_under : Option Token → LiveCards → LiveCards
 copy_under None copy = finite.empty
 copy_under (Some token) copy = copy
 
-abbrev pub ready_copy : Holding → LiveCards
-ready_copy holding = copy_under holding.token holding.copy
-
 -- the whole page was applied, and its token taken
 abbrev pub after_page : Holding → Page → Holding
 after_page holding page = record holding {
-  copy = applied (ready_copy holding) page.entries;
-  token = Some (record { book = page.book; mark = page.mark });
+  copy = applied (copy_under holding.token holding.copy) page.entries;
+  token = Some (token_of page);
 }
 
 -- some first entries of the page were applied, and the token is as before
@@ -51,8 +45,7 @@ pub record AppliesFirst (holding : Holding) (page : Page) (after : Holding) : Ty
   pub count : ℕ
   pub within : count ≤ length page.entries
   pub after_is : after ≡ record holding {
-    copy = applied (ready_copy holding)
-        (take count page.entries);
+    copy = applied (copy_under holding.token holding.copy) (take count page.entries);
   }
 
 -- or nothing happened at all

@@ -3,6 +3,7 @@
 use Rattle.std.specs.Prelude.{ℕ, ◌+◌, ◌==◌, Bool, ◌&&◌, ◌||◌, nat_le, List, length, fold, Option, Some, None, Result, Ok, if◌then◌else◌}
 use Rattle.std.specs.List.{list_all}
 use Rattle.std.specs.FinMap as finite
+use Rattle.base_types.specs.Octets.{dot, hyphen, underscore, is_digit, is_letter}
 use Rattle.vcard_text.specs.declared.line.Line.{Line}
 use Rattle.vcard_text.specs.Cards.{uid_of}
 use Rattle.book_model.specs.declared.answers.ImportTally.{ImportTally}
@@ -20,12 +21,10 @@ use Rattle.book_model.specs.SameCards.{same_card}
 
 -- ---- keys
 
--- A to Z, a to z, 0 to 9, the dot, the underscore and the hyphen
+-- a letter, a digit, the dot, the underscore or the hyphen
 abbrev pub is_key_octet : ℕ → Bool
-is_key_octet octet =
-    (nat_le 65 octet && nat_le octet 90) || (nat_le 97 octet && nat_le octet 122)
-    || (nat_le 48 octet && nat_le octet 57)
-    || (octet == 46) || (octet == 95) || (octet == 45)
+is_key_octet octet = is_letter octet || is_digit octet
+    || (octet == dot) || (octet == underscore) || (octet == hyphen)
 
 -- 1 to 64 of them
 abbrev pub is_legal_key : List ℕ → Bool
@@ -55,21 +54,23 @@ importing book added edited same =
 abbrev pub imported_so_far : ℕ → ℕ → ℕ → Importing (Unit {0})
 imported_so_far added edited same = importing tt added edited same
 
--- Of any kind of book, by what is live in it at a UID and what becomes of it when a card is stored
--- for a reason.
+-- Of any kind of book, by what becomes of it when a card is stored for a reason. A card that isn't
+-- stored is the same, one that is stored where nothing was live is added, and any other is edited.
+abbrev pub import_for : {S : Type 0} → (S → List Line → StoreReason → S)
+    → Importing S → List Line → Option StoreReason → Importing S
+import_for storing state card None =
+    importing state.book state.added state.edited (state.same + 1)
+import_for storing state card (Some Import) =
+    importing (storing state.book card Import) (state.added + 1) state.edited state.same
+import_for storing state card (Some why) =
+    importing (storing state.book card why) state.added (state.edited + 1) state.same
+
+-- and by what is live in it at a UID
 module _ {S : Type 0} (live_in : S → List ℕ → Option Stored)
     (storing : S → List Line → StoreReason → S) where
-  -- a card is added where its UID isn't live, replaces another one, or is there already
-  abbrev pub import_over : Importing S → List Line → Option Stored → Importing S
-  import_over state card None =
-      importing (storing state.book card Import) (state.added + 1) state.edited state.same
-  import_over state card (Some stored) =
-      if same_card stored.card card then importing state.book state.added state.edited
-      (state.same + 1)
-      else importing (storing state.book card ImportEdit) state.added (state.edited + 1) state.same
-
   abbrev pub import_card : Importing S → List Line → Importing S
-  import_card state card = import_over state card (live_in state.book (uid_of card))
+  import_card state card =
+      import_for storing state card (import_reason card (live_in state.book (uid_of card)))
 
   abbrev pub import_cards : S → List (List Line) → Importing S
   import_cards book cards = fold import_card (importing book 0 0 0) cards

@@ -15,5 +15,6 @@ pub mod ImportLaws
 pub mod Forgetting
 pub mod Pages
 pub mod Reading
+pub mod LoopSteps
 pub mod Devices
 pub mod WellFormed

@@ -1,6 +1,6 @@
 -- Moving a card from one book to another: it is a removed member of the one and a changed member
 -- of the other (RFC 6578, section 3.5). The tests are this project's own.
-use Rattle.std.specs.Prelude.{ℕ, ◌<◌, not, nat_lt, List, is_some, IsSome, Option, Result, Ok}
+use Rattle.std.specs.Prelude.{ℕ, not, nat_lt, List, is_some, Option, Result, Ok}
 use Rattle.std.specs.FinMap as finite
 use Rattle.vcard_text.specs.declared.line.Line.{Line}
 use Rattle.book_model.specs.declared.answers.Moved.{Moved}
@@ -56,8 +56,3 @@ move_step limits books from to uid expect = do
   apart ← provided (not (same_name from to)) SameBook
   moving ← move_answer limits (found_in source uid) (found_in target uid) expect
   Ok (moving.numbers, books_after_move books from to uid source target moving.card)
-
--- the book has a row of the member, and room for a number
-pub record HasRow (uid : List ℕ) (book : Book) : Type 0 where
-  pub room : book.number < 9223372036854775808
-  pub row : IsSome (finite.get book.members uid)

@@ -32,6 +32,10 @@ abbrev pub page_of : ℕ → Answer → Page
 page_of id answer =
     record { book = id; entries = answer.entries; mark = answer.mark; truncated = answer.truncated }
 
+-- the token with which the next report goes on
+abbrev pub token_of : Page → Token
+token_of page = record { book = page.book; mark = page.mark }
+
 -- ---- the rows that are due
 
 -- a UID with its row

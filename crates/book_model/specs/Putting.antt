@@ -28,12 +28,13 @@ pub record Found : Type 0 where
   pub cards : ℕ
   pub number : ℕ
 
-abbrev pub found_with : Option Stored → ℕ → ℕ → Found
-found_with live cards number = record { live = live; cards = cards; number = number }
-
 -- what a store finds, without the borrows
 abbrev pub found_behind : Finding → Found
-found_behind finding = found_with (stored_behind finding.live) finding.cards finding.number
+found_behind finding = record {
+  live = stored_behind finding.live;
+  cards = finding.cards;
+  number = finding.number;
+}
 
 -- the version of what is live, and 0 where nothing is
 abbrev pub version_of : Option Stored → ℕ

@@ -1,5 +1,5 @@
 -- What a device makes of what a store reported.
-use Rattle.std.proofs.Common.{◌≡◌, ℕ, Option, Result, Ok, Err, refl, sym, ap, ◌∙◌, inr}
+use Rattle.std.proofs.Common.{◌≡◌, ℕ, Option, None, Result, Ok, Err, refl, sym, ap, ◌∙◌, inr}
 use Rattle.std.proofs.lemmas.Option.{none-some}
 use Rattle.book_model.specs.declared.denied.Denied.TheVariants.{Refused}
 use Rattle.book_model.specs.declared.denied.Fault.TheVariants.{Memory}
@@ -8,7 +8,7 @@ use Rattle.book_model.specs.declared.refusal.Refusal.{Refusal}
 use Rattle.book_model.specs.declared.refusal.Refusal.TheVariants.{NoSuchBook, BookExists, BadBookName, NoSuchCard, BadCard, UidMismatch, VersionMismatch, UidTaken, SameBook, BadToken, BadLimit, BookFull, ChangesSpent, BadImport, BadKey, BadForget, NotGroup, TooManyBooks}
 use Rattle.book_model.specs.Bounds.{Bounds}
 use Rattle.book_model.specs.Books.{Books}
-use Rattle.book_model.specs.Devices.{Holding, AppliesFirst, after_page, restarted}
+use Rattle.book_model.specs.Devices.{Holding, AppliesFirst, after_page}
 use Rattle.book_laws.specs.RightDevices.{IsRight}
 use Rattle.book_model.specs.Outcomes.{Reads}
 use Rattle.book_model.specs.Pages.{Asked, IsReport, report_step}
@@ -17,7 +17,8 @@ use Rattle.book_laws.specs.Following.{PagesFollow}
 use Rattle.book_laws.specs.ReadLaws.{ReportsFollow}
 use Rattle.book_service.specs.declared.reply.Reply.TheVariants as reply
 use Rattle.book_service.specs.Asks.{Answers, after_refusal}
-use Rattle.book_service.specs.Runs.{Moment, IsAt, report_at}
+use Rattle.book_service.specs.Mirrors.{report_at}
+use Rattle.book_service.specs.Runs.{Moment, IsAt}
 use Rattle.book_service.proofs.PerformLemmas.{of_world}
 
 -- ---- what was reported is what is meant
@@ -34,7 +35,7 @@ refusal_meant (Err wanted) (Err other) refusal old new follows reads = ap (λ r.
 
 -- ---- a device without a token is right
 
-restarted_right : (stories : Stories) (holding : Holding) → IsRight stories (restarted holding)
+restarted_right : (stories : Stories) (holding : Holding) → IsRight stories (record holding { token = None })
 restarted_right stories holding token is = absurd (none-some token is)
 
 pub refused_right : (stories : Stories) (holding : Holding) (refusal : Refusal) → IsRight stories holding → IsRight stories (after_refusal holding refusal)

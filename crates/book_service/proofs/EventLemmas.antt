@@ -7,8 +7,9 @@ use Rattle.book_service.specs.declared.command.Command.{Command}
 use Rattle.book_service.specs.declared.event.Event.TheVariants.{Do, Ask}
 use Rattle.book_service.specs.declared.reply.Reply.{Reply}
 use Rattle.book_service.specs.Asks.{Answers}
+use Rattle.book_service.specs.Mirrors.{report_at}
 use Rattle.book_service.specs.OnRows.{DoesCommand}
-use Rattle.book_service.specs.Runs.{report_at, Moment, IsAt, LeadsTo, with_books}
+use Rattle.book_service.specs.Runs.{Moment, IsAt, LeadsTo}
 use Rattle.book_service.proofs.PerformLemmas.{same_rows}
 
 module _ (limits : Bounds) (old new : Books) (r : Reply) (now : Moment) (at : IsAt now limits old) where
@@ -16,8 +17,8 @@ module _ (limits : Bounds) (old new : Books) (r : Reply) (now : Moment) (at : Is
   command_happens command does =
       let p = does.performed now.world at.limits_are at.stories in
       record {
-        next = with_books now p.next;
-        step = record { books = p.next; performs = p.performs; next_is = refl };
+        next = record now { world = record now.world { books = p.next } };
+        step = (p.next, p.performs, refl);
         at = record { limits_are = refl; stories = p.stories };
         devices_are = refl;
       }

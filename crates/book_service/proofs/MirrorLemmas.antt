@@ -26,17 +26,17 @@ use Rattle.book_laws.specs.DeviceLaws.{PartsKeepAllRight, WholePagesKeepAllRight
 use Rattle.book_laws.specs.Paging.{mark_under, page_for}
 use Rattle.book_laws.specs.PagingLaws.{TruncatedPagesLeaveFewer, LastPagesLeaveNobody}
 use Rattle.book_model.specs.Outcomes.{◌>>=◌, provided}
-use Rattle.book_model.specs.Pages.{mark_asked, page_size, page_of, Answer}
+use Rattle.book_model.specs.Pages.{mark_asked, page_size, page_of, Answer, token_of}
 use Rattle.book_laws.specs.Reports.{due, cut_page, whole_page, report}
-use Rattle.book_laws.specs.TokenLaws.{TokensStayGood, token_of}
+use Rattle.book_laws.specs.TokenLaws.{TokensStayGood}
 use Rattle.book_laws.specs.Worlds.{AreSound, Story, Stories}
 use Rattle.book_laws.specs.WorldSteps.{report_meaning}
 use Rattle.book_service.specs.declared.event.Event.TheVariants.{Ask}
 use Rattle.book_service.specs.declared.reply.Reply.TheVariants as reply
 use Rattle.book_service.specs.Asks.{Answers}
-use Rattle.book_service.specs.Mirrors.{new_device, with_device, AsksOn, IsMirrored, IsMirrorDenied, TakesFewPages, pages_needed}
+use Rattle.book_service.specs.Mirrors.{new_device, with_device, AsksOn, IsMirrored, IsMirrorDenied, TakesFewPages, pages_needed, report_at}
 use Rattle.book_service.specs.PageCounts.{due_count_for}
-use Rattle.book_service.specs.Runs.{Moment, IsAt, Step, Happening, Run, end_of, report_at}
+use Rattle.book_service.specs.Runs.{Moment, IsAt, Step, Happening, Run, end_of}
 use Rattle.book_service.specs.Replies.{denied_reply}
 use Rattle.book_service.proofs.PageCountLemmas.{told_is, left_due}
 use Rattle.book_service.proofs.PromiseLemmas.{answers_right}

@@ -169,7 +169,7 @@ module _ (go : BooksDo) (one_more : EventsAddAtMostOne) (fewer : TruncatedPagesL
         device = old;
         later = on.0;
         stands = record {
-          held = ap (λ (m : Moment). slice_get m.devices i) s.next_is ∙ at.held;
+          held = ap (λ (m : Moment). slice_get m.devices i) s.2 ∙ at.held;
           found = ap (λ (b : Stories). finite.get b old.book) leads.new_is ∙ on.1;
         };
         name = refl;

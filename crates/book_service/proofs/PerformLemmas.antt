@@ -7,7 +7,7 @@ use Rattle.book_model.specs.declared.refusal.Refusal.{Refusal}
 use Rattle.book_model.specs.Bounds.{Bounds}
 use Rattle.book_model.specs.Books.{Books}
 use Rattle.book_model.specs.Outcomes.{◌>>=◌, Does, Reads}
-use Rattle.book_laws.specs.Calls.{Call, Returned, with_answer, with_reading, meaning, state_after}
+use Rattle.book_laws.specs.Calls.{Call, Returned, with_answer, with_reading, meaning}
 use Rattle.book_laws.specs.Following.{AreStoriesOf, Follows}
 use Rattle.book_laws.specs.WorldReads.{book_line_meaning, story_line}
 use Rattle.book_laws.specs.Worlds.{Story, Stories, World, rows}
@@ -15,9 +15,9 @@ use Rattle.book_laws.specs.WorldSteps.{story_named}
 use Rattle.book_service.specs.declared.command.Command.{Command}
 use Rattle.book_service.specs.declared.reply.Reply.{Reply}
 use Rattle.book_service.specs.declared.reply.Reply.TheVariants as reply
-use Rattle.book_service.specs.Commands.{Meaning, IsCallWith, meaning_with, Means, TellsOutcome, Performs}
+use Rattle.book_service.specs.Commands.{Meaning, IsCallWith, meaning_with, Means, ComesOf, Performs}
 use Rattle.book_service.specs.OnRows.{IsPerformed, DoesCommand, first_denial}
-use Rattle.book_service.specs.Replies.{IsFault, Keeps, Tells, reply_to}
+use Rattle.book_service.specs.Replies.{IsFault, Keeps, TellsReturned, reply_to}
 use Rattle.book_service.specs.Texts.{IsReadAs}
 
 -- ---- worlds and their rows
@@ -47,12 +47,12 @@ keeps_same (reply.Tally tally) old new same = same
 
 -- a fault leaves the world, whatever was meant
 pub fault_performs : (world : World) (command : Command) (meant : Meaning) (fault : FaultKind) (r : Reply) → r ≡ reply.Fault fault → Means world command meant → Performs world command r world.books
-fault_performs world command meant fault r is means = record { meant = meant; means = means; replied = inr (record { fault = fault; reply_is = is }, refl) }
+fault_performs world command meant fault r is means = record { meant = meant; means = means; replied = inr (fault, is, refl) }
 
 -- ---- a call that changes books
 
 -- f says the answer as a reply, and g as what a call returned
-module _ {A : Type 0} (f : A → Reply) (g : A → Returned) (command : Command) (says : (x : A) → Tells command (g x) (f x)) where
+module _ {A : Type 0} (f : A → Reply) (g : A → Returned) (command : Command) (says : (x : A) → TellsReturned command (g x) (f x)) where
   did_keep : (old new : Books) (outcome : Result A Denied) (step : Result (A × Books) Refusal) → ((x : A) → Keeps (f x) old new) → Does outcome step old new → Keeps (reply_to f outcome) old new
   did_keep old new (Ok x) step answers d = answers x
   did_keep old new (Err (Refused refusal)) (Ok done) answers d = absurd d
@@ -64,7 +64,7 @@ module _ {A : Type 0} (f : A → Reply) (g : A → Returned) (command : Command)
       → IsPerformed world command (reply_to f outcome) new
   did_perform world old new (Ok x) (Ok done) (Ok meant) means w follows d = record {
     next = meant.1;
-    performs = record { meant = Ok (g meant.0, meant.1); means = means; replied = inl (subst (λ y. Tells command (g y) (f x)) (d.0 ∙ follows.0) (says x), refl) };
+    performs = record { meant = Ok (g meant.0, meant.1); means = means; replied = inl (subst (λ y. TellsReturned command (g y) (f x)) (d.0 ∙ follows.0) (says x), refl) };
     stories = subst (λ (b : Books). AreStoriesOf b meant.1) (sym d.1) follows.1;
   }
   did_perform world old new (Ok x) (Ok done) (Err other) means w follows d = absurd follows
@@ -114,12 +114,12 @@ read_keeps allows old new (Err (Refused refusal)) (Ok asked) d = absurd d
 read_keeps allows old new (Err (Refused refusal)) (Err wanted) d = d.1
 read_keeps allows old new (Err (Fault fault)) asked d = d
 
-module _ {T A : Type 0} (f : A → Reply) (g : A → Returned) (allows : T → A → Type 0) (command : Command) (says : (x : A) → Tells command (g x) (f x)) where
+module _ {T A : Type 0} (f : A → Reply) (g : A → Returned) (allows : T → A → Type 0) (command : Command) (says : (x : A) → TellsReturned command (g x) (f x)) where
   read_performs : (world : World) (old new : Books) (outcome : Result A Denied) (asked : Result T Refusal) (meant : Result A Refusal)
       → Means world command (with_reading g world.books meant) → ReadFollows allows asked meant → Reads allows outcome asked old new
       → Performs world command (reply_to f outcome) world.books
   read_performs world old new (Ok x) (Ok asked) (Ok meant) means follows d =
-      record { meant = Ok (g meant, world.books); means = means; replied = inl (subst (λ y. Tells command (g y) (f x)) (follows x d.0) (says x), refl) }
+      record { meant = Ok (g meant, world.books); means = means; replied = inl (subst (λ y. TellsReturned command (g y) (f x)) (follows x d.0) (says x), refl) }
   read_performs world old new (Ok x) (Ok asked) (Err other) means follows d = absurd follows
   read_performs world old new (Ok x) (Err refusal) meant means follows d = absurd d
   read_performs world old new (Err (Refused refusal)) (Ok asked) meant means follows d = absurd d
@@ -158,7 +158,7 @@ module _ {A : Type 0} (world : World) (command : Command) (book : List ℕ) (rea
   refused_as r meant refusal is same said = record {
     meant = meant;
     means = is;
-    replied = inl (subst (λ (m : Meaning). TellsOutcome command m r × (world.books ≡ state_after world.books m)) (sym same) (said, refl));
+    replied = inl (subst (λ (m : Meaning). ComesOf command world.books m r world.books) (sym same) (said, refl));
   }
 
   none_there : (read : Result A Refusal) (refusal : Refusal) → story_named world.books book ≡ Err refusal → meaning_with world book call read ≡ Err refusal

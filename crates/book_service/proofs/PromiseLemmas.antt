@@ -1,43 +1,45 @@
 -- What each clause of the promise says of one step.
-use Rattle.std.proofs.Common.{refl, ◌≡◌, ◌≤◌, ℕ, List, Option, Result, Ok, Err, slice_get, slice_set, sym, ap, ◌∙◌, subst, ⊎_elim, inr, ◌⊎◌, arith}
+use Rattle.std.proofs.Common.{refl, ◌≡◌, ◌≤◌, ℕ, List, [], ◌∷◌, Option, Result, Ok, Err, slice_get, slice_set, sym, ap, ◌∙◌, subst, ⊎_elim, inr, ◌⊎◌, arith}
 use Rattle.std.specs.FinMap as finite
 use Rattle.std.proofs.lemmas.Option.{same_Some}
 use Rattle.book_model.specs.declared.answers.Moved.{Moved as Numbers}
+use Rattle.book_model.specs.declared.denied.Fault.{Fault}
 use Rattle.book_model.specs.declared.refusal.Refusal.{Refusal}
 use Rattle.book_model.specs.Bounds.{Bounds}
 use Rattle.book_model.specs.Devices.{Holding}
-use Rattle.book_laws.specs.Calls.{DidMove, with_answer, state_after}
+use Rattle.book_laws.specs.Calls.{DidMove, with_answer}
 use Rattle.book_laws.specs.ChangeLaws.{NothingFollows}
-use Rattle.book_laws.specs.CountLaws.{EventsAreCounted, LiveAreCounted, ReasonsAreCounted}
+use Rattle.book_laws.specs.CountLaws.{EventsAreCounted, LiveAreCounted}
 use Rattle.book_laws.specs.DeviceLaws.{PartsKeepAllRight, WholePagesKeepAllRight, LastPagesCompleteAll}
 use Rattle.book_laws.specs.Following.{AreStoriesOf}
 use Rattle.book_laws.specs.CardMoves.{TakesOneCard}
 use Rattle.book_laws.specs.MoveLaws.{MovesTakeOneCard as MovesDo}
 use Rattle.book_laws.specs.RightDevices.{IsComplete, IsRight}
-use Rattle.book_laws.specs.RunLaws.{BooksGoOn as BooksDo, CallsKeepAllRight}
+use Rattle.book_laws.specs.RunLaws.{BooksGoOn as BooksDo, CallsKeepAllRight, RowsFollowCalls, StaysSound}
+use Rattle.book_laws.specs.RowsAfterCalls.{rows_after_all}
+use Rattle.book_laws.specs.WellFormedLaws.{CallsKeepForm}
+use Rattle.book_model.specs.WellFormed.{IsWellFormed}
 use Rattle.book_laws.specs.WorldChanges.{move_meaning}
 use Rattle.book_laws.specs.WorldSteps.{report_meaning}
-use Rattle.book_laws.specs.Worlds.{Stories, IsSoundWorld}
+use Rattle.book_laws.specs.Worlds.{Stories, IsSoundWorld, rows}
 use Rattle.book_service.specs.declared.command.Command.TheVariants.{MoveCard}
 use Rattle.book_service.specs.declared.event.Event.{Event}
 use Rattle.book_service.specs.declared.event.Event.TheVariants.{Do, Ask}
 use Rattle.book_service.specs.declared.reply.Reply.{Reply}
 use Rattle.book_service.specs.declared.reply.Reply.TheVariants as reply
 use Rattle.book_service.specs.Asks.{Answers}
-use Rattle.book_service.specs.Commands.{Meaning, TellsOutcome}
-use Rattle.book_laws.specs.LiveLaws.{LiveAreStoredLast}
-use Rattle.book_service.specs.Promise.{BooksAddUp, BooksGoOn, MovesTakeOneCard, DevicesStayRight, LastPagesComplete}
-use Rattle.book_service.specs.Replies.{IsFault}
+use Rattle.book_service.specs.Commands.{Meaning, ComesOf}
+use Rattle.book_service.specs.Promise.{InEachBook, AddsUp, BooksGoOn, MovesTakeOneCard, DevicesStayRight, LastPagesComplete, HasWellFormedRows, RowsStayWellFormed}
 use Rattle.book_service.specs.Runs.{NewStoresStart, Moment, Step}
 use Rattle.book_service.proofs.AskLemmas.{refused_right}
-use Rattle.book_service.proofs.StepLemmas.{place_set, step_leads}
+use Rattle.book_service.proofs.StepLemmas.{place_set, step_leads, step_limits, step_world}
 
 -- ---- the books
 
-pub books_add_up : LiveAreStoredLast → EventsAreCounted → LiveAreCounted → ReasonsAreCounted → BooksAddUp
-books_add_up stored events cards reasons world name story w found =
+pub books_add_up : EventsAreCounted → LiveAreCounted → InEachBook AddsUp
+books_add_up events cards world name story w found =
     let lawful = (w.books name story found).lawful in
-    record { lawful = lawful; live_cards = stored story.history; changes = events story.history; reasons = reasons story.history; cards = cards story.history lawful }
+    record { lawful = lawful; changes = events story.history; cards = cards story.history lawful }
 
 pub books_go_on : BooksDo → (now next : Moment) (event : Event) (r : Reply) → IsSoundWorld now.world → Step now event r next → BooksGoOn now event r next
 books_go_on go now next event r w s name old found =
@@ -47,28 +49,28 @@ books_go_on go now next event r w s name old found =
 
 -- a move that was answered had this meaning
 moved_by : (book uid to : List ℕ) (expect : Option ℕ) (meant : Result (Numbers × Stories) Refusal) (numbers : Numbers) (old new : Stories)
-    → (TellsOutcome (MoveCard book uid to expect) (with_answer DidMove meant) (reply.Moved numbers) × (new ≡ state_after old (with_answer DidMove meant))) ⊎ (IsFault (reply.Moved numbers) × (new ≡ old))
+    → ComesOf (MoveCard book uid to expect) old (with_answer DidMove meant) (reply.Moved numbers) new ⊎ ((fault : Fault) × (reply.Moved numbers ≡ reply.Fault fault) × (new ≡ old))
     → meant ≡ Ok (numbers, new)
 moved_by book uid to expect (Ok done) numbers old new p =
     ⊎_elim
     (λ yes. let same : reply.Moved numbers ≡ reply.Moved done.0 = yes.0 in let is : numbers ≡ done.0 = cc in
     ap (λ (n : Numbers). Ok (n, done.1)) (sym is) ∙ ap (λ (b : Stories). Ok (numbers, b)) (sym yes.1))
-    (λ fault. absurd (let no : reply.Moved numbers ≡ reply.Fault fault.0.fault = fault.0.reply_is in cc)) p
+    (λ fault. absurd (let no : reply.Moved numbers ≡ reply.Fault fault.0 = fault.1 in cc)) p
 moved_by book uid to expect (Err refusal) numbers old new p =
     ⊎_elim
     (λ yes. absurd (let no : reply.Moved numbers ≡ reply.Refused refusal = yes.0 in cc))
-    (λ fault. absurd (let no : reply.Moved numbers ≡ reply.Fault fault.0.fault = fault.0.reply_is in cc)) p
+    (λ fault. absurd (let no : reply.Moved numbers ≡ reply.Fault fault.0 = fault.1 in cc)) p
 
 pub moves_take_one_card : MovesDo → (now next : Moment) (event : Event) (r : Reply) → IsSoundWorld now.world → Step now event r next → MovesTakeOneCard now event r next
 moves_take_one_card law now next event r w s book uid to expect numbers is_move is_moved =
     let command = MoveCard book uid to expect in
     let step = subst (λ (a : Reply). Step now (Do command) a next) is_moved (subst (λ (e : Event). Step now e r next) is_move s) in
-    let p = step.performs in
+    let p = step.1 in
     let meant = move_meaning now.world.limits now.world.books book to uid expect in
     let replied =
-    subst (λ (m : Meaning). (TellsOutcome command m (reply.Moved numbers) × (step.books ≡ state_after now.world.books m)) ⊎ (IsFault (reply.Moved numbers) × (step.books ≡ now.world.books))) p.means p.replied in
-    subst (TakesOneCard now.world.books book to uid numbers) (sym (ap (λ (m : Moment). m.world.books) step.next_is))
-    (law now.world book to uid expect numbers step.books (moved_by book uid to expect meant numbers now.world.books step.books replied))
+    subst (λ (m : Meaning). ComesOf command now.world.books m (reply.Moved numbers) step.0 ⊎ ((fault : Fault) × (reply.Moved numbers ≡ reply.Fault fault) × (step.0 ≡ now.world.books))) p.means p.replied in
+    subst (TakesOneCard now.world.books book to uid numbers) (sym (ap (λ (m : Moment). m.world.books) step.2))
+    (law now.world book to uid expect numbers step.0 (moved_by book uid to expect meant numbers now.world.books step.0 replied))
 
 -- ---- the devices
 
@@ -91,7 +93,7 @@ module _ (calls : CallsKeepAllRight) (parts : PartsKeepAllRight) (whole : WholeP
   pub devices_stay_right : (now next : Moment) (event : Event) (r : Reply) → IsSoundWorld now.world → Step now event r next → DevicesStayRight now event r next
   devices_stay_right now next (Do command) r w s i old was right =
       let leads = step_leads now next (Do command) r s in
-      (old, ap (λ (m : Moment). slice_get m.devices i) s.next_is ∙ was, subst (λ (b : Stories). IsRight b old) (sym leads.new_is) (calls now.world.limits now.world.books leads.calls old right))
+      (old, ap (λ (m : Moment). slice_get m.devices i) s.2 ∙ was, subst (λ (b : Stories). IsRight b old) (sym leads.new_is) (calls now.world.limits now.world.books leads.calls old right))
   devices_stay_right now next (Ask j limit) r w s i old was right =
       let books : next.world.books ≡ now.world.books = ap (λ (m : Moment). m.world.books) s.next_is in
       let held : slice_get next.devices i ≡ slice_get (slice_set now.devices j s.new) i = ap (λ (m : Moment). slice_get m.devices i) s.next_is in
@@ -117,6 +119,22 @@ last_pages_complete law now next event r w s i limit page old is_ask is_page las
     (λ own. (step.new, held ∙ own.1, subst (λ (b : Stories). IsComplete b step.new) (sym books) complete))
     (λ other. absurd (other.0 refl))
     (place_set now.devices i i step.new old step.old was step.found)
+
+-- ---- the rows
+
+pub step_keeps_form : StaysSound → RowsFollowCalls → CallsKeepForm → (now next : Moment) (event : Event) (r : Reply) → IsSoundWorld now.world → Step now event r next → HasWellFormedRows now → HasWellFormedRows next
+step_keeps_form stays follow keep now next event r w s formed =
+    let leads = step_leads now next event r s in
+    let same : next.world.limits ≡ now.world.limits = step_limits now next event r s in
+    let rows_are : rows_after_all now.world.limits (rows now.world.books) leads.calls ≡ rows next.world.books = follow now.world leads.calls w.books ∙ ap rows (sym leads.new_is) in
+    subst (λ (limits : Bounds). IsWellFormed limits (rows next.world.books)) (sym same)
+    (subst (IsWellFormed now.world.limits) rows_are (keep now.world.limits (rows now.world.books) leads.calls formed))
+
+pub rows_stay_well_formed : StaysSound → RowsFollowCalls → CallsKeepForm → RowsStayWellFormed
+rows_stay_well_formed stays follow keep now [] w formed run = tt
+rows_stay_well_formed stays follow keep now (h ∷ rest) w formed run =
+    let next = step_keeps_form stays follow keep now h.after h.event h.reply w run.0 formed in
+    (next, rows_stay_well_formed stays follow keep h.after rest (step_world stays now h.after h.event h.reply w run.0) next run.1)
 
 -- ---- a new store
 

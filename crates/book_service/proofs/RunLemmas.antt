@@ -10,7 +10,7 @@ use Rattle.book_laws.specs.WorldSteps.{story_named}
 use Rattle.book_service.specs.declared.command.Command.{Command}
 use Rattle.book_service.specs.declared.command.Command.TheVariants.{CreateBook, Books as ListBooks, Get, Put, Remove, MoveCard, Report, TallyOf}
 use Rattle.book_service.specs.declared.reply.Reply.{Reply}
-use Rattle.book_service.specs.Commands.{Meaning, IsCallWith, meaning_with, Means, Performs}
+use Rattle.book_service.specs.Commands.{Meaning, IsCallWith, meaning_with, Means, ComesOf, Performs}
 
 -- the call makes a book forget
 abbrev pub forgets : Call → Bool
@@ -66,6 +66,10 @@ module _ (world : World) (meant : Meaning) where
   means_call (Report book token limit) is = with_text book _ _ (λ from. refl) is
   means_call (TallyOf book) is = inl (Tallies book, refl, is)
 
+comes_after : (command : Command) (old new : Stories) (meant : Meaning) (r : Reply) → ComesOf command old meant r new → new ≡ state_after old meant
+comes_after command old new (Ok done) r comes = comes.1
+comes_after command old new (Err refusal) r comes = comes.1
+
 pub performs_leads : (world : World) (command : Command) (r : Reply) (next : Stories) → Performs world command r next → Leads world.limits world.books next
 performs_leads world command r next p =
     ⊎_elim
@@ -74,11 +78,11 @@ performs_leads world command r next p =
     (λ one. record {
       calls = one.0 ∷ [];
       keep = (one.1, tt);
-      new_is = said.1 ∙ ap (state_after world.books) one.2;
+      new_is = comes_after command world.books next p.meant r said ∙ ap (state_after world.books) one.2;
     })
-    (λ refused. stays world.limits world.books next (said.1 ∙ ap (state_after world.books) refused.1))
+    (λ refused. stays world.limits world.books next (comes_after command world.books next p.meant r said ∙ ap (state_after world.books) refused.1))
     (means_call world p.meant command p.means))
-    (λ fault. stays world.limits world.books next fault.1)
+    (λ fault. stays world.limits world.books next fault.2)
     p.replied
 
 -- ---- one after another

@@ -26,13 +26,13 @@ place_set (y ∷ ys) (suc i) (suc j) x old was a b =
 -- ---- one step
 
 pub step_limits : (now next : Moment) (event : Event) (r : Reply) → Step now event r next → next.world.limits ≡ now.world.limits
-step_limits now next (Do command) r s = ap (λ (m : Moment). m.world.limits) s.next_is
+step_limits now next (Do command) r s = ap (λ (m : Moment). m.world.limits) s.2
 step_limits now next (Ask i limit) r s = ap (λ (m : Moment). m.world.limits) s.next_is
 
 -- calls that forget nothing lead from the books to the next
 pub step_leads : (now next : Moment) (event : Event) (r : Reply) → Step now event r next → Leads now.world.limits now.world.books next.world.books
 step_leads now next (Do command) r s =
-    subst (Leads now.world.limits now.world.books) (sym (ap (λ (m : Moment). m.world.books) s.next_is)) (performs_leads now.world command r s.books s.performs)
+    subst (Leads now.world.limits now.world.books) (sym (ap (λ (m : Moment). m.world.books) s.2)) (performs_leads now.world command r s.0 s.1)
 step_leads now next (Ask i limit) r s = leads_nowhere now.world.limits now.world.books next.world.books (ap (λ (m : Moment). m.world.books) s.next_is)
 
 -- calls lead from a sound world to a sound world

@@ -3,6 +3,7 @@ use Rattle.std.proofs.Common.{refl, ◌≡◌, ℕ, ◌<◌, true, false, List, 
 use Rattle.std.specs.List.{AllByRecursion}
 use Rattle.std.proofs.lemmas.Option.{same_Some}
 use Rattle.book_model.specs.declared.page.Page.{Page as Told}
+use Rattle.book_model.specs.declared.denied.Fault.{Fault}
 use Rattle.book_model.specs.declared.refusal.Refusal.{Refusal}
 use Rattle.book_model.specs.declared.refusal.Refusal.TheVariants.{BadToken}
 use Rattle.book_model.specs.declared.refusal.TokenCause.{TokenCause}
@@ -10,8 +11,9 @@ use Rattle.book_model.specs.declared.refusal.TokenCause.TheVariants.{TooOld}
 use Rattle.book_model.specs.declared.token.Token.{Token}
 use Rattle.book_model.specs.Bounds.{Bounds}
 use Rattle.book_model.specs.Devices.{Holding}
-use Rattle.book_laws.specs.Calls.{Call, Forgets, GavePage, AsksReport, with_reading, state_after, stories_after_all}
-use Rattle.book_laws.specs.TokenLaws.{TokensStayGood as TokensDo, token_of}
+use Rattle.book_laws.specs.Calls.{Call, Forgets, GavePage, AsksReport, with_reading, stories_after_all}
+use Rattle.book_laws.specs.TokenLaws.{TokensStayGood as TokensDo}
+use Rattle.book_model.specs.Pages.{token_of}
 use Rattle.book_laws.specs.WorldChanges.{forget_meaning}
 use Rattle.book_laws.specs.WorldSteps.{report_meaning}
 use Rattle.book_laws.specs.Worlds.{Stories, IsSoundWorld}
@@ -24,10 +26,10 @@ use Rattle.book_service.specs.declared.event.Event.TheVariants.{Do, Ask}
 use Rattle.book_service.specs.declared.reply.Reply.{Reply}
 use Rattle.book_service.specs.declared.reply.Reply.TheVariants as reply
 use Rattle.book_service.specs.Asks.{Answers}
-use Rattle.book_service.specs.Commands.{Meaning, meaning_with, TellsOutcome, Performs}
+use Rattle.book_service.specs.Commands.{Meaning, meaning_with, ComesOf, Performs}
 use Rattle.book_service.specs.Promise.{AsksAfter, AtSomeStep, ForgetsAbove, TokensGrowOld}
-use Rattle.book_service.specs.Replies.{IsFault}
-use Rattle.book_service.specs.Runs.{Moment, Step, Happening, Run, end_of, report_at}
+use Rattle.book_service.specs.Runs.{Moment, Step, Happening, Run, end_of}
+use Rattle.book_service.specs.Mirrors.{report_at}
 use Rattle.book_service.specs.Texts.{ReadsToken}
 use Rattle.book_service.proofs.RunLemmas.{after_more, forgets}
 use Rattle.book_service.proofs.StepLemmas.{step_leads, step_limits, step_world, run_limits, runs_split}
@@ -51,35 +53,35 @@ read_once law text (Some token) (Err refusal) a b = absurd (b.1 token a)
 -- what is said of a report is the report that is meant
 abbrev Said : Command → Result Told Refusal → Reply → Stories → Stories → Type 0
 Said command meant r old new =
-    (TellsOutcome command (with_reading GavePage old meant) r × (new ≡ state_after old (with_reading GavePage old meant))) ⊎ (IsFault r × (new ≡ old))
+    ComesOf command old (with_reading GavePage old meant) r new ⊎ ((fault : Fault) × (r ≡ reply.Fault fault) × (new ≡ old))
 
 said_page : (command : Command) (meant : Result Told Refusal) (page : Told) (old new : Stories) → Said command meant (reply.Page page) old new → meant ≡ Ok page
 said_page command (Ok told) page old new p =
     ⊎_elim
     (λ yes. let same : reply.Page page ≡ reply.Page told = yes.0 in let is : told ≡ page = cc in ap (λ t. Ok t) is)
-    (λ fault. absurd (let no : reply.Page page ≡ reply.Fault fault.0.fault = fault.0.reply_is in cc)) p
+    (λ fault. absurd (let no : reply.Page page ≡ reply.Fault fault.0 = fault.1 in cc)) p
 said_page command (Err refusal) page old new p =
     ⊎_elim
     (λ yes. absurd (let no : reply.Page page ≡ reply.Refused refusal = yes.0 in cc))
-    (λ fault. absurd (let no : reply.Page page ≡ reply.Fault fault.0.fault = fault.0.reply_is in cc)) p
+    (λ fault. absurd (let no : reply.Page page ≡ reply.Fault fault.0 = fault.1 in cc)) p
 
 said_refusal : (command : Command) (meant : Result Told Refusal) (refusal : Refusal) (old new : Stories) → Said command meant (reply.Refused refusal) old new → meant ≡ Err refusal
 said_refusal command (Ok told) refusal old new p =
     ⊎_elim
     (λ yes. absurd (let no : reply.Refused refusal ≡ reply.Page told = yes.0 in cc))
-    (λ fault. absurd (let no : reply.Refused refusal ≡ reply.Fault fault.0.fault = fault.0.reply_is in cc)) p
+    (λ fault. absurd (let no : reply.Refused refusal ≡ reply.Fault fault.0 = fault.1 in cc)) p
 said_refusal command (Err other) refusal old new p =
     ⊎_elim
     (λ yes. let same : reply.Refused refusal ≡ reply.Refused other = yes.0 in let is : other ≡ refusal = cc in ap (λ t. Err t) is)
-    (λ fault. absurd (let no : reply.Refused refusal ≡ reply.Fault fault.0.fault = fault.0.reply_is in cc)) p
+    (λ fault. absurd (let no : reply.Refused refusal ≡ reply.Fault fault.0 = fault.1 in cc)) p
 
 said_nothing : (command : Command) (meant : Result Told Refusal) (r : Reply) (old new : Stories) → Said command meant r old new → new ≡ old
-said_nothing command (Ok told) r old new p = ⊎_elim (λ yes. yes.1) (λ fault. fault.1) p
-said_nothing command (Err refusal) r old new p = ⊎_elim (λ yes. yes.1) (λ fault. fault.1) p
+said_nothing command (Ok told) r old new p = ⊎_elim (λ yes. yes.1) (λ fault. fault.2) p
+said_nothing command (Err refusal) r old new p = ⊎_elim (λ yes. yes.1) (λ fault. fault.2) p
 
 module _ (law : TextsTellTokens) (now next : Moment) where
   abbrev Says : List ℕ → List ℕ → Option ℕ → Reply → Stories → Meaning → Type 0
-  Says book text limit r books meant = (TellsOutcome (Report book text limit) meant r × (books ≡ state_after now.world.books meant)) ⊎ (IsFault r × (books ≡ now.world.books))
+  Says book text limit r books meant = ComesOf (Report book text limit) now.world.books meant r books ⊎ ((fault : Fault) × (r ≡ reply.Fault fault) × (books ≡ now.world.books))
 
   said_of : (book text : List ℕ) (limit : Option ℕ) (r : Reply) (books : Stories) (token : Option Token) → Performs now.world (Report book text limit) r books → ReadsToken text (Ok token)
       → Said (Report book text limit) (report_at now book token limit) r now.world.books books
@@ -95,8 +97,8 @@ module _ (law : TextsTellTokens) (now next : Moment) where
   told_page (Do (Report book text limit)) r name token page s asks is = (
     limit,
     subst (λ (n : List ℕ). report_at now n token limit ≡ Ok page) asks.0
-        (said_page (Report book text limit) (report_at now book token limit) page now.world.books s.books
-        (subst (λ (a : Reply). Said (Report book text limit) (report_at now book token limit) a now.world.books s.books) is (said_of book text limit r s.books token s.performs asks.1))),
+        (said_page (Report book text limit) (report_at now book token limit) page now.world.books s.0
+        (subst (λ (a : Reply). Said (Report book text limit) (report_at now book token limit) a now.world.books s.0) is (said_of book text limit r s.0 token s.1 asks.1))),
   )
   told_page (Ask i limit) r name token page s asks is = (
     limit,
@@ -118,8 +120,8 @@ module _ (law : TextsTellTokens) (now next : Moment) where
   told_refusal (Do (Report book text limit)) r name token refusal s asks is = (
     limit,
     subst (λ (n : List ℕ). report_at now n token limit ≡ Err refusal) asks.0
-        (said_refusal (Report book text limit) (report_at now book token limit) refusal now.world.books s.books
-        (subst (λ (a : Reply). Said (Report book text limit) (report_at now book token limit) a now.world.books s.books) is (said_of book text limit r s.books token s.performs asks.1))),
+        (said_refusal (Report book text limit) (report_at now book token limit) refusal now.world.books s.0
+        (subst (λ (a : Reply). Said (Report book text limit) (report_at now book token limit) a now.world.books s.0) is (said_of book text limit r s.0 token s.1 asks.1))),
   )
   told_refusal (Ask i limit) r name token refusal s asks is = (
     limit,
@@ -138,8 +140,8 @@ module _ (law : TextsTellTokens) (now next : Moment) where
 
   pub asking_keeps : (event : Event) (r : Reply) (name : List ℕ) (token : Option Token) → Step now event r next → AsksAfter now event name token → next.world.books ≡ now.world.books
   asking_keeps (Do (Report book text limit)) r name token s asks =
-      ap (λ (m : Moment). m.world.books) s.next_is
-      ∙ said_nothing (Report book text limit) (report_at now book token limit) r now.world.books s.books (said_of book text limit r s.books token s.performs asks.1)
+      ap (λ (m : Moment). m.world.books) s.2
+      ∙ said_nothing (Report book text limit) (report_at now book token limit) r now.world.books s.0 (said_of book text limit r s.0 token s.1 asks.1)
   asking_keeps (Ask i limit) r name token s asks = ap (λ (m : Moment). m.world.books) s.next_is
   asking_keeps (Do (CreateBook book)) r name token s asks = absurd asks
   asking_keeps (Do ListBooks) r name token s asks = absurd asks

@@ -1,18 +1,18 @@
 -- What a device makes of the page that it asks for (RFC 6578, sections 3.2 to 3.6). This project's
 -- own.
-use Rattle.std.specs.Prelude.{◌≡◌, ◌⊎◌, Result, Ok, Err}
+use Rattle.std.specs.Prelude.{◌≡◌, ◌⊎◌, None, Result, Ok, Err}
 use Rattle.book_model.specs.declared.denied.Fault.{Fault}
 use Rattle.book_model.specs.declared.denied.Fault.TheVariants.{Memory}
 use Rattle.book_model.specs.declared.page.Page.{Page}
 use Rattle.book_model.specs.declared.refusal.Refusal.{Refusal}
 use Rattle.book_model.specs.declared.refusal.Refusal.TheVariants.{BadToken}
-use Rattle.book_model.specs.Devices.{Holding, AppliesFirst, after_page, restarted}
+use Rattle.book_model.specs.Devices.{Holding, AppliesFirst, after_page}
 use Rattle.book_service.specs.declared.reply.Reply.{Reply}
 use Rattle.book_service.specs.declared.reply.Reply.TheVariants as reply
 
 -- a token that was refused is taken away, and any other refusal leaves the device
 abbrev pub after_refusal : Holding → Refusal → Holding
-after_refusal holding (BadToken cause) = restarted holding
+after_refusal holding (BadToken cause) = record holding { token = None }
 after_refusal holding refusal = holding
 
 -- Memory ran out while the page was applied: some first entries are, and the token is the old one.

@@ -1,15 +1,16 @@
 -- What each command means on books with their whole histories. This project's own.
 use Rattle.std.specs.Prelude.{ℕ, ◌≡◌, ◌⊎◌, List, Result, Ok, Err}
+use Rattle.book_model.specs.declared.denied.Fault.{Fault}
 use Rattle.book_model.specs.declared.refusal.Refusal.{Refusal}
 use Rattle.book_model.specs.Outcomes.{◌>>=◌}
-use Rattle.book_laws.specs.Calls.{Call, CreatesBook, Puts, Removes, Moves, AsksReport, ListsBooks, Gets, Tallies, Returned, meaning, state_after}
+use Rattle.book_laws.specs.Calls.{Call, CreatesBook, Puts, Removes, Moves, AsksReport, ListsBooks, Gets, Tallies, Returned, meaning}
 use Rattle.book_laws.specs.Worlds.{Stories, World}
 use Rattle.book_laws.specs.WorldSteps.{story_named}
 use Rattle.book_service.specs.declared.command.Command.{Command}
 use Rattle.book_service.specs.declared.command.Command.TheVariants.{CreateBook, Books as ListBooks, Get, Put, Remove, MoveCard, Report, TallyOf}
 use Rattle.book_service.specs.declared.reply.Reply.{Reply}
 use Rattle.book_service.specs.declared.reply.Reply.TheVariants as reply
-use Rattle.book_service.specs.Replies.{IsFault, Tells}
+use Rattle.book_service.specs.Replies.{TellsReturned}
 use Rattle.book_service.specs.Texts.{ReadsCard, ReadsToken}
 
 -- ---- the call that a command is
@@ -51,15 +52,15 @@ Means world (TallyOf book) meant = IsCall world (Tallies book) meant
 
 -- ---- the reply
 
--- the reply tells what was returned, or that it was refused
-abbrev pub TellsOutcome : Command → Meaning → Reply → Type 0
-TellsOutcome command (Ok done) r = Tells command done.0 r
-TellsOutcome command (Err refusal) r = r ≡ reply.Refused refusal
+-- what comes of a command that means this: what was returned is told, with the stories after it, or
+-- a refusal, which leaves the stories
+abbrev pub ComesOf : Command → Stories → Meaning → Reply → Stories → Type 0
+ComesOf command old (Ok done) r new = TellsReturned command done.0 r × (new ≡ done.1)
+ComesOf command old (Err refusal) r new = (r ≡ reply.Refused refusal) × (new ≡ old)
 
--- The reply and the stories after it are those that the command means, where a refusal leaves the
--- stories. Or there was a fault, which leaves them too.
+-- What the command means came of it. Or there was a fault, which leaves the stories, too.
 pub record Performs (world : World) (command : Command) (r : Reply) (next : Stories) : Type 0 where
   pub meant : Meaning
   pub means : Means world command meant
-  pub replied : (TellsOutcome command meant r × (next ≡ state_after world.books meant))
-      ⊎ (IsFault r × (next ≡ world.books))
+  pub replied : ComesOf command world.books meant r next
+      ⊎ ((fault : Fault) × (r ≡ reply.Fault fault) × (next ≡ world.books))

@@ -1,20 +1,27 @@
 -- Copies of whole books: a new device that asks until a page isn't truncated (RFC 6578, section
 -- 3.6). This project's own.
-use Rattle.std.specs.Prelude.{ℕ, ◌≡◌, ◌<◌, ◌≤◌, ◌⊎◌, nat_le, min, max, Bool, true, false, List, [], ◌∷◌, length, Some, None, Ok, Err}
+use Rattle.std.specs.Prelude.{ℕ, ◌≡◌, ◌<◌, ◌≤◌, ◌⊎◌, nat_le, min, max, Bool, true, false, List, [], ◌∷◌, length, Option, Some, None, Result, Ok, Err}
 use Rattle.std.specs.FinMap as finite
 use Rattle.std.specs.Int.{div_ceil}
 use Rattle.book_model.specs.declared.denied.Denied.{Denied}
 use Rattle.book_model.specs.declared.denied.Denied.TheVariants.{Refused, Fault}
-use Rattle.book_model.specs.declared.page.Page.{Page as Told}
+use Rattle.book_model.specs.declared.page.Page.{Page}
+use Rattle.book_model.specs.declared.refusal.Refusal.{Refusal}
+use Rattle.book_model.specs.declared.token.Token.{Token}
 use Rattle.book_model.specs.Devices.{Holding}
 use Rattle.book_model.specs.Pages.{page_size}
 use Rattle.book_laws.specs.RightDevices.{IsComplete}
 use Rattle.book_laws.specs.Worlds.{Story}
+use Rattle.book_laws.specs.WorldSteps.{report_meaning}
 use Rattle.book_service.specs.declared.event.Event.TheVariants.{Ask}
 use Rattle.book_service.specs.declared.mirrored.Mirrored.{Mirrored}
-use Rattle.book_service.specs.declared.reply.Reply.TheVariants.{Page}
+use Rattle.book_service.specs.declared.reply.Reply.TheVariants as reply
 use Rattle.book_service.specs.PageCounts.{due_count_for}
-use Rattle.book_service.specs.Runs.{Moment, Happening, Run, end_of, report_at}
+use Rattle.book_service.specs.Runs.{Moment, Happening, Run, end_of}
+
+-- the report of a book at this moment, or its refusal
+abbrev pub report_at : Moment → List ℕ → Option Token → Option ℕ → Result Page Refusal
+report_at now name token limit = report_meaning now.world.limits now.world.books name token limit
 
 -- a device that has heard nothing
 abbrev pub new_device : List ℕ → Holding
@@ -29,7 +36,7 @@ with_device now device = record now { devices = device ∷ [] }
 abbrev pub AsksOn : ℕ → Bool → List Happening → Type 0
 AsksOn limit done [] = done ≡ false
 AsksOn limit done (h ∷ run) =
-    (page : Told) × (h.event ≡ Ask 0 (Some limit)) × (h.reply ≡ Page page)
+    (page : Page) × (h.event ≡ Ask 0 (Some limit)) × (h.reply ≡ reply.Page page)
     × (((page.truncated ≡ true) × AsksOn limit done run)
     ⊎ ((page.truncated ≡ false) × (run ≡ []) × (done ≡ true)))
 

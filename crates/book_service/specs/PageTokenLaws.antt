@@ -4,9 +4,8 @@ use Rattle.book_model.specs.declared.page.Page.{Page}
 use Rattle.book_model.specs.declared.token.Token.{Token}
 use Rattle.book_model.specs.Bounds.{Bounds, IsInRange}
 use Rattle.book_model.specs.Books.{Books}
-use Rattle.book_model.specs.Pages.{Asked, IsReport, report_step}
+use Rattle.book_model.specs.Pages.{Asked, IsReport, report_step, token_of}
 use Rattle.book_model.specs.WellFormed.{IsWellFormed}
-use Rattle.book_laws.specs.TokenLaws.{token_of}
 use Rattle.sync_core.specs.TokenTexts.{token_octets, IsToken}
 
 -- the text that is written of a page's token is a token's text, and so its own

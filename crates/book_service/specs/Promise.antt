@@ -10,6 +10,8 @@ use Rattle.book_model.specs.declared.refusal.TokenCause.TheVariants.{TooOld}
 use Rattle.book_model.specs.declared.token.Token.{Token}
 use Rattle.book_model.specs.Counting.{total, arrivals, departures}
 use Rattle.book_model.specs.Devices.{Holding}
+use Rattle.book_model.specs.Pages.{token_of}
+use Rattle.book_model.specs.WellFormed.{IsWellFormed}
 use Rattle.book_laws.specs.CountLaws.{CountsReasons}
 use Rattle.book_laws.specs.LiveLaws.{IsStoredLast}
 use Rattle.book_laws.specs.HistoryCounts.{counts_of}
@@ -18,8 +20,7 @@ use Rattle.book_laws.specs.Lawful.{IsLawful}
 use Rattle.book_laws.specs.CardMoves.{TakesOneCard}
 use Rattle.book_laws.specs.RightDevices.{IsComplete, IsRight}
 use Rattle.book_laws.specs.GoingOn.{GoesOn}
-use Rattle.book_laws.specs.TokenLaws.{token_of}
-use Rattle.book_laws.specs.Worlds.{Story, IsSoundWorld, World}
+use Rattle.book_laws.specs.Worlds.{Story, IsSoundWorld, World, rows}
 use Rattle.book_service.specs.declared.command.Command.TheVariants.{MoveCard, Report}
 use Rattle.book_service.specs.declared.event.Event.{Event}
 use Rattle.book_service.specs.declared.event.Event.TheVariants.{Do, Ask}
@@ -39,22 +40,27 @@ Always holds = (now : Moment) (run : List Happening) →
 abbrev pub LeadsToWorld : Moment → Event → Reply → Moment → Type 0
 LeadsToWorld now event r next = IsSoundWorld next.world
 
--- The history is lawful, and a card is live just where its UID's last change stored it. Its changes
--- are all counted, each under its reason, and its live cards with those that went are those that
--- came.
+-- it holds of each book of each sound world, and so of each book at each moment of a run
+abbrev pub InEachBook : (Story → Type 0) → Type 0
+InEachBook holds = (world : World) (name : List ℕ) (story : Story) → IsSoundWorld world →
+    finite.get world.books name ≡ Some story → holds story
+
+-- a card is live just where its UID's last change stored it
+abbrev pub HoldsLastStored : Story → Type 0
+HoldsLastStored story = (uid : List ℕ) (stored : Stored) →
+    (finite.get (live story.history) uid ≡ Some stored) ↔ IsStoredLast story.history uid stored
+
+-- The history is lawful, its changes are all counted, and its live cards with those that went are
+-- those that came.
 pub record AddsUp (story : Story) : Type 0 where
   pub lawful : IsLawful story.history
-  pub live_cards : (uid : List ℕ) (stored : Stored) →
-      (finite.get (live story.history) uid ≡ Some stored) ↔ IsStoredLast story.history uid stored
   pub changes : total (counts_of story.history) ≡ length story.history
-  pub reasons : CountsReasons story.history
   pub cards : finite.len (live story.history) + departures (counts_of story.history)
       ≡ arrivals (counts_of story.history)
 
--- each book of each sound world adds up, and so of each moment of a run
-abbrev pub BooksAddUp : Type 0
-BooksAddUp = (world : World) (name : List ℕ) (story : Story) → IsSoundWorld world →
-    finite.get world.books name ≡ Some story → AddsUp story
+-- each of the seven counts is the number of the changes with its reason
+abbrev pub HasTrueCounts : Story → Type 0
+HasTrueCounts story = CountsReasons story.history
 
 -- no book goes away, and nothing that happened to it is undone
 abbrev pub BooksGoOn : Moment → Event → Reply → Moment → Type 0
@@ -116,6 +122,18 @@ TokensGrowOld = (now : Moment) (told again : Happening) (between : List Happenin
     AsksAfter (end_of told.after between) again.event name (Some (token_of page)) →
     again.reply ≡ Refused (BadToken cause) →
     (cause ≡ TooOld) × AtSomeStep (ForgetsAbove name page.mark.base) between
+
+-- ---- the rows
+
+-- a store with the rows of this moment has well-formed rows
+abbrev pub HasWellFormedRows : Moment → Type 0
+HasWellFormedRows now = IsWellFormed now.world.limits (rows now.world.books)
+
+-- from a moment with well-formed rows each later moment of a run has such
+abbrev pub RowsStayWellFormed : Type 0
+RowsStayWellFormed = (now : Moment) (run : List Happening) → IsSoundWorld now.world →
+    HasWellFormedRows now → Run now run →
+    AtEachStep (λ before event r after. HasWellFormedRows after) now run
 
 -- ---- runs
 

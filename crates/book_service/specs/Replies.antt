@@ -12,16 +12,16 @@ use Rattle.book_service.specs.declared.reply.Reply.TheVariants as reply
 -- ---- what was answered
 
 -- the reply tells what the command's call of the store returned
-abbrev pub Tells : Command → Returned → Reply → Type 0
-Tells command (MadeBook id) r = r ≡ reply.Created id
-Tells command (GaveBooks lines) r = r ≡ reply.Books lines
-Tells (Get book uid) (GaveCard stored) r = r ≡ reply.Card uid stored.version stored.card
-Tells command (DidPut answer) r = r ≡ reply.Put answer
-Tells command (DidRemove number) r = r ≡ reply.Gone number
-Tells command (DidMove numbers) r = r ≡ reply.Moved numbers
-Tells command (GavePage page) r = r ≡ reply.Page page
-Tells command (GaveTally tally) r = r ≡ reply.Tally tally
-Tells command returned r = ⊥
+abbrev pub TellsReturned : Command → Returned → Reply → Type 0
+TellsReturned command (MadeBook id) r = r ≡ reply.Created id
+TellsReturned command (GaveBooks lines) r = r ≡ reply.Books lines
+TellsReturned (Get book uid) (GaveCard stored) r = r ≡ reply.Card uid stored.version stored.card
+TellsReturned command (DidPut answer) r = r ≡ reply.Put answer
+TellsReturned command (DidRemove number) r = r ≡ reply.Gone number
+TellsReturned command (DidMove numbers) r = r ≡ reply.Moved numbers
+TellsReturned command (GavePage page) r = r ≡ reply.Page page
+TellsReturned command (GaveTally tally) r = r ≡ reply.Tally tally
+TellsReturned command returned r = ⊥
 
 -- ---- what was denied
 

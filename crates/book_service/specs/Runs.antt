@@ -1,16 +1,12 @@
 -- What happens to books and devices: moments, one after another. This project's own.
-use Rattle.std.specs.Prelude.{ℕ, ◌≡◌, ◌<◌, List, [], ◌∷◌, map, Option, Some, Result, slice_get, slice_set}
+use Rattle.std.specs.Prelude.{ℕ, ◌≡◌, ◌<◌, List, [], ◌∷◌, map, Option, Some, slice_get, slice_set}
 use Rattle.std.specs.FinMap as finite
-use Rattle.book_model.specs.declared.page.Page.{Page}
-use Rattle.book_model.specs.declared.refusal.Refusal.{Refusal}
-use Rattle.book_model.specs.declared.token.Token.{Token}
 use Rattle.book_model.specs.Bounds.{Bounds}
 use Rattle.book_model.specs.Books.{Books}
 use Rattle.book_model.specs.Devices.{Holding}
 use Rattle.book_laws.specs.Following.{AreStoriesOf}
 use Rattle.book_laws.specs.Worlds.{Stories, World}
 use Rattle.book_laws.specs.WorldSteps.{report_meaning}
-use Rattle.book_service.specs.declared.command.Command.{Command}
 use Rattle.book_service.specs.declared.event.Event.{Event}
 use Rattle.book_service.specs.declared.event.Event.TheVariants.{Do, Ask}
 use Rattle.book_service.specs.declared.reply.Reply.{Reply}
@@ -24,21 +20,7 @@ pub record Moment : Type 0 where
   pub world : World
   pub devices : List Holding
 
--- the same moment with these books
-abbrev pub with_books : Moment → Stories → Moment
-with_books now books = record now { world = record { limits = now.world.limits; books = books } }
-
--- the report of a book at this moment, or its refusal
-abbrev pub report_at : Moment → List ℕ → Option Token → Option ℕ → Result Page Refusal
-report_at now name token limit = report_meaning now.world.limits now.world.books name token limit
-
 -- ---- a step
-
--- a command was performed, and no device was changed
-pub record Does (now : Moment) (command : Command) (r : Reply) (next : Moment) : Type 0 where
-  pub books : Stories
-  pub performs : Performs now.world command r books
-  pub next_is : next ≡ with_books now books
 
 -- the device at this place asked for a page, and no book and no other device was changed
 pub record Asks (now : Moment) (i : ℕ) (limit : Option ℕ) (r : Reply) (next : Moment)
@@ -46,12 +28,15 @@ pub record Asks (now : Moment) (i : ℕ) (limit : Option ℕ) (r : Reply) (next 
   pub old : Holding
   pub new : Holding
   pub found : slice_get now.devices i ≡ Some old
-  pub answers : Answers r (report_at now old.book old.token limit) old new
+  pub answers : Answers r (report_meaning now.world.limits now.world.books old.book old.token limit)
+      old new
   pub next_is : next ≡ record now { devices = slice_set now.devices i new }
 
--- from this moment the event leads to this reply and to the next moment
+-- From this moment the event leads to this reply and to the next moment: a command is performed,
+-- which changes no device, or a device asks.
 abbrev pub Step : Moment → Event → Reply → Moment → Type 0
-Step now (Do command) r next = Does now command r next
+Step now (Do command) r next = (books : Stories) × Performs now.world command r books
+    × (next ≡ record now { world = record now.world { books = books } })
 Step now (Ask i limit) r next = Asks now i limit r next
 
 -- ---- a run

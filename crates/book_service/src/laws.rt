@@ -2,7 +2,7 @@
 ghost use Rattle.book_laws.specs.DeviceLaws.{DevicesStartRight};
 ghost use Rattle.book_service.specs.Runs.{NewStoresStart};
 ghost use Rattle.book_service.specs.PageCounts.{TruncatedPagesAreFew};
-ghost use Rattle.book_service.specs.Promise.{Always, LeadsToWorld, BooksAddUp, BooksGoOn, MovesTakeOneCard, DevicesStayRight, LastPagesComplete, TokensGrowOld, RunsAppend};
+ghost use Rattle.book_service.specs.Promise.{Always, LeadsToWorld, InEachBook, HoldsLastStored, AddsUp, HasTrueCounts, BooksGoOn, MovesTakeOneCard, DevicesStayRight, LastPagesComplete, TokensGrowOld, RowsStayWellFormed, RunsAppend};
 
 use book_laws::devices::{
     devices_start_right, devices_stay_right_among_books, devices_stay_right_over_calls,
@@ -10,15 +10,21 @@ use book_laws::devices::{
 };
 use book_laws::following::{empty_stores_have_no_history, rows_are_of_books};
 use book_laws::histories::{changes_are_counted, live_cards_are_stored_last};
-use book_laws::runs::{books_go_on, histories_stay_lawful, moves_take_one_card, tokens_stay_good};
+use book_laws::runs::{
+    books_go_on, histories_stay_lawful, moves_take_one_card, rows_follow_calls, tokens_stay_good,
+};
+use book_laws::well_formed::calls_keep_books_well_formed;
 use sync_core::laws::token_texts_are_one;
 
 /// The promise, over every run of commands and asks from every sound world, and so from each
 /// moment of a run.
 pub fn runs_keep_the_promise()
-    // Each moment is a world, in which each book holds the cards that came in less those that went.
+    // Each moment is a world, in which each book holds the cards that came in less those that went,
+    // and no others.
     ensures worlds { Always LeadsToWorld }
-    ensures sums { BooksAddUp }
+    ensures live { InEachBook HoldsLastStored }
+    ensures sums { InEachBook AddsUp }
+    ensures counts { InEachBook HasTrueCounts }
 
     // No book goes away, and nothing that happened to it is undone.
     ensures books { Always BooksGoOn }
@@ -49,6 +55,15 @@ pub fn runs_keep_the_promise()
     last_pages_complete_copies();
     tokens_stay_good();
     token_texts_are_one();
+}
+
+/// From a moment whose rows are well formed, as those of a new store are, each later moment's are.
+pub fn runs_stay_well_formed()
+    ensures { RowsStayWellFormed }
+{
+    histories_stay_lawful();
+    rows_follow_calls();
+    calls_keep_books_well_formed();
 }
 
 /// Two runs are one where the second goes on from the end of the first.

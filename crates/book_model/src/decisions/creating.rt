@@ -1,13 +1,13 @@
 //! Whether a book may be made.
 ghost use Rattle.std.specs.Prelude.{◌≡◌, ◌≤◌, IfOk};
-ghost use Rattle.book_model.specs.BookNames.{is_legal_name, is_name_octet};
+ghost use Rattle.book_model.specs.BookNames.{is_legal_name, is_octet_of_name};
 ghost use Rattle.book_model.specs.Creating.{new_id};
 
 use crate::limits::Limits;
 use crate::refusal::Refusal;
 
 fn is_octet_of_name(octet: u8) -> bool
-    ensures { result ≡ is_name_octet octet }
+    ensures { result ≡ is_octet_of_name octet }
 {
     matches!(octet, b'a'..=b'z' | b'0'..=b'9' | b'-')
 }

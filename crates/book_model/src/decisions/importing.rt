@@ -1,5 +1,5 @@
 //! What an import comes to.
-ghost use Rattle.std.specs.Prelude.{◌≡◌, ◌≤◌, IfOk};
+ghost use Rattle.std.specs.Prelude.{◌≡◌, ◌<◌, ◌≤◌, ◌+◌, IfOk};
 ghost use Rattle.book_model.specs.Importing.{import_reason, import_tally, imported_so_far, is_key_octet, is_legal_key};
 ghost use Rattle.book_model.specs.Books.{stored_behind};
 
@@ -49,7 +49,8 @@ pub fn reason_to_import(live: Option<(u64, &Card)>, card: &Card) -> Option<Store
 /// and the number of the book as it then is.
 ///
 /// Refused, by the first that holds, with `BookFull` where cards were added and there are more
-/// than the limit; `ChangesSpent` where cards were stored and the number is above the limit.
+/// than the limit; `ChangesSpent` where cards were stored and the number is above the limit. So
+/// where one was stored, the number that is answered is within the limit.
 pub fn tally_of_import(
     limits: Limits,
     added: u64,
@@ -60,6 +61,8 @@ pub fn tally_of_import(
 ) -> Result<ImportTally, Refusal>
     ensures tally { result ≡
         import_tally limits (imported_so_far added edited same) cards number }
+    ensures within { IfOk result (λ tally.
+        0 < tally.added + tally.edited → tally.number ≤ limits.changes_max) }
 {
     if added > 0 && cards > limits.cards_max() {
         return Err(Refusal::BookFull);

@@ -6,7 +6,8 @@ use Rattle.book_service.specs.declared.event.Event.TheVariants.{Do}
 use Rattle.book_service.specs.declared.reply.Reply.{Reply}
 use Rattle.book_service.specs.declared.reply.Reply.TheVariants as reply
 use Rattle.book_service.specs.Asks.{Answers}
-use Rattle.book_service.specs.Runs.{NamesDevice, LeadsTo, report_at}
+use Rattle.book_service.specs.Mirrors.{report_at}
+use Rattle.book_service.specs.Runs.{NamesDevice, LeadsTo}
 use Rattle.book_service.proofs.EventLemmas.{ask_happens}
 use Rattle.book_service.proofs.event.do_event.Goals as goal
 

@@ -8,7 +8,13 @@ pub returns-clause-worlds : goal.returns-clause-worlds
 returns-clause-worlds c = always c.histories_stay_lawful.ensures LeadsToWorld (step_world c.histories_stay_lawful.ensures)
 
 pub returns-clause-sums : goal.returns-clause-sums
-returns-clause-sums c = books_add_up c.live_cards_are_stored_last.ensures c.changes_are_counted.ensures.events c.changes_are_counted.ensures.live c.changes_are_counted.ensures.reasons
+returns-clause-sums c = books_add_up c.changes_are_counted.ensures.events c.changes_are_counted.ensures.live
+
+pub returns-clause-live : goal.returns-clause-live
+returns-clause-live c = λ world name story w found. c.live_cards_are_stored_last.ensures story.history
+
+pub returns-clause-counts : goal.returns-clause-counts
+returns-clause-counts c = λ world name story w found. c.changes_are_counted.ensures.reasons story.history
 
 pub returns-clause-books : goal.returns-clause-books
 returns-clause-books c = always c.histories_stay_lawful.ensures BooksGoOn (books_go_on c.books_go_on.ensures)
