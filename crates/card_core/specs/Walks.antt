@@ -83,8 +83,8 @@ pub record IsWalk (cards : Cards) (group : List ℕ) (walk : Walk) : Type 0 wher
       ⊎ AreNoted cards walk (members_of lines)
 
 -- The same, but for the members of one group, which are being noted.
-pub record IsWalkBut (cards : Cards) (group : List ℕ) (open_group : List Line) (walk : Walk) : Type
-    0 where
+pub record IsWalkBut (cards : Cards) (group : List ℕ) (open_group : List Line) (walk : Walk)
+    : Type 0 where
   pub reached : IsReached cards group walk
   pub begun : Contains walk.groups group
   pub holder : IsHolder cards group open_group
