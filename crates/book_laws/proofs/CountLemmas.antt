@@ -13,7 +13,7 @@ use Rattle.book_model.specs.declared.change.StoreReason.{StoreReason}
 use Rattle.book_model.specs.declared.change.StoreReason.TheVariants.{Creation, Edit, Import, ImportEdit, MoveIn}
 use Rattle.book_model.specs.declared.change.RemovalReason.TheVariants.{Deletion, MoveOut}
 use Rattle.book_model.specs.declared.counts.Counts.{Counts}
-use Rattle.book_model.specs.Counting.{counted, total, arrivals, departures, live_count}
+use Rattle.book_model.specs.Counting.{counts_with, total, arrivals, departures, live_count}
 use Rattle.book_laws.specs.HistoryCounts.{counts_of}
 use Rattle.book_laws.specs.CountLaws.{EventsAreCounted, LiveAreCounted, ReasonsAreCounted}
 use Rattle.book_laws.specs.Reasons.{is_stored_for, is_taken_away_for}
@@ -22,7 +22,7 @@ use Rattle.book_model.specs.Books.{LiveCards}
 use Rattle.book_laws.specs.Lawful.{MayHappen, IsLawful}
 use Rattle.base_types.proofs.TextLemmas.{text_total}
 
-pub total-counted : (change : Change) (c : Counts) → total (counted change c) ≡ total c + 1
+pub total-counted : (change : Change) (c : Counts) → total (counts_with change c) ≡ total c + 1
 total-counted (Stores card Creation) c = omega arith
 total-counted (Stores card Edit) c = omega arith
 total-counted (Stores card Import) c = omega arith
@@ -58,7 +58,7 @@ module _ (cards : LiveCards) (uid : List ℕ) where
       omega (arith, less, one)
 
 live-counted : (cards : LiveCards) (c : Counts) (uid : List ℕ) (change : Change) (number : ℕ) → MayHappen uid change (finite.get cards uid) → finite.len cards + departures c ≡ arrivals c
-    → finite.len (cards_after_change cards uid change number) + departures (counted change c) ≡ arrivals (counted change c)
+    → finite.len (cards_after_change cards uid change number) + departures (counts_with change c) ≡ arrivals (counts_with change c)
 live-counted cards c uid (Stores card Creation) number may so = let n = stored_new cards uid card number Creation may.1 in omega (arith, n, so)
 live-counted cards c uid (Stores card Edit) number may so = let n = stored_over cards uid card number Edit (replaced card _ may.1) in omega (arith, n, so)
 live-counted cards c uid (Stores card Import) number may so = let n = stored_new cards uid card number Import may.1 in omega (arith, n, so)
@@ -76,7 +76,7 @@ live_count_is h lawful = let so = live_are_counted h lawful in omega (arith, so)
 
 -- ---- each count is the number of the events with its reason
 
-created_more : (change : Change) (c : Counts) → (counted change c).created ≡ cond (is_stored_for Creation change) (1 + c.created) c.created
+created_more : (change : Change) (c : Counts) → (counts_with change c).created ≡ cond (is_stored_for Creation change) (1 + c.created) c.created
 created_more (Stores card Creation) c = omega arith
 created_more (Stores card Edit) c = refl
 created_more (Stores card Import) c = refl
@@ -85,7 +85,7 @@ created_more (Stores card MoveIn) c = refl
 created_more (TakesAway Deletion) c = refl
 created_more (TakesAway MoveOut) c = refl
 
-edited_more : (change : Change) (c : Counts) → (counted change c).edited ≡ cond (is_stored_for Edit change) (1 + c.edited) c.edited
+edited_more : (change : Change) (c : Counts) → (counts_with change c).edited ≡ cond (is_stored_for Edit change) (1 + c.edited) c.edited
 edited_more (Stores card Creation) c = refl
 edited_more (Stores card Edit) c = omega arith
 edited_more (Stores card Import) c = refl
@@ -94,7 +94,7 @@ edited_more (Stores card MoveIn) c = refl
 edited_more (TakesAway Deletion) c = refl
 edited_more (TakesAway MoveOut) c = refl
 
-imported_more : (change : Change) (c : Counts) → (counted change c).imported ≡ cond (is_stored_for Import change) (1 + c.imported) c.imported
+imported_more : (change : Change) (c : Counts) → (counts_with change c).imported ≡ cond (is_stored_for Import change) (1 + c.imported) c.imported
 imported_more (Stores card Creation) c = refl
 imported_more (Stores card Edit) c = refl
 imported_more (Stores card Import) c = omega arith
@@ -103,7 +103,7 @@ imported_more (Stores card MoveIn) c = refl
 imported_more (TakesAway Deletion) c = refl
 imported_more (TakesAway MoveOut) c = refl
 
-import_edited_more : (change : Change) (c : Counts) → (counted change c).import_edited ≡ cond (is_stored_for ImportEdit change) (1 + c.import_edited) c.import_edited
+import_edited_more : (change : Change) (c : Counts) → (counts_with change c).import_edited ≡ cond (is_stored_for ImportEdit change) (1 + c.import_edited) c.import_edited
 import_edited_more (Stores card Creation) c = refl
 import_edited_more (Stores card Edit) c = refl
 import_edited_more (Stores card Import) c = refl
@@ -112,7 +112,7 @@ import_edited_more (Stores card MoveIn) c = refl
 import_edited_more (TakesAway Deletion) c = refl
 import_edited_more (TakesAway MoveOut) c = refl
 
-moved_in_more : (change : Change) (c : Counts) → (counted change c).moved_in ≡ cond (is_stored_for MoveIn change) (1 + c.moved_in) c.moved_in
+moved_in_more : (change : Change) (c : Counts) → (counts_with change c).moved_in ≡ cond (is_stored_for MoveIn change) (1 + c.moved_in) c.moved_in
 moved_in_more (Stores card Creation) c = refl
 moved_in_more (Stores card Edit) c = refl
 moved_in_more (Stores card Import) c = refl
@@ -121,7 +121,7 @@ moved_in_more (Stores card MoveIn) c = omega arith
 moved_in_more (TakesAway Deletion) c = refl
 moved_in_more (TakesAway MoveOut) c = refl
 
-deleted_more : (change : Change) (c : Counts) → (counted change c).deleted ≡ cond (is_taken_away_for Deletion change) (1 + c.deleted) c.deleted
+deleted_more : (change : Change) (c : Counts) → (counts_with change c).deleted ≡ cond (is_taken_away_for Deletion change) (1 + c.deleted) c.deleted
 deleted_more (Stores card Creation) c = refl
 deleted_more (Stores card Edit) c = refl
 deleted_more (Stores card Import) c = refl
@@ -130,7 +130,7 @@ deleted_more (Stores card MoveIn) c = refl
 deleted_more (TakesAway Deletion) c = omega arith
 deleted_more (TakesAway MoveOut) c = refl
 
-moved_out_more : (change : Change) (c : Counts) → (counted change c).moved_out ≡ cond (is_taken_away_for MoveOut change) (1 + c.moved_out) c.moved_out
+moved_out_more : (change : Change) (c : Counts) → (counts_with change c).moved_out ≡ cond (is_taken_away_for MoveOut change) (1 + c.moved_out) c.moved_out
 moved_out_more (Stores card Creation) c = refl
 moved_out_more (Stores card Edit) c = refl
 moved_out_more (Stores card Import) c = refl

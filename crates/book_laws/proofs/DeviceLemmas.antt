@@ -24,7 +24,7 @@ use Rattle.book_model.specs.Pages.{mark_asked, page_size, mark_after, page_of}
 use Rattle.book_laws.specs.Reports.{first_mark, is_due, due, entry_of, cut_page, whole_page, report}
 use Rattle.book_laws.specs.Worlds.{Story, Stories}
 use Rattle.book_laws.specs.WorldSteps.{empty_story, with_event, report_meaning}
-use Rattle.book_model.specs.Devices.{applied, applied_one, Holding, copy_under, after_page}
+use Rattle.book_model.specs.Devices.{copy_after, copy_after_entry, Holding, copy_under, after_page}
 use Rattle.book_laws.specs.RightDevices.{Agrees, IsRightAt, IsRight}
 use Rattle.book_laws.specs.Paging.{mark_under, page_for}
 use Rattle.book_laws.specs.DeviceLaws.{EmptyIsRight, CopiesStayRight, PartsKeepCopiesRight, WholePagesKeepCopiesRight, LastPagesCompleteCopies, DevicesStartRight, NobodyDueIsComplete, LiveAreDueFirst, NewBooksKeepAllRight, LastPagesCompleteAll, RightTokensAreKnown, RightTokensGrowOld, EventsKeepAllRight, PartsKeepAllRight, WholePagesKeepAllRight}
@@ -75,9 +75,9 @@ empty_is_right h = record {
 -- ---- entries
 
 -- the copy after what is said of one member
-get-applied_one : (copy : LiveCards) (h : List BookEvent) (v uid : List ℕ) → finite.get (applied_one copy (entry_of h v)) uid ≡ cond (same_uid uid v) (finite.get (live h) v) (finite.get copy uid)
+get-applied_one : (copy : LiveCards) (h : List BookEvent) (v uid : List ℕ) → finite.get (copy_after_entry copy (entry_of h v)) uid ≡ cond (same_uid uid v) (finite.get (live h) v) (finite.get copy uid)
 get-applied_one copy h v uid =
-    elim (finite.get (live h) v) as (λ o. finite.get (applied_one copy (option_map_or (λ stored. Changed v stored.version stored.card) o (Removed v))) uid ≡ cond (same_uid uid v) o (finite.get copy uid)) [
+    elim (finite.get (live h) v) as (λ o. finite.get (copy_after_entry copy (option_map_or (λ stored. Changed v stored.version stored.card) o (Removed v))) uid ≡ cond (same_uid uid v) o (finite.get copy uid)) [
       | Some stored ↦ get-insert text_total copy v stored uid
       | None ↦ get-remove text_total copy v uid
     ]
@@ -88,10 +88,10 @@ later_wins true false x y z e = e refl
 later_wins false b x y z e = refl
 
 -- the copy has each of the members as it is now, and the others as before
-pub get-applied : (copy : LiveCards) (h : List BookEvent) (uids : List (List ℕ)) (uid : List ℕ) → finite.get (applied copy (map (entry_of h) uids)) uid ≡ cond (has uids uid) (finite.get (live h) uid) (finite.get copy uid)
+pub get-applied : (copy : LiveCards) (h : List BookEvent) (uids : List (List ℕ)) (uid : List ℕ) → finite.get (copy_after copy (map (entry_of h) uids)) uid ≡ cond (has uids uid) (finite.get (live h) uid) (finite.get copy uid)
 get-applied copy h [] uid = refl
 get-applied copy h (v ∷ uids) uid =
-    get-applied (applied_one copy (entry_of h v)) h uids uid
+    get-applied (copy_after_entry copy (entry_of h v)) h uids uid
     ∙ ap (cond (has uids uid) (finite.get (live h) uid)) (get-applied_one copy h v uid)
     ∙ later_wins (same_uid uid v) (has uids uid) _ _ _ (λ here. ap (finite.get (live h)) (sym (same-equal uid v here)))
 
@@ -100,7 +100,7 @@ same_branches true x = refl
 same_branches false x = refl
 
 -- entries of any members, each as it is now, leave a right copy right
-some_applied : (copy : LiveCards) (mark : Mark) (h : List BookEvent) (uids : List (List ℕ)) → Agrees copy mark h → Agrees (applied copy (map (entry_of h) uids)) mark h
+some_applied : (copy : LiveCards) (mark : Mark) (h : List BookEvent) (uids : List (List ℕ)) → Agrees copy mark h → Agrees (copy_after copy (map (entry_of h) uids)) mark h
 some_applied copy mark h uids a = record {
   ordered = a.ordered;
   past = a.past;
@@ -111,9 +111,9 @@ some_applied copy mark h uids a = record {
 -- the entries are those of due members, truncated or not
 pub parts_keep_copies_right : PartsKeepCopiesRight
 parts_keep_copies_right copy mark h k count a =
-    elim (nat_lt k (length (due h mark))) as (λ b. Agrees (applied copy (take count (cond b (cut_page h mark k) (whole_page h mark)).entries)) mark h) [
-      | true ↦ subst (λ es. Agrees (applied copy es) mark h) (sym (take-map (entry_of h) count (take k (due h mark)))) (some_applied copy mark h (take count (take k (due h mark))) a)
-      | false ↦ subst (λ es. Agrees (applied copy es) mark h) (sym (take-map (entry_of h) count (due h mark))) (some_applied copy mark h (take count (due h mark)) a)
+    elim (nat_lt k (length (due h mark))) as (λ b. Agrees (copy_after copy (take count (cond b (cut_page h mark k) (whole_page h mark)).entries)) mark h) [
+      | true ↦ subst (λ es. Agrees (copy_after copy es) mark h) (sym (take-map (entry_of h) count (take k (due h mark)))) (some_applied copy mark h (take count (take k (due h mark))) a)
+      | false ↦ subst (λ es. Agrees (copy_after copy es) mark h) (sym (take-map (entry_of h) count (due h mark))) (some_applied copy mark h (take count (due h mark)) a)
     ]
 
 -- ---- whole pages
@@ -129,7 +129,7 @@ get_not_due copy mark h uid a d = ⊎_elim
     (and_cases _ _ d)
 
 -- all due members make a right copy the live cards
-all_applied : (copy : LiveCards) (mark : Mark) (h : List BookEvent) → Agrees copy mark h → (uid : List ℕ) → finite.get (applied copy (map (entry_of h) (due h mark))) uid ≡ finite.get (live h) uid
+all_applied : (copy : LiveCards) (mark : Mark) (h : List BookEvent) → Agrees copy mark h → (uid : List ℕ) → finite.get (copy_after copy (map (entry_of h) (due h mark))) uid ≡ finite.get (live h) uid
 all_applied copy mark h a uid =
     get-applied copy h (due h mark) uid
     ∙ ⊎_elim
@@ -181,7 +181,7 @@ module _ (copy : LiveCards) (mark : Mark) (h : List BookEvent) (k : ℕ) (some :
       (λ early. settled_up_to uid early ∙ none)
       (cases_lt edge (last h uid))
 
-  cut_applied : Agrees (applied copy (map (entry_of h) told)) (mark_after mark edge) h
+  cut_applied : Agrees (copy_after copy (map (entry_of h) told)) (mark_after mark edge) h
   cut_applied = record {
     ordered = omega arith;
     past = let most = last-le h (get_or (due h mark) (k - 1) []) in let past = a.past in omega (arith, most, past);
@@ -191,7 +191,7 @@ module _ (copy : LiveCards) (mark : Mark) (h : List BookEvent) (k : ℕ) (some :
 
 pub whole_pages_keep_copies_right : WholePagesKeepCopiesRight
 whole_pages_keep_copies_right copy mark h k some a =
-    elim (nat_lt k (length (due h mark))) as (λ b. nat_lt k (length (due h mark)) ≡ b → Agrees (applied copy (cond b (cut_page h mark k) (whole_page h mark)).entries) (cond b (cut_page h mark k) (whole_page h mark)).mark h) [
+    elim (nat_lt k (length (due h mark))) as (λ b. nat_lt k (length (due h mark)) ≡ b → Agrees (copy_after copy (cond b (cut_page h mark k) (whole_page h mark)).entries) (cond b (cut_page h mark k) (whole_page h mark)).mark h) [
       | true ↦ λ more. cut_applied copy mark h k some (ltb-true _ _ more) a
       | false ↦ λ all. record {
         ordered = omega arith;
@@ -203,7 +203,7 @@ whole_pages_keep_copies_right copy mark h k some a =
 
 pub last_pages_complete_copies : LastPagesCompleteCopies
 last_pages_complete_copies copy mark h k a =
-    elim (nat_lt k (length (due h mark))) as (λ b. (cond b (cut_page h mark k) (whole_page h mark)).truncated ≡ false → applied copy (cond b (cut_page h mark k) (whole_page h mark)).entries ≡ live h) [
+    elim (nat_lt k (length (due h mark))) as (λ b. (cond b (cut_page h mark k) (whole_page h mark)).truncated ≡ false → copy_after copy (cond b (cut_page h mark k) (whole_page h mark)).entries ≡ live h) [
       | true ↦ λ t. absurd (false≢true (sym t))
       | false ↦ λ t. same_map text_total exact_bytes _ _ (all_applied copy mark h a)
     ]
@@ -284,7 +284,7 @@ module _ (stories : Stories) (device : Holding) (story : Story) (found : finite.
           let r = right token refl in
           subst (λ (s : Story). Agrees device.copy token.mark s.history) (same_Some r.story story (sym r.found ∙ found)) r.agrees
 
-  right_in_part : (k count : ℕ) → IsRight stories (record device { copy = applied (copy_under device.token device.copy) (take count (page_for story device k).entries) })
+  right_in_part : (k count : ℕ) → IsRight stories (record device { copy = copy_after (copy_under device.token device.copy) (take count (page_for story device k).entries) })
   right_in_part k count token at =
       let r = right token at in
       record {
@@ -292,7 +292,7 @@ module _ (stories : Stories) (device : Holding) (story : Story) (found : finite.
         found = found;
         own = r.own ∙ ap (λ (s : Story). s.id) (same_Some r.story story (sym r.found ∙ found));
         agrees =
-            subst (λ (t : Option Token). Agrees (applied (copy_under device.token device.copy) (take count (page_for story device k).entries)) (mark_under story.history t) story.history) at
+            subst (λ (t : Option Token). Agrees (copy_after (copy_under device.token device.copy) (take count (page_for story device k).entries)) (mark_under story.history t) story.history) at
             (parts_keep_copies_right (copy_under device.token device.copy) (mark_under story.history device.token) story.history k count ready);
       }
 
@@ -370,7 +370,7 @@ parts_keep_all_right limits stories device after limit page right e part =
     let from = told_from limits stories device limit page e in ⊎_elim
     (λ same. subst (IsRight stories) (sym same) right)
     (λ first. subst (IsRight stories) (sym first.after_is)
-    (subst (λ (p : Page). IsRight stories (record device { copy = applied (copy_under device.token device.copy) (take first.count p.entries) })) (sym from.page_is)
+    (subst (λ (p : Page). IsRight stories (record device { copy = copy_after (copy_under device.token device.copy) (take first.count p.entries) })) (sym from.page_is)
     (right_in_part stories device from.story from.story_is right from.size first.count)))
     part
 

@@ -4,7 +4,7 @@ use Rattle.std.specs.List.{AllByRecursion}
 use Rattle.std.proofs.lemmas.Bool.{cases_Bool, or_cases, or_left, or_right, and_parts, both_ways, false_from_ne_true, ltb-true, lt-ltb}
 use Rattle.std.proofs.lemmas.Map.Views.{any-filter_same, Contains-from_any, list_any-from_Contains}
 use Rattle.book_model.specs.declared.token.Mark.{Mark}
-use Rattle.book_laws.specs.Histories.{BookEvent, same_uid, last, touched, HasEventAbove}
+use Rattle.book_laws.specs.Histories.{BookEvent, same_uid, last, touched_uids, HasEventAbove}
 use Rattle.book_laws.specs.Reports.{is_due, due}
 use Rattle.book_laws.specs.ReportLaws.{DueHaveEvents}
 use Rattle.book_model.proofs.BasicLemmas.{both}
@@ -17,7 +17,7 @@ has-due h mark uid d =
     let parts = and_parts _ _ d in
     let since : mark.at < last h uid = ltb-true _ _ parts.0 in
     any-filter_same (same_uid uid) (is_due h mark) true
-    (λ v is. subst (λ (u : List ℕ). is_due h mark u ≡ true) (same-equal uid v is) d) (touched h)
+    (λ v is. subst (λ (u : List ℕ). is_due h mark u ≡ true) (same-equal uid v is) d) (touched_uids h)
     ∙ has-touched h uid (omega arith)
 
 pub any_passes : (p : List ℕ → Bool) (u : List ℕ) (uids : List (List ℕ)) → has (filter p uids) u ≡ true → p u ≡ true
@@ -39,7 +39,7 @@ last_above h bound uid has = let more = event-le h has.number uid has.event in l
 pub due_have_events : DueHaveEvents
 due_have_events h mark uid = (
   λ c.
-      let d : is_due h mark uid ≡ true = any_passes (is_due h mark) uid (touched h) (list_any-from_Contains same_equiv uid (due h mark) c) in
+      let d : is_due h mark uid ≡ true = any_passes (is_due h mark) uid (touched_uids h) (list_any-from_Contains same_equiv uid (due h mark) c) in
       let parts = and_parts _ _ d in (
         above_last h mark.at uid (ltb-true _ _ parts.0),
         ⊎_elim (λ here. inl here) (λ late. inr (above_last h mark.base uid (ltb-true _ _ late))) (or_cases _ _ parts.1),
@@ -100,4 +100,4 @@ module _ (f : List ℕ → ℕ) where
       ap (λ v. v ∷ xs) is ∙ ap (λ vs. y ∷ vs) rest
 
 pub due-rises : (h : List BookEvent) (mark : Mark) → Rises (last h) (due h mark)
-due-rises h mark = rises-filter (last h) (is_due h mark) (touched h) (touched-rises h)
+due-rises h mark = rises-filter (last h) (is_due h mark) (touched_uids h) (touched-rises h)

@@ -15,8 +15,8 @@ use Rattle.book_model.specs.declared.refusal.Refusal.TheVariants.{BadForget}
 use Rattle.book_model.specs.Books.{Book, card_after}
 use Rattle.book_laws.specs.ChangeLaws.{ForgettingFollows}
 use Rattle.book_laws.specs.HistoryCounts.{counts_of}
-use Rattle.book_model.specs.Forgetting.{is_row_kept, dropped_rows, forgotten, may_forget}
-use Rattle.book_laws.specs.Histories.{BookEvent, same_uid, live, last, touched}
+use Rattle.book_model.specs.Forgetting.{is_row_kept, dropped_rows, book_after_forget, may_forget}
+use Rattle.book_laws.specs.Histories.{BookEvent, same_uid, live, last, touched_uids}
 use Rattle.book_laws.specs.Rows.{all_rows, is_kept, kept_rows}
 use Rattle.book_laws.specs.Worlds.{Story, book_of}
 use Rattle.book_laws.specs.WorldChanges.{is_forgotten, with_horizon}
@@ -93,22 +93,22 @@ empty_still p = same_map text_total exact_bytes _ _ (λ q. get-retain_keys no_ro
     none false = refl
 
 -- the rows whose UIDs pass are as many as the touched UIDs that pass
-pub len_retained : (h : List BookEvent) (p : List ℕ → Bool) → finite.len (finite.retain_keys (all_rows h) p) ≡ length (filter p (touched h))
+pub len_retained : (h : List BookEvent) (p : List ℕ → Bool) → finite.len (finite.retain_keys (all_rows h) p) ≡ length (filter p (touched_uids h))
 len_retained [] p = ap finite.len (empty_still p) ∙ len-empty text_cmp Row
 len_retained (e ∷ h) p =
     let row : Row = record { changed = length h + 1; card = card_after e.change } in
     let rest = len_retained h (λ u. not (same_uid u e.uid) && p u) in
-    let seen = filter-append p (filter (λ u. not (same_uid u e.uid)) (touched h)) (e.uid ∷ []) ∙ ap (λ us. us ++ filter p (e.uid ∷ [])) (filter-filter p (λ u. not (same_uid u e.uid)) (touched h)) in
+    let seen = filter-append p (filter (λ u. not (same_uid u e.uid)) (touched_uids h)) (e.uid ∷ []) ∙ ap (λ us. us ++ filter p (e.uid ∷ [])) (filter-filter p (λ u. not (same_uid u e.uid)) (touched_uids h)) in
     ⊎_elim
     (λ passes.
     let one = len-retained_in (all_rows h) e.uid row p passes in
     let last_one : filter p (e.uid ∷ []) ≡ e.uid ∷ [] = cond-true (p e.uid) (e.uid ∷ []) [] passes in
-    let total = ap length seen ∙ length-append (filter (λ u. not (same_uid u e.uid) && p u) (touched h)) (filter p (e.uid ∷ [])) in
+    let total = ap length seen ∙ length-append (filter (λ u. not (same_uid u e.uid) && p u) (touched_uids h)) (filter p (e.uid ∷ [])) in
     let one_more = ap length last_one in
     omega (arith, one, rest, total, one_more))
     (λ fails.
     let none : filter p (e.uid ∷ []) ≡ [] = cond-false (p e.uid) (e.uid ∷ []) [] fails in
-    let total = ap length seen ∙ length-append (filter (λ u. not (same_uid u e.uid) && p u) (touched h)) (filter p (e.uid ∷ [])) in
+    let total = ap length seen ∙ length-append (filter (λ u. not (same_uid u e.uid) && p u) (touched_uids h)) (filter p (e.uid ∷ [])) in
     let no_more = ap length none in
     let same = ap finite.len (retained_out (all_rows h) e.uid row p fails) in
     omega (arith, same, rest, total, no_more))
@@ -178,7 +178,7 @@ module _ (m : finite.FinMap text_cmp Row) (test : Row → Bool) where
 -- the rows that were kept and pass a test are as many as the touched UIDs that pass it on the history
 pub passing_rows : (h : List BookEvent) (horizon : ℕ) (test : Row → Bool) (wanted : List ℕ → Bool)
     → ((uid : List ℕ) → 0 < last h uid → (is_kept h horizon uid && test (row_at h uid)) ≡ wanted uid)
-    → length (filter (λ (member : List ℕ × Row). test member.1) (finite.entries (kept_rows h horizon))) ≡ length (filter wanted (touched h))
+    → length (filter (λ (member : List ℕ × Row). test member.1) (finite.entries (kept_rows h horizon))) ≡ length (filter wanted (touched_uids h))
 passing_rows h horizon test wanted agree =
     ap length (sym (entries-retained (kept_rows h horizon) test))
     ∙ sym (finite.len-entries (finite.retain_keys (kept_rows h horizon) (at_row test (kept_rows h horizon))))
@@ -218,7 +218,7 @@ module _ (story : Story) (upto : ℕ) where
         | false ↦ both_above story.horizon upto (last story.history uid) rises
       ]
 
-  book_forgotten : story.horizon ≤ upto → book_of (with_horizon story upto) ≡ forgotten (book_of story) upto
+  book_forgotten : story.horizon ≤ upto → book_of (with_horizon story upto) ≡ book_after_forget (book_of story) upto
   book_forgotten rises =
       let B : finite.FinMap text_cmp Row → Book = λ members. record { id = story.id; number = length story.history; horizon = upto; counts = counts_of story.history; members = members; imports = story.imports } in
       ap B (sym (retained_rows story.history story.horizon (is_row_kept upto) (is_kept story.history upto) (still_kept rises)))
@@ -231,7 +231,7 @@ module _ (story : Story) (upto : ℕ) where
         | false ↦ ap (λ b. nat_lt story.horizon (last story.history uid) && b) (not_above upto (last story.history uid))
       ]
 
-  dropped_is : dropped_rows (book_of story).members upto ≡ length (filter (is_forgotten story upto) (touched story.history))
+  dropped_is : dropped_rows (book_of story).members upto ≡ length (filter (is_forgotten story upto) (touched_uids story.history))
   dropped_is = passing_rows story.history story.horizon (λ row. not (is_row_kept upto row)) (is_forgotten story upto) dropped
 
 pub forgetting_follows : ForgettingFollows
@@ -242,5 +242,5 @@ forgetting_follows stories name upto all =
     let rises : story.horizon ≤ upto = leb-true _ _ parts.0 in
     let past : upto ≤ length story.history = leb-true _ _ parts.1 in (
       dropped_is story upto,
-      wrote_story stories name (with_horizon story upto) (forgotten (book_of story) upto) all (record { lawful = sound.lawful; past = past }) (book_forgotten story upto rises),
+      wrote_story stories name (with_horizon story upto) (book_after_forget (book_of story) upto) all (record { lawful = sound.lawful; past = past }) (book_forgotten story upto rises),
     )))

@@ -21,8 +21,8 @@ use Rattle.book_model.specs.Books.{same_name}
 use Rattle.book_laws.specs.Calls.{Call, CreatesBook, Puts, Removes, Moves, Imports, Forgets, AsksReport, AsksImport, ListsBooks, ShowsBook, Gets, ListsCards, Tallies, Returned, MadeBook, DidPut, DidRemove, DidMove, DidImport, DidForget, GavePage, GaveImport, GaveBook, GaveCard, GaveCards, GaveTally, with_answer, with_reading, state_after, stories_after}
 use Rattle.book_model.specs.Creating.{new_id}
 use Rattle.book_model.specs.Forgetting.{may_forget}
-use Rattle.book_laws.specs.Histories.{BookEvent, live, touched}
-use Rattle.book_model.specs.Importing.{Importing, importing, import_card, import_tally, is_legal_key, import_for, import_reason}
+use Rattle.book_laws.specs.Histories.{BookEvent, live, touched_uids}
+use Rattle.book_model.specs.Importing.{Importing, import_state, import_card, import_tally, is_legal_key, import_for, import_reason}
 use Rattle.book_model.specs.Moving.{move_answer}
 use Rattle.book_model.specs.Outcomes.{◌>>=◌, provided}
 use Rattle.book_model.specs.Putting.{put_answer, reason_for}
@@ -31,7 +31,7 @@ use Rattle.book_laws.specs.RunLaws.{BooksGoOn}
 use Rattle.book_laws.specs.GoingOn.{GoesOn}
 use Rattle.book_model.specs.SameCards.{same_card}
 use Rattle.book_laws.specs.Worlds.{Story, Stories}
-use Rattle.book_laws.specs.WorldChanges.{event, is_forgotten, live_of, storing_event, story_import, story_keeping, import_meaning_under, with_horizon, forget_meaning, stories_after_move}
+use Rattle.book_laws.specs.WorldChanges.{event, is_forgotten, live_of, storing_event, story_import, story_with_kept_import, import_meaning_under, with_horizon, forget_meaning, stories_after_move}
 use Rattle.book_laws.specs.WorldSteps.{with_event, empty_story, story_named, found_of, stories_after_put}
 use Rattle.base_types.proofs.TextLemmas.{text_total, same-equal}
 
@@ -133,7 +133,7 @@ cards_go_on (card ∷ cards) state =
     (goes_on_twice state.book next.book (fold (import_card live_of storing_event) next cards).book one.0 rest.0, rest.1 ∙ one.1)
 
 -- an answer that is kept under a new key leaves the others
-keeping_goes_on : (story : Story) (key : List ℕ) (tally : ImportTally) → finite.get story.imports key ≡ None → GoesOn story (story_keeping story key tally)
+keeping_goes_on : (story : Story) (key : List ℕ) (tally : ImportTally) → finite.get story.imports key ≡ None → GoesOn story (story_with_kept_import story key tally)
 keeping_goes_on story key tally none = record {
   id = refl;
   later = [];
@@ -152,7 +152,7 @@ keeping_goes_on story key tally none = record {
         no n = cc
 
 pub import_goes_on : (story : Story) (cards : List (List Line)) → GoesOn story (story_import story cards).book × ((story_import story cards).book.horizon ≡ story.horizon)
-import_goes_on story cards = cards_go_on cards (importing story 0 0 0)
+import_goes_on story cards = cards_go_on cards (import_state story 0 0 0)
 
 -- an import does nothing to the keys that are kept
 imports_same : (cards : List (List Line)) (state : Importing Story) → (fold (import_card live_of storing_event) state cards).book.imports ≡ state.book.imports
@@ -258,9 +258,9 @@ call_continues limits stories (Imports name key cards) =
         let done = (story_import story cards).book in
         let goes = import_goes_on story cards in
         by_given limits stories (Imports name key cards) DidImport (import_tally limits (story_import story cards) (finite.len (live done.history)) (length done.history)) _ (λ tally given.
-        insert_one limits stories (Imports name key cards) name story (story_keeping done key tally) found
-        (plainly limits stories (Imports name key cards) name story (story_keeping done key tally)
-        (goes_on_twice story done (story_keeping done key tally) goes.0 (keeping_goes_on done key tally (ap (λ m. finite.get m key) (imports_same cards (importing story 0 0 0)) ∙ e))) goes.1))
+        insert_one limits stories (Imports name key cards) name story (story_with_kept_import done key tally) found
+        (plainly limits stories (Imports name key cards) name story (story_with_kept_import done key tally)
+        (goes_on_twice story done (story_with_kept_import done key tally) goes.0 (keeping_goes_on done key tally (ap (λ m. finite.get m key) (imports_same cards (import_state story 0 0 0)) ∙ e))) goes.1))
 call_continues limits stories (Forgets name upto) =
     let call = Forgets name upto in
     by_named limits stories call DidForget name _ (λ story found.
@@ -268,17 +268,17 @@ call_continues limits stories (Forgets name upto) =
     let rises : story.horizon ≤ upto = leb-true _ _ (and_parts _ _ allowed).0 in
     insert_one limits stories call name story (with_horizon story upto) found (record {
       goes_on = record { id = refl; later = []; history = refl; horizon = rises; imports = λ k t e. e };
-      horizon = inr (record { call_is = refl; dropped = length (filter (is_forgotten story upto) (touched story.history)); left = finite.insert stories name (with_horizon story upto); accepted = forgets story found allowed });
+      horizon = inr (record { call_is = refl; dropped = length (filter (is_forgotten story upto) (touched_uids story.history)); left = finite.insert stories name (with_horizon story upto); accepted = forgets story found allowed });
     })))
   where
     forgets : (story : Story) → finite.get stories name ≡ Some story → may_forget story.horizon (length story.history) upto ≡ true
-        → forget_meaning stories name upto ≡ Ok (length (filter (is_forgotten story upto) (touched story.history)), finite.insert stories name (with_horizon story upto))
+        → forget_meaning stories name upto ≡ Ok (length (filter (is_forgotten story upto) (touched_uids story.history)), finite.insert stories name (with_horizon story upto))
     forgets story found allowed =
         ap (λ (o : Option Story). option_map_or Ok o (Err NoSuchBook) >>= rest) found
-        ∙ ap (λ b. provided b BadForget >>= λ _. Ok (length (filter (is_forgotten story upto) (touched story.history)), finite.insert stories name (with_horizon story upto))) allowed
+        ∙ ap (λ b. provided b BadForget >>= λ _. Ok (length (filter (is_forgotten story upto) (touched_uids story.history)), finite.insert stories name (with_horizon story upto))) allowed
       where
         rest : Story → Result (ℕ × Stories) Refusal
-        rest s = provided (may_forget s.horizon (length s.history) upto) BadForget >>= λ _. Ok (length (filter (is_forgotten s upto) (touched s.history)), finite.insert stories name (with_horizon s upto))
+        rest s = provided (may_forget s.horizon (length s.history) upto) BadForget >>= λ _. Ok (length (filter (is_forgotten s upto) (touched_uids s.history)), finite.insert stories name (with_horizon s upto))
 call_continues limits stories (AsksReport name token limit) = by_reading limits stories (AsksReport name token limit) GavePage _
 call_continues limits stories (AsksImport name key) = by_reading limits stories (AsksImport name key) GaveImport _
 call_continues limits stories ListsBooks = all_same limits stories ListsBooks

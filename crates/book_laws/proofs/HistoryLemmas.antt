@@ -11,7 +11,7 @@ use Rattle.base_types.specs.TextMaps.{text_cmp}
 use Rattle.book_model.specs.declared.answers.Stored.{Stored}
 use Rattle.book_model.specs.declared.change.Change.{Change}
 use Rattle.book_model.specs.declared.change.Change.TheVariants.{Stores, TakesAway}
-use Rattle.book_laws.specs.Histories.{BookEvent, IsEventOf, same_uid, cards_after_change, live, last, touched}
+use Rattle.book_laws.specs.Histories.{BookEvent, IsEventOf, same_uid, cards_after_change, live, last, touched_uids}
 use Rattle.book_model.specs.Books.{LiveCards}
 use Rattle.base_types.proofs.TextLemmas.{text_total, same_self, same-equal}
 
@@ -65,10 +65,10 @@ event-le h number uid is =
 -- ---- the touched UIDs
 
 -- a UID with an event is among them
-pub has-touched : (h : List BookEvent) (uid : List ℕ) → 0 < last h uid → has (touched h) uid ≡ true
+pub has-touched : (h : List BookEvent) (uid : List ℕ) → 0 < last h uid → has (touched_uids h) uid ≡ true
 has-touched [] uid some = absurd (omega arith)
 has-touched (e ∷ h) uid some =
-    let others = filter (λ v. not (same_uid v e.uid)) (touched h) in
+    let others = filter (λ v. not (same_uid v e.uid)) (touched_uids h) in
     ⊎_elim
     (λ here. list_any-append (same_uid uid) others (e.uid ∷ []) ∙ or_right (has others uid) _ (or_left _ _ here))
     (λ other.
@@ -77,7 +77,7 @@ has-touched (e ∷ h) uid some =
     ∙ or_left (has others uid) _
     (any-filter_same (same_uid uid) (λ v. not (same_uid v e.uid)) true
     (λ v is. not_from_false _ (subst (λ (u : List ℕ). same_uid u e.uid ≡ false) (same-equal uid v is) other))
-    (touched h)
+    (touched_uids h)
     ∙ has-touched h uid before))
     (cases_Bool (same_uid uid e.uid))
 
@@ -107,14 +107,14 @@ module _ (f g : List ℕ → ℕ) (p : List ℕ → Bool) (top : List ℕ) (agre
       ] refl
 
 -- they stand in the order of their last events
-pub touched-rises : (h : List BookEvent) → Rises (last h) (touched h)
+pub touched-rises : (h : List BookEvent) → Rises (last h) (touched_uids h)
 touched-rises [] = tt
 touched-rises (e ∷ h) =
     let kept = λ (v : List ℕ). not (same_uid v e.uid) in
     let agree : (v : List ℕ) → kept v ≡ true → last (e ∷ h) v ≡ last h v = λ v k. last_other h e v (not-true _ k) in
     let newest : last (e ∷ h) e.uid ≡ length h + 1 = last_here h e e.uid (same_self e.uid) in
     rises-pushed (last h) (last (e ∷ h)) kept e.uid agree
-    (λ v k. let is = agree v k in omega (arith, last-le h v, is, newest)) (touched h) (touched-rises h)
+    (λ v k. let is = agree v k in omega (arith, last-le h v, is, newest)) (touched_uids h) (touched-rises h)
 
 -- ---- the live cards
 

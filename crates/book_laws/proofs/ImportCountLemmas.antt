@@ -9,7 +9,7 @@ use Rattle.book_model.specs.declared.answers.Stored.{Stored}
 use Rattle.book_model.specs.declared.change.StoreReason.{StoreReason}
 use Rattle.book_model.specs.declared.change.StoreReason.TheVariants.{Import, ImportEdit}
 use Rattle.book_model.specs.Books.{same_name}
-use Rattle.book_model.specs.Importing.{Importing, importing, import_card, import_for, import_reason}
+use Rattle.book_model.specs.Importing.{Importing, import_state, import_card, import_for, import_reason}
 use Rattle.book_model.specs.SameCards.{same_card}
 use Rattle.book_laws.specs.Histories.{live}
 use Rattle.book_laws.specs.ImportLaws.{ImportsCountLiveCards, ImportsTakeEvents}
@@ -56,7 +56,7 @@ takes_all (card ∷ cards) state =
 
 pub imports_take_events : ImportsTakeEvents
 imports_take_events story cards =
-    let takes = takes_all cards (importing story 0 0 0) in
+    let takes = takes_all cards (import_state story 0 0 0) in
     let a = takes.events in
     let b = takes.cards in
     record { events = omega (arith, a); cards = omega (arith, b) }

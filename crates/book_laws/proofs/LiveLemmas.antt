@@ -13,7 +13,8 @@ use Rattle.book_model.specs.declared.change.Change.TheVariants.{Stores, TakesAwa
 use Rattle.book_model.specs.declared.change.StoreReason.{StoreReason}
 use Rattle.base_types.proofs.TextLemmas.{text_total, same_self, same-equal, same-other}
 use Rattle.book_laws.specs.Histories.{BookEvent, same_uid, cards_after_change, live}
-use Rattle.book_laws.specs.LiveLaws.{IsStoredLast, LiveAreStoredLast}
+use Rattle.book_laws.specs.LiveLaws.{LiveAreStoredLast}
+use Rattle.book_laws.specs.LastChanges.{IsStoredLast}
 use Rattle.book_laws.proofs.HistoryLemmas.{get-changed}
 
 -- the event is of another member

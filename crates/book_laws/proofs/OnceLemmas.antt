@@ -13,7 +13,7 @@ use Rattle.book_model.specs.Importing.{import_tally, is_legal_key}
 use Rattle.book_model.specs.Outcomes.{◌>>=◌, provided}
 use Rattle.book_laws.specs.RunLaws.{ImportsActOnce}
 use Rattle.book_laws.specs.Worlds.{Story, Stories}
-use Rattle.book_laws.specs.WorldChanges.{story_import, story_keeping, import_meaning_under}
+use Rattle.book_laws.specs.WorldChanges.{story_import, story_with_kept_import, import_meaning_under}
 use Rattle.book_laws.proofs.GoingOnLemmas.{books_go_on}
 use Rattle.base_types.proofs.TextLemmas.{get-insert_here}
 
@@ -36,12 +36,12 @@ module _ (limits : Bounds) (stories : Stories) (name key : List ℕ) (tally : Im
   Kept meant = answer_of (with_answer DidImport meant) ≡ Ok (DidImport tally) → IsKept (state_after stories (with_answer DidImport meant)) name key tally
 
   by_tally : (cards : List (List Line)) (story : Story) (legal : is_legal_key key ≡ true) (given : Result ImportTally Refusal)
-      → Kept (given >>= λ t. Ok (t, finite.insert stories name (story_keeping (story_import story cards).book key t)))
+      → Kept (given >>= λ t. Ok (t, finite.insert stories name (story_with_kept_import (story_import story cards).book key t)))
   by_tally cards story legal (Ok t) e =
       let is = same_told t tally e in
       record {
-        story = story_keeping (story_import story cards).book key t;
-        found = get-insert_here stories name (story_keeping (story_import story cards).book key t);
+        story = story_with_kept_import (story_import story cards).book key t;
+        found = get-insert_here stories name (story_with_kept_import (story_import story cards).book key t);
         legal = legal;
         kept = get-insert_here (story_import story cards).book.imports key t ∙ ap (λ (x : ImportTally). Some x) is;
       }

@@ -8,12 +8,12 @@ use Rattle.std.proofs.lemmas.List.{take_all, length-take, length-drop, length-ma
 use Rattle.std.proofs.lemmas.List.Elements.{filter-append, filter_passes, All-get_or}
 use Rattle.book_model.specs.declared.token.Mark.{Mark}
 use Rattle.book_model.specs.declared.token.Token.{Token}
-use Rattle.book_laws.specs.Histories.{BookEvent, same_uid, live, last, touched}
+use Rattle.book_laws.specs.Histories.{BookEvent, same_uid, live, last, touched_uids}
 use Rattle.book_model.specs.Books.{LiveCards}
 use Rattle.book_model.specs.Pages.{Answer, mark_after}
 use Rattle.book_laws.specs.Reports.{is_due, due, entry_of, cut_page, whole_page, report}
 use Rattle.book_laws.specs.Worlds.{Story}
-use Rattle.book_model.specs.Devices.{applied, copy_under, after_page}
+use Rattle.book_model.specs.Devices.{copy_after, copy_under, after_page}
 use Rattle.book_laws.specs.RightDevices.{Agrees}
 use Rattle.book_laws.specs.DeviceLaws.{DueRises, EntriesAreFirstDue, PagesFit}
 use Rattle.book_laws.specs.Paging.{Place, mark_under, page_for, with_events, next_report, after_turn, due_count, one_where, truncated_pages, events_to_last, after_pages}
@@ -77,9 +77,9 @@ one_at_most p x = elim (p x) as (λ t. length (cond t (x ∷ []) []) ≤ 1) [ tr
 -- nobody else becomes due
 pub events_add_at_most_one : EventsAddAtMostOne
 events_add_at_most_one h e mark =
-    let others = filter (λ v. not (same_uid v e.uid)) (touched h) in
+    let others = filter (λ v. not (same_uid v e.uid)) (touched_uids h) in
     let split = ap length (filter-append (is_due (e ∷ h) mark) others (e.uid ∷ [])) ∙ length-append (filter (is_due (e ∷ h) mark) others) (filter (is_due (e ∷ h) mark) (e.uid ∷ [])) in
-    let few = few_pass (λ v. not (same_uid v e.uid)) (is_due (e ∷ h) mark) (is_due h mark) (λ v other d. sym (still v (not-true _ other)) ∙ d) (touched h) in
+    let few = few_pass (λ v. not (same_uid v e.uid)) (is_due (e ∷ h) mark) (is_due h mark) (λ v other d. sym (still v (not-true _ other)) ∙ d) (touched_uids h) in
     let one = one_at_most (is_due (e ∷ h) mark) e.uid in
     omega (arith, split, few, one)
   where
@@ -130,7 +130,7 @@ cut_leaves : (h : List BookEvent) (mark : Mark) (k : ℕ) → 0 < k → k < leng
 cut_leaves h mark zero some more = absurd (omega arith)
 cut_leaves h mark (suc n) some more =
     ap (λ m. due h (mark_after mark (last h (get_or (due h mark) m [])))) back
-    ∙ filter_both (is_due h mark) (λ v. nat_lt (last h edge) (last h v)) (is_due h (mark_after mark (last h edge))) (λ v. tests mark.at mark.base (last h edge) (last h v) (is_some (finite.get (live h) v)) since) (touched h)
+    ∙ filter_both (is_due h mark) (λ v. nat_lt (last h edge) (last h v)) (is_due h (mark_after mark (last h edge))) (λ v. tests mark.at mark.base (last h edge) (last h v) (is_some (finite.get (live h) v)) since) (touched_uids h)
     ∙ behind (last h) (due h mark) n (omega arith) (due-rises h mark)
   where
     back : suc n - 1 ≡ n
@@ -140,7 +140,7 @@ cut_leaves h mark (suc n) some more =
     edge = get_or (due h mark) n []
 
     since : mark.at < last h edge
-    since = ltb-true _ _ (and_parts _ _ (All-get_or (λ v. is_due h mark v ≡ true) (due h mark) n [] (omega arith) (filter_passes (is_due h mark) (touched h)))).0
+    since = ltb-true _ _ (and_parts _ _ (All-get_or (λ v. is_due h mark v ≡ true) (due h mark) n [] (omega arith) (filter_passes (is_due h mark) (touched_uids h)))).0
 
 -- after all events nobody is due
 none_newer : (h : List BookEvent) (uids : List (List ℕ)) → filter (is_due h (record { at = length h; base = length h })) uids ≡ []
@@ -176,7 +176,7 @@ truncated_pages_leave_fewer h mark k some t =
 pub last_pages_leave_nobody : LastPagesLeaveNobody
 last_pages_leave_nobody h mark k t =
     ap (λ (a : Answer). due h a.mark) (cond-false (nat_lt k (length (due h mark))) (cut_page h mark k) (whole_page h mark) (whole_where h mark k t))
-    ∙ none_newer h (touched h)
+    ∙ none_newer h (touched_uids h)
 
 -- ---- turns
 
@@ -247,7 +247,7 @@ caught_up k story zero book copy token some agrees le =
     nobody_due_is_complete copy token.mark story.history agrees (none_left (due story.history token.mark) (let none : 0 * k ≡ 0 = search arith in omega (arith, none, le)))
 caught_up k story (suc n) book copy token some agrees le =
     let next : Token = record { book = story.id; mark = (report story.history token.mark k).mark } in
-    caught_up k story n book (applied copy (report story.history token.mark k).entries) next some (whole_pages_keep_copies_right copy token.mark story.history k some agrees)
+    caught_up k story n book (copy_after copy (report story.history token.mark k).entries) next some (whole_pages_keep_copies_right copy token.mark story.history k some agrees)
     (quiet_turn k (record { history = story.history; mark = token.mark }) n some (let same : suc n ≡ 1 + n = omega arith in subst (λ m. length (due story.history token.mark) ≤ m * k) same le))
 
 pub quiet_devices_catch_up : QuietDevicesCatchUp

@@ -11,7 +11,7 @@ use Rattle.book_model.specs.declared.refusal.Refusal.TheVariants.{NoSuchBook}
 use Rattle.book_model.specs.declared.row.Row.{Row}
 use Rattle.book_model.specs.Books.{Book, book_named, stored_in}
 use Rattle.book_laws.specs.HistoryCounts.{counts_of}
-use Rattle.book_laws.specs.Histories.{live, last, touched}
+use Rattle.book_laws.specs.Histories.{live, last, touched_uids}
 use Rattle.book_model.specs.Outcomes.{◌>>=◌}
 use Rattle.book_laws.specs.ReadLaws.{BooksFollow, BookLinesFollow, GettingFollows, CardsFollow, KeptImportsFollow, TalliesFollow}
 use Rattle.book_model.specs.Reading.{book_line, live_entry, live_cards, tally_with, is_removed_after, remembered_in, tally_of}
@@ -84,7 +84,7 @@ module _ (story : Story) where
         | false ↦ elim (nat_lt story.horizon (last story.history uid)) as (λ b. (b && b) ≡ b) [ true ↦ refl | false ↦ refl ]
       ]
 
-  remembered_is : remembered_in (book_of story) ≡ length (filter (is_remembered_of story) (touched story.history))
+  remembered_is : remembered_in (book_of story) ≡ length (filter (is_remembered_of story) (touched_uids story.history))
   remembered_is = passing_rows story.history story.horizon (is_removed_after story.horizon) (is_remembered_of story) removed_after
 
   tally_is : IsSound story → tally_of (book_of story) ≡ tally_of_story story

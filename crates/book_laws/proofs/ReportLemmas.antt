@@ -22,7 +22,7 @@ use Rattle.book_model.specs.declared.page.Entry.TheVariants.{Changed, Removed}
 use Rattle.book_model.specs.declared.page.Page.{Page}
 use Rattle.book_model.specs.declared.row.Row.{Row}
 use Rattle.book_model.specs.declared.token.Mark.{Mark}
-use Rattle.book_laws.specs.Histories.{BookEvent, same_uid, last, live, touched}
+use Rattle.book_laws.specs.Histories.{BookEvent, same_uid, last, live, touched_uids}
 use Rattle.book_model.specs.Pages.{Member, Asked, row_is_due, due_rows, IsByNumber, IsReport, entry_in, number_at, cut_rows, whole_rows, answer_from, Answer, page_of}
 use Rattle.book_laws.specs.Reports.{is_due, due, entry_of, cut_page, whole_page, report}
 use Rattle.book_laws.specs.Rows.{kept_rows}
@@ -161,7 +161,7 @@ module _ (h : List BookEvent) (horizon : ℕ) (mark : Mark) (le : horizon ≤ ma
   has_each u = both_same _ _
       (λ in_rows. has-due h mark u (any_due h mark u ordered each_one in_rows))
       (λ in_due.
-      let d : is_due h mark u ≡ true = any_passes (is_due h mark) u (touched h) in_due in
+      let d : is_due h mark u ≡ true = any_passes (is_due h mark) u (touched_uids h) in_due in
       sym (list_any-IsPermutation (same_uid u) _ _ keys_permuted)
       ∙ any_found test u (row_at h u) all (λ k. due_by_row h mark u ∙ d)
       (sym (find_lookup u all) ∙ sym (finite.get-entries (kept_rows h horizon) u) ∙ due_row h horizon mark u le d))

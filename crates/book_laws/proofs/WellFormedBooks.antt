@@ -22,8 +22,8 @@ use Rattle.book_model.specs.Bounds.{Bounds}
 use Rattle.book_model.specs.BookNames.{is_legal_name}
 use Rattle.book_model.specs.Books.{Book, Books, LiveCards, card_after, empty_book, live_at, same_name, stored_in, with_change}
 use Rattle.book_model.specs.Counting.{arrivals, departures}
-use Rattle.book_model.specs.Forgetting.{forgotten}
-use Rattle.book_model.specs.Importing.{is_legal_key, keeping}
+use Rattle.book_model.specs.Forgetting.{book_after_forget}
+use Rattle.book_model.specs.Importing.{is_legal_key, with_kept_import}
 use Rattle.book_model.specs.Reading.{live_cards}
 use Rattle.book_model.specs.WellFormed.{IsWellFormedRow, IsWellFormedImport, IsWellFormedBook, IsWellFormed}
 use Rattle.book_model.proofs.LiveCardLemmas.{find_live}
@@ -191,7 +191,7 @@ module _ (id : ℕ) (limits : Bounds) where
         imports = λ key tally e. absurd (no_import key tally e);
       }
 
-pub well_kept : (limits : Bounds) (book : Book) (key : List ℕ) (tally : ImportTally) → is_legal_key key ≡ true → tally.number ≤ book.number → IsWellFormedBook limits book → IsWellFormedBook limits (keeping book key tally)
+pub well_kept : (limits : Bounds) (book : Book) (key : List ℕ) (tally : ImportTally) → is_legal_key key ≡ true → tally.number ≤ book.number → IsWellFormedBook limits book → IsWellFormedBook limits (with_kept_import book key tally)
 well_kept limits book key tally legal known is = record {
   counted_once = is.counted_once;
   within_limit = is.within_limit;
@@ -201,8 +201,8 @@ well_kept limits book key tally legal known is = record {
   rows_apart = is.rows_apart;
   imports = λ q t e. ⊎_elim
       (λ here.
-      subst (λ (k : List ℕ). IsWellFormedImport (keeping book key tally) k t) (sym here.0)
-      (subst (λ (x : ImportTally). IsWellFormedImport (keeping book key tally) key x) here.1 (record { legal = legal; known = known })))
+      subst (λ (k : List ℕ). IsWellFormedImport (with_kept_import book key tally) k t) (sym here.0)
+      (subst (λ (x : ImportTally). IsWellFormedImport (with_kept_import book key tally) key x) here.1 (record { legal = legal; known = known })))
       (λ there. let old = is.imports q t there in record { legal = old.legal; known = old.known })
       (written_or_there book.imports key tally q t e);
 }
@@ -213,7 +213,7 @@ stays upto row = is_some row.card || nat_lt upto row.changed
 
 module _ (limits : Bounds) (book : Book) (upto : ℕ) (is : IsWellFormedBook limits book) (past : upto ≤ book.number) where
   abbrev less : Book
-  less = forgotten book upto
+  less = book_after_forget book upto
 
   abbrev test : List ℕ → Bool
   test uid = option_map_or (stays upto) (finite.get book.members uid) false

@@ -26,8 +26,8 @@ use Rattle.book_model.specs.BookNames.{is_legal_name}
 use Rattle.book_model.specs.Books.{Book, Books, empty_book, live_at, same_name, stored_in, with_change}
 use Rattle.book_model.specs.Counting.{live_count}
 use Rattle.book_model.specs.Creating.{new_id}
-use Rattle.book_model.specs.Forgetting.{forgotten, may_forget}
-use Rattle.book_model.specs.Importing.{Importing, importing, import_card, import_cards, import_tally, import_under, is_legal_key, keeping, storing_in, import_for, import_reason}
+use Rattle.book_model.specs.Forgetting.{book_after_forget, may_forget}
+use Rattle.book_model.specs.Importing.{Importing, import_state, import_card, import_cards, import_tally, import_under, is_legal_key, with_kept_import, storing_in, import_for, import_reason}
 use Rattle.book_model.specs.Moving.{Moving, move_numbers, move_answer, books_after_move}
 use Rattle.book_model.specs.Outcomes.{◌>>=◌, provided}
 use Rattle.book_model.specs.Putting.{Found, answer_over, books_after_put, found_in, is_expected, next_number, put_answer, reason_for, version_of}
@@ -255,7 +255,7 @@ module _ (limits : Bounds) (books : Books) (name key : List ℕ) (book : Book) (
   imported = import_cards live_at storing_in book cards
 
   imported_well : IsImporting book imported
-  imported_well = all_cards book cards (importing book 0 0 0) (record { limits = limits; form = is.each name book at; same_id = refl; number_is = omega arith })
+  imported_well = all_cards book cards (import_state book 0 0 0) (record { limits = limits; form = is.each name book at; same_id = refl; number_is = omega arith })
 
   tally_room : (tally : ImportTally) → FitsTally limits imported imported.book.number tally → imported.book.number ≤ limits.changes_max
   tally_room tally fits =
@@ -271,7 +271,7 @@ module _ (limits : Bounds) (books : Books) (name key : List ℕ) (book : Book) (
       (tally_fits limits imported (live_count imported.book.counts) imported.book.number)
       (λ tally fits.
       let known = fits.number_is in
-      well_over limits books name is book (keeping imported.book key tally) at imported_well.same_id
+      well_over limits books name is book (with_kept_import imported.book key tally) at imported_well.same_id
       (well_kept limits imported.book key tally legal (omega (arith, known)) (within imported_well.limits limits imported.book (tally_room tally fits) imported_well.form)))
 
 pub importing_keeps_form : ImportingKeepsForm
@@ -288,5 +288,5 @@ forgetting_keeps_form limits books name upto is =
     let P : ℕ × Books → Type 0 = λ done. IsWellFormed limits done.1 in
     after_named P books name _ (λ book at.
     after_test P (may_forget book.horizon book.number upto) BadForget _ (λ allowed.
-    well_over limits books name is book (forgotten book upto) at refl
+    well_over limits books name is book (book_after_forget book upto) at refl
     (well_forgotten limits book upto (is.each name book at) (leb-true upto book.number (and_parts _ _ allowed).1))))

@@ -22,7 +22,7 @@ use Rattle.book_model.specs.declared.token.Mark.{Mark}
 use Rattle.book_model.specs.declared.token.Token.{Token}
 use Rattle.book_model.specs.Bounds.{Bounds}
 use Rattle.book_model.specs.Books.{Book, empty_book, with_change}
-use Rattle.book_model.specs.Counting.{no_counts, counted, live_count}
+use Rattle.book_model.specs.Counting.{no_counts, counts_with, live_count}
 use Rattle.book_laws.specs.HistoryCounts.{counts_of}
 use Rattle.book_model.specs.Creating.{new_id}
 use Rattle.book_laws.specs.Histories.{BookEvent, same_uid, live}
@@ -136,7 +136,7 @@ creating_follows world name sound =
 
 pub book_of-with_event : (story : Story) (e : BookEvent) → story.horizon ≤ length story.history → book_of (with_event story e) ≡ with_change (book_of story) e.uid e.change
 book_of-with_event story e past =
-    let B : ℕ → finite.FinMap text_cmp Row → Book = λ n members. record { id = story.id; number = n; horizon = story.horizon; counts = counted e.change (counts_of story.history); members = members; imports = story.imports } in
+    let B : ℕ → finite.FinMap text_cmp Row → Book = λ n members. record { id = story.id; number = n; horizon = story.horizon; counts = counts_with e.change (counts_of story.history); members = members; imports = story.imports } in
     let longer : length (e ∷ story.history) ≡ length story.history + 1 = omega arith in
     ap (λ n. B n (kept_rows (e ∷ story.history) story.horizon)) longer
     ∙ ap (B (length story.history + 1)) (writes_row story.history e story.horizon past)

@@ -15,7 +15,7 @@ use Rattle.book_laws.specs.Reports.{first_mark, due, entry_of, report}
 use Rattle.book_laws.specs.Worlds.{Story, Stories}
 use Rattle.book_laws.specs.WorldSteps.{empty_story, with_event, report_meaning}
 use Rattle.book_laws.specs.RightDevices.{Agrees, IsComplete, IsRight, IsRightAt}
-use Rattle.book_model.specs.Devices.{AppliesInPart, Holding, after_page, applied}
+use Rattle.book_model.specs.Devices.{AppliesInPart, Holding, after_page, copy_after}
 
 -- ---- what holds of all copies
 
@@ -31,18 +31,18 @@ CopiesStayRight = (copy : LiveCards) (mark : Mark) (h : List BookEvent) (e : Boo
 -- some first entries of the report leave a right copy right at the old mark
 abbrev pub PartsKeepCopiesRight : Type 0
 PartsKeepCopiesRight = (copy : LiveCards) (mark : Mark) (h : List BookEvent) (k count : ℕ) →
-    Agrees copy mark h → Agrees (applied copy (take count (report h mark k).entries)) mark h
+    Agrees copy mark h → Agrees (copy_after copy (take count (report h mark k).entries)) mark h
 
 -- the whole report makes a right copy right at the new mark
 abbrev pub WholePagesKeepCopiesRight : Type 0
 WholePagesKeepCopiesRight = (copy : LiveCards) (mark : Mark) (h : List BookEvent) (k : ℕ) → 0 < k →
-    Agrees copy mark h → Agrees (applied copy (report h mark k).entries) (report h mark k).mark h
+    Agrees copy mark h → Agrees (copy_after copy (report h mark k).entries) (report h mark k).mark h
 
 -- a report that isn't truncated makes a right copy the live cards, with their versions
 abbrev pub LastPagesCompleteCopies : Type 0
 LastPagesCompleteCopies = (copy : LiveCards) (mark : Mark) (h : List BookEvent) (k : ℕ) →
     Agrees copy mark h → (report h mark k).truncated ≡ false →
-    applied copy (report h mark k).entries ≡ live h
+    copy_after copy (report h mark k).entries ≡ live h
 
 -- a right copy is the live cards where nobody is due
 abbrev pub NobodyDueIsComplete : Type 0

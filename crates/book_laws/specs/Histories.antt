@@ -35,9 +35,9 @@ last [] uid = 0
 last (e ∷ h) uid = if same_uid uid e.uid then length h + 1 else last h uid
 
 -- the UIDs that have events, each once, in the order of their last events
-abbrev pub touched : List BookEvent → List (List ℕ)
-touched [] = []
-touched (e ∷ h) = filter (λ uid. not (same_uid uid e.uid)) (touched h) ++ e.uid ∷ []
+abbrev pub touched_uids : List BookEvent → List (List ℕ)
+touched_uids [] = []
+touched_uids (e ∷ h) = filter (λ uid. not (same_uid uid e.uid)) (touched_uids h) ++ e.uid ∷ []
 
 -- the history's event of this number is of the UID
 pub record IsEventOf (h : List BookEvent) (number : ℕ) (uid : List ℕ) : Type 0 where

@@ -1,6 +1,7 @@
 pub mod Histories
 pub mod Lawful
 pub mod HistoryCounts
+pub mod LastChanges
 pub mod LiveLaws
 pub mod Reasons
 pub mod CountLaws

@@ -7,7 +7,7 @@ use Rattle.std.specs.FinMap as finite
 use Rattle.book_model.specs.declared.page.Entry.{Entry}
 use Rattle.book_model.specs.declared.page.Entry.TheVariants.{Changed, Removed}
 use Rattle.book_model.specs.declared.token.Mark.{Mark}
-use Rattle.book_laws.specs.Histories.{BookEvent, live, last, touched}
+use Rattle.book_laws.specs.Histories.{BookEvent, live, last, touched_uids}
 use Rattle.book_model.specs.Pages.{Answer, mark_after}
 
 -- the mark of a device that has heard nothing, and holds nothing that went before now
@@ -22,7 +22,7 @@ is_due h mark uid =
 
 -- the due members, in the order of their last events
 abbrev pub due : List BookEvent → Mark → List (List ℕ)
-due h mark = filter (is_due h mark) (touched h)
+due h mark = filter (is_due h mark) (touched_uids h)
 
 -- what is said of a member: its card as it is now, or that it is gone
 abbrev pub entry_of : List BookEvent → List ℕ → Entry

@@ -16,7 +16,7 @@ use Rattle.book_model.specs.declared.refusal.Refusal.TheVariants.{SameBook, BadK
 use Rattle.book_model.specs.Bounds.{Bounds}
 use Rattle.book_model.specs.Books.{same_name}
 use Rattle.book_model.specs.Forgetting.{may_forget}
-use Rattle.book_laws.specs.Histories.{BookEvent, live, last, touched}
+use Rattle.book_laws.specs.Histories.{BookEvent, live, last, touched_uids}
 use Rattle.book_model.specs.Importing.{Importing, import_cards, import_tally, is_legal_key}
 use Rattle.book_model.specs.Moving.{move_answer}
 use Rattle.book_model.specs.Outcomes.{◌>>=◌, provided}
@@ -66,8 +66,9 @@ storing_event story card why = with_event story (event (uid_of card) (Stores car
 abbrev pub story_import : Story → List (List Line) → Importing Story
 story_import story cards = import_cards live_of storing_event story cards
 
-abbrev pub story_keeping : Story → List ℕ → ImportTally → Story
-story_keeping story key tally = record story { imports = finite.insert story.imports key tally }
+abbrev pub story_with_kept_import : Story → List ℕ → ImportTally → Story
+story_with_kept_import story key tally =
+    record story { imports = finite.insert story.imports key tally }
 
 -- what the import answers where there is room for its cards
 abbrev pub story_tally : Bounds → Importing Story → Result ImportTally Refusal
@@ -80,7 +81,11 @@ abbrev pub import_meaning_under : Bounds → Stories → List ℕ → Story → 
 import_meaning_under limits stories name story key cards (Some kept) = Ok (kept, stories)
 import_meaning_under limits stories name story key cards None = do
   tally ← story_tally limits (story_import story cards)
-  Ok (tally, finite.insert stories name (story_keeping (story_import story cards).book key tally))
+  Ok (
+    tally,
+    finite.insert stories name
+        (story_with_kept_import (story_import story cards).book key tally),
+  )
 
 abbrev pub import_meaning : Bounds → Stories → List ℕ → List ℕ → List (List Line)
     → Result (ImportTally × Stories) Refusal
@@ -99,7 +104,7 @@ is_forgotten story upto uid =
 
 -- how many members are
 abbrev pub forgotten_count : Story → ℕ → ℕ
-forgotten_count story upto = length (filter (is_forgotten story upto) (touched story.history))
+forgotten_count story upto = length (filter (is_forgotten story upto) (touched_uids story.history))
 
 abbrev pub with_horizon : Story → ℕ → Story
 with_horizon story upto = record story { horizon = upto }

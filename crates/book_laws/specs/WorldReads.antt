@@ -9,7 +9,7 @@ use Rattle.book_model.specs.declared.refusal.Refusal.{Refusal}
 use Rattle.book_model.specs.declared.refusal.Refusal.TheVariants.{BadKey}
 use Rattle.book_laws.specs.HistoryCounts.{counts_of}
 use Rattle.book_model.specs.Books.{LiveCards}
-use Rattle.book_laws.specs.Histories.{live, last, touched}
+use Rattle.book_laws.specs.Histories.{live, last, touched_uids}
 use Rattle.book_model.specs.Importing.{is_legal_key}
 use Rattle.book_model.specs.Outcomes.{◌>>=◌, provided}
 use Rattle.book_model.specs.Reading.{line_of, tally_with}
@@ -53,7 +53,7 @@ is_remembered_of story uid =
 
 -- how many members are
 abbrev pub remembered_count : Story → ℕ
-remembered_count story = length (filter (is_remembered_of story) (touched story.history))
+remembered_count story = length (filter (is_remembered_of story) (touched_uids story.history))
 
 abbrev pub tally_of_story : Story → Tally
 tally_of_story story =

@@ -13,7 +13,7 @@ use Rattle.book_model.specs.declared.change.StoreReason.{StoreReason}
 use Rattle.book_model.specs.declared.change.StoreReason.TheVariants.{Import, ImportEdit}
 use Rattle.book_model.specs.Books.{Book, same_name, stored_in, live_at}
 use Rattle.book_model.specs.Counting.{arrivals, departures}
-use Rattle.book_model.specs.Importing.{Importing, importing, import_card, import_cards, storing_in, import_for, import_reason}
+use Rattle.book_model.specs.Importing.{Importing, import_state, import_card, import_cards, storing_in, import_for, import_reason}
 use Rattle.book_model.specs.ImportLaws.{is_replaced, is_there, HaveDistinctUids, CountsCards, ImportsCountCards, ImportsTakeNumbers}
 use Rattle.book_model.specs.SameCards.{same_card}
 use Rattle.base_types.proofs.TextLemmas.{text_total, same_self, same-equal}
@@ -105,7 +105,7 @@ module _ {S : Type 0} (live_in : S → List ℕ → Option Stored) (storing : S 
 
   pub counts_cards : (book : S) (cards : List (List Line)) → HaveDistinctUids cards → CountsCards live_in book cards (import_cards live_in storing book cards)
   counts_cards book cards distinct =
-      let start : Importing S = importing book 0 0 0 in
+      let start : Importing S = import_state book 0 0 0 in
       let added = all_counted (λ o card. is_none o) (λ s. s.added) one_added cards start distinct in
       let edited = all_counted is_replaced (λ s. s.edited) one_edited cards start distinct in
       let same = all_counted is_there (λ s. s.same) one_same cards start distinct in
@@ -148,7 +148,7 @@ takes_all (card ∷ cards) state =
 
 pub imports_take_numbers : ImportsTakeNumbers
 imports_take_numbers book cards =
-    let takes = takes_all cards (importing book 0 0 0) in
+    let takes = takes_all cards (import_state book 0 0 0) in
     let a = takes.number in
     let b = takes.arrived in
     record { number = omega (arith, a); arrived = omega (arith, b); departed = takes.departed }

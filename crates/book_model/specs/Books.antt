@@ -14,7 +14,7 @@ use Rattle.book_model.specs.declared.counts.Counts.{Counts}
 use Rattle.book_model.specs.declared.refusal.Refusal.{Refusal}
 use Rattle.book_model.specs.declared.refusal.Refusal.TheVariants.{NoSuchBook}
 use Rattle.book_model.specs.declared.row.Row.{Row}
-use Rattle.book_model.specs.Counting.{no_counts, counted}
+use Rattle.book_model.specs.Counting.{no_counts, counts_with}
 
 -- A book: its id, the number of its last change, the number up to which removed members may be
 -- forgotten, how many changes had each reason, a row for each member by UID, and what imports
@@ -72,7 +72,7 @@ card_after (TakesAway why) = None
 abbrev pub with_change : Book → List ℕ → Change → Book
 with_change book uid change = record book {
   number = book.number + 1;
-  counts = counted change book.counts;
+  counts = counts_with change book.counts;
   members = finite.insert book.members uid
       (record { changed = book.number + 1; card = card_after change });
 }

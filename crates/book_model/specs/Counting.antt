@@ -18,14 +18,14 @@ no_counts = record {
 }
 
 -- one more of the change's reason
-abbrev pub counted : Change → Counts → Counts
-counted (Stores card Creation) c = record c { created = c.created + 1 }
-counted (Stores card Edit) c = record c { edited = c.edited + 1 }
-counted (Stores card Import) c = record c { imported = c.imported + 1 }
-counted (Stores card ImportEdit) c = record c { import_edited = c.import_edited + 1 }
-counted (Stores card MoveIn) c = record c { moved_in = c.moved_in + 1 }
-counted (TakesAway Deletion) c = record c { deleted = c.deleted + 1 }
-counted (TakesAway MoveOut) c = record c { moved_out = c.moved_out + 1 }
+abbrev pub counts_with : Change → Counts → Counts
+counts_with (Stores card Creation) c = record c { created = c.created + 1 }
+counts_with (Stores card Edit) c = record c { edited = c.edited + 1 }
+counts_with (Stores card Import) c = record c { imported = c.imported + 1 }
+counts_with (Stores card ImportEdit) c = record c { import_edited = c.import_edited + 1 }
+counts_with (Stores card MoveIn) c = record c { moved_in = c.moved_in + 1 }
+counts_with (TakesAway Deletion) c = record c { deleted = c.deleted + 1 }
+counts_with (TakesAway MoveOut) c = record c { moved_out = c.moved_out + 1 }
 
 abbrev pub total : Counts → ℕ
 total c = c.created + c.edited + c.imported + c.import_edited + c.moved_in + c.deleted + c.moved_out

@@ -11,14 +11,14 @@ use Rattle.book_model.specs.Pages.{token_of}
 -- ---- a copy
 
 -- what is said of one member is written over what the copy had of it
-abbrev pub applied_one : LiveCards → Entry → LiveCards
-applied_one copy (Changed uid version card) =
+abbrev pub copy_after_entry : LiveCards → Entry → LiveCards
+copy_after_entry copy (Changed uid version card) =
     finite.insert copy uid (record { version = version; card = card })
-applied_one copy (Removed uid) = finite.remove copy uid
+copy_after_entry copy (Removed uid) = finite.remove copy uid
 
 -- the copy after the entries, in their order
-abbrev pub applied : LiveCards → List Entry → LiveCards
-applied copy entries = fold applied_one copy entries
+abbrev pub copy_after : LiveCards → List Entry → LiveCards
+copy_after copy entries = fold copy_after_entry copy entries
 
 -- ---- a device
 
@@ -36,7 +36,7 @@ copy_under (Some token) copy = copy
 -- the whole page was applied, and its token taken
 abbrev pub after_page : Holding → Page → Holding
 after_page holding page = record holding {
-  copy = applied (copy_under holding.token holding.copy) page.entries;
+  copy = copy_after (copy_under holding.token holding.copy) page.entries;
   token = Some (token_of page);
 }
 
@@ -45,7 +45,7 @@ pub record AppliesFirst (holding : Holding) (page : Page) (after : Holding) : Ty
   pub count : ℕ
   pub within : count ≤ length page.entries
   pub after_is : after ≡ record holding {
-    copy = applied (copy_under holding.token holding.copy) (take count page.entries);
+    copy = copy_after (copy_under holding.token holding.copy) (take count page.entries);
   }
 
 -- or nothing happened at all

@@ -20,8 +20,8 @@ dropped_rows members horizon =
     length (filter (λ member. not (is_row_kept horizon member.1)) (finite.entries members))
 
 -- the book with this horizon, without the rows of members that were removed up to it
-abbrev pub forgotten : Book → ℕ → Book
-forgotten book upto = record book {
+abbrev pub book_after_forget : Book → ℕ → Book
+book_after_forget book upto = record book {
   horizon = upto;
   members = finite.retain_keys book.members
       (λ uid. option_map_or (is_row_kept upto) (finite.get book.members uid) false);
@@ -36,4 +36,4 @@ abbrev pub forget_step : Books → List ℕ → ℕ → Result (ℕ × Books) Re
 forget_step books name upto = do
   book ← book_named books name
   allowed ← provided (may_forget book.horizon book.number upto) BadForget
-  Ok (dropped_rows book.members upto, finite.insert books name (forgotten book upto))
+  Ok (dropped_rows book.members upto, finite.insert books name (book_after_forget book upto))

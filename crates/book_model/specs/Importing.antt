@@ -46,24 +46,24 @@ pub record Importing (S : Type 0) : Type 0 where
   pub edited : ℕ
   pub same : ℕ
 
-abbrev pub importing : {S : Type 0} → S → ℕ → ℕ → ℕ → Importing S
-importing book added edited same =
+abbrev pub import_state : {S : Type 0} → S → ℕ → ℕ → ℕ → Importing S
+import_state book added edited same =
     record { book = book; added = added; edited = edited; same = same }
 
 -- the same three counts, whatever is kept of the book
 abbrev pub imported_so_far : ℕ → ℕ → ℕ → Importing (Unit {0})
-imported_so_far added edited same = importing tt added edited same
+imported_so_far added edited same = import_state tt added edited same
 
 -- Of any kind of book, by what becomes of it when a card is stored for a reason. A card that isn't
 -- stored is the same, one that is stored where nothing was live is added, and any other is edited.
 abbrev pub import_for : {S : Type 0} → (S → List Line → StoreReason → S)
     → Importing S → List Line → Option StoreReason → Importing S
 import_for storing state card None =
-    importing state.book state.added state.edited (state.same + 1)
+    import_state state.book state.added state.edited (state.same + 1)
 import_for storing state card (Some Import) =
-    importing (storing state.book card Import) (state.added + 1) state.edited state.same
+    import_state (storing state.book card Import) (state.added + 1) state.edited state.same
 import_for storing state card (Some why) =
-    importing (storing state.book card why) state.added (state.edited + 1) state.same
+    import_state (storing state.book card why) state.added (state.edited + 1) state.same
 
 -- and by what is live in it at a UID
 module _ {S : Type 0} (live_in : S → List ℕ → Option Stored)
@@ -73,7 +73,7 @@ module _ {S : Type 0} (live_in : S → List ℕ → Option Stored)
       import_for storing state card (import_reason card (live_in state.book (uid_of card)))
 
   abbrev pub import_cards : S → List (List Line) → Importing S
-  import_cards book cards = fold import_card (importing book 0 0 0) cards
+  import_cards book cards = fold import_card (import_state book 0 0 0) cards
 
 -- There is room for what was added and edited: by the live cards and the number of the book as it
 -- is then.
@@ -90,8 +90,8 @@ abbrev pub storing_in : Book → List Line → StoreReason → Book
 storing_in book card why = with_change book (uid_of card) (Stores card why)
 
 -- the book keeps the import's answer under its key
-abbrev pub keeping : Book → List ℕ → ImportTally → Book
-keeping book key tally = record book { imports = finite.insert book.imports key tally }
+abbrev pub with_kept_import : Book → List ℕ → ImportTally → Book
+with_kept_import book key tally = record book { imports = finite.insert book.imports key tally }
 
 -- with a kept key the answer is what is kept, and nothing changes
 abbrev pub import_under : Bounds → Books → List ℕ → Book → List ℕ → List (List Line)
@@ -103,7 +103,7 @@ import_under limits books name book key cards None = do
       (import_cards live_at storing_in book cards).book.number
   Ok (
     tally,
-    finite.insert books name (keeping (import_cards live_at storing_in book cards).book
+    finite.insert books name (with_kept_import (import_cards live_at storing_in book cards).book
         key tally),
   )
 

@@ -1,6 +1,6 @@
 //! How many changes of a book had each reason.
 ghost use Rattle.std.specs.Prelude.{◌≡◌, ◌<◌, ◌^◌};
-ghost use Rattle.book_model.specs.Counting.{no_counts, counted, total, live_count};
+ghost use Rattle.book_model.specs.Counting.{no_counts, counts_with, total, live_count};
 
 use crate::change::{Change, RemovalReason, StoreReason};
 
@@ -35,7 +35,7 @@ impl Counts {
     /// One more change.
     pub fn add(&mut self, change: &Change)
         requires { total self.old < 2 ^ 63 }
-        ensures { self.new ≡ counted change.now self.old }
+        ensures { self.new ≡ counts_with change.now self.old }
     {
         match change {
             Change::Stores(_, StoreReason::Creation) => self.created += 1,

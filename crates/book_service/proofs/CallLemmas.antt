@@ -36,7 +36,8 @@ use Rattle.book_service.specs.declared.reply.Reply.{Reply}
 use Rattle.book_service.specs.declared.reply.Reply.TheVariants as reply
 use Rattle.book_service.specs.OnRows.{DoesCommand, first_denial, DeniesIn}
 use Rattle.book_service.specs.Replies.{IsFault, denied_reply, reply_to}
-use Rattle.book_service.specs.Texts.{ReadsCard, ReadsToken, IsReadAs}
+use Rattle.book_service.specs.Texts.{ReadsCard, ReadsToken}
+use Rattle.book_service.specs.TextReaders.{IsReadAs}
 use Rattle.book_service.proofs.PerformLemmas.{of_world, same_rows, keeps_same, fault_performs, did, told, ReadFollows, tells, denied_read}
 
 module _ (limits : Bounds) (old new : Books) where

@@ -9,7 +9,8 @@ use Rattle.std.proofs.lemmas.List.Elements.{All-append, All-cons}
 use Rattle.book_model.specs.declared.denied.Fault.{Fault as FaultKind}
 use Rattle.book_laws.specs.Worlds.{rows}
 use Rattle.book_service.specs.Faults.{FaultsMayCome, IfFaultReply, MayComeAt}
-use Rattle.book_service.specs.PageCounts.{FewAreTruncated, TruncatedPagesAreFew}
+use Rattle.book_service.specs.PageCounts.{FewAreTruncated}
+use Rattle.book_service.specs.Promise.{TruncatedPagesAreFew}
 use Rattle.book_service.specs.declared.event.Event.{Event}
 use Rattle.book_service.specs.declared.reply.Reply.{Reply}
 use Rattle.book_service.specs.Runs.{Moment, IsAt, Happening, end_of, replies_of, LeadsTo, RanTo}

@@ -18,7 +18,7 @@ use Rattle.book_model.specs.declared.token.Token.{Token}
 use Rattle.book_model.specs.Bounds.{Bounds}
 use Rattle.book_model.specs.Devices.{Holding, after_page}
 use Rattle.book_laws.specs.Paging.{mark_under, page_for}
-use Rattle.book_laws.specs.Histories.{BookEvent, touched, live, last}
+use Rattle.book_laws.specs.Histories.{BookEvent, touched_uids, live, last}
 use Rattle.book_model.specs.Outcomes.{◌>>=◌, provided}
 use Rattle.book_model.specs.Pages.{mark_asked, page_size, Answer, page_of}
 use Rattle.book_laws.specs.PagingLaws.{EventsAddAtMostOne, TruncatedPagesLeaveFewer, LastPagesLeaveNobody}
@@ -33,7 +33,8 @@ use Rattle.book_service.specs.declared.event.Event.TheVariants.{Do, Ask}
 use Rattle.book_service.specs.declared.reply.Reply.{Reply}
 use Rattle.book_service.specs.declared.reply.Reply.TheVariants as reply
 use Rattle.book_service.specs.Asks.{Answers}
-use Rattle.book_service.specs.PageCounts.{Stands, due_count_for, GetsPage, is_ask_of, is_truncated, truncated_pages, TruncatedPagesAreFew}
+use Rattle.book_service.specs.PageCounts.{Stands, due_count_for, GetsPage, is_ask_of, is_truncated, truncated_pages}
+use Rattle.book_service.specs.Promise.{TruncatedPagesAreFew}
 use Rattle.book_service.specs.Runs.{Moment, Step, Happening, Run, end_of, events_of, replies_of}
 use Rattle.book_service.proofs.StepLemmas.{place_set, step_leads, step_limits}
 
@@ -57,7 +58,7 @@ lower false l b c n le e = e
 base_rises : (h : List BookEvent) (at b c : ℕ) → b ≤ c → length (due h (record { at = at; base = c })) ≤ length (due h (record { at = at; base = b }))
 base_rises h at b c le =
     fewer_pass (is_due h (record { at = at; base = c })) (is_due h (record { at = at; base = b }))
-    (λ uid. lower (nat_lt at (last h uid)) (is_some (finite.get (live h) uid)) b c (last h uid) le) (touched h)
+    (λ uid. lower (nat_lt at (last h uid)) (is_some (finite.get (live h) uid)) b c (last h uid) le) (touched_uids h)
 
 module _ (one_more : EventsAddAtMostOne) where
   events_add : (h later : List BookEvent) (mark : Mark) → length (due (later ++ h) mark) ≤ length (due h mark) + length later

@@ -1,4 +1,5 @@
 -- What a store's call did for a command, on rows and so in a world.
+use Rattle.book_service.specs.TextReaders.{IsReadAs}
 use Rattle.std.proofs.Common.{◌≡◌, ℕ, List, Result, Ok, Err, refl, sym, ap, ◌∙◌, subst, ⊎_elim, inl, inr, ◌⊎◌}
 use Rattle.book_model.specs.declared.denied.Denied.{Denied}
 use Rattle.book_model.specs.declared.denied.Denied.TheVariants.{Refused, Fault}
@@ -18,7 +19,6 @@ use Rattle.book_service.specs.declared.reply.Reply.TheVariants as reply
 use Rattle.book_service.specs.Commands.{Meaning, IsCallWith, meaning_with, Means, ComesOf, Performs}
 use Rattle.book_service.specs.OnRows.{IsPerformed, DoesCommand, first_denial}
 use Rattle.book_service.specs.Replies.{IsFault, Keeps, TellsReturned, reply_to}
-use Rattle.book_service.specs.Texts.{IsReadAs}
 
 -- ---- worlds and their rows
 

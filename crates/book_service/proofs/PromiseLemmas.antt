@@ -29,8 +29,8 @@ use Rattle.book_service.specs.declared.reply.Reply.{Reply}
 use Rattle.book_service.specs.declared.reply.Reply.TheVariants as reply
 use Rattle.book_service.specs.Asks.{Answers}
 use Rattle.book_service.specs.Commands.{Meaning, ComesOf}
-use Rattle.book_service.specs.Promise.{InEachBook, AddsUp, BooksGoOn, MovesTakeOneCard, DevicesStayRight, LastPagesComplete, HasWellFormedRows, RowsStayWellFormed}
-use Rattle.book_service.specs.Runs.{NewStoresStart, Moment, Step}
+use Rattle.book_service.specs.Promise.{InEachBook, AddsUp, BooksGoOn, MovesTakeOneCard, DevicesStayRight, LastPagesComplete, HasWellFormedRows, RowsStayWellFormed, NewStoresStart}
+use Rattle.book_service.specs.Runs.{Moment, Step}
 use Rattle.book_service.proofs.AskLemmas.{refused_right}
 use Rattle.book_service.proofs.StepLemmas.{place_set, step_leads, step_limits, step_world}
 

@@ -11,7 +11,8 @@ use Rattle.vcard_text.specs.Spelling.{Spells}
 use Rattle.book_model.specs.declared.refusal.Refusal.{Refusal}
 use Rattle.book_model.specs.declared.refusal.Refusal.TheVariants.{BadCard, UidMismatch}
 use Rattle.book_model.specs.Outcomes.{denied_card}
-use Rattle.book_service.specs.Texts.{ReadsCard, IsReadAs}
+use Rattle.book_service.specs.Texts.{ReadsCard}
+use Rattle.book_service.specs.TextReaders.{IsReadAs}
 
 -- a text is to be read in some way
 some_read : ((text : List ℕ) → ((lines : List Line) × Spells text lines) ↔ (first_fault text ≡ None)) → (uid text : List ℕ) → (read : Result (List Line) Refusal) × ReadsCard uid text read

@@ -9,12 +9,12 @@ use Rattle.book_model.specs.Devices.{Holding}
 use Rattle.book_model.specs.Pages.{page_size}
 use Rattle.book_laws.specs.Paging.{mark_under}
 use Rattle.book_laws.specs.Reports.{due}
-use Rattle.book_laws.specs.Worlds.{Story, rows}
+use Rattle.book_laws.specs.Worlds.{Story}
 use Rattle.book_service.specs.declared.event.Event.{Event}
 use Rattle.book_service.specs.declared.event.Event.TheVariants.{Do, Ask}
 use Rattle.book_service.specs.declared.reply.Reply.{Reply}
 use Rattle.book_service.specs.declared.reply.Reply.TheVariants.{Page}
-use Rattle.book_service.specs.Runs.{Moment, Happening, Run, end_of, events_of, replies_of}
+use Rattle.book_service.specs.Runs.{Moment}
 
 -- the device at this place and its book
 pub record Stands (moment : Moment) (i : ℕ) (device : Holding) (story : Story) : Type 0 where
@@ -55,8 +55,3 @@ FewAreTruncated now events replies books =
     0 < truncated_pages i events replies →
     truncated_pages i events replies * k + length story.history
     < due_count_for story device + book.number
-
--- so it is over every run
-abbrev pub TruncatedPagesAreFew : Type 0
-TruncatedPagesAreFew = (now : Moment) (run : List Happening) → Run now run →
-    FewAreTruncated now (events_of run) (replies_of run) (rows (end_of now run).world.books)

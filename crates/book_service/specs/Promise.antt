@@ -1,4 +1,6 @@
 -- What holds over every run. This project's own.
+use Rattle.book_laws.specs.Reasons.{CountsReasons}
+use Rattle.book_laws.specs.LastChanges.{IsStoredLast}
 use Rattle.std.specs.Prelude.{ℕ, ◌+◌, ◌≡◌, ◌⊎◌, false, List, [], ◌∷◌, ◌++◌, length, ◌↔◌, Option, Some, Ok, slice_get}
 use Rattle.std.specs.FinMap as finite
 use Rattle.book_model.specs.declared.answers.Moved.{Moved as Numbers}
@@ -12,8 +14,6 @@ use Rattle.book_model.specs.Counting.{total, arrivals, departures}
 use Rattle.book_model.specs.Devices.{Holding}
 use Rattle.book_model.specs.Pages.{token_of}
 use Rattle.book_model.specs.WellFormed.{IsWellFormed}
-use Rattle.book_laws.specs.CountLaws.{CountsReasons}
-use Rattle.book_laws.specs.LiveLaws.{IsStoredLast}
 use Rattle.book_laws.specs.HistoryCounts.{counts_of}
 use Rattle.book_laws.specs.Histories.{live}
 use Rattle.book_laws.specs.Lawful.{IsLawful}
@@ -26,7 +26,8 @@ use Rattle.book_service.specs.declared.event.Event.{Event}
 use Rattle.book_service.specs.declared.event.Event.TheVariants.{Do, Ask}
 use Rattle.book_service.specs.declared.reply.Reply.{Reply}
 use Rattle.book_service.specs.declared.reply.Reply.TheVariants.{Moved, Page, Refused}
-use Rattle.book_service.specs.Runs.{Moment, Happening, AtEachStep, Run, end_of}
+use Rattle.book_service.specs.PageCounts.{FewAreTruncated}
+use Rattle.book_service.specs.Runs.{Moment, Happening, AtEachStep, Run, end_of, events_of, replies_of, IsAt}
 use Rattle.book_service.specs.Texts.{ReadsToken}
 
 -- over every run from every sound world it holds from each moment to the next
@@ -141,3 +142,13 @@ RowsStayWellFormed = (now : Moment) (run : List Happening) → IsSoundWorld now.
 abbrev pub RunsAppend : Type 0
 RunsAppend = (now : Moment) (run more : List Happening) →
     Run now (run ++ more) ↔ (Run now run × Run (end_of now run) more)
+
+-- a store without books is at each moment that has none
+abbrev pub NewStoresStart : Type 0
+NewStoresStart = (now : Moment) → now.world.books ≡ finite.empty →
+    IsAt now now.world.limits finite.empty
+
+-- over every run few of the pages that a device is told are truncated
+abbrev pub TruncatedPagesAreFew : Type 0
+TruncatedPagesAreFew = (now : Moment) (run : List Happening) → Run now run →
+    FewAreTruncated now (events_of run) (replies_of run) (rows (end_of now run).world.books)

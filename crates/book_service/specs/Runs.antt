@@ -1,6 +1,5 @@
 -- What happens to books and devices: moments, one after another. This project's own.
 use Rattle.std.specs.Prelude.{ℕ, ◌≡◌, ◌<◌, List, [], ◌∷◌, map, Option, Some, slice_get, slice_set}
-use Rattle.std.specs.FinMap as finite
 use Rattle.book_model.specs.Bounds.{Bounds}
 use Rattle.book_model.specs.Books.{Books}
 use Rattle.book_model.specs.Devices.{Holding}
@@ -94,11 +93,6 @@ pub record RanTo (now : Moment) (events : List Event) (replies : List Reply)
   pub replies_are : replies_of run ≡ replies
   pub at : IsAt (end_of now run) now.world.limits books
   pub devices_are : (end_of now run).devices ≡ devices
-
--- a store without books is at each moment that has none
-abbrev pub NewStoresStart : Type 0
-NewStoresStart = (now : Moment) → now.world.books ≡ finite.empty →
-    IsAt now now.world.limits finite.empty
 
 -- the event names no device beyond so many
 abbrev pub NamesDevice : ℕ → Event → Type 0

@@ -5,13 +5,10 @@ use Rattle.vcard_text.specs.declared.line.Line.{Line}
 use Rattle.vcard_text.specs.Cards.{uid_of}
 use Rattle.vcard_text.specs.Faults.{first_fault}
 use Rattle.vcard_text.specs.Spelling.{Spells}
-use Rattle.book_model.specs.declared.denied.Denied.{Denied}
-use Rattle.book_model.specs.declared.denied.Denied.TheVariants.{Refused, Fault}
 use Rattle.book_model.specs.declared.refusal.Refusal.{Refusal}
 use Rattle.book_model.specs.declared.refusal.Refusal.TheVariants.{BadCard, UidMismatch, BadToken}
 use Rattle.book_model.specs.declared.refusal.TokenCause.TheVariants.{Malformed}
 use Rattle.book_model.specs.declared.token.Token.{Token}
-use Rattle.book_model.specs.Outcomes.{IsOutOfMemory}
 use Rattle.sync_core.specs.TokenTexts.{IsToken}
 
 -- the text is no card, and the refusal says why
@@ -39,10 +36,3 @@ ReadsToken text (Ok None) = text ≡ []
 ReadsToken text (Ok (Some token)) = IsToken text token
 ReadsToken text (Err refusal) =
     (text ≢ []) × ((token : Token) → IsToken text token → ⊥) × (refusal ≡ BadToken Malformed)
-
--- a reader answered what is to be read, or memory ran out, and something is to be read all the same
-abbrev pub IsReadAs : {A : Type 0} → (Result A Refusal → Type 0) → Result A Denied → Type 0
-IsReadAs reads (Ok read) = reads (Ok read)
-IsReadAs {A = A} reads (Err (Refused refusal)) = reads (Err refusal)
-IsReadAs {A = A} reads (Err (Fault fault)) =
-    IsOutOfMemory fault × ((read : Result A Refusal) × reads read)

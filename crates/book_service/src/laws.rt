@@ -1,8 +1,6 @@
 //! What holds over every run. Each law is a function that does nothing.
 ghost use Rattle.book_laws.specs.DeviceLaws.{DevicesStartRight};
-ghost use Rattle.book_service.specs.Runs.{NewStoresStart};
-ghost use Rattle.book_service.specs.PageCounts.{TruncatedPagesAreFew};
-ghost use Rattle.book_service.specs.Promise.{Always, LeadsToWorld, InEachBook, HoldsLastStored, AddsUp, HasTrueCounts, BooksGoOn, MovesTakeOneCard, DevicesStayRight, LastPagesComplete, TokensGrowOld, RowsStayWellFormed, RunsAppend};
+ghost use Rattle.book_service.specs.Promise.{Always, LeadsToWorld, InEachBook, HoldsLastStored, AddsUp, HasTrueCounts, BooksGoOn, MovesTakeOneCard, DevicesStayRight, LastPagesComplete, TokensGrowOld, RowsStayWellFormed, RunsAppend, NewStoresStart, TruncatedPagesAreFew};
 
 use book_laws::devices::{
     devices_start_right, devices_stay_right_among_books, devices_stay_right_over_calls,

@@ -1,6 +1,7 @@
 //! The texts that commands carry: a card's and a token's.
 ghost use Rattle.std.specs.Prelude.{◌≡◌};
-ghost use Rattle.book_service.specs.Texts.{ReadsCard, ReadsToken, IsReadAs};
+ghost use Rattle.book_service.specs.Texts.{ReadsCard, ReadsToken};
+ghost use Rattle.book_service.specs.TextReaders.{IsReadAs};
 
 use std::alloc::Global;
 use sync_core::{Denied, Refusal, Token, TokenCause, read_token};

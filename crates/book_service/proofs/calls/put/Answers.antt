@@ -4,7 +4,8 @@ use Rattle.book_model.specs.Outcomes.{Does}
 use Rattle.book_model.specs.Putting.{put_step}
 use Rattle.book_service.specs.OnRows.{DeniesIn}
 use Rattle.book_service.specs.Replies.{denied_reply}
-use Rattle.book_service.specs.Texts.{ReadsCard, IsReadAs}
+use Rattle.book_service.specs.Texts.{ReadsCard}
+use Rattle.book_service.specs.TextReaders.{IsReadAs}
 use Rattle.book_service.proofs.CallLemmas.{puts, puts_not}
 use Rattle.book_service.proofs.calls.put.Goals as goal
 
