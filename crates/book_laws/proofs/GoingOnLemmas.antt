@@ -27,7 +27,7 @@ use Rattle.book_model.specs.Moving.{move_answer}
 use Rattle.book_model.specs.Outcomes.{◌>>=◌, provided}
 use Rattle.book_model.specs.Putting.{put_answer, reason_for}
 use Rattle.book_model.specs.Removing.{remove_number}
-use Rattle.book_laws.specs.RunLaws.{BooksGoOn}
+use Rattle.book_laws.specs.RunLaws.{CallsLetBooksGoOn}
 use Rattle.book_laws.specs.GoingOn.{GoesOn}
 use Rattle.book_model.specs.SameCards.{same_card}
 use Rattle.book_laws.specs.Worlds.{Story, Stories}
@@ -289,7 +289,7 @@ call_continues limits stories (Tallies name) = by_reading limits stories (Tallie
 
 -- ---- lists of calls
 
-pub books_go_on : BooksGoOn
+pub books_go_on : CallsLetBooksGoOn
 books_go_on limits stories [] name story e = (story, e, same_story story)
 books_go_on limits stories (call ∷ calls) name story e =
     let one = call_continues limits stories call name story e in

@@ -20,7 +20,7 @@ use Rattle.book_model.specs.declared.refusal.Refusal.TheVariants.{NoSuchBook, Sa
 use Rattle.book_model.specs.Bounds.{Bounds}
 use Rattle.book_model.specs.Books.{same_name, LiveCards}
 use Rattle.book_laws.specs.Histories.{live}
-use Rattle.book_laws.specs.MoveLaws.{MovesTakeOneCard}
+use Rattle.book_laws.specs.MoveLaws.{MoveCallsTakeOneCard}
 use Rattle.book_laws.specs.CardMoves.{cards_in, TakesOneCard}
 use Rattle.book_model.specs.Moving.{Moving, move_numbers, move_answer}
 use Rattle.book_model.specs.Outcomes.{◌>>=◌, provided}
@@ -175,7 +175,7 @@ module _ (stories : Stories) (from to uid : List ℕ) (source target : Story) (s
       let more = one_more in
       omega (arith, a, b, less, more)
 
-pub moves_take_one_card : MovesTakeOneCard
+pub moves_take_one_card : MoveCallsTakeOneCard
 moves_take_one_card world from to uid expect moved after e =
     let m = by_source world.limits world.books from to uid expect moved after (finite.get world.books from) refl e in
     let f = found_to_move world.limits (found_of m.source.history uid) (found_of m.target.history uid) expect m.moving m.given in

@@ -16,7 +16,7 @@ use Rattle.book_laws.specs.Worlds.{Story}
 use Rattle.book_model.specs.Devices.{copy_after, copy_under, after_page}
 use Rattle.book_laws.specs.RightDevices.{Agrees}
 use Rattle.book_laws.specs.DeviceLaws.{DueRises, EntriesAreFirstDue, PagesFit}
-use Rattle.book_laws.specs.Paging.{Place, mark_under, page_for, with_events, next_report, after_turn, due_count, one_where, truncated_pages, events_to_last, after_pages}
+use Rattle.book_laws.specs.Paging.{Place, mark_under, page_for, with_events, next_report, after_turn, due_count, one_where, truncated_in_turns, events_to_last, after_pages}
 use Rattle.book_laws.specs.PagingLaws.{EventsAddAtMostOne, TruncatedPagesLeaveRest, TruncatedPagesLeaveFewer, LastPagesLeaveNobody, TruncatedPagesAreBounded, QuietBooksAreToldWhole, QuietDevicesCatchUp}
 use Rattle.book_laws.proofs.HistoryLemmas.{Rises, last-le, last_other, get-changed}
 use Rattle.book_laws.proofs.DueLemmas.{due-rises}
@@ -191,9 +191,9 @@ one_more k (suc t) before after w took more later = let next = times_next (suc t
 module _ (k : ℕ) (some : 0 < k) where
   -- after the first ask the rest of the turns adds what it adds
   first_bounded : (place : Place) (events : List BookEvent) (turns : List (List BookEvent))
-      → (0 < truncated_pages k (after_turn k place events) turns → truncated_pages k (after_turn k place events) turns * k < due_count (after_turn k place events) + events_to_last k (after_turn k place events) turns)
-      → 0 < truncated_pages k place (events ∷ turns)
-      → truncated_pages k place (events ∷ turns) * k < due_count (with_events place events) + events_to_last k (after_turn k place events) turns
+      → (0 < truncated_in_turns k (after_turn k place events) turns → truncated_in_turns k (after_turn k place events) turns * k < due_count (after_turn k place events) + events_to_last k (after_turn k place events) turns)
+      → 0 < truncated_in_turns k place (events ∷ turns)
+      → truncated_in_turns k place (events ∷ turns) * k < due_count (with_events place events) + events_to_last k (after_turn k place events) turns
   first_bounded place events turns later =
       elim (next_report k (with_events place events)).truncated as (λ b. (next_report k (with_events place events)).truncated ≡ b → 0 < one_where b + t → (one_where b + t) * k < due_count (with_events place events) + w) [
         | true ↦ λ cut _. one_more k t (due_count (with_events place events)) (due_count (after_turn k place events)) w
@@ -206,17 +206,17 @@ module _ (k : ℕ) (some : 0 < k) where
       ] refl
     where
       t : ℕ
-      t = truncated_pages k (after_turn k place events) turns
+      t = truncated_in_turns k (after_turn k place events) turns
 
       w : ℕ
       w = events_to_last k (after_turn k place events) turns
 
-  turns_bounded : (turns : List (List BookEvent)) (place : Place) → 0 < truncated_pages k place turns → truncated_pages k place turns * k < due_count place + events_to_last k place turns
+  turns_bounded : (turns : List (List BookEvent)) (place : Place) → 0 < truncated_in_turns k place turns → truncated_in_turns k place turns * k < due_count place + events_to_last k place turns
   turns_bounded [] place more = absurd (omega arith)
   turns_bounded (events ∷ turns) place more =
       let first = first_bounded place events turns (turns_bounded turns (after_turn k place events)) more in
       let add = events_add place.history events place.mark in
-      let up_to : events_to_last k place (events ∷ turns) ≡ length events + events_to_last k (after_turn k place events) turns = cond-true (nat_lt 0 (truncated_pages k place (events ∷ turns))) _ _ (lt-ltb _ _ more) in
+      let up_to : events_to_last k place (events ∷ turns) ≡ length events + events_to_last k (after_turn k place events) turns = cond-true (nat_lt 0 (truncated_in_turns k place (events ∷ turns))) _ _ (lt-ltb _ _ more) in
       omega (arith, first, add, up_to)
 
 pub truncated_pages_bounded : TruncatedPagesAreBounded

@@ -5,8 +5,8 @@ use Rattle.book_laws.specs.CardMoves.{TakesOneCard}
 use Rattle.book_laws.specs.Worlds.{Stories, World}
 use Rattle.book_laws.specs.WorldChanges.{move_meaning}
 
-abbrev pub MovesTakeOneCard : Type 0
-MovesTakeOneCard = (world : World) (from to uid : List ℕ) (expect : Option ℕ) (moved : Moved)
+abbrev pub MoveCallsTakeOneCard : Type 0
+MoveCallsTakeOneCard = (world : World) (from to uid : List ℕ) (expect : Option ℕ) (moved : Moved)
     (after : Stories) →
     move_meaning world.limits world.books from to uid expect ≡ Ok (moved, after) →
     TakesOneCard world.books from to uid moved after

@@ -47,17 +47,17 @@ abbrev pub one_where : Bool → ℕ
 one_where holds = if holds then 1 else 0
 
 -- how many pages of these turns were truncated
-abbrev pub truncated_pages : ℕ → Place → List (List BookEvent) → ℕ
-truncated_pages k place [] = 0
-truncated_pages k place (events ∷ turns) =
+abbrev pub truncated_in_turns : ℕ → Place → List (List BookEvent) → ℕ
+truncated_in_turns k place [] = 0
+truncated_in_turns k place (events ∷ turns) =
     one_where (next_report k (with_events place events)).truncated
-    + truncated_pages k (after_turn k place events) turns
+    + truncated_in_turns k (after_turn k place events) turns
 
 -- how many events came, up to the last page that was truncated
 abbrev pub events_to_last : ℕ → Place → List (List BookEvent) → ℕ
 events_to_last k place [] = 0
 events_to_last k place (events ∷ turns) =
-    if nat_lt 0 (truncated_pages k place (events ∷ turns))
+    if nat_lt 0 (truncated_in_turns k place (events ∷ turns))
     then length events + events_to_last k (after_turn k place events) turns
     else 0
 

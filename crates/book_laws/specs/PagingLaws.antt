@@ -7,7 +7,7 @@ use Rattle.book_laws.specs.Reports.{due, report}
 use Rattle.book_laws.specs.Worlds.{Story, Stories}
 use Rattle.book_model.specs.Devices.{Holding}
 use Rattle.book_laws.specs.RightDevices.{IsRight}
-use Rattle.book_laws.specs.Paging.{Place, mark_under, after_pages, after_turn, after_turns, due_count, events_to_last, truncated_pages, with_events}
+use Rattle.book_laws.specs.Paging.{Place, mark_under, after_pages, after_turn, after_turns, due_count, events_to_last, truncated_in_turns, with_events}
 
 -- an event makes at most one more member due
 abbrev pub EventsAddAtMostOne : Type 0
@@ -36,8 +36,8 @@ LastPagesLeaveNobody = (h : List BookEvent) (mark : Mark) (k : ℕ) →
 -- to the last truncated page.
 abbrev pub TruncatedPagesAreBounded : Type 0
 TruncatedPagesAreBounded = (k : ℕ) (place : Place) (events : List BookEvent)
-    (turns : List (List BookEvent)) → 0 < k → 0 < truncated_pages k place (events ∷ turns) →
-    truncated_pages k place (events ∷ turns) * k
+    (turns : List (List BookEvent)) → 0 < k → 0 < truncated_in_turns k place (events ∷ turns) →
+    truncated_in_turns k place (events ∷ turns) * k
     < due_count (with_events place events) + events_to_last k (after_turn k place events) turns
 
 -- while nothing happens, n pages are enough for n times k due members

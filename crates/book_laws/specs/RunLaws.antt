@@ -34,8 +34,8 @@ RowsAreEnough = (a b : World) (calls : List Call) → AreSound a.books → AreSo
     a.limits ≡ b.limits → rows a.books ≡ rows b.books → AreAlike a b calls
 
 -- No book goes away, and nothing that happened is undone.
-abbrev pub BooksGoOn : Type 0
-BooksGoOn = (limits : Bounds) (stories : Stories) (calls : List Call) (name : List ℕ)
+abbrev pub CallsLetBooksGoOn : Type 0
+CallsLetBooksGoOn = (limits : Bounds) (stories : Stories) (calls : List Call) (name : List ℕ)
     (old : Story) → finite.get stories name ≡ Some old →
     (new : Story) × (finite.get (stories_after_all limits stories calls) name ≡ Some new)
     × GoesOn old new

@@ -1,7 +1,7 @@
 //! What holds over every list of calls.
-ghost use Rattle.book_laws.specs.RunLaws.{StaysSound, RowsFollowCalls, RowsAreEnough, BooksGoOn, ImportsActOnce};
+ghost use Rattle.book_laws.specs.RunLaws.{StaysSound, RowsFollowCalls, RowsAreEnough, CallsLetBooksGoOn, ImportsActOnce};
 ghost use Rattle.book_laws.specs.TokenLaws.{TokensStayGood};
-ghost use Rattle.book_laws.specs.MoveLaws.{MovesTakeOneCard};
+ghost use Rattle.book_laws.specs.MoveLaws.{MoveCallsTakeOneCard};
 
 /// Over every list of calls each history stays lawful: cards come in where their UIDs aren't live,
 /// and are edited and go where they are.
@@ -24,7 +24,7 @@ pub fn rows_are_enough()
 /// No call takes a book away or undoes what happened to it: it keeps its id, its events and what
 /// it keeps of imports, and its horizon doesn't fall.
 pub fn books_go_on()
-    ensures { BooksGoOn }
+    ensures { CallsLetBooksGoOn }
 {}
 
 /// An import key acts once: after an import that was answered, whatever calls come between,
@@ -43,5 +43,5 @@ pub fn tokens_stay_good()
 /// histories, with the same card; every other book and card is as before, and the cards of all
 /// books together number the same.
 pub fn moves_take_one_card()
-    ensures { MovesTakeOneCard }
+    ensures { MoveCallsTakeOneCard }
 {}

@@ -24,7 +24,7 @@ use Rattle.book_model.specs.Pages.{mark_asked, page_size, Answer, page_of}
 use Rattle.book_laws.specs.PagingLaws.{EventsAddAtMostOne, TruncatedPagesLeaveFewer, LastPagesLeaveNobody}
 use Rattle.book_laws.specs.Reports.{first_mark, is_due, due, cut_page, whole_page, report}
 use Rattle.book_laws.specs.GoingOn.{GoesOn}
-use Rattle.book_laws.specs.RunLaws.{BooksGoOn as BooksDo}
+use Rattle.book_laws.specs.RunLaws.{CallsLetBooksGoOn}
 use Rattle.book_laws.specs.RowLaws.{RowsAreOfBooks}
 use Rattle.book_laws.specs.Worlds.{Story, Stories, book_of, rows}
 use Rattle.book_laws.specs.WorldSteps.{report_meaning}
@@ -160,7 +160,7 @@ record Counted (now : Moment) (i k : ℕ) (run : List Happening) (old : Holding)
   pub bound : 0 < truncated_pages i (events_of run) (replies_of run)
       → truncated_pages i (events_of run) (replies_of run) * k + length story.history < due_count_for story old + length later.history
 
-module _ (go : BooksDo) (one_more : EventsAddAtMostOne) (fewer : TruncatedPagesLeaveFewer) (nobody : LastPagesLeaveNobody) (k : ℕ) (some : 0 < k) (i : ℕ) where
+module _ (go : CallsLetBooksGoOn) (one_more : EventsAddAtMostOne) (fewer : TruncatedPagesLeaveFewer) (nobody : LastPagesLeaveNobody) (k : ℕ) (some : 0 < k) (i : ℕ) where
   step_goes : (now next : Moment) (event : Event) (r : Reply) (old : Holding) (story : Story) → Step now event r next → GetsPage now.world.limits.page_max i k (event, r) → Stands now i old story → Goes next i k event r old story
   step_goes now next (Do command) r old story s pages at =
       let leads = step_leads now next (Do command) r s in
@@ -274,7 +274,7 @@ number_of law books name later book found there =
     let same : book_of later ≡ book = same_Some (book_of later) book (sym (ap (option_map book_of) found) ∙ sym (law books name) ∙ there) in
     sym (ap (λ (b : Book). b.number) same)
 
-pub truncated_pages_are_few : BooksDo → EventsAddAtMostOne → TruncatedPagesLeaveFewer → LastPagesLeaveNobody → RowsAreOfBooks → TruncatedPagesAreFew
+pub truncated_pages_are_few : CallsLetBooksGoOn → EventsAddAtMostOne → TruncatedPagesLeaveFewer → LastPagesLeaveNobody → RowsAreOfBooks → TruncatedPagesAreFew
 truncated_pages_are_few go one_more fewer nobody law now run steps i k device story book at there some pages some_cut =
     let count = counted go one_more fewer nobody k some i run now.world.limits now device story refl steps pages at in
     let number = number_of law (end_of now run).world.books device.book count.later book count.found there in

@@ -13,9 +13,9 @@ use Rattle.book_laws.specs.CountLaws.{EventsAreCounted, LiveAreCounted}
 use Rattle.book_laws.specs.DeviceLaws.{PartsKeepAllRight, WholePagesKeepAllRight, LastPagesCompleteAll}
 use Rattle.book_laws.specs.Following.{AreStoriesOf}
 use Rattle.book_laws.specs.CardMoves.{TakesOneCard}
-use Rattle.book_laws.specs.MoveLaws.{MovesTakeOneCard as MovesDo}
+use Rattle.book_laws.specs.MoveLaws.{MoveCallsTakeOneCard}
 use Rattle.book_laws.specs.RightDevices.{IsComplete, IsRight}
-use Rattle.book_laws.specs.RunLaws.{BooksGoOn as BooksDo, CallsKeepAllRight, RowsFollowCalls, StaysSound}
+use Rattle.book_laws.specs.RunLaws.{CallsLetBooksGoOn, CallsKeepAllRight, RowsFollowCalls, StaysSound}
 use Rattle.book_laws.specs.RowsAfterCalls.{rows_after_all}
 use Rattle.book_laws.specs.WellFormedLaws.{CallsKeepForm}
 use Rattle.book_model.specs.WellFormed.{IsWellFormed}
@@ -41,7 +41,7 @@ books_add_up events cards world name story w found =
     let lawful = (w.books name story found).lawful in
     record { lawful = lawful; changes = events story.history; cards = cards story.history lawful }
 
-pub books_go_on : BooksDo → (now next : Moment) (event : Event) (r : Reply) → IsSoundWorld now.world → Step now event r next → BooksGoOn now event r next
+pub books_go_on : CallsLetBooksGoOn → (now next : Moment) (event : Event) (r : Reply) → IsSoundWorld now.world → Step now event r next → BooksGoOn now event r next
 books_go_on go now next event r w s name old found =
     let leads = step_leads now next event r s in
     let on = go now.world.limits now.world.books leads.calls name old found in
@@ -61,7 +61,7 @@ moved_by book uid to expect (Err refusal) numbers old new p =
     (λ yes. absurd (let no : reply.Moved numbers ≡ reply.Refused refusal = yes.0 in cc))
     (λ fault. absurd (let no : reply.Moved numbers ≡ reply.Fault fault.0 = fault.1 in cc)) p
 
-pub moves_take_one_card : MovesDo → (now next : Moment) (event : Event) (r : Reply) → IsSoundWorld now.world → Step now event r next → MovesTakeOneCard now event r next
+pub moves_take_one_card : MoveCallsTakeOneCard → (now next : Moment) (event : Event) (r : Reply) → IsSoundWorld now.world → Step now event r next → MovesTakeOneCard now event r next
 moves_take_one_card law now next event r w s book uid to expect numbers is_move is_moved =
     let command = MoveCard book uid to expect in
     let step = subst (λ (a : Reply). Step now (Do command) a next) is_moved (subst (λ (e : Event). Step now e r next) is_move s) in

@@ -12,7 +12,7 @@ use Rattle.book_model.specs.declared.token.Token.{Token}
 use Rattle.book_model.specs.Bounds.{Bounds}
 use Rattle.book_model.specs.Devices.{Holding}
 use Rattle.book_laws.specs.Calls.{Call, Forgets, GavePage, AsksReport, with_reading, stories_after_all}
-use Rattle.book_laws.specs.TokenLaws.{TokensStayGood as TokensDo}
+use Rattle.book_laws.specs.TokenLaws.{TokensStayGood}
 use Rattle.book_model.specs.Pages.{token_of}
 use Rattle.book_laws.specs.WorldChanges.{forget_meaning}
 use Rattle.book_laws.specs.WorldSteps.{report_meaning}
@@ -234,7 +234,7 @@ forgot_at name base (h ∷ run) now steps earlier later upto dropped left above 
 -- ---- the clause
 
 -- where a book told a page at the start of a run, and refuses its token at the end
-grow_old : TokensDo → (now : Moment) (run : List Happening) (name : List ℕ) (token : Option Token) (limit again : Option ℕ) (page : Told) (cause : TokenCause)
+grow_old : TokensStayGood → (now : Moment) (run : List Happening) (name : List ℕ) (token : Option Token) (limit again : Option ℕ) (page : Told) (cause : TokenCause)
     → IsSoundWorld now.world → Run now run → report_at now name token limit ≡ Ok page → report_at (end_of now run) name (Some (token_of page)) again ≡ Err (BadToken cause)
     → (cause ≡ TooOld) × AtSomeStep (ForgetsAbove name page.mark.base) run
 grow_old good now run name token limit again page cause w steps told refused =
@@ -245,7 +245,7 @@ grow_old good now run name token limit again page cause w steps told refused =
     let forgot = old.1 in
     (old.0, forgot_at name page.mark.base run now steps forgot.earlier forgot.later forgot.upto forgot.dropped forgot.left forgot.above forgot.calls_are forgot.accepted)
 
-pub tokens_grow_old : StaysSound → TextsTellTokens → TokensDo → TokensGrowOld
+pub tokens_grow_old : StaysSound → TextsTellTokens → TokensStayGood → TokensGrowOld
 tokens_grow_old stays law good now told again between name token page cause w steps asked is_page asks_again is_refusal =
     let first = steps.0 in
     let parts = runs_split told.after between (again ∷ []) steps.1 in
