@@ -34,8 +34,8 @@ use Rattle.book_laws.specs.WorldSteps.{story_named, create_meaning, found_of, st
 use Rattle.book_service.specs.declared.command.Command.TheVariants.{CreateBook, Books as ListBooks, Get, Put, Remove, MoveCard, Report, TallyOf}
 use Rattle.book_service.specs.declared.reply.Reply.{Reply}
 use Rattle.book_service.specs.declared.reply.Reply.TheVariants as reply
-use Rattle.book_service.specs.OnRows.{DoesCommand, first_denial, DeniesIn}
-use Rattle.book_service.specs.Replies.{IsFault, denied_reply, reply_to}
+use Rattle.book_service.specs.OnRows.{DoesCommand, first_denial, DeniesIn, IsFault}
+use Rattle.book_service.specs.Replies.{denied_reply, reply_to}
 use Rattle.book_service.specs.Texts.{ReadsCard, ReadsToken}
 use Rattle.book_service.specs.TextReaders.{IsReadAs}
 use Rattle.book_service.proofs.PerformLemmas.{of_world, same_rows, keeps_same, fault_performs, did, told, ReadFollows, tells, denied_read}

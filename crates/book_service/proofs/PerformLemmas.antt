@@ -17,8 +17,8 @@ use Rattle.book_service.specs.declared.command.Command.{Command}
 use Rattle.book_service.specs.declared.reply.Reply.{Reply}
 use Rattle.book_service.specs.declared.reply.Reply.TheVariants as reply
 use Rattle.book_service.specs.Commands.{Meaning, IsCallWith, meaning_with, Means, ComesOf, Performs}
-use Rattle.book_service.specs.OnRows.{IsPerformed, DoesCommand, first_denial}
-use Rattle.book_service.specs.Replies.{IsFault, Keeps, TellsReturned, reply_to}
+use Rattle.book_service.specs.OnRows.{IsPerformed, DoesCommand, first_denial, IsFault}
+use Rattle.book_service.specs.Replies.{Keeps, TellsReturned, reply_to}
 
 -- ---- worlds and their rows
 

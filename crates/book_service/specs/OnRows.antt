@@ -4,6 +4,7 @@ use Rattle.std.specs.Prelude.{ℕ, ◌≡◌, ◌⊎◌, List, Result, Ok, Err}
 use Rattle.book_model.specs.declared.answers.BookLine.{BookLine}
 use Rattle.book_model.specs.declared.denied.Denied.{Denied}
 use Rattle.book_model.specs.declared.denied.Denied.TheVariants.{Refused}
+use Rattle.book_model.specs.declared.denied.Fault.{Fault}
 use Rattle.book_model.specs.declared.refusal.Refusal.{Refusal}
 use Rattle.book_model.specs.Bounds.{Bounds}
 use Rattle.book_model.specs.Books.{Books}
@@ -12,8 +13,9 @@ use Rattle.book_laws.specs.Following.{AreStoriesOf}
 use Rattle.book_laws.specs.Worlds.{Stories, World}
 use Rattle.book_service.specs.declared.command.Command.{Command}
 use Rattle.book_service.specs.declared.reply.Reply.{Reply}
+use Rattle.book_service.specs.declared.reply.Reply.TheVariants as reply
 use Rattle.book_service.specs.Commands.{Performs}
-use Rattle.book_service.specs.Replies.{IsFault, Keeps, denied_reply}
+use Rattle.book_service.specs.Replies.{Keeps, denied_reply}
 
 -- the command was performed, and the rows are those of the stories after it
 pub record IsPerformed (world : World) (command : Command) (r : Reply) (books : Books)
@@ -37,7 +39,12 @@ abbrev pub first_denial : Result BookLine Refusal → Denied → Reply
 first_denial (Ok line) denied = denied_reply denied
 first_denial (Err refusal) denied = denied_reply (Refused refusal)
 
--- or there was a fault
+-- the reply is a fault's
+pub record IsFault (r : Reply) : Type 0 where
+  pub fault : Fault
+  pub reply_is : r ≡ reply.Fault fault
+
+-- it is that, or there was a fault
 abbrev pub DeniesIn : Books → List ℕ → Denied → Reply → Type 0
 DeniesIn books name denied r =
     (r ≡ first_denial (book_line_step books name) denied) ⊎ IsFault r

@@ -2,7 +2,6 @@
 use Rattle.std.specs.Prelude.{◌≡◌, Result, Ok, Err}
 use Rattle.book_model.specs.declared.denied.Denied.{Denied}
 use Rattle.book_model.specs.declared.denied.Denied.TheVariants.{Refused, Fault}
-use Rattle.book_model.specs.declared.denied.Fault.{Fault as FaultKind}
 use Rattle.book_laws.specs.Calls.{Returned, MadeBook, DidPut, DidRemove, DidMove, GavePage, GaveBooks, GaveCard, GaveTally}
 use Rattle.book_service.specs.declared.command.Command.{Command}
 use Rattle.book_service.specs.declared.command.Command.TheVariants.{Get}
@@ -24,11 +23,6 @@ TellsReturned command (GaveTally tally) r = r ≡ reply.Tally tally
 TellsReturned command returned r = ⊥
 
 -- ---- what was denied
-
--- the reply is a fault's
-pub record IsFault (r : Reply) : Type 0 where
-  pub fault : FaultKind
-  pub reply_is : r ≡ reply.Fault fault
 
 -- what is replied where a call was denied
 abbrev pub denied_reply : Denied → Reply
