@@ -14,7 +14,7 @@ pub one_char : (c : ℕ) → scalar c ≡ true → IsUtf8 (encode_utf8 c)
 one_char c s = (c ∷ [], (ap (λ t. t && true) s, append-nil (encode_utf8 c)))
 
 -- a character into the physical line, or into the next
-abbrev fold_by : Bool → List ℕ → ℕ → ℕ → FoldedPart
+abbrev pub fold_by : Bool → List ℕ → ℕ → ℕ → FoldedPart
 fold_by next octets room c = cond next (folded_part (octets ++ 13 ∷ 10 ∷ 32 ∷ encode_utf8 c) (74 - len_utf8 c)) (folded_part (octets ++ encode_utf8 c) (room - len_utf8 c))
 
 -- a character that is folded behind octets leaves those before them

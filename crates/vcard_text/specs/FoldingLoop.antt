@@ -1,9 +1,11 @@
 -- What the loops need that write and count a folded line, one character after another. It carries
 -- no rule of its own.
-use Rattle.std.specs.Prelude.{ℕ, ◌≡◌, ◌-◌, nat_lt, min, length, List, [], ◌∷◌, ◌++◌, fold, if◌then◌else◌, encode_utf8}
+use Rattle.std.specs.Prelude.{ℕ, ◌≡◌, ◌≤◌, ◌-◌, nat_lt, min, length, List, [], ◌∷◌, ◌++◌, fold, if◌then◌else◌, encode_utf8}
 use Rattle.std.specs.Char.{len_utf8}
-use Rattle.std.specs.Str.{chars}
+use Rattle.std.specs.Str.{chars, IsUtf8}
 use Rattle.base_types.specs.Octets.{carriage_return, line_feed, space}
+use Rattle.vcard_text.specs.declared.bounds.TheConstants.{COUNT_MAX}
+use Rattle.vcard_text.specs.declared.folded_len.FoldedCount.{FoldedCount}
 
 -- what is folded so far, and how many octets still fit into the physical line
 pub record FoldedPart : Type 0 where
@@ -25,7 +27,23 @@ fold_char part c =
 abbrev pub folded_so_far : List ℕ → FoldedPart
 folded_so_far line = fold fold_char (folded_part [] 75) (chars line)
 
--- The numbers say how many octets are folded, up to a greatest number, and how many still fit.
-pub record IsCount (most : ℕ) (octets room : ℕ) (part : FoldedPart) : Type 0 where
-  pub octets_are : octets ≡ min most (length part.octets)
-  pub room_is : room ≡ part.room
+-- The count says how many octets are folded, up to a greatest number, and how many still fit.
+pub record IsCount (count : FoldedCount) (part : FoldedPart) : Type 0 where
+  pub octets_are : count.octets ≡ min COUNT_MAX (length part.octets)
+  pub room_is : count.room ≡ part.room
+  pub room_fits : count.room ≤ 75
+
+-- the count goes on with the characters of a text, whatever was folded before
+abbrev pub CountsOn : FoldedCount → FoldedCount → List ℕ → Type 0
+CountsOn old new text =
+    (part : FoldedPart) → IsCount old part → IsCount new (fold fold_char part (chars text))
+
+-- the count is that of the text, folded as a logical line without its last line end
+pub record IsLineCount (count : FoldedCount) (text : List ℕ) : Type 0 where
+  pub utf8 : IsUtf8 text
+  pub counted : IsCount count (folded_so_far text)
+
+-- the count goes on with a text, whatever the logical line has before it
+abbrev pub CountsLine : FoldedCount → FoldedCount → List ℕ → Type 0
+CountsLine old new text =
+    (before : List ℕ) → IsLineCount old before → IsLineCount new (before ++ text)

@@ -90,10 +90,10 @@ fn without_mark(text: &str) -> &str
 
 /// The lines, unless their canonical text is too long.
 #[tactic(auto, unfolding(crate::specs::Faults::within_bounds))]
-pub(crate) fn within_bounds(alloc: Global, lines: Items<Line>) -> Result<Items<Line>, CardFault>
+pub(crate) fn within_bounds(lines: Items<Line>) -> Result<Items<Line>, CardFault>
     ensures { Gives (λ lines. lines) result (within_bounds lines) }
 {
-    if canonical_len(alloc, lines.as_slice())? <= TEXT_OCTETS_MAX {
+    if canonical_len(lines.as_slice()) <= TEXT_OCTETS_MAX {
         Ok(lines)
     } else {
         Err(CardFault::TooLong)
@@ -112,7 +112,7 @@ fn read_text(alloc: Global, text: &[u8]) -> Result<Items<Line>, CardFault>
         return Err(CardFault::NotUtf8);
     };
     let lines = read_lines(alloc, without_mark(text))?;
-    within_bounds(alloc, lines)
+    within_bounds(lines)
 }
 
 /// Reads the card that a text spells (RFC 6350, section 3): at most 262,144 octets of UTF-8, one
