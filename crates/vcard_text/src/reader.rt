@@ -1,8 +1,8 @@
 //! The reader of a card.
-ghost use Rattle.std.specs.Prelude.{◌≡◌, ◌≢◌, ◌∷◌, ◌≤◌, List, ℕ, IsTrue, IfOk, IfErr, Some, Ok, Err, drop, string_bytes};
+ghost use Rattle.std.specs.Prelude.{◌≡◌, ◌≢◌, ◌∷◌, ◌++◌, ◌≤◌, List, ℕ, IsTrue, IfOk, IfErr, OnOk, Some, Ok, Err, drop, string_bytes};
 ghost use Rattle.vcard_text.specs.Steps.{Gives};
 ghost use Rattle.vcard_text.specs.LogicalLines.{continues};
-ghost use Rattle.vcard_text.specs.Unfolding.{before, unfolded_from, logical_lines};
+ghost use Rattle.vcard_text.specs.Unfolding.{before, line_so_far, unfolded_from, logical_lines};
 ghost use Rattle.vcard_text.specs.Spelling.{without_mark, Spells};
 ghost use Rattle.vcard_text.specs.Faults.{card_from, card_of_texts, within_bounds, card_of_text, first_fault};
 ghost use Rattle.vcard_text.specs.declared.fault.CardFault.TheVariants.{Memory};
@@ -14,7 +14,7 @@ use crate::fault::CardFault;
 use crate::line::Line;
 use crate::scan::Scan;
 use crate::writer::canonical_len;
-use base_types::Items;
+use base_types::{Items, NoMemory};
 use std::alloc::Global;
 
 /// Whether a physical line continues the one before it.
@@ -45,39 +45,71 @@ fn take_line(alloc: Global, scan: Scan, line: &str) -> Result<Scan, CardFault>
     scan.take(alloc, line)
 }
 
-/// Reads a physical line: it goes on with the logical line so far, or ends it and begins the next.
-fn take_piece(alloc: Global, scan: Scan, line: &mut String, piece: &str) -> Result<Scan, CardFault>
-    ensures goes_on { IfOk result (λ next. (pieces : List (List ℕ)) →
-        card_from scan (unfolded_from (string_bytes line.old) (piece.now ∷ pieces))
-        ≡ card_from next (unfolded_from (string_bytes line.new) pieces)) }
-    ensures ends { IfErr result (λ fault. fault ≢ Memory → (pieces : List (List ℕ)) →
-        card_from scan (unfolded_from (string_bytes line.old) (piece.now ∷ pieces)) ≡ Err fault) }
+/// The logical line so far: its one physical line, or what was joined of several.
+fn line_so_far<'a>(first: &'a str, joined: &'a String) -> &'a str
+    ensures { result.now ≡ line_so_far first.now (string_bytes joined.now) }
 {
-    if continues(piece) {
-        line.push_str(without_first(piece))?;
-        return Ok(scan);
+    if joined.is_empty() {
+        first
+    } else {
+        joined.as_str()
     }
-    let next = take_line(alloc, scan, line.as_str())?;
-    line.clear();
-    line.push_str(piece)?;
-    Ok(next)
 }
 
-/// The lines of the card that a text's logical lines spell, or their first fault. One logical line
-/// is kept at a time.
+/// Joins a physical line to the logical line that it continues.
+fn join(first: &str, joined: &mut String, piece: &str) -> Result<(), NoMemory>
+    requires { IsTrue (continues piece.now) }
+    ensures { OnOk result (line_so_far first.now (string_bytes joined.new)
+        ≡ line_so_far first.now (string_bytes joined.old) ++ drop 1 piece.now) }
+{
+    if joined.is_empty() {
+        joined.push_str(first)?;
+    }
+    joined.push_str(without_first(piece))?;
+    Ok(())
+}
+
+/// Reads a physical line: it goes on with the logical line so far, or ends it and begins the next.
+fn take_piece<'a>(
+    alloc: Global,
+    scan: Scan,
+    first: &'a str,
+    joined: &mut String,
+    piece: &'a str,
+) -> Result<(Scan, &'a str), CardFault>
+    ensures goes_on { IfOk result (λ next. (pieces : List (List ℕ)) →
+        card_from scan (unfolded_from (line_so_far first.now (string_bytes joined.old))
+        (piece.now ∷ pieces))
+        ≡ card_from next.0 (unfolded_from (line_so_far next.1.now (string_bytes joined.new))
+        pieces)) }
+    ensures ends { IfErr result (λ fault. fault ≢ Memory → (pieces : List (List ℕ)) →
+        card_from scan (unfolded_from (line_so_far first.now (string_bytes joined.old))
+        (piece.now ∷ pieces)) ≡ Err fault) }
+{
+    if continues(piece) {
+        join(first, joined, piece)?;
+        return Ok((scan, first));
+    }
+    let next = take_line(alloc, scan, line_so_far(first, joined))?;
+    joined.clear();
+    Ok((next, piece))
+}
+
+/// The lines of the card that a text's logical lines spell, or their first fault. A logical line
+/// is read where it stands in the text, unless it is folded: then one is joined at a time.
 fn read_lines(alloc: Global, text: &str) -> Result<Items<Line>, CardFault>
     ensures { Gives (λ lines. lines) result (card_of_texts (logical_lines text.now)) }
 {
     let mut scan = Scan::start(alloc);
     let mut pieces = text.lines();
-    let Some(first) = pieces.next() else {
+    let Some(mut first) = pieces.next() else {
         return scan.finish();
     };
-    let mut line = String::from_str(alloc, first)?;
+    let mut joined = String::new(alloc);
     for piece in pieces {
-        scan = take_piece(alloc, scan, &mut line, piece)?;
+        (scan, first) = take_piece(alloc, scan, first, &mut joined, piece)?;
     }
-    let scan = take_line(alloc, scan, line.as_str())?;
+    let scan = take_line(alloc, scan, line_so_far(first, &joined))?;
     scan.finish()
 }
 
