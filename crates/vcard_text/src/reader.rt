@@ -4,7 +4,8 @@ ghost use Rattle.vcard_text.specs.Steps.{Gives};
 ghost use Rattle.vcard_text.specs.LogicalLines.{continues};
 ghost use Rattle.vcard_text.specs.Unfolding.{before, line_so_far, unfolded_from, logical_lines};
 ghost use Rattle.vcard_text.specs.Spelling.{without_mark, Spells};
-ghost use Rattle.vcard_text.specs.Faults.{card_from, card_of_texts, within_bounds, card_of_text, first_fault};
+ghost use Rattle.vcard_text.specs.FirstFaults.{IsFirstFault};
+ghost use Rattle.vcard_text.specs.Faults.{card_from, card_of_texts, within_bounds, card_of_text};
 ghost use Rattle.vcard_text.specs.declared.fault.CardFault.TheVariants.{Memory};
 ghost use Rattle.vcard_text.specs.declared.line.Line.{Line};
 
@@ -163,7 +164,7 @@ pub fn read_card(alloc: Global, text: &[u8]) -> Result<Card, CardFault>
         → result ≡ Ok lines }
 
     // What is refused is refused for its first fault, unless memory ran out.
-    ensures fault { IfErr result (λ fault. fault ≢ Memory → first_fault text.now ≡ Some fault) }
+    ensures fault { IfErr result (λ fault. fault ≢ Memory → IsFirstFault text.now fault) }
 
     // The answer is the one that computing the text's card gives, unless memory ran out.
     ensures computed { result ≢ Err Memory → result ≡ card_of_text text.now }

@@ -1,0 +1,298 @@
+-- The fault of a logical line, as the scan finds it, is the least-numbered that the line has.
+use Rattle.std.proofs.Common.{◌≡◌, ℕ, ◌≤◌, Bool, true, false, cond, ◌||◌, ◌&&◌, List, [], ◌∷◌, ◌++◌, bytes_eq, Option, Some, None, Result, Ok, Err, ⊎_elim, refl, sym, ap, subst, ◌∙◌, lit≤}
+use Rattle.std.specs.Prelude.{not, codes}
+use Rattle.std.specs.List.{list_any, list_all}
+use Rattle.std.proofs.lemmas.Bool.{and_parts, both_ways}
+use Rattle.std.proofs.lemmas.Slice.Eq.{bytes_eq-Decides}
+use Rattle.vcard_text.specs.declared.fault.CardFault.{CardFault}
+use Rattle.vcard_text.specs.declared.fault.CardFault.TheVariants.{BadChar, BadLine, NoBegin, BadVersion, BadUid, Twice}
+use Rattle.vcard_text.specs.declared.line.Line.{Line}
+use Rattle.vcard_text.specs.declared.scan.Place.{Place}
+use Rattle.vcard_text.specs.declared.scan.Place.TheVariants.{First, Second, Body, After}
+use Rattle.vcard_text.specs.FaultNumbers.{fault_number}
+use Rattle.vcard_text.specs.Grammar.{IsOf, is_permitted, SpellsLine}
+use Rattle.vcard_text.specs.LineReading.{line_at}
+use Rattle.vcard_text.specs.Cards.{is_named, has_named, is_uid}
+use Rattle.vcard_text.specs.Spelling.{is_bracket, is_begin, is_version, is_end}
+use Rattle.vcard_text.specs.FirstFaults.{IsLeastFault, is_none, is_wrong_end, is_repeated, line_has, LineHas, of_characters, of_grammar, of_line}
+use Rattle.vcard_text.specs.Faults.{scan_at, fault_if, first_line_fault, second_line_fault, body_line_fault, line_fault, next_scan}
+use Rattle.vcard_text.proofs.RuleLemmas.{no_fault}
+use Rattle.vcard_text.proofs.FrontLemmas.{of_class, all_of_class}
+use Rattle.vcard_text.proofs.LineLemmas.{line_again, one_line}
+use Rattle.vcard_text.proofs.FailLemmas.{line_fails}
+use Rattle.vcard_text.proofs.LeastLemmas.{least_of, found_or_none, least_found, none_passes, least_again, least_along}
+
+-- ---- names
+
+-- a line has one name
+pub other_name : (line : Line) (name other : List ℕ) → bytes_eq name other ≡ false → is_named name line ≡ true → is_named other line ≡ false
+other_name line name other apart e = ap (λ n. bytes_eq n other) ((bytes_eq-Decides line.name name).0 e) ∙ apart
+
+pub bracket_name : (name : List ℕ) (line : Line) → is_bracket name line ≡ true → is_named name line ≡ true
+bracket_name name line e = (and_parts (is_named name line) _ (and_parts _ _ (and_parts _ _ e).0).0).0
+
+pub version_name : (line : Line) → is_version line ≡ true → is_named (codes "VERSION") line ≡ true
+version_name line e = (and_parts (is_named (codes "VERSION") line) _ (and_parts _ _ e).0).0
+
+no_bracket : (name : List ℕ) (line : Line) → is_named name line ≡ false → is_bracket name line ≡ false
+no_bracket name line e = rw e refl
+
+-- ---- tests in the order of their faults
+
+-- the first fault of a line whose tests are these
+abbrev by_tests : Bool → Bool → Bool → Bool → Bool → Option CardFault
+by_tests bad_line no_begin bad_version bad_uid twice =
+    fault_if bad_line BadLine (fault_if no_begin NoBegin (fault_if bad_version BadVersion (fault_if bad_uid BadUid (fault_if twice Twice None))))
+
+tests_of : (before : List Line) (line : Line) → least_of (line_has before line) ≡ by_tests (line_has before line BadLine) (line_has before line NoBegin) (line_has before line BadVersion) (line_has before line BadUid) (line_has before line Twice)
+tests_of before line = refl
+
+same_tests : (a b c d e a' b' c' d' e' : Bool) → a ≡ a' → b ≡ b' → c ≡ c' → d ≡ d' → e ≡ e' → by_tests a b c d e ≡ by_tests a' b' c' d' e'
+same_tests a b c d e a' b' c' d' e' p q r s t =
+    ap (λ x. by_tests x b c d e) p ∙ ap (λ x. by_tests a' x c d e) q ∙ ap (λ x. by_tests a' b' x d e) r ∙ ap (λ x. by_tests a' b' c' x e) s ∙ ap (λ x. by_tests a' b' c' d' x) t
+
+and_false : (b : Bool) → (b && false) ≡ false
+and_false true = refl
+and_false false = refl
+
+and_true : (b : Bool) → (b && true) ≡ b
+and_true true = refl
+and_true false = refl
+
+or_false : (b : Bool) → (b || false) ≡ b
+or_false true = refl
+or_false false = refl
+
+-- a line that is neither named UID nor KIND is no second one
+not_repeated : (before : List Line) (line : Line) → is_named (codes "UID") line ≡ false → is_named (codes "KIND") line ≡ false → is_repeated before line ≡ false
+not_repeated before line u k = ap (λ b. (b && has_named (codes "UID") before) || (is_named (codes "KIND") line && has_named (codes "KIND") before)) u ∙ ap (λ b. b && has_named (codes "KIND") before) k
+
+none_repeated : (line : Line) → is_repeated [] line ≡ false
+none_repeated line = ap (λ b. b || (is_named (codes "KIND") line && false)) (and_false (is_named (codes "UID") line)) ∙ and_false (is_named (codes "KIND") line)
+
+-- ---- the first line
+
+first_tests : (line : Line) → least_of (line_has [] line) ≡ first_line_fault line
+first_tests line =
+    tests_of [] line
+    ∙ elim (is_begin line) as (λ b. is_begin line ≡ b → by_tests (is_wrong_end line) (not b) (is_named (codes "VERSION") line) (is_named (codes "UID") line && not (is_uid line.value)) (is_repeated [] line) ≡ fault_if (is_wrong_end line) BadLine (cond b None (Some NoBegin))) [
+      | true ↦ λ e.
+          let named = bracket_name (codes "BEGIN") line e in
+          same_tests (is_wrong_end line) false _ _ _ (is_wrong_end line) false false false false refl refl (other_name line (codes "BEGIN") (codes "VERSION") refl named)
+          (ap (λ b. b && not (is_uid line.value)) (other_name line (codes "BEGIN") (codes "UID") refl named)) (none_repeated line)
+      | false ↦ λ e. refl
+    ] refl
+
+-- ---- the second line
+
+second_tests : (begin line : Line) → is_begin begin ≡ true → least_of (line_has (begin ∷ []) line) ≡ second_line_fault line
+second_tests begin line s =
+    let named = bracket_name (codes "BEGIN") begin s in
+    let no_end : list_any is_end (begin ∷ []) ≡ false = ap (λ b. b || false) (no_bracket (codes "END") begin (other_name begin (codes "BEGIN") (codes "END") refl named)) in
+    tests_of (begin ∷ []) line
+    ∙ ap (λ b. by_tests ((b || is_named (codes "BEGIN") line) || is_wrong_end line) false (not (is_version line) || false) (is_named (codes "UID") line && not (is_uid line.value)) (is_repeated (begin ∷ []) line)) no_end
+    ∙ ap (λ b. by_tests (is_named (codes "BEGIN") line || is_wrong_end line) false b (is_named (codes "UID") line && not (is_uid line.value)) (is_repeated (begin ∷ []) line)) (or_false (not (is_version line)))
+    ∙ elim (is_version line) as (λ b. is_version line ≡ b → by_tests (is_named (codes "BEGIN") line || is_wrong_end line) false (not b) (is_named (codes "UID") line && not (is_uid line.value)) (is_repeated (begin ∷ []) line)
+    ≡ fault_if (is_named (codes "BEGIN") line || is_wrong_end line) BadLine (cond b None (Some BadVersion))) [
+      | true ↦ λ e.
+          let is = version_name line e in
+          let no_uid = other_name line (codes "VERSION") (codes "UID") refl is in
+          let no_kind = other_name line (codes "VERSION") (codes "KIND") refl is in
+          same_tests (is_named (codes "BEGIN") line || is_wrong_end line) false false _ _ (is_named (codes "BEGIN") line || is_wrong_end line) false false false false refl refl refl
+          (ap (λ b. b && not (is_uid line.value)) no_uid) (not_repeated (begin ∷ []) line no_uid no_kind)
+      | false ↦ λ e. refl
+    ] refl
+
+-- ---- a line between VERSION and END
+
+-- lines that stand before it: BEGIN, VERSION and the card's lines so far
+pub record AreBefore (lines before : List Line) : Type 0 where
+  pub begin : Line
+  pub version : Line
+  pub is_begin_line : is_begin begin ≡ true
+  pub is_version_line : is_version version ≡ true
+  pub no_end : list_any is_end lines ≡ false
+  pub are : before ≡ begin ∷ version ∷ lines
+
+module _ (begin version : Line) (lines : List Line) (s : is_begin begin ≡ true) (v : is_version version ≡ true) where
+  pub end_behind : list_any is_end (begin ∷ version ∷ lines) ≡ list_any is_end lines
+  end_behind =
+      ap (λ b. b || (is_end version || list_any is_end lines)) (no_bracket (codes "END") begin (other_name begin (codes "BEGIN") (codes "END") refl (bracket_name (codes "BEGIN") begin s)))
+      ∙ ap (λ b. b || list_any is_end lines) (no_bracket (codes "END") version (other_name version (codes "VERSION") (codes "END") refl (version_name version v)))
+
+  pub named_behind : (name : List ℕ) → bytes_eq (codes "BEGIN") name ≡ false → bytes_eq (codes "VERSION") name ≡ false → has_named name (begin ∷ version ∷ lines) ≡ has_named name lines
+  named_behind name b w =
+      ap (λ t. t || (is_named name version || has_named name lines)) (other_name begin (codes "BEGIN") name b (bracket_name (codes "BEGIN") begin s))
+      ∙ ap (λ t. t || has_named name lines) (other_name version (codes "VERSION") name w (version_name version v))
+
+  repeated_behind : (line : Line) → is_repeated (begin ∷ version ∷ lines) line ≡ is_repeated lines line
+  repeated_behind line =
+      ap (λ b. (is_named (codes "UID") line && b) || (is_named (codes "KIND") line && has_named (codes "KIND") (begin ∷ version ∷ lines))) (named_behind (codes "UID") refl refl)
+      ∙ ap (λ b. (is_named (codes "UID") line && has_named (codes "UID") lines) || (is_named (codes "KIND") line && b)) (named_behind (codes "KIND") refl refl)
+
+  abbrev uid_test : Line → Bool
+  uid_test line = is_named (codes "UID") line && not (is_uid line.value)
+
+  body_tests : (line : Line) → list_any is_end lines ≡ false → least_of (line_has (begin ∷ version ∷ lines) line) ≡ cond (is_end line) None (body_line_fault lines line)
+  unfolding body_line_fault
+  body_tests line none =
+      tests_of (begin ∷ version ∷ lines) line
+      ∙ ap (λ b. by_tests ((b || is_named (codes "BEGIN") line) || is_wrong_end line) false (is_named (codes "VERSION") line) (uid_test line) (is_repeated (begin ∷ version ∷ lines) line)) (end_behind ∙ none)
+      ∙ ap (λ b. by_tests (is_named (codes "BEGIN") line || is_wrong_end line) false (is_named (codes "VERSION") line) (uid_test line) b) (repeated_behind line)
+      ∙ elim (is_end line) as (λ b. is_end line ≡ b → by_tests (is_named (codes "BEGIN") line || (is_named (codes "END") line && not b)) false (is_named (codes "VERSION") line) (uid_test line) (is_repeated lines line)
+      ≡ cond b None (by_tests (is_named (codes "BEGIN") line || is_named (codes "END") line) false (is_named (codes "VERSION") line) (uid_test line) (is_repeated lines line))) [
+        | true ↦ λ e.
+            let is = bracket_name (codes "END") line e in
+            let no_uid = other_name line (codes "END") (codes "UID") refl is in
+            let no_kind = other_name line (codes "END") (codes "KIND") refl is in
+            same_tests _ false _ _ _ false false false false false
+            (ap (λ b. b || (is_named (codes "END") line && false)) (other_name line (codes "END") (codes "BEGIN") refl is) ∙ and_false (is_named (codes "END") line))
+            refl (other_name line (codes "END") (codes "VERSION") refl is) (ap (λ b. b && not (is_uid line.value)) no_uid) (not_repeated lines line no_uid no_kind)
+        | false ↦ λ e. ap (λ b. by_tests (is_named (codes "BEGIN") line || b) false (is_named (codes "VERSION") line) (uid_test line) (is_repeated lines line)) (and_true (is_named (codes "END") line))
+      ] refl
+
+-- ---- a line behind END
+
+after_tests : (before : List Line) (line : Line) → list_any is_end before ≡ true → least_of (line_has before line) ≡ Some BadLine
+after_tests before line e = ap (λ b. by_tests ((b || (not (is_none before) && is_named (codes "BEGIN") line)) || is_wrong_end line) (line_has before line NoBegin) (line_has before line BadVersion) (line_has before line BadUid) (line_has before line Twice)) e
+
+-- ---- where a line stands
+
+-- lines that stand before a line behind END
+pub record AreBeforeLast (lines before : List Line) : Type 0 where
+  pub begin : Line
+  pub version : Line
+  pub last : Line
+  pub is_begin_line : is_begin begin ≡ true
+  pub is_version_line : is_version version ≡ true
+  pub is_end_line : is_end last ≡ true
+  pub are : before ≡ begin ∷ version ∷ (lines ++ last ∷ [])
+
+-- the place, and the card's lines so far, are those behind the lines before
+abbrev pub Stands : Place → List Line → List Line → Type 0
+Stands First lines before = (lines ≡ []) × (before ≡ [])
+Stands Second lines before = (lines ≡ []) × ((begin : Line) × (is_begin begin ≡ true) × (before ≡ begin ∷ []))
+Stands Body lines before = AreBefore lines before
+Stands After lines before = AreBeforeLast lines before
+
+pub any_append : (p : Line → Bool) (xs ys : List Line) → list_any p (xs ++ ys) ≡ (list_any p xs || list_any p ys)
+any_append p [] ys = refl
+any_append p (x ∷ xs) ys = ap (λ b. p x || b) (any_append p xs ys) ∙ assoc (p x) (list_any p xs) (list_any p ys)
+  where
+    assoc : (a b c : Bool) → (a || (b || c)) ≡ ((a || b) || c)
+    assoc true b c = refl
+    assoc false b c = refl
+
+or_true : (b : Bool) → (b || true) ≡ true
+or_true true = refl
+or_true false = refl
+
+pub has_ended : (lines before : List Line) → AreBeforeLast lines before → list_any is_end before ≡ true
+has_ended lines before a =
+    ap (list_any is_end) a.are
+    ∙ end_behind a.begin a.version (lines ++ a.last ∷ []) a.is_begin_line a.is_version_line
+    ∙ any_append is_end lines (a.last ∷ [])
+    ∙ ap (λ b. list_any is_end lines || (b || false)) a.is_end_line
+    ∙ or_true (list_any is_end lines)
+
+pub same_fault : (place : Place) (lines before : List Line) → Stands place lines before → (line : Line) → line_fault place lines line ≡ least_of (line_has before line)
+unfolding line_fault
+same_fault First lines before s line = sym (ap (λ b. least_of (line_has b line)) s.1 ∙ first_tests line)
+same_fault Second lines before s line = sym (ap (λ b. least_of (line_has b line)) s.1.2 ∙ second_tests s.1.0 line s.1.1)
+same_fault Body lines before a line = sym (ap (λ b. least_of (line_has b line)) a.are ∙ body_tests a.begin a.version lines a.is_begin_line a.is_version_line line a.no_end)
+same_fault After lines before a line = sym (after_tests before line (has_ended lines before a))
+
+passes : (test : Bool) (fault : CardFault) → cond test None (Some fault) ≡ None → test ≡ true
+passes true fault e = refl
+passes false fault e = absurd (cc)
+
+abbrev next_place : Place → List Line → Line → List Line → Type 0
+next_place place lines line before = Stands (next_scan place lines line).place (next_scan place lines line).lines before
+
+pub stands_next : (place : Place) (lines before : List Line) → Stands place lines before → (line : Line) → line_fault place lines line ≡ None → next_place place lines line (before ++ line ∷ [])
+unfolding line_fault next_scan
+stands_next First lines before s line e = (s.0, (line, passes (is_begin line) NoBegin (no_fault (is_wrong_end line) BadLine _ e).1, ap (λ b. b ++ line ∷ []) s.1))
+stands_next Second lines before s line e = record {
+  begin = s.1.0;
+  version = line;
+  is_begin_line = s.1.1;
+  is_version_line = passes (is_version line) BadVersion (no_fault _ BadLine _ e).1;
+  no_end = ap (list_any is_end) s.0;
+  are = ap (λ b. b ++ line ∷ []) s.1.2 ∙ ap (λ ls. s.1.0 ∷ line ∷ ls) (sym s.0);
+}
+stands_next Body lines before a line e =
+    elim (is_end line) as (λ b. is_end line ≡ b → Stands (cond b (scan_at After lines) (scan_at Body (lines ++ line ∷ []))).place (cond b (scan_at After lines) (scan_at Body (lines ++ line ∷ []))).lines (before ++ line ∷ [])) [
+      | true ↦ λ t. record {
+        begin = a.begin;
+        version = a.version;
+        last = line;
+        is_begin_line = a.is_begin_line;
+        is_version_line = a.is_version_line;
+        is_end_line = t;
+        are = ap (λ b. b ++ line ∷ []) a.are;
+      }
+      | false ↦ λ t. record {
+        begin = a.begin;
+        version = a.version;
+        is_begin_line = a.is_begin_line;
+        is_version_line = a.is_version_line;
+        no_end = any_append is_end lines (line ∷ []) ∙ ap (λ b. b || (is_end line || false)) a.no_end ∙ ap (λ b. b || false) t;
+        are = ap (λ b. b ++ line ∷ []) a.are;
+      }
+    ] refl
+stands_next After lines before a line e = absurd (cc)
+
+-- ---- the logical line
+
+-- a text that spells a line has just the line's faults
+spelled_to : (before : List Line) (text : List ℕ) (line : Line) → SpellsLine text line → (fault : CardFault) → LineHas before text fault → line_has before line fault ≡ true
+spelled_to before text line s fault (of_characters is bad) = absurd (bad s.permitted)
+spelled_to before text line s fault (of_grammar is none) = absurd (none line s)
+spelled_to before text line s fault (of_line other t h) = subst (λ l. line_has before l fault ≡ true) (one_line text other line t s) h
+
+pub least_of_spelled : (before : List Line) (text : List ℕ) (line : Line) (fault : CardFault) → SpellsLine text line → least_of (line_has before line) ≡ Some fault → IsLeastFault (LineHas before text) fault
+least_of_spelled before text line fault s e =
+    least_along (λ f. line_has before line f ≡ true) (LineHas before text) fault (λ f h. of_line line s h) (spelled_to before text line s) (least_found (line_has before line) fault e)
+
+pub spelled_least : (before : List Line) (text : List ℕ) (line : Line) (fault : CardFault) → SpellsLine text line → IsLeastFault (LineHas before text) fault → least_of (line_has before line) ≡ Some fault
+spelled_least before text line fault s l =
+    least_again (line_has before line) fault (least_along (LineHas before text) (λ f. line_has before line f ≡ true) fault (spelled_to before text line s) (λ f h. of_line line s h) l)
+
+pub spelled_none : (before : List Line) (text : List ℕ) (line : Line) → SpellsLine text line → ((fault : CardFault) → LineHas before text fault → ⊥) → least_of (line_has before line) ≡ None
+spelled_none before text line s none = ⊎_elim
+    (λ e. e)
+    (λ some. absurd (none some.0 (of_line line s (least_found (line_has before line) some.0 some.1).has_it)))
+    (found_or_none (least_of (line_has before line)))
+
+pub none_spelled : (before : List Line) (text : List ℕ) (line : Line) → SpellsLine text line → least_of (line_has before line) ≡ None → (fault : CardFault) → LineHas before text fault → ⊥
+none_spelled before text line s e fault h = both_ways (line_has before line fault) (none_passes (line_has before line) e fault) (spelled_to before text line s fault h)
+
+-- a text that isn't read has the fault for which it isn't
+not_read : (text : List ℕ) (line : Line) (fault : CardFault) → line_at text ≡ Err fault → SpellsLine text line → ⊥
+not_read text line fault e s = apart (sym e ∙ line_again text line s)
+  where
+    apart : ◌≡◌ {A = Result Line CardFault} (Err fault) (Ok line) → ⊥
+    apart h = cc
+
+no_less_number : (f g f' g' : CardFault) → f ≡ f' → g ≡ g' → fault_number f' ≤ fault_number g' → fault_number f ≤ fault_number g
+no_less_number f g f' g' p q l = rw (p, q) l
+
+least_character : (before : List Line) (text : List ℕ) (fault : CardFault) → fault ≡ BadChar → (IsOf is_permitted text → ⊥) → (other : CardFault) → LineHas before text other → fault_number fault ≤ fault_number other
+least_character before text fault e bad other (of_characters is b) = no_less_number fault other BadChar BadChar e is (lit≤ tt)
+least_character before text fault e bad other (of_grammar is none) = no_less_number fault other BadChar BadLine e is (lit≤ tt)
+least_character before text fault e bad other (of_line line s h) = absurd (bad s.permitted)
+
+least_grammar : (before : List Line) (text : List ℕ) (fault : CardFault) → fault ≡ BadLine → IsOf is_permitted text → ((line : Line) → SpellsLine text line → ⊥) → (other : CardFault) → LineHas before text other → fault_number fault ≤ fault_number other
+least_grammar before text fault e good none other (of_characters is b) = absurd (b good)
+least_grammar before text fault e good none other (of_grammar is n) = no_less_number fault other BadLine BadLine e is (lit≤ tt)
+least_grammar before text fault e good none other (of_line line s h) = absurd (none line s)
+
+pub least_of_unread : (before : List Line) (text : List ℕ) (fault : CardFault) → line_at text ≡ Err fault → IsLeastFault (LineHas before text) fault
+least_of_unread before text fault e = ⊎_elim
+    (λ character.
+    let bad : IsOf is_permitted text → ⊥ = λ p. both_ways (list_all is_permitted text) character.1 (all_of_class is_permitted text p) in
+    record { has_it = of_characters character.0 bad; least = least_character before text fault character.0 bad })
+    (λ grammar.
+    let none : (line : Line) → SpellsLine text line → ⊥ = λ line s. not_read text line fault e s in
+    record { has_it = of_grammar grammar.0 none; least = least_grammar before text fault grammar.0 (of_class is_permitted text grammar.1) none })
+    (line_fails text fault e)
