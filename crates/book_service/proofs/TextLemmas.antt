@@ -1,12 +1,12 @@
 -- What is read of a card's text where it is denied.
-use Rattle.std.proofs.Common.{◌≡◌, ◌≢◌, ◌↔◌, ℕ, Bool, true, false, List, Option, Some, None, Result, Ok, Err, bytes_eq, refl, inl, inr}
+use Rattle.std.proofs.Common.{◌≡◌, ◌≢◌, ◌⊎◌, ℕ, Bool, true, false, List, Result, Ok, Err, bytes_eq, refl, inl, inr, ⊎_elim}
 use Rattle.std.proofs.lemmas.Bool.{both_ways}
 use Rattle.std.proofs.lemmas.Slice.Eq.{bytes_eq-Decides}
 use Rattle.vcard_text.specs.declared.fault.CardFault.{CardFault}
 use Rattle.vcard_text.specs.declared.fault.CardFault.TheVariants.{TooLong, NotUtf8, BadChar, BadLine, NoBegin, BadVersion, NoEnd, NoName, NoUid, BadUid, Twice, MemberOutsideGroup, Memory as NoRoom}
 use Rattle.vcard_text.specs.declared.line.Line.{Line}
 use Rattle.vcard_text.specs.Cards.{uid_of}
-use Rattle.vcard_text.specs.Faults.{first_fault}
+use Rattle.vcard_text.specs.FirstFaults.{IsFirstFault}
 use Rattle.vcard_text.specs.Spelling.{Spells}
 use Rattle.book_model.specs.declared.refusal.Refusal.{Refusal}
 use Rattle.book_model.specs.declared.refusal.Refusal.TheVariants.{BadCard, UidMismatch}
@@ -15,23 +15,22 @@ use Rattle.book_service.specs.Texts.{ReadsCard}
 use Rattle.book_service.specs.TextReaders.{IsReadAs}
 
 -- a text is to be read in some way
-some_read : ((text : List ℕ) → ((lines : List Line) × Spells text lines) ↔ (first_fault text ≡ None)) → (uid text : List ℕ) → (read : Result (List Line) Refusal) × ReadsCard uid text read
-some_read law uid text = by_fault (first_fault text) refl
+some_read : ((text : List ℕ) → ((lines : List Line) × Spells text lines) ⊎ ((fault : CardFault) × IsFirstFault text fault)) → (uid text : List ℕ) → (read : Result (List Line) Refusal) × ReadsCard uid text read
+some_read law uid text = ⊎_elim
+    (λ card. by_uid card.0 card.1 (bytes_eq (uid_of card.0) uid) refl)
+    (λ bad. (Err (BadCard bad.0), inl (record { fault = bad.0; first = bad.1; refusal_is = refl })))
+    (law text)
   where
     by_uid : (card : List Line) → Spells text card → (same : Bool) → bytes_eq (uid_of card) uid ≡ same → (read : Result (List Line) Refusal) × ReadsCard uid text read
     by_uid card spelled true is = (Ok card, (spelled, (bytes_eq-Decides (uid_of card) uid).0 is))
     by_uid card spelled false is = (Err UidMismatch, inr (record { card = card; spelled = spelled; other = λ same. both_ways _ is ((bytes_eq-Decides (uid_of card) uid).1 same); refusal_is = refl }))
 
-    by_fault : (fault : Option CardFault) → first_fault text ≡ fault → (read : Result (List Line) Refusal) × ReadsCard uid text read
-    by_fault (Some fault) is = (Err (BadCard fault), inl (record { fault = fault; first = is; refusal_is = refl }))
-    by_fault None is = let found = (law text).1 is in by_uid found.0 found.1 (bytes_eq (uid_of found.0) uid) refl
-
 -- a reader that answers a fault for memory alone is right where it answers one
-module _ (law : (text : List ℕ) → ((lines : List Line) × Spells text lines) ↔ (first_fault text ≡ None)) (uid text : List ℕ) where
-  bad : (fault : CardFault) → (fault ≢ NoRoom → first_fault text ≡ Some fault) → fault ≢ NoRoom → ReadsCard uid text (Err (BadCard fault))
+module _ (law : (text : List ℕ) → ((lines : List Line) × Spells text lines) ⊎ ((fault : CardFault) × IsFirstFault text fault)) (uid text : List ℕ) where
+  bad : (fault : CardFault) → (fault ≢ NoRoom → IsFirstFault text fault) → fault ≢ NoRoom → ReadsCard uid text (Err (BadCard fault))
   bad fault first other = inl (record { fault = fault; first = first other; refusal_is = refl })
 
-  pub denied_for : (fault : CardFault) → (fault ≢ NoRoom → first_fault text ≡ Some fault) → IsReadAs {A = List Line} (ReadsCard uid text) (Err (denied_card fault))
+  pub denied_for : (fault : CardFault) → (fault ≢ NoRoom → IsFirstFault text fault) → IsReadAs {A = List Line} (ReadsCard uid text) (Err (denied_card fault))
   denied_for TooLong first = bad TooLong first (λ e. cc)
   denied_for NotUtf8 first = bad NotUtf8 first (λ e. cc)
   denied_for BadChar first = bad BadChar first (λ e. cc)

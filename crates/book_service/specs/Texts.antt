@@ -3,7 +3,7 @@ use Rattle.std.specs.Prelude.{ℕ, ◌≡◌, ◌≢◌, ◌⊎◌, List, [], Op
 use Rattle.vcard_text.specs.declared.fault.CardFault.{CardFault}
 use Rattle.vcard_text.specs.declared.line.Line.{Line}
 use Rattle.vcard_text.specs.Cards.{uid_of}
-use Rattle.vcard_text.specs.Faults.{first_fault}
+use Rattle.vcard_text.specs.FirstFaults.{IsFirstFault}
 use Rattle.vcard_text.specs.Spelling.{Spells}
 use Rattle.book_model.specs.declared.refusal.Refusal.{Refusal}
 use Rattle.book_model.specs.declared.refusal.Refusal.TheVariants.{BadCard, UidMismatch, BadToken}
@@ -14,7 +14,7 @@ use Rattle.sync_core.specs.TokenTexts.{IsToken}
 -- the text is no card, and the refusal says why
 pub record IsBadCard (text : List ℕ) (refusal : Refusal) : Type 0 where
   pub fault : CardFault
-  pub first : first_fault text ≡ Some fault
+  pub first : IsFirstFault text fault
   pub refusal_is : refusal ≡ BadCard fault
 
 -- the text is a card of another UID

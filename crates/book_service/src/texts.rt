@@ -5,7 +5,7 @@ ghost use Rattle.book_service.specs.TextReaders.{IsReadAs};
 
 use std::alloc::Global;
 use sync_core::{Denied, Refusal, Token, TokenCause, read_token};
-use vcard_text::laws::spells_without_fault;
+use vcard_text::laws::first_fault_without_card;
 use vcard_text::{Card, read_card};
 
 /// The card that the text spells, which must have the UID.
@@ -16,7 +16,7 @@ pub(crate) fn card_for(alloc: Global, uid: &str, text: &[u8]) -> Result<Card, De
     ensures { IsReadAs (ReadsCard uid.now text.now) result }
 {
     // A law, which does nothing: a text spells a card or has a fault.
-    spells_without_fault();
+    first_fault_without_card();
 
     let card = read_card(alloc, text)?;
     if card.uid() != uid {

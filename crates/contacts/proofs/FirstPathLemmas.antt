@@ -1,5 +1,5 @@
 -- One card into an empty book: on histories, and so on the rows of a store.
-use Rattle.std.proofs.Common.{◌≡◌, ◌≢◌, ℕ, ◌+◌, nat_lt, List, [], Option, Some, None, Result, Ok, Err, refl, sym, ap, subst, ◌∙◌}
+use Rattle.std.proofs.Common.{◌≡◌, ◌≢◌, ℕ, ◌+◌, nat_lt, List, [], Option, None, Result, Ok, Err, refl, sym, ap, subst, ◌∙◌}
 use Rattle.std.specs.Prelude.{codes, MatchResult, length, is_some}
 use Rattle.std.specs.Cmp.Lexicographic.{nat_list_cmp_total}
 use Rattle.std.specs.Option.{option_map_or}
@@ -9,7 +9,7 @@ use Rattle.vcard_text.specs.declared.fault.CardFault.{CardFault}
 use Rattle.vcard_text.specs.declared.fault.CardFault.TheVariants.{TooLong, NotUtf8, BadChar, BadLine, NoBegin, BadVersion, NoEnd, NoName, NoUid, BadUid, Twice, MemberOutsideGroup, Memory as NoRoom}
 use Rattle.vcard_text.specs.declared.line.Line.{Line}
 use Rattle.vcard_text.specs.Cards.{uid_of}
-use Rattle.vcard_text.specs.Faults.{first_fault}
+use Rattle.vcard_text.specs.FirstFaults.{IsFirstFault}
 use Rattle.base_types.specs.TextMaps.{text_cmp}
 use Rattle.book_model.specs.declared.answers.PutAnswer.{PutAnswer}
 use Rattle.book_model.specs.declared.answers.PutAnswer.TheVariants.{Created}
@@ -149,7 +149,7 @@ read_as fault = Err fault
 not_read : (fault : CardFault) (card : List Line) → read_as fault ≡ Ok card → ⊥
 not_read fault card e = cc
 
-pub denied_for : (text : List ℕ) (fault : CardFault) → ((fault ≡ NoRoom → ⊥) → first_fault text ≡ Some fault) → IsStopFor text (stop_of (denied_card fault))
+pub denied_for : (text : List ℕ) (fault : CardFault) → ((fault ≡ NoRoom → ⊥) → IsFirstFault text fault) → IsStopFor text (stop_of (denied_card fault))
 denied_for text TooLong first = record { fault = TooLong; refusal_is = refl; first = first (λ e. cc) }
 denied_for text NotUtf8 first = record { fault = NotUtf8; refusal_is = refl; first = first (λ e. cc) }
 denied_for text BadChar first = record { fault = BadChar; refusal_is = refl; first = first (λ e. cc) }

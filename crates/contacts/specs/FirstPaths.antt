@@ -1,10 +1,10 @@
 -- What comes of one card that is put into an empty book. This project's own.
-use Rattle.std.specs.Prelude.{ℕ, ◌≡◌, List, [], ◌∷◌, length, Some}
+use Rattle.std.specs.Prelude.{ℕ, ◌≡◌, List, [], ◌∷◌, length}
 use Rattle.vcard_text.specs.declared.fault.CardFault.{CardFault}
 use Rattle.vcard_text.specs.declared.line.Line.{Line}
 use Rattle.vcard_text.specs.Cards.{uid_of}
 use Rattle.vcard_text.specs.Spelling.{Spells}
-use Rattle.vcard_text.specs.Faults.{first_fault}
+use Rattle.vcard_text.specs.FirstFaults.{IsFirstFault}
 use Rattle.book_model.specs.declared.answers.PutAnswer.TheVariants.{Created}
 use Rattle.book_model.specs.declared.change.Change.TheVariants.{Stores}
 use Rattle.book_model.specs.declared.change.StoreReason.TheVariants.{Creation}
@@ -40,4 +40,4 @@ pub record IsFirstPath (text : List ℕ) (path : FirstPath) : Type 0 where
 pub record IsRefusedFor (text : List ℕ) (refusal : Refusal) : Type 0 where
   pub fault : CardFault
   pub refusal_is : refusal ≡ BadCard fault
-  pub first : first_fault text ≡ Some fault
+  pub first : IsFirstFault text fault
