@@ -6,7 +6,7 @@ use Rattle.vcard_text.specs.declared.fault.CardFault.TheVariants.{BadChar, BadLi
 use Rattle.vcard_text.specs.declared.line.ParamValue.{ParamValue}
 use Rattle.vcard_text.specs.Steps.{◌>>=◌, past, or_bad_line, and_others, one_more, many}
 use Rattle.vcard_text.specs.Grammar.{is_name_octet, is_value_octet, is_permitted}
-use Rattle.vcard_text.specs.LineReading.{front, behind, name_at, value_of, quoted_at, value_by, value_at, values_at, param_at, params_at, head_by, head_at, parts_at, line_at}
+use Rattle.vcard_text.specs.LineReading.{front, behind, name_at, value_of, quoted_at, value_by, param_value_at, values_at, param_at, params_at, head_by, head_at, parts_at, line_at}
 
 -- it fails for the grammar alone
 abbrev FailsByGrammar : {A : Type 0} → Result A CardFault → Type 0
@@ -38,8 +38,8 @@ unfolding value_by
 value_by_fails None text = tt
 value_by_fails (Some inside) text = quoted_fails inside
 
-value_fails : (text : List ℕ) → FailsByGrammar (value_at text)
-unfolding value_at
+value_fails : (text : List ℕ) → FailsByGrammar (param_value_at text)
+unfolding param_value_at
 value_fails text = value_by_fails (past 34 text) text
 
 others_fail : {X : Type 0} (first : Result (X × List ℕ) CardFault) (others : List ℕ → Result (List X × List ℕ) CardFault) → FailsByGrammar first → ((rest : List ℕ) → FailsByGrammar (others rest)) → FailsByGrammar (and_others first others)
@@ -58,7 +58,7 @@ module _ {X : Type 0} (separator : ℕ) (item : List ℕ → Result (X × List �
 
 values_fail : (text : List ℕ) → FailsByGrammar (values_at text)
 unfolding values_at
-values_fail text = others_fail (value_at text) (λ rest. many 44 value_at (length rest) rest) (value_fails text) (λ rest. many_fails 44 value_at value_fails (length rest) rest)
+values_fail text = others_fail (param_value_at text) (λ rest. many 44 param_value_at (length rest) rest) (value_fails text) (λ rest. many_fails 44 param_value_at value_fails (length rest) rest)
 
 param_fails : (text : List ℕ) → FailsByGrammar (param_at text)
 unfolding param_at

@@ -14,7 +14,7 @@ use Rattle.vcard_text.specs.Grammar.{IsOf, is_permitted, SpellsLine}
 use Rattle.vcard_text.specs.LineReading.{line_at}
 use Rattle.vcard_text.specs.Cards.{is_named, has_named, is_uid}
 use Rattle.vcard_text.specs.Spelling.{is_bracket, is_begin, is_version, is_end}
-use Rattle.vcard_text.specs.FirstFaults.{IsLeastFault, is_none, is_wrong_end, is_repeated, line_has, LineHas, of_characters, of_grammar, of_line}
+use Rattle.vcard_text.specs.FirstFaults.{IsLeastFault, is_none, is_wrong_end, is_repeated, line_breaks, LineHas, of_characters, of_grammar, of_rules}
 use Rattle.vcard_text.specs.Faults.{scan_at, fault_if, first_line_fault, second_line_fault, body_line_fault, line_fault, next_scan}
 use Rattle.vcard_text.proofs.RuleLemmas.{no_fault}
 use Rattle.vcard_text.proofs.FrontLemmas.{of_class, all_of_class}
@@ -44,7 +44,7 @@ abbrev by_tests : Bool → Bool → Bool → Bool → Bool → Option CardFault
 by_tests bad_line no_begin bad_version bad_uid twice =
     fault_if bad_line BadLine (fault_if no_begin NoBegin (fault_if bad_version BadVersion (fault_if bad_uid BadUid (fault_if twice Twice None))))
 
-tests_of : (before : List Line) (line : Line) → least_of (line_has before line) ≡ by_tests (line_has before line BadLine) (line_has before line NoBegin) (line_has before line BadVersion) (line_has before line BadUid) (line_has before line Twice)
+tests_of : (before : List Line) (line : Line) → least_of (line_breaks before line) ≡ by_tests (line_breaks before line BadLine) (line_breaks before line NoBegin) (line_breaks before line BadVersion) (line_breaks before line BadUid) (line_breaks before line Twice)
 tests_of before line = refl
 
 same_tests : (a b c d e a' b' c' d' e' : Bool) → a ≡ a' → b ≡ b' → c ≡ c' → d ≡ d' → e ≡ e' → by_tests a b c d e ≡ by_tests a' b' c' d' e'
@@ -72,7 +72,7 @@ none_repeated line = ap (λ b. b || (is_named (codes "KIND") line && false)) (an
 
 -- ---- the first line
 
-first_tests : (line : Line) → least_of (line_has [] line) ≡ first_line_fault line
+first_tests : (line : Line) → least_of (line_breaks [] line) ≡ first_line_fault line
 first_tests line =
     tests_of [] line
     ∙ elim (is_begin line) as (λ b. is_begin line ≡ b → by_tests (is_wrong_end line) (not b) (is_named (codes "VERSION") line) (is_named (codes "UID") line && not (is_uid line.value)) (is_repeated [] line) ≡ fault_if (is_wrong_end line) BadLine (cond b None (Some NoBegin))) [
@@ -85,7 +85,7 @@ first_tests line =
 
 -- ---- the second line
 
-second_tests : (begin line : Line) → is_begin begin ≡ true → least_of (line_has (begin ∷ []) line) ≡ second_line_fault line
+second_tests : (begin line : Line) → is_begin begin ≡ true → least_of (line_breaks (begin ∷ []) line) ≡ second_line_fault line
 second_tests begin line s =
     let named = bracket_name (codes "BEGIN") begin s in
     let no_end : list_any is_end (begin ∷ []) ≡ false = ap (λ b. b || false) (no_bracket (codes "END") begin (other_name begin (codes "BEGIN") (codes "END") refl named)) in
@@ -133,7 +133,7 @@ module _ (begin version : Line) (lines : List Line) (s : is_begin begin ≡ true
   abbrev uid_test : Line → Bool
   uid_test line = is_named (codes "UID") line && not (is_uid line.value)
 
-  body_tests : (line : Line) → list_any is_end lines ≡ false → least_of (line_has (begin ∷ version ∷ lines) line) ≡ cond (is_end line) None (body_line_fault lines line)
+  body_tests : (line : Line) → list_any is_end lines ≡ false → least_of (line_breaks (begin ∷ version ∷ lines) line) ≡ cond (is_end line) None (body_line_fault lines line)
   unfolding body_line_fault
   body_tests line none =
       tests_of (begin ∷ version ∷ lines) line
@@ -153,8 +153,8 @@ module _ (begin version : Line) (lines : List Line) (s : is_begin begin ≡ true
 
 -- ---- a line behind END
 
-after_tests : (before : List Line) (line : Line) → list_any is_end before ≡ true → least_of (line_has before line) ≡ Some BadLine
-after_tests before line e = ap (λ b. by_tests ((b || (not (is_none before) && is_named (codes "BEGIN") line)) || is_wrong_end line) (line_has before line NoBegin) (line_has before line BadVersion) (line_has before line BadUid) (line_has before line Twice)) e
+after_tests : (before : List Line) (line : Line) → list_any is_end before ≡ true → least_of (line_breaks before line) ≡ Some BadLine
+after_tests before line e = ap (λ b. by_tests ((b || (not (is_none before) && is_named (codes "BEGIN") line)) || is_wrong_end line) (line_breaks before line NoBegin) (line_breaks before line BadVersion) (line_breaks before line BadUid) (line_breaks before line Twice)) e
 
 -- ---- where a line stands
 
@@ -195,11 +195,11 @@ has_ended lines before a =
     ∙ ap (λ b. list_any is_end lines || (b || false)) a.is_end_line
     ∙ or_true (list_any is_end lines)
 
-pub same_fault : (place : Place) (lines before : List Line) → Stands place lines before → (line : Line) → line_fault place lines line ≡ least_of (line_has before line)
+pub same_fault : (place : Place) (lines before : List Line) → Stands place lines before → (line : Line) → line_fault place lines line ≡ least_of (line_breaks before line)
 unfolding line_fault
-same_fault First lines before s line = sym (ap (λ b. least_of (line_has b line)) s.1 ∙ first_tests line)
-same_fault Second lines before s line = sym (ap (λ b. least_of (line_has b line)) s.1.2 ∙ second_tests s.1.0 line s.1.1)
-same_fault Body lines before a line = sym (ap (λ b. least_of (line_has b line)) a.are ∙ body_tests a.begin a.version lines a.is_begin_line a.is_version_line line a.no_end)
+same_fault First lines before s line = sym (ap (λ b. least_of (line_breaks b line)) s.1 ∙ first_tests line)
+same_fault Second lines before s line = sym (ap (λ b. least_of (line_breaks b line)) s.1.2 ∙ second_tests s.1.0 line s.1.1)
+same_fault Body lines before a line = sym (ap (λ b. least_of (line_breaks b line)) a.are ∙ body_tests a.begin a.version lines a.is_begin_line a.is_version_line line a.no_end)
 same_fault After lines before a line = sym (after_tests before line (has_ended lines before a))
 
 passes : (test : Bool) (fault : CardFault) → cond test None (Some fault) ≡ None → test ≡ true
@@ -245,27 +245,27 @@ stands_next After lines before a line e = absurd (cc)
 -- ---- the logical line
 
 -- a text that spells a line has just the line's faults
-spelled_to : (before : List Line) (text : List ℕ) (line : Line) → SpellsLine text line → (fault : CardFault) → LineHas before text fault → line_has before line fault ≡ true
+spelled_to : (before : List Line) (text : List ℕ) (line : Line) → SpellsLine text line → (fault : CardFault) → LineHas before text fault → line_breaks before line fault ≡ true
 spelled_to before text line s fault (of_characters is bad) = absurd (bad s.permitted)
 spelled_to before text line s fault (of_grammar is none) = absurd (none line s)
-spelled_to before text line s fault (of_line other t h) = subst (λ l. line_has before l fault ≡ true) (one_line text other line t s) h
+spelled_to before text line s fault (of_rules other t h) = subst (λ l. line_breaks before l fault ≡ true) (one_line text other line t s) h
 
-pub least_of_spelled : (before : List Line) (text : List ℕ) (line : Line) (fault : CardFault) → SpellsLine text line → least_of (line_has before line) ≡ Some fault → IsLeastFault (LineHas before text) fault
+pub least_of_spelled : (before : List Line) (text : List ℕ) (line : Line) (fault : CardFault) → SpellsLine text line → least_of (line_breaks before line) ≡ Some fault → IsLeastFault (LineHas before text) fault
 least_of_spelled before text line fault s e =
-    least_along (λ f. line_has before line f ≡ true) (LineHas before text) fault (λ f h. of_line line s h) (spelled_to before text line s) (least_found (line_has before line) fault e)
+    least_along (λ f. line_breaks before line f ≡ true) (LineHas before text) fault (λ f h. of_rules line s h) (spelled_to before text line s) (least_found (line_breaks before line) fault e)
 
-pub spelled_least : (before : List Line) (text : List ℕ) (line : Line) (fault : CardFault) → SpellsLine text line → IsLeastFault (LineHas before text) fault → least_of (line_has before line) ≡ Some fault
+pub spelled_least : (before : List Line) (text : List ℕ) (line : Line) (fault : CardFault) → SpellsLine text line → IsLeastFault (LineHas before text) fault → least_of (line_breaks before line) ≡ Some fault
 spelled_least before text line fault s l =
-    least_again (line_has before line) fault (least_along (LineHas before text) (λ f. line_has before line f ≡ true) fault (spelled_to before text line s) (λ f h. of_line line s h) l)
+    least_again (line_breaks before line) fault (least_along (LineHas before text) (λ f. line_breaks before line f ≡ true) fault (spelled_to before text line s) (λ f h. of_rules line s h) l)
 
-pub spelled_none : (before : List Line) (text : List ℕ) (line : Line) → SpellsLine text line → ((fault : CardFault) → LineHas before text fault → ⊥) → least_of (line_has before line) ≡ None
+pub spelled_none : (before : List Line) (text : List ℕ) (line : Line) → SpellsLine text line → ((fault : CardFault) → LineHas before text fault → ⊥) → least_of (line_breaks before line) ≡ None
 spelled_none before text line s none = ⊎_elim
     (λ e. e)
-    (λ some. absurd (none some.0 (of_line line s (least_found (line_has before line) some.0 some.1).has_it)))
-    (found_or_none (least_of (line_has before line)))
+    (λ some. absurd (none some.0 (of_rules line s (least_found (line_breaks before line) some.0 some.1).has_it)))
+    (found_or_none (least_of (line_breaks before line)))
 
-pub none_spelled : (before : List Line) (text : List ℕ) (line : Line) → SpellsLine text line → least_of (line_has before line) ≡ None → (fault : CardFault) → LineHas before text fault → ⊥
-none_spelled before text line s e fault h = both_ways (line_has before line fault) (none_passes (line_has before line) e fault) (spelled_to before text line s fault h)
+pub none_spelled : (before : List Line) (text : List ℕ) (line : Line) → SpellsLine text line → least_of (line_breaks before line) ≡ None → (fault : CardFault) → LineHas before text fault → ⊥
+none_spelled before text line s e fault h = both_ways (line_breaks before line fault) (none_passes (line_breaks before line) e fault) (spelled_to before text line s fault h)
 
 -- a text that isn't read has the fault for which it isn't
 not_read : (text : List ℕ) (line : Line) (fault : CardFault) → line_at text ≡ Err fault → SpellsLine text line → ⊥
@@ -280,12 +280,12 @@ no_less_number f g f' g' p q l = rw (p, q) l
 least_character : (before : List Line) (text : List ℕ) (fault : CardFault) → fault ≡ BadChar → (IsOf is_permitted text → ⊥) → (other : CardFault) → LineHas before text other → fault_number fault ≤ fault_number other
 least_character before text fault e bad other (of_characters is b) = no_less_number fault other BadChar BadChar e is (lit≤ tt)
 least_character before text fault e bad other (of_grammar is none) = no_less_number fault other BadChar BadLine e is (lit≤ tt)
-least_character before text fault e bad other (of_line line s h) = absurd (bad s.permitted)
+least_character before text fault e bad other (of_rules line s h) = absurd (bad s.permitted)
 
 least_grammar : (before : List Line) (text : List ℕ) (fault : CardFault) → fault ≡ BadLine → IsOf is_permitted text → ((line : Line) → SpellsLine text line → ⊥) → (other : CardFault) → LineHas before text other → fault_number fault ≤ fault_number other
 least_grammar before text fault e good none other (of_characters is b) = absurd (b good)
 least_grammar before text fault e good none other (of_grammar is n) = no_less_number fault other BadLine BadLine e is (lit≤ tt)
-least_grammar before text fault e good none other (of_line line s h) = absurd (none line s)
+least_grammar before text fault e good none other (of_rules line s h) = absurd (none line s)
 
 pub least_of_unread : (before : List Line) (text : List ℕ) (fault : CardFault) → line_at text ≡ Err fault → IsLeastFault (LineHas before text) fault
 least_of_unread before text fault e = ⊎_elim

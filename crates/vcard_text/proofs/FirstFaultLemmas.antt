@@ -21,7 +21,7 @@ use Rattle.vcard_text.specs.LineReading.{line_at}
 use Rattle.vcard_text.specs.Unfolding.{logical_lines}
 use Rattle.vcard_text.specs.Cards.{is_named, has_named, kind_named, kind_of, canonical_text}
 use Rattle.vcard_text.specs.Spelling.{is_end, without_mark, Spells}
-use Rattle.vcard_text.specs.FirstFaults.{IsLeastFault, line_has, LineHas, AreFaultless, IsOfFirstFaultyLine, is_group, text_has, IsOfWhole, IsOfLines, IsFirstFault, of_length, of_encoding, of_line, of_whole, of_canonical}
+use Rattle.vcard_text.specs.FirstFaults.{IsLeastFault, line_breaks, LineHas, AreFaultless, IsOfFirstFaultyLine, is_group, whole_breaks, IsOfWhole, IsOfLines, IsFirstFault, of_length, of_encoding, of_line, of_whole, of_canonical}
 use Rattle.vcard_text.specs.Faults.{scan_at, fault_if, line_fault, next_scan, unless, scanned, rules_fault, whole_fault, card_from, card_of_texts, within_bounds, card_of_text, fault_of, first_fault}
 use Rattle.vcard_text.proofs.BlockLemmas.{are_logical_lines, one_reading}
 use Rattle.vcard_text.proofs.LineLemmas.{line_found, line_again}
@@ -63,20 +63,20 @@ by_tests ended named identified grouped = fault_if (not ended) NoEnd (fault_if (
 same_tests : (a b c d a' b' c' d' : Bool) → a ≡ a' → b ≡ b' → c ≡ c' → d ≡ d' → by_tests a b c d ≡ by_tests a' b' c' d'
 same_tests a b c d a' b' c' d' p q r s = ap (λ x. by_tests x b c d) p ∙ ap (λ x. by_tests a' x c d) q ∙ ap (λ x. by_tests a' b' x d) r ∙ ap (λ x. by_tests a' b' c' x) s
 
-same_whole : (place : Place) (lines before : List Line) → Stands place lines before → whole_fault place lines ≡ least_of (text_has before)
+same_whole : (place : Place) (lines before : List Line) → Stands place lines before → whole_fault place lines ≡ least_of (whole_breaks before)
 unfolding whole_fault rules_fault
-same_whole First lines before s = sym (ap (λ b. least_of (text_has b)) s.1)
-same_whole Second lines before s = sym (ap (λ b. least_of (text_has b)) s.1.2)
+same_whole First lines before s = sym (ap (λ b. least_of (whole_breaks b)) s.1)
+same_whole Second lines before s = sym (ap (λ b. least_of (whole_breaks b)) s.1.2)
 same_whole Body lines before a =
     let rest : List Line = a.begin ∷ a.version ∷ lines in
-    sym (ap (λ b. least_of (text_has b)) a.are
+    sym (ap (λ b. least_of (whole_breaks b)) a.are
     ∙ ap (λ b. by_tests b (has_named (codes "FN") rest) (has_named (codes "UID") rest) (has_named (codes "MEMBER") rest && not (is_group (kind_of rest)))) (none_ended a))
   where
     none_ended : (b : AreBefore lines before) → list_any is_end (b.begin ∷ b.version ∷ lines) ≡ false
     none_ended b = end_behind b.begin b.version lines b.is_begin_line b.is_version_line ∙ b.no_end
 same_whole After lines before a =
     let rest : List Line = a.begin ∷ a.version ∷ (lines ++ a.last ∷ []) in
-    sym (ap (λ b. least_of (text_has b)) a.are
+    sym (ap (λ b. least_of (whole_breaks b)) a.are
     ∙ same_tests (list_any is_end rest) (has_named (codes "FN") rest) (has_named (codes "UID") rest) (has_named (codes "MEMBER") rest && not (is_group (kind_of rest)))
     true (has_named (codes "FN") lines) (has_named (codes "UID") lines) (has_named (codes "MEMBER") lines && not (is_group (kind_of lines)))
     (ap (list_any is_end) (sym a.are) ∙ has_ended lines before a)
@@ -100,7 +100,7 @@ record IsOfFaultyLineFrom (start : List Line) (logical : List (List ℕ)) (fault
 record IsOfWholeFrom (start : List Line) (logical : List (List ℕ)) (fault : CardFault) : Type 0 where
   lines : List Line
   faultless : AreFaultless start logical lines
-  least : IsLeastFault (λ other. text_has (start ++ lines) other ≡ true) fault
+  least : IsLeastFault (λ other. whole_breaks (start ++ lines) other ≡ true) fault
 
 abbrev IsFoundFrom : List Line → List (List ℕ) → CardFault → Type 0
 IsFoundFrom start logical fault = IsOfFaultyLineFrom start logical fault ⊎ IsOfWholeFrom start logical fault
@@ -119,7 +119,7 @@ goes_on start text texts line fault s none found = ⊎_elim
     (λ w. inr (record {
       lines = line ∷ w.lines;
       faultless = (s, none, w.faultless);
-      least = subst (λ ls. IsLeastFault (λ other. text_has ls other ≡ true) fault) (append_assoc start (line ∷ []) w.lines) w.least;
+      least = subst (λ ls. IsLeastFault (λ other. whole_breaks ls other ≡ true) fault) (append_assoc start (line ∷ []) w.lines) w.least;
     }))
     found
 
@@ -164,8 +164,8 @@ unfolding card_from scanned
 finds [] fault place lines before s e = inr (record {
   lines = [];
   faultless = tt;
-  least = subst (λ ls. IsLeastFault (λ other. text_has ls other ≡ true) fault) (sym (append-nil before))
-      (least_found (text_has before) fault (sym (same_whole place lines before s) ∙ unless_err (whole_fault place lines) lines fault e));
+  least = subst (λ ls. IsLeastFault (λ other. whole_breaks ls other ≡ true) fault) (sym (append-nil before))
+      (least_found (whole_breaks before) fault (sym (same_whole place lines before s) ∙ unless_err (whole_fault place lines) lines fault e));
 })
 finds (text ∷ texts) fault place lines before s e = by_reading place lines before s text texts fault (finds texts fault) (line_at text) refl e
 
@@ -178,7 +178,7 @@ record Passes (place : Place) (lines before : List Line) (texts : List (List ℕ
   stands : Stands to among (before ++ spelled)
   rest_is : (rest : List (List ℕ)) → card_from (scan_at place lines) (texts ++ rest) ≡ card_from (scan_at to among) rest
 
-taken : (place : Place) (lines before : List Line) → Stands place lines before → (text : List ℕ) (line : Line) → SpellsLine text line → (o : Option CardFault) → least_of (line_has before line) ≡ o → scanned (scan_at place lines) text ≡ unless o (next_scan place lines line)
+taken : (place : Place) (lines before : List Line) → Stands place lines before → (text : List ℕ) (line : Line) → SpellsLine text line → (o : Option CardFault) → least_of (line_breaks before line) ≡ o → scanned (scan_at place lines) text ≡ unless o (next_scan place lines line)
 unfolding scanned
 taken place lines before s text line l o e =
     ap (λ (r : Result Line CardFault). r >>= λ x. unless (line_fault place lines x) (next_scan place lines x)) (line_again text line l)
@@ -224,7 +224,7 @@ unfolding card_from
 whole_refused logical fault w =
     let p = pass logical First [] [] w.lines (refl, refl) w.faultless in
     ap card_of_texts (sym (append-nil logical)) ∙ p.rest_is []
-    ∙ ap (λ o. unless o p.among) (same_whole p.to p.among w.lines p.stands ∙ least_again (text_has w.lines) fault w.least)
+    ∙ ap (λ o. unless o p.among) (same_whole p.to p.among w.lines p.stands ∙ least_again (whole_breaks w.lines) fault w.least)
 
 -- ---- the text
 

@@ -74,7 +74,7 @@ module _ (test : CardFault → Bool) where
   least_in : (fs : List CardFault) → are_ordered fs ≡ true → (fault : CardFault) → find test fs ≡ Some fault → IsLeastOf fs fault
   least_in [] o fault e = absurd (cc)
   least_in (f ∷ fs) o fault e =
-      let p = and_parts _ (are_ordered fs) o in
+      let p = and_parts (list_all (λ g. nat_le (fault_number f) (fault_number g)) fs) (are_ordered fs) o in
       elim (test f) as (λ b. test f ≡ b → cond b (Some f) (find test fs) ≡ Some fault → IsLeastOf (f ∷ fs) fault) [
         | true ↦ λ t h. let same : f ≡ fault = cc in subst (λ g. IsLeastOf (f ∷ fs) g) same (t, ((λ _. omega arith), weaker f fs (no_less f fs p.0)))
         | false ↦ λ t h. let more = least_in fs p.1 fault h in (more.0, ((λ is. absurd (both_ways (test f) t is)), more.1))

@@ -11,7 +11,7 @@ use Rattle.vcard_text.specs.Bounds.{text_octets_max}
 use Rattle.vcard_text.specs.Steps.{◌>>=◌}
 use Rattle.vcard_text.specs.Grammar.{is_permitted, line_text}
 use Rattle.vcard_text.specs.Cards.{canonical_text}
-use Rattle.vcard_text.specs.FirstFaults.{IsLeastFault, lines_have}
+use Rattle.vcard_text.specs.FirstFaults.{IsLeastFault, lines_break}
 use Rattle.vcard_text.specs.Making.{upper_lines, made_line_breaks, MadeLineHas, of_characters, of_parts, of_rules, AreMadeFaultless, IsOfFirstFaultyMade, IsFirstMadeFault, of_line, of_whole, of_canonical}
 use Rattle.vcard_text.specs.MakingSteps.{has_legal_parts, made_line_fault, made_behind, card_made_of, first_made_fault}
 use Rattle.vcard_text.specs.Faults.{fault_if, unless, body_line_fault, rules_fault, within_bounds, fault_of}
@@ -105,7 +105,7 @@ made_none before line none = same_fault before line ∙ ⊎_elim
 
 -- ---- the whole
 
-same_whole : (lines : List Line) → rules_fault lines ≡ least_of (lines_have lines)
+same_whole : (lines : List Line) → rules_fault lines ≡ least_of (lines_break lines)
 unfolding rules_fault
 same_whole lines = refl
 
@@ -121,7 +121,7 @@ record IsOfFaultyFrom (start lines : List Line) (fault : CardFault) : Type 0 whe
 
 record IsOfWholeFrom (start lines : List Line) (fault : CardFault) : Type 0 where
   faultless : AreMadeFaultless start lines
-  least : IsLeastFault (λ other. lines_have (start ++ lines) other ≡ true) fault
+  least : IsLeastFault (λ other. lines_break (start ++ lines) other ≡ true) fault
 
 abbrev IsFoundFrom : List Line → List Line → CardFault → Type 0
 IsFoundFrom start lines fault = IsOfFaultyFrom start lines fault ⊎ IsOfWholeFrom start lines fault
@@ -138,7 +138,7 @@ goes_on start line lines fault none found = ⊎_elim
     }))
     (λ w. inr (record {
       faultless = (none, w.faultless);
-      least = subst (λ ls. IsLeastFault (λ other. lines_have ls other ≡ true) fault) (append_assoc start (line ∷ []) lines) w.least;
+      least = subst (λ ls. IsLeastFault (λ other. lines_break ls other ≡ true) fault) (append_assoc start (line ∷ []) lines) w.least;
     }))
     found
 
@@ -153,8 +153,8 @@ finds : (lines start : List Line) (fault : CardFault) → made_behind start line
 unfolding made_behind
 finds [] start fault e = inr (record {
   faultless = tt;
-  least = subst (λ ls. IsLeastFault (λ other. lines_have ls other ≡ true) fault) (sym (append-nil start))
-      (least_found (lines_have start) fault (sym (same_whole start) ∙ unless_err (rules_fault start) start fault e));
+  least = subst (λ ls. IsLeastFault (λ other. lines_break ls other ≡ true) fault) (sym (append-nil start))
+      (least_found (lines_break start) fault (sym (same_whole start) ∙ unless_err (rules_fault start) start fault e));
 })
 finds (line ∷ lines) start fault e =
     elim (made_line_fault start line) as (λ o. made_line_fault start line ≡ o → (unless o (start ++ line ∷ []) >>= λ more. made_behind more lines) ≡ Err fault → IsFoundFrom start (line ∷ lines) fault) [
@@ -186,21 +186,21 @@ refused start line lines fault l = ap (λ o. unless o (start ++ line ∷ []) >>=
 line_refused : (lines : List Line) (fault : CardFault) → IsOfFirstFaultyMade lines fault → made_behind [] lines ≡ Err fault
 line_refused lines fault f = ap (made_behind []) f.lines_are ∙ pass f.before [] (f.faulty ∷ f.others) f.faultless ∙ refused f.before f.faulty f.others fault f.least
 
-all_taken : (lines : List Line) → AreMadeFaultless [] lines → (o : Option CardFault) → least_of (lines_have lines) ≡ o → made_behind [] lines ≡ unless o lines
+all_taken : (lines : List Line) → AreMadeFaultless [] lines → (o : Option CardFault) → least_of (lines_break lines) ≡ o → made_behind [] lines ≡ unless o lines
 unfolding made_behind
 all_taken lines f o e = ap (made_behind []) (sym (append-nil lines)) ∙ pass lines [] [] f ∙ ap (λ p. unless p lines) (same_whole lines ∙ e)
 
-no_whole : (lines : List Line) → ((fault : CardFault) → lines_have lines fault ≡ false) → least_of (lines_have lines) ≡ None
+no_whole : (lines : List Line) → ((fault : CardFault) → lines_break lines fault ≡ false) → least_of (lines_break lines) ≡ None
 no_whole lines none = ⊎_elim
     (λ e. e)
-    (λ some. absurd (both_ways (lines_have lines some.0) (none some.0) (least_found (lines_have lines) some.0 some.1).has_it))
-    (found_or_none (least_of (lines_have lines)))
+    (λ some. absurd (both_ways (lines_break lines some.0) (none some.0) (least_found (lines_break lines) some.0 some.1).has_it))
+    (found_or_none (least_of (lines_break lines)))
 
 pub made_computed_from : (lines : List Line) (fault : CardFault) → IsFirstMadeFault lines fault → first_made_fault lines ≡ Some fault
 unfolding card_made_of
 made_computed_from lines fault (of_line f) = ap (λ (r : Result (List Line) CardFault). fault_of (r >>= within_bounds)) (line_refused (upper_lines lines) fault f)
 made_computed_from lines fault (of_whole w) =
-    ap (λ (r : Result (List Line) CardFault). fault_of (r >>= within_bounds)) (all_taken (upper_lines lines) w.faultless (Some fault) (least_again (lines_have (upper_lines lines)) fault w.least))
+    ap (λ (r : Result (List Line) CardFault). fault_of (r >>= within_bounds)) (all_taken (upper_lines lines) w.faultless (Some fault) (least_again (lines_break (upper_lines lines)) fault w.least))
 made_computed_from lines fault (of_canonical is t) =
     ap (λ (r : Result (List Line) CardFault). fault_of (r >>= within_bounds)) (all_taken (upper_lines lines) t.faultless None (no_whole (upper_lines lines) t.whole))
     ∙ ap fault_of (bounds_fail (upper_lines lines) t.long) ∙ ap (λ f. Some f) (sym is)
@@ -208,7 +208,7 @@ made_computed_from lines fault (of_canonical is t) =
 -- lines that were taken have no fault
 record AreTaken (start lines made : List Line) : Type 0 where
   faultless : AreMadeFaultless start lines
-  whole : least_of (lines_have (start ++ lines)) ≡ None
+  whole : least_of (lines_break (start ++ lines)) ≡ None
   made_are : made ≡ start ++ lines
 
 same_ok : (a b : List Line) → ◌≡◌ {A = Result (List Line) CardFault} (Ok a) (Ok b) → a ≡ b
@@ -220,7 +220,7 @@ takes [] start made e =
     elim (rules_fault start) as (λ o. rules_fault start ≡ o → unless o start ≡ Ok made → AreTaken start [] made) [
       | None ↦ λ is h. record {
         faultless = tt;
-        whole = ap (λ ls. least_of (lines_have ls)) (append-nil start) ∙ sym (same_whole start) ∙ is;
+        whole = ap (λ ls. least_of (lines_break ls)) (append-nil start) ∙ sym (same_whole start) ∙ is;
         made_are = sym (same_ok start made h) ∙ sym (append-nil start);
       }
       | Some f ↦ λ is h. absurd (cc)
@@ -231,7 +231,7 @@ takes (line ∷ lines) start made e =
           let t = takes lines (start ++ line ∷ []) made h in
           record {
             faultless = (none_made start line is, t.faultless);
-            whole = ap (λ ls. least_of (lines_have ls)) (sym (append_assoc start (line ∷ []) lines)) ∙ t.whole;
+            whole = ap (λ ls. least_of (lines_break ls)) (sym (append_assoc start (line ∷ []) lines)) ∙ t.whole;
             made_are = t.made_are ∙ append_assoc start (line ∷ []) lines;
           }
       | Some f ↦ λ is h. absurd (cc)
@@ -244,7 +244,7 @@ module _ (lines : List Line) (fault : CardFault) where
       let t = takes (upper_lines lines) [] made e in
       of_canonical (some_fault TooLong fault h) (record {
         faultless = t.faultless;
-        whole = none_passes (lines_have (upper_lines lines)) t.whole;
+        whole = none_passes (lines_break (upper_lines lines)) t.whole;
         long = longer _ (ap (λ ls. nat_le (length (canonical_text ls)) text_octets_max) (sym t.made_are) ∙ is);
       })
 

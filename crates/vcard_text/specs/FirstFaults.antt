@@ -46,23 +46,23 @@ is_repeated before line =
 -- that ends no card (BadLine); it is the first and no BEGIN (NoBegin); it is the second and no
 -- VERSION, or another that is named VERSION (BadVersion); it is a UID that isn't 1 to 255 octets
 -- or has a tab (BadUid); it is a second UID or KIND (Twice).
-abbrev pub line_has : List Line → Line → CardFault → Bool
-line_has before line BadLine = list_any is_end before
+abbrev pub line_breaks : List Line → Line → CardFault → Bool
+line_breaks before line BadLine = list_any is_end before
     || (not (is_none before) && is_named (codes "BEGIN") line) || is_wrong_end line
-line_has before line NoBegin = is_none before && not (is_begin line)
-line_has before line BadVersion = (is_one before && not (is_version line))
+line_breaks before line NoBegin = is_none before && not (is_begin line)
+line_breaks before line BadVersion = (is_one before && not (is_version line))
     || (not (is_one before) && is_named (codes "VERSION") line)
-line_has before line BadUid = is_named (codes "UID") line && not (is_uid line.value)
-line_has before line Twice = is_repeated before line
-line_has before line _ = false
+line_breaks before line BadUid = is_named (codes "UID") line && not (is_uid line.value)
+line_breaks before line Twice = is_repeated before line
+line_breaks before line _ = false
 
 -- The logical line has the fault: a character that no line may have, or that it isn't of the
--- grammar, or what the property line has that it spells.
+-- grammar, or what the property line breaks that it spells.
 pub data LineHas (before : List Line) (text : List ℕ) (fault : CardFault) : Type 0 where
   of_characters : fault ≡ BadChar → (IsOf is_permitted text → ⊥) → LineHas before text fault
   of_grammar : fault ≡ BadLine → ((line : Line) → SpellsLine text line → ⊥)
       → LineHas before text fault
-  of_line : (line : Line) → SpellsLine text line → line_has before line fault ≡ true
+  of_rules : (line : Line) → SpellsLine text line → line_breaks before line fault ≡ true
       → LineHas before text fault
 
 -- The logical lines, the first of which stands behind those, spell these property lines, and none
@@ -95,26 +95,26 @@ is_group Location = false
 is_group Other = false
 
 -- The lines have no FN (NoName), no UID (NoUid), or a MEMBER outside a group.
-abbrev pub lines_have : List Line → CardFault → Bool
-lines_have lines NoName = not (has_named (codes "FN") lines)
-lines_have lines NoUid = not (has_named (codes "UID") lines)
-lines_have lines MemberOutsideGroup =
+abbrev pub lines_break : List Line → CardFault → Bool
+lines_break lines NoName = not (has_named (codes "FN") lines)
+lines_break lines NoUid = not (has_named (codes "UID") lines)
+lines_break lines MemberOutsideGroup =
     has_named (codes "MEMBER") lines && not (is_group (kind_of lines))
-lines_have lines _ = false
+lines_break lines _ = false
 
 -- All lines of a text have the fault: there is none (NoBegin), just one (BadVersion) or no END
 -- (NoEnd), or what lines have.
-abbrev pub text_has : List Line → CardFault → Bool
-text_has lines NoBegin = is_none lines
-text_has lines BadVersion = is_one lines
-text_has lines NoEnd = not (list_any is_end lines)
-text_has lines fault = lines_have lines fault
+abbrev pub whole_breaks : List Line → CardFault → Bool
+whole_breaks lines NoBegin = is_none lines
+whole_breaks lines BadVersion = is_one lines
+whole_breaks lines NoEnd = not (list_any is_end lines)
+whole_breaks lines fault = lines_break lines fault
 
 -- no logical line has a fault, and the fault is the least of the whole
 pub record IsOfWhole (logical : List (List ℕ)) (fault : CardFault) : Type 0 where
   pub lines : List Line
   pub faultless : AreFaultless [] logical lines
-  pub least : IsLeastFault (λ other. text_has lines other ≡ true) fault
+  pub least : IsLeastFault (λ other. whole_breaks lines other ≡ true) fault
 
 -- ---- the first fault of a text
 
