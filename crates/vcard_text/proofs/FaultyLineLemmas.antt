@@ -15,7 +15,7 @@ use Rattle.vcard_text.specs.LineReading.{line_at}
 use Rattle.vcard_text.specs.Cards.{is_named, has_named, is_uid}
 use Rattle.vcard_text.specs.Spelling.{is_bracket, is_begin, is_version, is_end}
 use Rattle.vcard_text.specs.FirstFaults.{IsLeastFault, is_none, is_wrong_end, is_repeated, line_breaks, LineHas, of_characters, of_grammar, of_rules}
-use Rattle.vcard_text.specs.Faults.{scan_at, fault_if, first_line_fault, second_line_fault, body_line_fault, line_fault, next_scan}
+use Rattle.vcard_text.specs.Scanning.{scan_at, fault_if, first_line_fault, second_line_fault, body_line_fault, line_fault, next_scan}
 use Rattle.vcard_text.proofs.RuleLemmas.{no_fault}
 use Rattle.vcard_text.proofs.FrontLemmas.{of_class, all_of_class}
 use Rattle.vcard_text.proofs.LineLemmas.{line_again, one_line}

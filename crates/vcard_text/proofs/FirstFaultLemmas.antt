@@ -22,7 +22,8 @@ use Rattle.vcard_text.specs.Unfolding.{logical_lines}
 use Rattle.vcard_text.specs.Cards.{is_named, has_named, kind_named, kind_of, canonical_text}
 use Rattle.vcard_text.specs.Spelling.{is_end, without_mark, Spells}
 use Rattle.vcard_text.specs.FirstFaults.{IsLeastFault, line_breaks, LineHas, AreFaultless, IsOfFirstFaultyLine, is_group, whole_breaks, IsOfWhole, IsOfLines, IsFirstFault, of_length, of_encoding, of_line, of_whole, of_canonical}
-use Rattle.vcard_text.specs.Faults.{scan_at, fault_if, line_fault, next_scan, unless, scanned, rules_fault, whole_fault, card_from, card_of_texts, within_bounds, card_of_text, fault_of, first_fault}
+use Rattle.vcard_text.specs.Scanning.{scan_at, fault_if, line_fault, next_scan, unless, scanned, rules_fault, whole_fault, card_from, card_of_texts, within_bounds}
+use Rattle.vcard_text.specs.CardOfText.{card_of_text, fault_of, first_fault}
 use Rattle.vcard_text.proofs.BlockLemmas.{are_logical_lines, one_reading}
 use Rattle.vcard_text.proofs.LineLemmas.{line_found, line_again}
 use Rattle.vcard_text.proofs.CardLemmas.{card_found, card_again}

@@ -14,7 +14,8 @@ use Rattle.vcard_text.specs.Cards.{canonical_text}
 use Rattle.vcard_text.specs.FirstFaults.{IsLeastFault, lines_break}
 use Rattle.vcard_text.specs.Making.{upper_lines, made_line_breaks, MadeLineHas, of_characters, of_parts, of_rules, AreMadeFaultless, IsOfFirstFaultyMade, IsFirstMadeFault, of_line, of_whole, of_canonical}
 use Rattle.vcard_text.specs.MakingSteps.{has_legal_parts, made_line_fault, made_behind, card_made_of, first_made_fault}
-use Rattle.vcard_text.specs.Faults.{fault_if, unless, body_line_fault, rules_fault, within_bounds, fault_of}
+use Rattle.vcard_text.specs.Scanning.{fault_if, unless, body_line_fault, rules_fault, within_bounds}
+use Rattle.vcard_text.specs.CardOfText.{fault_of}
 use Rattle.vcard_text.proofs.FrontLemmas.{of_class, all_of_class}
 use Rattle.vcard_text.proofs.LeastLemmas.{least_of, found_or_none, least_found, none_passes, least_again, least_along}
 use Rattle.vcard_text.proofs.MakingLemmas.{legal_from_test, legal_to_test}

@@ -9,7 +9,8 @@ use Rattle.vcard_text.specs.declared.line.Param.{Param}
 use Rattle.vcard_text.specs.declared.line.Line.{Line}
 use Rattle.vcard_text.specs.Steps.{◌>>=◌}
 use Rattle.vcard_text.specs.Grammar.{is_name_octet, is_value_octet, is_permitted, line_text}
-use Rattle.vcard_text.specs.Faults.{fault_if, unless, body_line_fault, rules_fault, within_bounds, fault_of}
+use Rattle.vcard_text.specs.Scanning.{fault_if, unless, body_line_fault, rules_fault, within_bounds}
+use Rattle.vcard_text.specs.CardOfText.{fault_of}
 use Rattle.vcard_text.specs.Making.{upper_lines}
 
 -- ---- tests of the parts, each of which passes exactly where the grammar says so

@@ -5,7 +5,8 @@ ghost use Rattle.vcard_text.specs.LogicalLines.{continues};
 ghost use Rattle.vcard_text.specs.Unfolding.{before, line_so_far, unfolded_from, logical_lines};
 ghost use Rattle.vcard_text.specs.Spelling.{without_mark, Spells};
 ghost use Rattle.vcard_text.specs.FirstFaults.{IsFirstFault};
-ghost use Rattle.vcard_text.specs.Faults.{card_from, card_of_texts, within_bounds, card_of_text};
+ghost use Rattle.vcard_text.specs.Scanning.{card_from, card_of_texts, within_bounds};
+ghost use Rattle.vcard_text.specs.CardOfText.{card_of_text};
 ghost use Rattle.vcard_text.specs.declared.fault.CardFault.TheVariants.{Memory};
 ghost use Rattle.vcard_text.specs.declared.line.Line.{Line};
 
@@ -122,7 +123,7 @@ fn without_mark(text: &str) -> &str
 }
 
 /// The lines, unless their canonical text is too long.
-#[tactic(auto, unfolding(crate::specs::Faults::within_bounds))]
+#[tactic(auto, unfolding(crate::specs::Scanning::within_bounds))]
 pub(crate) fn within_bounds(lines: Items<Line>) -> Result<Items<Line>, CardFault>
     ensures { Gives (λ lines. lines) result (within_bounds lines) }
 {
@@ -134,7 +135,7 @@ pub(crate) fn within_bounds(lines: Items<Line>) -> Result<Items<Line>, CardFault
 }
 
 /// The lines of the card that a text spells, or the text's first fault.
-#[tactic(auto, unfolding(crate::specs::Faults::card_of_text))]
+#[tactic(auto, unfolding(crate::specs::CardOfText::card_of_text))]
 fn read_text(alloc: Global, text: &[u8]) -> Result<Items<Line>, CardFault>
     ensures { Gives (λ lines. lines) result (card_of_text text.now) }
 {
