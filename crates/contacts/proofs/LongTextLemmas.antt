@@ -7,10 +7,7 @@ use Rattle.std.proofs.lemmas.List.{take_all, length-take-le}
 use Rattle.vcard_text.specs.Bounds.{text_octets_max}
 use Rattle.vcard_text.specs.declared.fault.CardFault.{CardFault}
 use Rattle.vcard_text.specs.declared.fault.CardFault.TheVariants.{TooLong, NotUtf8}
-use Rattle.vcard_text.specs.Steps.{◌>>=◌}
-use Rattle.vcard_text.specs.Spelling.{without_mark}
-use Rattle.vcard_text.specs.Unfolding.{logical_lines}
-use Rattle.vcard_text.specs.Faults.{card_of_text, card_of_texts, within_bounds, first_fault, fault_of}
+use Rattle.vcard_text.specs.FirstFaults.{IsFirstFault, of_length, of_encoding, of_line, of_whole, of_canonical}
 use Rattle.contacts.specs.declared.first_path.FirstPath.{FirstPath}
 use Rattle.contacts.specs.declared.stop.Stop.{Stop}
 use Rattle.contacts.specs.declared.stop.Stop.TheVariants.{Refused, Fault, Device}
@@ -38,18 +35,27 @@ short_front input l = ⊎_elim
         let full : length (front input) ≡ read_octets_max = length-take-le read_octets_max input (omega arith) in
         omega arith
 
--- a text that is too long is refused for that
-long_fault : (text : List ℕ) → text_octets_max < length text → first_fault text ≡ Some TooLong
-unfolding card_of_text
-long_fault text l = ap (λ t. fault_of (cond t (cond (is_utf8 text) (card_of_texts (logical_lines (without_mark text)) >>= within_bounds) (Err NotUtf8)) (Err TooLong))) (lt-leb (length text) text_octets_max l)
+-- a text that is too long has that for its first fault, and no other
+long_fault : (text : List ℕ) (fault : CardFault) → text_octets_max < length text → IsFirstFault text fault → fault ≡ TooLong
+long_fault text fault l (of_length is long) = is
+long_fault text fault l (of_encoding is within utf8) = absurd (omega arith)
+long_fault text fault l (of_line logical are first) = absurd (too_long are.within)
+  where
+    too_long : length text ≤ text_octets_max → ⊥
+    too_long within = omega arith
+long_fault text fault l (of_whole logical are first) = absurd (too_long are.within)
+  where
+    too_long : length text ≤ text_octets_max → ⊥
+    too_long within = omega arith
+long_fault text fault l (of_canonical is logical are lines card long) = is
 
-pub fault_of_front : (input : List ℕ) (fault : CardFault) → first_fault (front input) ≡ Some fault → first_fault input ≡ Some fault
-fault_of_front input fault e = ⊎_elim
-    (λ within. ap first_fault (sym (whole_front input (leb-true _ _ within))) ∙ e)
+fault_of_front : (input : List ℕ) (fault : CardFault) → IsFirstFault (front input) fault → IsFirstFault input fault
+fault_of_front input fault first = ⊎_elim
+    (λ within. subst (λ text. IsFirstFault text fault) (whole_front input (leb-true _ _ within)) first)
     (λ over.
-    let longer = leb-false (length input) read_octets_max over in
-    let full : length (front input) ≡ read_octets_max = length-take-le read_octets_max input (omega arith) in
-    long_fault input (omega arith) ∙ sym (long_fault (front input) (omega arith)) ∙ e)
+      let longer = leb-false (length input) read_octets_max over in
+      let full : length (front input) ≡ read_octets_max = length-take-le read_octets_max input (omega arith) in
+      of_length (long_fault (front input) fault (omega arith) first) (omega arith))
     (cases_Bool (nat_le (length input) read_octets_max))
 
 -- ---- what came of the front came of the whole
