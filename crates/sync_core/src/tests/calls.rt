@@ -55,7 +55,7 @@ const PUTS: [(&str, &str, PutAnswer); 4] = [
 ];
 
 /// The puts come to the new book `staff`, and Bob goes.
-fn five_changes(rt: &impl Abort, alloc: Global, store: &mut PlainStore) -> Result<(), Fail> {
+fn five_changes<S: BookStore>(rt: &impl Abort, alloc: Global, store: &mut S) -> Result<(), Fail> {
     assert_eq!(rt; store.create_book("staff"), Ok(1));
     for (uid, name, answer) in PUTS {
         let card = card(alloc, uid, name)?;
@@ -66,7 +66,7 @@ fn five_changes(rt: &impl Abort, alloc: Global, store: &mut PlainStore) -> Resul
 }
 
 /// Then Cy moves to the new book `clients`.
-fn a_move(rt: &impl Abort, store: &mut PlainStore) {
+fn a_move<S: BookStore>(rt: &impl Abort, store: &mut S) {
     assert_eq!(rt; store.create_book("clients"), Ok(2));
     let moved = Moved {
         from: 6,
@@ -107,7 +107,7 @@ fn last_page(alloc: Global) -> Result<Page, Fail> {
 }
 
 /// What is told of the cards after five changes.
-fn cards_are_told(rt: &impl Abort, alloc: Global, store: &mut PlainStore) -> Result<(), Fail> {
+fn cards_are_told<S: BookStore>(rt: &impl Abort, alloc: Global, store: &mut S) -> Result<(), Fail> {
     let anna = stored(alloc, 4, "a", "Anna")?;
     let cy = stored(alloc, 3, "c", "Cy")?;
     let cards = store.cards("staff")?;
@@ -121,7 +121,7 @@ fn cards_are_told(rt: &impl Abort, alloc: Global, store: &mut PlainStore) -> Res
 }
 
 /// What is told of the books after five changes.
-fn books_are_told(rt: &impl Abort, alloc: Global, store: &mut PlainStore) -> Result<(), Fail> {
+fn books_are_told<S: BookStore>(rt: &impl Abort, alloc: Global, store: &mut S) -> Result<(), Fail> {
     let line = staff_line(alloc)?;
     let lines = store.books()?;
     assert_eq!(rt; lines.len(), 1);
@@ -131,22 +131,28 @@ fn books_are_told(rt: &impl Abort, alloc: Global, store: &mut PlainStore) -> Res
     Ok(())
 }
 
-#[test]
-fn each_call_is_answered(rt: HostRuntime) -> Result<(), Fail> {
-    let alloc = rt.alloc();
-    let mut store = PlainStore::new(alloc, Limits::standard());
-    five_changes(&rt, alloc, &mut store)?;
-    cards_are_told(&rt, alloc, &mut store)?;
-    books_are_told(&rt, alloc, &mut store)?;
-    a_move(&rt, &mut store);
+/// Each call of a new store is answered.
+fn calls_are_answered<S: BookStore>(
+    rt: &impl Abort,
+    alloc: Global,
+    store: &mut S,
+) -> Result<(), Fail> {
+    five_changes(rt, alloc, store)?;
+    cards_are_told(rt, alloc, store)?;
+    books_are_told(rt, alloc, store)?;
+    a_move(rt, store);
     assert_eq!(rt; store.tally("clients"), Ok(CLIENTS));
     Ok(())
 }
 
-/// What no command asks: a token whose numbers are in the wrong order, and a book by itself.
 #[test]
-fn calls_that_no_command_makes_are_refused(rt: HostRuntime) -> Result<(), Fail> {
+fn each_call_of_a_store_in_memory_is_answered(rt: HostRuntime) -> Result<(), Fail> {
     let mut store = PlainStore::new(rt.alloc(), Limits::standard());
+    calls_are_answered(&rt, rt.alloc(), &mut store)
+}
+
+/// What no command asks of a new store: a token whose numbers are in the wrong order, and a book by itself.
+fn rare_calls_are_refused<S: BookStore>(rt: &impl Abort, store: &mut S) -> Result<(), Fail> {
     store.create_book("staff")?;
     let no_book = Denied::Refused(Refusal::NoSuchBook);
     assert_eq!(rt; store.book("clients").err(), Some(no_book));
@@ -157,6 +163,12 @@ fn calls_that_no_command_makes_are_refused(rt: HostRuntime) -> Result<(), Fail> 
         Some(too_new)
     );
     Ok(())
+}
+
+#[test]
+fn calls_that_no_command_makes_are_refused(rt: HostRuntime) -> Result<(), Fail> {
+    let mut store = PlainStore::new(rt.alloc(), Limits::standard());
+    rare_calls_are_refused(&rt, &mut store)
 }
 
 #[test]
