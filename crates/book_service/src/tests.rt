@@ -48,7 +48,8 @@ fn all_told(alloc: Global, replies: &[Reply]) -> Result<String, NoMemory> {
     Ok(text)
 }
 
-/// Drives a script's events, and tells the replies. Nothing is driven where a device is named that isn't there.
+/// Drives a script's events, and tells the replies. Nothing is driven where a device is named that
+/// isn't there.
 fn driven<S: BookStore>(
     alloc: Global,
     store: &mut S,

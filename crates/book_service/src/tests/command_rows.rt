@@ -315,7 +315,8 @@ refused 10 cause 3
 refused 11
 ",
     },
-    // Puts and removals are refused in order. A text that ends behind its first line has no VERSION.
+    // Puts and removals are refused in order. A text that ends behind its first line has no
+    // VERSION.
     Row {
         scripts: &[
             FIVE_CHANGES,
@@ -390,7 +391,8 @@ gone 6
         wanted: "books
 ",
     },
-    // The books are told by the octets of their names, and have ids in the order in which they were made.
+    // The books are told by the octets of their names, and have ids in the order in which they were
+    // made.
     Row {
         scripts: &[
             FIVE_CHANGES,

@@ -7,8 +7,8 @@ use std::process::Abort;
 use std::test::Fail;
 use sync_core::Limits;
 
-/// A script on a new store with these limits: the most entries of a page, live cards of a book, changes of a book, and
-/// books.
+/// A script on a new store with these limits: the most entries of a page, live cards of a book,
+/// changes of a book, and books.
 struct LimitRow {
     limits: [u64; 4],
     script: &'static str,

@@ -62,8 +62,8 @@ fn tell_device<S>(
     Ok(())
 }
 
-/// Scripts that happen one after another in a new office, a device, and what is replied to the last script and what the
-/// device has then.
+/// Scripts that happen one after another in a new office, a device, and what is replied to the last
+/// script and what the device has then.
 struct Row {
     scripts: &'static [&'static str],
     device: usize,
@@ -301,7 +301,8 @@ http://contacts.invalid/sync/1/3/5",
     },
 ];
 
-/// The replies to the last of the scripts, which happen one after another, and then the copy and token of the device.
+/// The replies to the last of the scripts, which happen one after another, and then the copy and
+/// token of the device.
 fn last_replies<K: Stores>(
     kind: &K,
     alloc: Global,

@@ -1,8 +1,8 @@
-//! A long run of events that a small generator draws. The store and its devices must reply to each what the second
-//! computation replies, and end with the copies that it ends with.
+//! A long run of events that a small generator draws. The store and its devices must reply to each
+//! what the second computation replies, and end with the copies that it ends with.
 //!
-//! The contracts say what each call does. This run says that their words mean what was meant, since a plain walk over lists
-//! of changes, written apart from them, comes to the same.
+//! The contracts say what each call does. This run says that their words mean what was meant, since
+//! a plain walk over lists of changes, written apart from them, comes to the same.
 use super::devices::device_told;
 use super::driven;
 use super::plain::{
@@ -27,8 +27,8 @@ const SEED: u64 = 2;
 /// How many names a card may have.
 const NAMES: u64 = 12;
 
-/// The books of the devices, by their places: two are of `staff`, and the others of `friends` and `clients`. No book is
-/// there at first, so that for a while they ask in vain.
+/// The books of the devices, by their places: two are of `staff`, and the others of `friends` and
+/// `clients`. No book is there at first, so that for a while they ask in vain.
 const DEVICE_BOOKS: [usize; 4] = [3, 3, 1, 0];
 
 /// A linear congruential generator, which draws the same numbers in each run.
@@ -90,8 +90,8 @@ fn draw_expect(dice: &mut Dice, version: u64) -> Option<u64> {
     }
 }
 
-/// A token that the book gave or might have given, one of another book, one that is too new, one that isn't written as
-/// tokens are, or none.
+/// A token that the book gave or might have given, one of another book, one that is too new, one
+/// that isn't written as tokens are, or none.
 fn draw_token(dice: &mut Dice, book: u64, number: u64) -> Option<PlainToken> {
     let at = dice.roll(number.wrapping_add(1));
     let later = dice.roll(number.saturating_sub(at).wrapping_add(1));
@@ -283,7 +283,8 @@ fn plain_office(alloc: Global) -> PlainOffice {
     }
 }
 
-/// The events as a script, what a store and its devices tell of them, and what the second computation tells.
+/// The events as a script, what a store and its devices tell of them, and what the second
+/// computation tells.
 #[derive(Drop)]
 struct LongRun<S> {
     script: Telling,
@@ -387,8 +388,8 @@ const KINDS_OF_REPLIES: [&str; 30] = [
     "\n2/",
 ];
 
-/// A kind of replies that isn't in the text, or whole copies where there were others, and an empty word where nothing is
-/// missing.
+/// A kind of replies that isn't in the text, or whole copies where there were others, and an empty
+/// word where nothing is missing.
 fn missing(told: &str, copies: Copies) -> &'static str {
     if copies.whole == 0 || copies.other > 0 {
         return "whole copies";
@@ -401,7 +402,8 @@ fn missing(told: &str, copies: Copies) -> &'static str {
     ""
 }
 
-/// The store and devices told what the second computation did, all kinds of replies are in it, and its copies were whole.
+/// The store and devices told what the second computation did, all kinds of replies are in it, and
+/// its copies were whole.
 fn is_as_wanted<S>(rt: &impl Abort, run: &LongRun<S>) -> Result<(), Fail> {
     let wanted = run.wanted.text()?;
     let told = run.told.text()?;

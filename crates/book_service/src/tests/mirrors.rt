@@ -16,8 +16,8 @@ put staff c Cy
 put staff a Anna
 remove staff b";
 
-/// A mirror of the book after five changes, or of a book that isn't there: how many pages there were, whether that was
-/// all, the copy, and the token.
+/// A mirror of the book after five changes, or of a book that isn't there: how many pages there
+/// were, whether that was all, the copy, and the token.
 struct Row {
     book: &'static str,
     limit: u64,
@@ -72,8 +72,8 @@ no token",
     },
 ];
 
-/// A mirror by pages of 100 of a book that so many cards came to, each put once: its pages, whether that was all, its
-/// cards, and the token.
+/// A mirror by pages of 100 of a book that so many cards came to, each put once: its pages, whether
+/// that was all, its cards, and the token.
 struct LongRow {
     cards: u64,
     max_pages: u64,

@@ -1,7 +1,8 @@
 //! A second computation of what a store and its devices answer, for the first to be compared with.
 //!
-//! A book is nothing here but the list of all its changes, and a change's number is its place in that list, from 1. All
-//! that is asked of a book is found by walking over the list, however long that takes.
+//! A book is nothing here but the list of all its changes, and a change's number is its place in
+//! that list, from 1. All that is asked of a book is found by walking over the list, however long
+//! that takes.
 //!
 //! Names are small numbers, so that all values but the lists are plain ones.
 use sync_core::Mark;
@@ -61,7 +62,8 @@ pub(super) struct PlainBook {
     pub changes: Vec<Change>,
 }
 
-/// The place of a device's book, the entries that it was told since it last had no token, and its token.
+/// The place of a device's book, the entries that it was told since it last had no token, and its
+/// token.
 #[derive(Drop)]
 pub(super) struct PlainDevice {
     pub book: usize,
@@ -69,7 +71,8 @@ pub(super) struct PlainDevice {
     pub token: Option<PlainToken>,
 }
 
-/// How many copies were their books' live cards after a page that told all that was left, and how many weren't.
+/// How many copies were their books' live cards after a page that told all that was left, and how
+/// many weren't.
 #[derive(Clone, Copy)]
 pub(super) struct Copies {
     pub whole: u64,
@@ -84,7 +87,8 @@ pub(super) struct PlainOffice {
     pub copies: Copies,
 }
 
-/// A page of a report from one mark to another, which tells what is due at the first and has a number up to the second.
+/// A page of a report from one mark to another, which tells what is due at the first and has a
+/// number up to the second.
 #[derive(Clone, Copy)]
 pub(super) struct PlainPage {
     pub from: Mark,
@@ -129,8 +133,9 @@ pub(super) struct PlainEvent {
     pub device: usize,
 }
 
-/// What comes of a command that gives neither a page nor numbers of books: the words of its reply and the number behind
-/// them, why its book changed, where it did, and what a move brought to the other book.
+/// What comes of a command that gives neither a page nor numbers of books: the words of its reply
+/// and the number behind them, why its book changed, where it did, and what a move brought to the
+/// other book.
 #[derive(Clone, Copy)]
 pub(super) struct Answer {
     pub words: &'static str,
@@ -206,7 +211,8 @@ pub(super) fn count_of(changes: &[Change], reason: Reason) -> u64 {
     count
 }
 
-/// Whether a device with the mark is still to be told of the change, which is some change of the UID.
+/// Whether a device with the mark is still to be told of the change, which is some change of the
+/// UID.
 fn is_due(changes: &[Change], change: Member, mark: Mark) -> bool {
     let told = change.name.is_some() || change.number > mark.base;
     let last = last_of(changes, change.uid);

@@ -235,7 +235,8 @@ fn is_whole(device: &PlainDevice, changes: &[Change]) -> bool {
     whole
 }
 
-/// The device takes the page's entries behind those that it has, or behind none where it has no token.
+/// The device takes the page's entries behind those that it has, or behind none where it has no
+/// token.
 fn apply(device: &mut PlainDevice, book: &PlainBook, page: PlainPage) -> Result<(), NoMemory> {
     if device.token.is_none() {
         device.heard.clear();

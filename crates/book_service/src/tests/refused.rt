@@ -1,5 +1,5 @@
-//! What stands after a growth was refused. Nothing is refused where the tests are run as they are; `rt try --test
-//! --fail-alloc N` refuses the N-th growth of each test.
+//! What stands after a growth was refused. Nothing is refused where the tests are run as they are;
+//! `rt try --test --fail-alloc N` refuses the N-th growth of each test.
 use super::devices::{Office, device_told, new_office};
 use super::stores::{InMemory, Stores};
 use super::{events_in, performed};

@@ -1,7 +1,7 @@
 //! Commands and events, written as lines of words.
 //!
-//! An optional number that is left out, or is no number, is `None`. A token is written `book/at/base`, and `-` is the empty
-//! text.
+//! An optional number that is left out, or is no number, is `None`. A token is written
+//! `book/at/base`, and `-` is the empty text.
 use crate::command::Command;
 use crate::event::Event;
 use std::alloc::Global;

@@ -1,5 +1,5 @@
-//! Each call of a store in memory once, where there is memory enough. What calls answer in which order is tried by the
-//! scripts of `book_service`.
+//! Each call of a store in memory once, where there is memory enough. What calls answer in which
+//! order is tried by the scripts of `book_service`.
 use super::{card, mark, token};
 use crate::plain_store::PlainStore;
 use crate::store::BookStore;
@@ -151,7 +151,8 @@ fn each_call_of_a_store_in_memory_is_answered(rt: HostRuntime) -> Result<(), Fai
     calls_are_answered(&rt, rt.alloc(), &mut store)
 }
 
-/// What no command asks of a new store: a token whose numbers are in the wrong order, and a book by itself.
+/// What no command asks of a new store: a token whose numbers are in the wrong order, and a book by
+/// itself.
 fn rare_calls_are_refused<S: BookStore>(rt: &impl Abort, store: &mut S) -> Result<(), Fail> {
     store.create_book("staff")?;
     let no_book = Denied::Refused(Refusal::NoSuchBook);
