@@ -1,5 +1,5 @@
 //! A map from texts that contracts see as a finite map from their octets.
-ghost use Rattle.std.specs.Prelude.{◌≡◌, IfNone, IfOk, IfSome, OnOk, OnErr, string_bytes, option_copied, map, None};
+ghost use Rattle.std.specs.Prelude.{◌≡◌, ◌↔◌, IsTrue, IfNone, IfOk, IfSome, OnOk, OnErr, string_bytes, option_copied, map, None};
 ghost use Rattle.std.specs.Map.Iter.{deref_pair};
 ghost use Rattle.std.specs.FinMap as finite;
 ghost use Rattle.base_types.specs.TextMaps.{texts};
@@ -83,6 +83,13 @@ impl<V: Drop> TextMap<V> {
         ensures { result ≡ finite.len self.now }
     {
         self.inner.len()
+    }
+
+    /// Whether there are none.
+    pub fn is_empty(&self) -> bool
+        ensures { IsTrue result ↔ (finite.len self.now ≡ 0) }
+    {
+        self.len() == 0
     }
 
     /// Takes every entry out.
