@@ -1,11 +1,11 @@
 //! Groups of people: who a vCard group reaches through its members (RFC 6350, section 6.6.5).
 #![tactic(auto)]
 
-pub mod expansion;
-pub mod fault;
-pub mod groups;
+mod expansion;
+mod fault;
+mod groups;
 pub mod laws;
-pub mod lookup;
+mod lookup;
 mod naming;
 #[cfg(test)]
 mod tests;
