@@ -1,0 +1,180 @@
+-- Causes: what a card's fault is told as, and which of those that apply is the least.
+use Rattle.std.proofs.Common.{[], Result, Ok, Err, IfErr, ◌≡◌, ◌≢◌, ◌≤◌, ◌+◌, ◌⊎◌, ℕ, List, length, Some, refl, sym, ap, subst, ◌∙◌, arith, inl, inr}
+use Rattle.csv.specs.Records.{AllText}
+use Rattle.vcard_text.specs.declared.fault.CardFault.{CardFault}
+use Rattle.vcard_text.specs.declared.fault.CardFault.TheVariants as card
+use Rattle.vcard_text.specs.declared.line.Line.{Line}
+use Rattle.vcard_text.specs.FaultNumbers.{fault_number}
+use Rattle.csv_cards.specs.declared.form.Form.{Form}
+use Rattle.csv_cards.specs.declared.form.Form.TheVariants as form
+use Rattle.csv_cards.specs.declared.cause.CsvCause.{CsvCause}
+use Rattle.csv_cards.specs.declared.cause.CsvCause.TheVariants as cause
+use Rattle.csv_cards.specs.Rows.{Row, field, header}
+use Rattle.csv_cards.specs.Causes.{cause_number, cause_of}
+use Rattle.csv_cards.specs.Columns.{name_in}
+use Rattle.vcard_text.specs.Cards.{IsCard, uid_of}
+use Rattle.vcard_text.specs.Spelling.{Spells}
+use Rattle.csv_cards.specs.Reading.{Applies, HasCardFault, HasOtherUid, IsLeastCause, StandsFor, RepeatsUid}
+use Rattle.csv_cards.specs.OneRow.{IsTextCause, IsColumnsCause}
+
+pub err_map : {T E : Type 0} {P Q : E → Type 0} (r : Result T E) → ((e : E) → P e → Q e) → IfErr r P → IfErr r Q
+err_map (Ok x) f p = tt
+err_map (Err e) f p = f e p
+
+-- ---- a card's fault
+
+pub told_fault : (fault : CardFault) (why : CsvCause) → why ≡ cause_of fault → why ≢ cause.Memory → (why ≡ cause.BadCard fault) × (fault ≢ card.Memory)
+told_fault card.TooLong why e n = (e, λ m. cc m)
+told_fault card.NotUtf8 why e n = (e, λ m. cc m)
+told_fault card.BadChar why e n = (e, λ m. cc m)
+told_fault card.BadLine why e n = (e, λ m. cc m)
+told_fault card.NoBegin why e n = (e, λ m. cc m)
+told_fault card.BadVersion why e n = (e, λ m. cc m)
+told_fault card.NoEnd why e n = (e, λ m. cc m)
+told_fault card.NoName why e n = (e, λ m. cc m)
+told_fault card.NoUid why e n = (e, λ m. cc m)
+told_fault card.BadUid why e n = (e, λ m. cc m)
+told_fault card.Twice why e n = (e, λ m. cc m)
+told_fault card.MemberOutsideGroup why e n = (e, λ m. cc m)
+told_fault card.Memory why e n = absurd (n e)
+
+few_numbers : (fault : CardFault) → fault_number fault ≤ 13
+few_numbers card.TooLong = omega arith
+few_numbers card.NotUtf8 = omega arith
+few_numbers card.BadChar = omega arith
+few_numbers card.BadLine = omega arith
+few_numbers card.NoBegin = omega arith
+few_numbers card.BadVersion = omega arith
+few_numbers card.NoEnd = omega arith
+few_numbers card.NoName = omega arith
+few_numbers card.NoUid = omega arith
+few_numbers card.BadUid = omega arith
+few_numbers card.Twice = omega arith
+few_numbers card.MemberOutsideGroup = omega arith
+few_numbers card.Memory = omega arith
+
+-- ---- what excludes what
+
+some_is : (a b : CardFault) → Some a ≡ Some b → a ≡ b
+some_is a b e = cc e
+
+one_fault : (f : Form) (row : Row) (a b : CardFault) → HasCardFault f row a → HasCardFault f row b → a ≡ b
+one_fault form.Cards row a b is too = some_is a b (sym is.first ∙ too.first)
+one_fault form.Columns row a b is too = some_is a b (sym is.first ∙ too.first)
+
+module _ (one_card : (text : List ℕ) (a b : List Line) → Spells text a → Spells text b → a ≡ b) (row : Row) (lines : List Line) where
+  is_named : (f : Form) → StandsFor f row lines → (f ≡ form.Columns) × (name_in row ≡ []) → ⊥
+  is_named form.Cards stands nameless = cc nameless.0
+  is_named form.Columns stands nameless = stands.holds.named nameless.1
+
+  has_no_fault : (f : Form) (fault : CardFault) → StandsFor f row lines → HasCardFault f row fault → ⊥
+  has_no_fault form.Cards fault stands bad = bad.none lines stands.holds.text
+  has_no_fault form.Columns fault stands bad = bad.none (subst IsCard stands.holds.lines stands.holds.rules)
+
+  its_uid : (other : HasOtherUid row) → lines ≡ other.card → (field row 0 ≡ []) ⊎ (field row 0 ≡ uid_of lines) → ⊥
+  its_uid other same (inl none) = other.given none
+  its_uid other same (inr own) = other.other (own ∙ ap uid_of same)
+
+  has_its_uid : (f : Form) → StandsFor f row lines → (f ≡ form.Cards) × HasOtherUid row → ⊥
+  has_its_uid form.Cards stands other = its_uid other.1 (one_card (field row 1) lines other.1.card stands.holds.text other.1.text) stands.holds.uid
+  has_its_uid form.Columns stands other = cc other.0
+
+-- ---- the least cause
+
+module _ (f : Form) (earlier : List (List Line)) (row : Row) where
+  pub columns_least : length row ≢ length (header f) → IsLeastCause f earlier row cause.Columns
+  columns_least few = record { applies = few; least = least }
+    where
+      least : (other : CsvCause) → Applies f earlier row other → 2 ≤ cause_number other
+      least cause.BadHeader none = absurd none
+      least cause.Columns too = omega arith
+      least cause.NotUtf8 too = omega arith
+      least cause.EmptyName too = omega arith
+      least (cause.BadCard fault) too = omega arith
+      least cause.UidMismatch too = omega arith
+      least cause.DuplicateUid too = omega arith
+      least cause.Memory none = absurd none
+
+  module _ (many : length row ≡ length (header f)) where
+    pub utf8_least : (AllText row → ⊥) → IsLeastCause f earlier row cause.NotUtf8
+    utf8_least other_octets = record { applies = other_octets; least = least }
+      where
+        least : (other : CsvCause) → Applies f earlier row other → 3 ≤ cause_number other
+        least cause.BadHeader none = absurd none
+        least cause.Columns none = absurd (none many)
+        least cause.NotUtf8 too = omega arith
+        least cause.EmptyName too = omega arith
+        least (cause.BadCard fault) too = omega arith
+        least cause.UidMismatch too = omega arith
+        least cause.DuplicateUid too = omega arith
+        least cause.Memory none = absurd none
+
+  module _ (many : length row ≡ length (header f)) (text : AllText row) where
+    -- a fault of the card itself
+    fault_least : (fault : CardFault) → Applies f earlier row (cause.BadCard fault) → (Applies f earlier row cause.EmptyName → ⊥) → IsLeastCause f earlier row (cause.BadCard fault)
+    fault_least fault bad named = record { applies = bad; least = least }
+      where
+        least : (other : CsvCause) → Applies f earlier row other → 20 + fault_number fault ≤ cause_number other
+        least cause.BadHeader none = absurd none
+        least cause.Columns none = absurd (none many)
+        least cause.NotUtf8 none = absurd (none text)
+        least cause.EmptyName none = absurd (named none)
+        least (cause.BadCard other) too =
+            let same : fault ≡ other = one_fault f row fault other bad too in
+            rw same (omega arith)
+        least cause.UidMismatch too = let few = few_numbers fault in omega (arith, few)
+        least cause.DuplicateUid too = let few = few_numbers fault in omega (arith, few)
+        least cause.Memory none = absurd none
+
+    pub repeated_least : ((text : List ℕ) (a b : List Line) → Spells text a → Spells text b → a ≡ b) → RepeatsUid f earlier row → IsLeastCause f earlier row cause.DuplicateUid
+    repeated_least one_card repeats = record { applies = repeats; least = least }
+      where
+        least : (other : CsvCause) → Applies f earlier row other → 41 ≤ cause_number other
+        least cause.BadHeader none = absurd none
+        least cause.Columns none = absurd (none many)
+        least cause.NotUtf8 none = absurd (none text)
+        least cause.EmptyName none = absurd (is_named one_card row repeats.card f repeats.stands none)
+        least (cause.BadCard fault) none = absurd (has_no_fault one_card row repeats.card f fault repeats.stands none)
+        least cause.UidMismatch none = absurd (has_its_uid one_card row repeats.card f repeats.stands none)
+        least cause.DuplicateUid too = omega arith
+        least cause.Memory none = absurd none
+
+-- ---- rows of a UID and a card's text
+
+module _ (earlier : List (List Line)) (row : Row) (many : length row ≡ length (header form.Cards)) (text : AllText row) where
+  mismatch_least : HasOtherUid row → IsLeastCause form.Cards earlier row cause.UidMismatch
+  mismatch_least other_uid = record { applies = (refl, other_uid); least = least }
+    where
+      least : (other : CsvCause) → Applies form.Cards earlier row other → 40 ≤ cause_number other
+      least cause.BadHeader none = absurd none
+      least cause.Columns none = absurd (none many)
+      least cause.NotUtf8 none = absurd (none text)
+      least cause.EmptyName none = cc none.0
+      least (cause.BadCard fault) none = absurd (none.none other_uid.card other_uid.text)
+      least cause.UidMismatch too = omega arith
+      least cause.DuplicateUid too = omega arith
+      least cause.Memory none = absurd none
+
+  pub text_least : (why : CsvCause) → IsTextCause row why → IsLeastCause form.Cards earlier row why
+  text_least why (inl (fault, is, bad)) = rw is (fault_least form.Cards earlier row many text fault bad (λ none. cc none.0))
+  text_least why (inr (is, other_uid)) = rw is (mismatch_least other_uid)
+
+-- ---- rows of columns
+
+module _ (earlier : List (List Line)) (row : Row) (many : length row ≡ length (header form.Columns)) (text : AllText row) where
+  nameless_least : name_in row ≡ [] → IsLeastCause form.Columns earlier row cause.EmptyName
+  nameless_least nameless = record { applies = (refl, nameless); least = least }
+    where
+      least : (other : CsvCause) → Applies form.Columns earlier row other → 4 ≤ cause_number other
+      least cause.BadHeader none = absurd none
+      least cause.Columns none = absurd (none many)
+      least cause.NotUtf8 none = absurd (none text)
+      least cause.EmptyName too = omega arith
+      least (cause.BadCard fault) too = omega arith
+      least cause.UidMismatch too = omega arith
+      least cause.DuplicateUid too = omega arith
+      least cause.Memory none = absurd none
+
+  pub columns_cause_least : (why : CsvCause) → IsColumnsCause row why → IsLeastCause form.Columns earlier row why
+  columns_cause_least why (inl (is, nameless)) = rw is (nameless_least nameless)
+  columns_cause_least why (inr (fault, is, named, bad)) = rw is (fault_least form.Columns earlier row many text fault bad (λ nameless. named nameless.1))

@@ -1,0 +1,5 @@
+pub mod RecordLemmas
+pub mod ReaderLemmas
+pub mod LineEndLemmas
+pub mod CauseLemmas
+pub mod ColumnLemmas

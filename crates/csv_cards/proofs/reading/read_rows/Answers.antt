@@ -1,0 +1,14 @@
+use Rattle.std.proofs.Common.{inl, inr}
+use Rattle.std.proofs.lemmas.Result.{err_from_is_err_and}
+use Rattle.csv_cards.proofs.CauseLemmas.{err_map}
+use Rattle.csv_cards.proofs.reading.read_rows.Goals as goal
+
+pub returns-in_err-form-clause-fault : goal.returns-in_err-form-clause-fault
+returns-in_err-form-clause-fault c =
+    let p = err_from_is_err_and c.from_residual.result c.from_residual.ensures.1 in
+    rw (p.1, p.2) (λ n. inl (c.in_err-form.ensures.fault c.args.text.now c.reader_of-reader.ensures n))
+
+pub returns-clause-fault : goal.returns-clause-fault
+returns-clause-fault c =
+    err_map c.read_cards.result (λ fault is n. inr (is n))
+    (c.read_cards.ensures.fault c.args.text.now (c.in_ok-form.ensures.form c.args.text.now c.reader_of-reader.ensures))

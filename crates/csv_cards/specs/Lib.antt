@@ -1,0 +1,9 @@
+pub mod Rows
+pub mod Columns
+pub mod Causes
+pub mod Reading
+pub mod Writing
+pub mod Readers
+pub mod LineEnds
+pub mod OneRow
+pub mod Writers

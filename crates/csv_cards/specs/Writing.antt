@@ -1,0 +1,44 @@
+-- The CSV text of cards, in each form. This project's own.
+use Rattle.std.specs.Prelude.{ℕ, List, [], ◌∷◌, map, flat_map, codes, get_or}
+use Rattle.std.specs.Option.{option_map_or}
+use Rattle.csv.specs.Writing.{default_writer, row_text}
+use Rattle.vcard_text.specs.declared.line.Line.{Line}
+use Rattle.vcard_text.specs.Cards.{first_named, uid_of, canonical_text}
+use Rattle.vcard_text.specs.TextValues.{unescaped, components}
+use Rattle.csv_cards.specs.declared.form.Form.{Form}
+use Rattle.csv_cards.specs.declared.form.Form.TheVariants as form
+use Rattle.csv_cards.specs.Rows.{Row, header}
+
+-- the value of the first line of the name, and nothing where there is none
+abbrev pub first_value : List ℕ → List Line → List ℕ
+first_value name card = option_map_or (λ line. line.value) (first_named name card) []
+
+-- the text of the first line of the name
+abbrev pub first_text : List ℕ → List Line → List ℕ
+first_text name card = unescaped (first_value name card)
+
+-- the component at a place of the first line of the name
+abbrev pub first_component : List ℕ → ℕ → List Line → List ℕ
+first_component name place card = get_or (components (first_value name card)) place []
+
+-- the row of a card
+abbrev pub row_of : Form → List Line → Row
+row_of form.Cards card = uid_of card ∷ canonical_text card ∷ []
+row_of form.Columns card =
+    uid_of card
+    ∷ first_text (codes "FN") card
+    ∷ first_component (codes "N") 0 card
+    ∷ first_component (codes "N") 1 card
+    ∷ first_text (codes "EMAIL") card
+    ∷ first_text (codes "TEL") card
+    ∷ first_component (codes "ORG") 0 card
+    ∷ first_text (codes "NOTE") card
+    ∷ []
+
+-- rows as `csv` writes them: a field in quotes where it needs them, and a line feed behind each row
+abbrev pub rows_text : List Row → List ℕ
+rows_text rows = flat_map (row_text default_writer) rows
+
+-- the header, and a row for each card
+abbrev pub csv_text : Form → List (List Line) → List ℕ
+csv_text f cards = rows_text (header f ∷ map (row_of f) cards)

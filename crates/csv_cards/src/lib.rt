@@ -1,0 +1,22 @@
+//! Cards as rows of CSV (RFC 4180), read and written: a card's text in a row, or its parts in
+//! columns.
+#![tactic(auto)]
+
+pub mod cause;
+mod columns;
+pub mod fault;
+pub mod form;
+pub mod order;
+pub mod reading;
+mod records;
+mod row;
+#[cfg(test)]
+mod tests;
+pub mod writing;
+
+pub use cause::CsvCause;
+pub use fault::CsvFault;
+pub use form::Form;
+pub use order::CardsInOrder;
+pub use reading::read_rows;
+pub use writing::write_rows;

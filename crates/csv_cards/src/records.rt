@@ -1,0 +1,108 @@
+//! Records, and their fields.
+ghost use Rattle.std.specs.Prelude.{◌≡◌, ◌≢◌, ◌↔◌, ◌∷◌, ◌++◌, [], ℕ, List, IfOk, IfSome, IfNone, IsTrue, IsUtf8, OnOk, map, true, false};
+ghost use Rattle.csv.specs.Records.{AllText, fields_of};
+ghost use Rattle.csv_cards.specs.Rows.{Row, AreRows, header, field};
+ghost use Rattle.csv_cards.specs.Readers.{IsBehind};
+ghost use Rattle.csv_cards.specs.declared.form.Form.{Form};
+
+use crate::form::Form;
+use csv::{ByteRecord, Reader, ReaderBuilder};
+use std::alloc::Global;
+use vcard_text::NoMemory;
+
+/// A reader of a text's records, of any lengths and with no header row of its own. It takes off
+/// one byte order mark.
+pub(crate) fn reader_of(alloc: Global, text: &[u8]) -> Reader<&[u8]>
+    ensures { IsBehind result text.now [] }
+{
+    ReaderBuilder::new()
+        .has_headers(false)
+        .flexible(true)
+        .from_reader(alloc, text)
+}
+
+/// Reads the next record, and answers whether there is one. Over memory the library gives no error
+/// but want of memory; its contract leaves one of the reader underneath open, which is taken for
+/// want of memory too.
+pub(crate) fn read_record(
+    reader: &mut Reader<&[u8]>,
+    row: &mut ByteRecord,
+) -> Result<bool, NoMemory>
+    ensures more { (text : List ℕ) (rows : List Row) → IsBehind reader.old text rows
+        → IfOk result (λ found. found ≡ true
+        → IsBehind reader.new text (rows ++ fields_of row.new ∷ [])) }
+    ensures end { (text : List ℕ) (rows : List Row) → IsBehind reader.old text rows
+        → IfOk result (λ found. found ≡ false → AreRows text rows) }
+{
+    let Ok(found) = reader.read_byte_record(row) else {
+        return Err(NoMemory);
+    };
+    Ok(found)
+}
+
+/// The field at the place, and nothing where there are fewer fields.
+pub(crate) fn field(row: &ByteRecord, place: usize) -> &[u8]
+    ensures { result.now ≡ field (fields_of row.now) place }
+{
+    match row.get(place) {
+        Some(field) => field,
+        None => b"",
+    }
+}
+
+fn is_utf8(octets: &[u8]) -> bool
+    ensures { IsTrue result ↔ IsUtf8 octets.now }
+{
+    str::from_utf8(octets).is_ok()
+}
+
+/// Whether each field is UTF-8.
+pub(crate) fn is_text(row: &ByteRecord) -> bool
+    ensures { IsTrue result ↔ AllText (fields_of row.now) }
+{
+    for place in 0..row.len() {
+        if !is_utf8(field(row, place)) {
+            return false;
+        }
+    }
+    true
+}
+
+/// Whether the field at the place is the name.
+fn is_field(row: &ByteRecord, place: usize, name: &str) -> bool
+    ensures { IsTrue result ↔ (field (fields_of row.now) place ≡ name.now) }
+{
+    field(row, place) == name.as_bytes()
+}
+
+/// Whether the fields are these names.
+fn has_fields(row: &ByteRecord, names: &[&str]) -> bool
+    ensures { IsTrue result ↔ (fields_of row.now ≡ map (λ name. name.now) names.now) }
+{
+    if row.len() != names.len() {
+        return false;
+    }
+    for place in 0..names.len() {
+        if !is_field(row, place, names[place]) {
+            return false;
+        }
+    }
+    true
+}
+
+/// The form that has the record for its header.
+pub(crate) fn form_of(row: &ByteRecord) -> Option<Form>
+    ensures some { IfSome result (λ form. fields_of row.now ≡ header form) }
+    ensures none { IfNone result ((form : Form) → fields_of row.now ≢ header form) }
+{
+    if has_fields(row, &["uid", "vcard"]) {
+        return Some(Form::Cards);
+    }
+    let columns = [
+        "uid", "fn", "family", "given", "email", "tel", "org", "note",
+    ];
+    if has_fields(row, &columns) {
+        return Some(Form::Columns);
+    }
+    None
+}

@@ -1,0 +1,95 @@
+//! The card that one row stands for.
+ghost use Rattle.std.specs.Prelude.{◌≡◌, ◌≢◌, ◌⊎◌, [], true, false, IfOk, IfErr, IsTrue, List, length};
+ghost use Rattle.csv.specs.Records.{AllText, fields_of};
+ghost use Rattle.vcard_text.specs.declared.line.Line.{Line};
+ghost use Rattle.vcard_text.specs.Cards.{uid_of};
+ghost use Rattle.csv_cards.specs.Rows.{header};
+ghost use Rattle.csv_cards.specs.Columns.{name_in};
+ghost use Rattle.csv_cards.specs.Reading.{IsLeastCause, ListsCard, SpellsCard, StandsFor};
+ghost use Rattle.csv_cards.specs.OneRow.{IsColumnsCause, IsTextCause};
+ghost use Rattle.csv_cards.specs.declared.cause.CsvCause.TheVariants.{Memory};
+
+use crate::cause::CsvCause;
+use crate::columns::{column, column_lines};
+use crate::form::Form;
+use crate::records::{field, is_text};
+use csv::ByteRecord;
+use std::alloc::Global;
+use vcard_text::laws::spelled_is_card;
+use vcard_text::{Card, NoMemory, card_of_lines, read_card};
+
+/// How many fields a row of the form has.
+fn field_count(form: Form) -> usize
+    ensures { result ≡ length (header form) }
+{
+    match form {
+        Form::Cards => 2,
+        Form::Columns => 8,
+    }
+}
+
+/// Whether the UID that a row gives is none, or the card's.
+fn is_uid_of(given: &[u8], card: &Card) -> bool
+    ensures yes { IsTrue result → (given.now ≡ []) ⊎ (given.now ≡ uid_of card.now) }
+    ensures no { result ≡ false → (given.now ≢ []) × (given.now ≢ uid_of card.now) }
+{
+    given.is_empty() || given == card.uid().as_bytes()
+}
+
+/// The card of a row of a UID and a card's text.
+fn spelled_card(alloc: Global, row: &ByteRecord) -> Result<Card, CsvCause>
+    ensures card { IfOk result (λ card. SpellsCard (fields_of row.now) card) }
+    ensures cause { IfErr result (λ cause. cause ≢ Memory
+        → IsTextCause (fields_of row.now) cause) }
+{
+    let card = read_card(alloc, field(row, 1))?;
+    if !is_uid_of(field(row, 0), &card) {
+        return Err(CsvCause::UidMismatch);
+    }
+    Ok(card)
+}
+
+/// Whether the row of columns has a name.
+fn has_name(alloc: Global, row: &ByteRecord) -> Result<bool, NoMemory>
+    requires { AllText (fields_of row.now) }
+    ensures yes { IfOk result (λ has. has ≡ true → name_in (fields_of row.now) ≢ []) }
+    ensures no { IfOk result (λ has. has ≡ false → name_in (fields_of row.now) ≡ []) }
+{
+    Ok(!column(alloc, row, 1)?.is_empty())
+}
+
+/// The card of a row of columns.
+fn listed_card(alloc: Global, row: &ByteRecord) -> Result<Card, CsvCause>
+    requires { AllText (fields_of row.now) }
+    ensures card { IfOk result (λ card. ListsCard (fields_of row.now) card) }
+    ensures cause { IfErr result (λ cause. cause ≢ Memory
+        → IsColumnsCause (fields_of row.now) cause) }
+{
+    // A law, which does nothing: what a text spells is a card.
+    spelled_is_card();
+
+    if !has_name(alloc, row)? {
+        return Err(CsvCause::EmptyName);
+    }
+    let lines = column_lines(alloc, row)?;
+    Ok(card_of_lines(lines)?)
+}
+
+/// The card that the row stands for, whatever stood before it, or the least cause why it stands
+/// for none.
+pub(crate) fn card_of_row(alloc: Global, form: Form, row: &ByteRecord) -> Result<Card, CsvCause>
+    ensures card { IfOk result (λ card. StandsFor form (fields_of row.now) card) }
+    ensures cause { IfErr result (λ cause. cause ≢ Memory → (earlier : List (List Line))
+        → IsLeastCause form earlier (fields_of row.now) cause) }
+{
+    if row.len() != field_count(form) {
+        return Err(CsvCause::Columns);
+    }
+    if !is_text(row) {
+        return Err(CsvCause::NotUtf8);
+    }
+    match form {
+        Form::Cards => spelled_card(alloc, row),
+        Form::Columns => listed_card(alloc, row),
+    }
+}
