@@ -1,5 +1,5 @@
 -- Causes: what a card's fault is told as, and which of those that apply is the least.
-use Rattle.std.proofs.Common.{[], Result, Ok, Err, IfErr, ◌≡◌, ◌≢◌, ◌≤◌, ◌+◌, ◌⊎◌, ℕ, List, length, Some, refl, sym, ap, subst, ◌∙◌, arith, inl, inr}
+use Rattle.std.proofs.Common.{[], Result, Ok, Err, IfErr, ◌≡◌, ◌≢◌, ◌≤◌, ◌+◌, ◌⊎◌, ◌↔◌, ℕ, List, length, Some, refl, sym, ap, subst, ◌∙◌, arith, inl, inr}
 use Rattle.csv.specs.Records.{AllText}
 use Rattle.vcard_text.specs.declared.fault.CardFault.{CardFault}
 use Rattle.vcard_text.specs.declared.fault.CardFault.TheVariants as card
@@ -11,8 +11,11 @@ use Rattle.csv_cards.specs.declared.cause.CsvCause.{CsvCause}
 use Rattle.csv_cards.specs.declared.cause.CsvCause.TheVariants as cause
 use Rattle.csv_cards.specs.Rows.{Row, field, header}
 use Rattle.csv_cards.specs.Causes.{cause_number, cause_of}
-use Rattle.csv_cards.specs.Columns.{name_in}
+use Rattle.csv_cards.specs.Columns.{name_in, column_lines}
 use Rattle.vcard_text.specs.Cards.{IsCard, uid_of}
+use Rattle.vcard_text.specs.FirstFaults.{IsFirstFault as IsFirstCardFault}
+use Rattle.vcard_text.specs.Making.{IsFirstMadeFault}
+use Rattle.vcard_text.specs.MakingSteps.{first_made_fault}
 use Rattle.vcard_text.specs.Spelling.{Spells}
 use Rattle.csv_cards.specs.Reading.{Applies, HasCardFault, HasOtherUid, IsLeastCause, StandsFor, RepeatsUid}
 use Rattle.csv_cards.specs.OneRow.{IsTextCause, IsColumnsCause}
@@ -58,9 +61,14 @@ few_numbers card.Memory = omega arith
 some_is : (a b : CardFault) → Some a ≡ Some b → a ≡ b
 some_is a b e = cc e
 
-one_fault : (f : Form) (row : Row) (a b : CardFault) → HasCardFault f row a → HasCardFault f row b → a ≡ b
-one_fault form.Cards row a b is too = some_is a b (sym is.first ∙ too.first)
-one_fault form.Columns row a b is too = some_is a b (sym is.first ∙ too.first)
+-- a text has at most one first fault, and so have lines
+pub record FaultsAreOne : Type 0 where
+  pub text : (text : List ℕ) (a b : CardFault) → IsFirstCardFault text a → IsFirstCardFault text b → a ≡ b
+  pub made : (lines : List Line) (fault : CardFault) → IsFirstMadeFault lines fault ↔ (first_made_fault lines ≡ Some fault)
+
+one_fault : FaultsAreOne → (f : Form) (row : Row) (a b : CardFault) → HasCardFault f row a → HasCardFault f row b → a ≡ b
+one_fault one form.Cards row a b is too = one.text (field row 1) a b is.first too.first
+one_fault one form.Columns row a b is too = some_is a b (sym ((one.made (column_lines row) a).0 is.first) ∙ (one.made (column_lines row) b).0 too.first)
 
 module _ (one_card : (text : List ℕ) (a b : List Line) → Spells text a → Spells text b → a ≡ b) (row : Row) (lines : List Line) where
   is_named : (f : Form) → StandsFor f row lines → (f ≡ form.Columns) × (name_in row ≡ []) → ⊥
@@ -111,8 +119,8 @@ module _ (f : Form) (earlier : List (List Line)) (row : Row) where
 
   module _ (many : length row ≡ length (header f)) (text : AllText row) where
     -- a fault of the card itself
-    fault_least : (fault : CardFault) → Applies f earlier row (cause.BadCard fault) → (Applies f earlier row cause.EmptyName → ⊥) → IsLeastCause f earlier row (cause.BadCard fault)
-    fault_least fault bad named = record { applies = bad; least = least }
+    fault_least : FaultsAreOne → (fault : CardFault) → Applies f earlier row (cause.BadCard fault) → (Applies f earlier row cause.EmptyName → ⊥) → IsLeastCause f earlier row (cause.BadCard fault)
+    fault_least one fault bad named = record { applies = bad; least = least }
       where
         least : (other : CsvCause) → Applies f earlier row other → 20 + fault_number fault ≤ cause_number other
         least cause.BadHeader none = absurd none
@@ -120,7 +128,7 @@ module _ (f : Form) (earlier : List (List Line)) (row : Row) where
         least cause.NotUtf8 none = absurd (none text)
         least cause.EmptyName none = absurd (named none)
         least (cause.BadCard other) too =
-            let same : fault ≡ other = one_fault f row fault other bad too in
+            let same : fault ≡ other = one_fault one f row fault other bad too in
             rw same (omega arith)
         least cause.UidMismatch too = let few = few_numbers fault in omega (arith, few)
         least cause.DuplicateUid too = let few = few_numbers fault in omega (arith, few)
@@ -155,9 +163,9 @@ module _ (earlier : List (List Line)) (row : Row) (many : length row ≡ length 
       least cause.DuplicateUid too = omega arith
       least cause.Memory none = absurd none
 
-  pub text_least : (why : CsvCause) → IsTextCause row why → IsLeastCause form.Cards earlier row why
-  text_least why (inl (fault, is, bad)) = rw is (fault_least form.Cards earlier row many text fault bad (λ none. cc none.0))
-  text_least why (inr (is, other_uid)) = rw is (mismatch_least other_uid)
+  pub text_least : FaultsAreOne → (why : CsvCause) → IsTextCause row why → IsLeastCause form.Cards earlier row why
+  text_least one why (inl (fault, is, bad)) = rw is (fault_least form.Cards earlier row many text one fault bad (λ none. cc none.0))
+  text_least one why (inr (is, other_uid)) = rw is (mismatch_least other_uid)
 
 -- ---- rows of columns
 
@@ -175,6 +183,6 @@ module _ (earlier : List (List Line)) (row : Row) (many : length row ≡ length 
       least cause.DuplicateUid too = omega arith
       least cause.Memory none = absurd none
 
-  pub columns_cause_least : (why : CsvCause) → IsColumnsCause row why → IsLeastCause form.Columns earlier row why
-  columns_cause_least why (inl (is, nameless)) = rw is (nameless_least nameless)
-  columns_cause_least why (inr (fault, is, named, bad)) = rw is (fault_least form.Columns earlier row many text fault bad (λ nameless. named nameless.1))
+  pub columns_cause_least : FaultsAreOne → (why : CsvCause) → IsColumnsCause row why → IsLeastCause form.Columns earlier row why
+  columns_cause_least one why (inl (is, nameless)) = rw is (nameless_least nameless)
+  columns_cause_least one why (inr (fault, is, named, bad)) = rw is (fault_least form.Columns earlier row many text one fault bad (λ nameless. named nameless.1))

@@ -3,3 +3,4 @@ pub mod ReaderLemmas
 pub mod LineEndLemmas
 pub mod CauseLemmas
 pub mod ColumnLemmas
+pub mod ReadBackLemmas

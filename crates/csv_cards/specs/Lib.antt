@@ -7,3 +7,4 @@ pub mod Readers
 pub mod LineEnds
 pub mod OneRow
 pub mod Writers
+pub mod ReadBack

@@ -7,8 +7,8 @@ use Rattle.vcard_text.specs.declared.line.Line.{Line}
 use Rattle.vcard_text.specs.Cards.{IsCard, uid_of}
 use Rattle.vcard_text.specs.Spelling.{Spells}
 use Rattle.vcard_text.specs.declared.fault.CardFault.{CardFault}
-use Rattle.vcard_text.specs.Faults.{first_fault}
-use Rattle.vcard_text.specs.Making.{first_made_fault}
+use Rattle.vcard_text.specs.FirstFaults.{IsFirstFault as IsFirstCardFault}
+use Rattle.vcard_text.specs.Making.{IsFirstMadeFault}
 use Rattle.csv_cards.specs.declared.form.Form.{Form}
 use Rattle.csv_cards.specs.declared.form.Form.TheVariants as form
 use Rattle.csv_cards.specs.declared.cause.CsvCause.{CsvCause}
@@ -46,12 +46,12 @@ pub record StandsFor (f : Form) (row : Row) (card : List Line) : Type 0 where
 -- The row's text spells no card, and this is its first fault.
 pub record MisspellsCard (row : Row) (fault : CardFault) : Type 0 where
   pub none : (card : List Line) → Spells (field row 1) card → ⊥
-  pub first : first_fault (field row 1) ≡ Some fault
+  pub first : IsFirstCardFault (field row 1) fault
 
 -- The row's columns list no card, and this is their lines' first fault.
 pub record MislistsCard (row : Row) (fault : CardFault) : Type 0 where
   pub none : IsCard (column_lines row) → ⊥
-  pub first : first_made_fault (column_lines row) ≡ Some fault
+  pub first : IsFirstMadeFault (column_lines row) fault
 
 abbrev pub HasCardFault : Form → Row → CardFault → Type 0
 HasCardFault form.Cards row fault = MisspellsCard row fault

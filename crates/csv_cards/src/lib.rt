@@ -6,6 +6,7 @@ pub mod cause;
 mod columns;
 pub mod fault;
 pub mod form;
+pub mod laws;
 pub mod order;
 pub mod reading;
 mod records;

@@ -15,7 +15,7 @@ use crate::form::Form;
 use crate::records::{field, is_text};
 use csv::ByteRecord;
 use std::alloc::Global;
-use vcard_text::laws::spelled_is_card;
+use vcard_text::laws::{first_fault_without_card, first_made_fault_is_computed, spelled_is_card};
 use vcard_text::{Card, NoMemory, card_of_lines, read_card};
 
 /// How many fields a row of the form has.
@@ -72,7 +72,7 @@ fn listed_card(alloc: Global, row: &ByteRecord) -> Result<Card, CsvCause>
         return Err(CsvCause::EmptyName);
     }
     let lines = column_lines(alloc, row)?;
-    Ok(card_of_lines(lines)?)
+    Ok(card_of_lines(alloc, lines)?)
 }
 
 /// The card that the row stands for, whatever stood before it, or the least cause why it stands
@@ -82,6 +82,10 @@ pub(crate) fn card_of_row(alloc: Global, form: Form, row: &ByteRecord) -> Result
     ensures cause { IfErr result (λ cause. cause ≢ Memory → (earlier : List (List Line))
         → IsLeastCause form earlier (fields_of row.now) cause) }
 {
+    // Laws, which do nothing: a text and lines have at most one first fault.
+    first_fault_without_card();
+    first_made_fault_is_computed();
+
     if row.len() != field_count(form) {
         return Err(CsvCause::Columns);
     }

@@ -3,11 +3,14 @@ ghost use Rattle.std.specs.Prelude.{◌≡◌, ◌∷◌, [], IfOk, OnOk, map, s
 ghost use Rattle.std.specs.FinMap as finite;
 ghost use Rattle.csv.specs.Writing.{default_writer, row_text};
 ghost use Rattle.csv_cards.specs.Rows.{header};
+ghost use Rattle.csv_cards.specs.Reading.{AreCards};
+ghost use Rattle.csv_cards.specs.ReadBack.{AreUnderUids};
 ghost use Rattle.csv_cards.specs.Writing.{csv_text, first_component, first_text, first_value, row_of};
 ghost use Rattle.csv_cards.specs.declared.form.Form.TheVariants.{Cards, Columns};
 ghost use Rattle.csv_cards.specs.Writers.{Adds, IsFresh};
 
 use crate::form::Form;
+use crate::laws::written_cards_are_read;
 use crate::order::CardsInOrder;
 use csv::{Writer, WriterBuilder};
 use std::alloc::Global;
@@ -72,13 +75,13 @@ fn write_header(writer: &mut Writer<Vec<u8>>, form: Form) -> Result<(), NoMemory
 }
 
 /// Writes the row of a card's UID and text.
-fn write_text(writer: &mut Writer<Vec<u8>>, card: &Card) -> Result<(), NoMemory>
+fn write_text(alloc: Global, writer: &mut Writer<Vec<u8>>, card: &Card) -> Result<(), NoMemory>
     requires { IsFresh writer.old }
     ensures fresh { OnOk result (IsFresh writer.new) }
     ensures adds { OnOk result (Adds writer.old writer.new
         (row_text default_writer (row_of Cards card.now))) }
 {
-    let text = write_card(card)?;
+    let text = write_card(alloc, card)?;
     write_fields(writer, &[card.uid().as_bytes(), text.as_slice()])
 }
 
@@ -124,7 +127,7 @@ fn write_row(
         (row_text default_writer (row_of form card.now))) }
 {
     match form {
-        Form::Cards => write_text(writer, card),
+        Form::Cards => write_text(alloc, writer, card),
         Form::Columns => write_columns(alloc, writer, card),
     }
 }
@@ -157,9 +160,17 @@ pub fn write_rows<C: CardsInOrder>(
     cards: &C,
     form: Form,
 ) -> Result<Vec<u8>, NoMemory>
+    // It is the header and the cards' rows.
     ensures text { IfOk result (λ text. text.items
         ≡ csv_text form (finite.values (C.cards cards.now))) }
+
+    // What form `Cards` writes of cards under their own UIDs is read as these cards, in order.
+    ensures read_back { IfOk result (λ text. form ≡ Cards → AreUnderUids (C.cards cards.now)
+        → AreCards text.items (finite.values (C.cards cards.now))) }
 {
+    // A law, which does nothing: what form `Cards` writes is read as the cards.
+    written_cards_are_read();
+
     let list = cards.in_order(alloc)?;
     write_list(alloc, list.as_slice(), form)
 }
