@@ -170,10 +170,7 @@ fn devices_and_mirrors_hand_the_fault_on(rt: HostRuntime) -> Result<(), Fail> {
         store.answer(Some(fault));
         let told = driven(alloc, &mut store, &mut devices, "ask 0")?;
         assert_eq!(rt; told.as_str(), number);
-        let denied = match mirror(alloc, &mut store, "staff", 1, 1) {
-            Ok(_) => None,
-            Err(denied) => Some(denied),
-        };
+        let denied = mirror(alloc, &mut store, "staff", 1, 1).err();
         assert_eq!(rt; denied, Some(Denied::Fault(fault)));
     }
     Ok(())

@@ -1,12 +1,11 @@
 //! What stands after a growth was refused. Nothing is refused where the tests are run as they are;
 //! `rt try --test --fail-alloc N` refuses the N-th growth of each test.
-use super::devices::{Office, device_told, new_office};
+use super::devices::{Office, new_office};
 use super::stores::{InMemory, Stores};
 use super::{events_in, performed};
 use crate::event::{Event, drive};
 use crate::mirrored::mirror;
 use crate::reply::Reply;
-use crate::tests::replies::told;
 use std::alloc::Global;
 use std::process::Abort;
 use std::test::Fail;
@@ -76,16 +75,6 @@ fn state<S: BookStore>(alloc: Global, store: &mut S) -> Result<String, NoMemory>
     performed(alloc, store, STATE)
 }
 
-fn reply_told(alloc: Global, reply: &Option<Reply>) -> Result<String, NoMemory> {
-    let Some(reply) = reply else {
-        return Ok(String::from_str(alloc, "nothing")?);
-    };
-    if let Ok(text) = told(alloc, reply) {
-        return Ok(text);
-    }
-    told(alloc, reply)
-}
-
 /// Does the event. Where memory ran out, the books are those of the twin, and it is done again.
 fn done_at_last<S: BookStore>(
     rt: &impl Abort,
@@ -117,18 +106,8 @@ fn does_the_same<S: BookStore>(
     if !is_done(&wanted) {
         wanted = reply_to(alloc, twin, event);
     }
-    let reply = reply_told(alloc, &reply)?;
-    let wanted = reply_told(alloc, &wanted)?;
-    assert_eq!(rt; reply.as_str(), wanted.as_str());
+    assert_eq!(rt; reply, wanted);
     Ok(())
-}
-
-fn all_devices_told<S>(alloc: Global, office: &Office<S>) -> Result<String, NoMemory> {
-    let mut text = String::new(alloc);
-    for device in &office.devices {
-        text.push_str(device_told(alloc, device)?.as_str())?;
-    }
-    Ok(text)
 }
 
 /// Each event of the script is done alike by two offices of the kind.
@@ -139,9 +118,7 @@ fn events_are_done_alike<K: Stores>(rt: &impl Abort, kind: &K, alloc: Global) ->
     for event in events.chunks(1) {
         does_the_same(rt, alloc, &mut office, &mut twin, event)?;
     }
-    let devices = all_devices_told(alloc, &office)?;
-    let wanted = all_devices_told(alloc, &twin)?;
-    assert_eq!(rt; devices.as_str(), wanted.as_str());
+    assert_eq!(rt; office.devices, twin.devices);
     Ok(())
 }
 
