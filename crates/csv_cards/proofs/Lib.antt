@@ -4,3 +4,4 @@ pub mod LineEndLemmas
 pub mod CauseLemmas
 pub mod ColumnLemmas
 pub mod ReadBackLemmas
+pub mod OneReadingLemmas

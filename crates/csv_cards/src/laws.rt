@@ -1,5 +1,5 @@
 //! Laws of rows. Each is a function that does nothing, whose clause holds of all cards.
-ghost use Rattle.std.specs.Prelude.{List};
+ghost use Rattle.std.specs.Prelude.{◌≡◌, ℕ, List};
 ghost use Rattle.std.specs.FinMap as finite;
 ghost use Rattle.base_types.specs.TextMaps.{text_cmp};
 ghost use Rattle.vcard_text.specs.declared.line.Line.{Line};
@@ -8,7 +8,7 @@ ghost use Rattle.csv_cards.specs.ReadBack.{AreUnderUids};
 ghost use Rattle.csv_cards.specs.Writing.{csv_text};
 ghost use Rattle.csv_cards.specs.declared.form.Form.TheVariants.{Cards};
 
-use vcard_text::laws::canonical_text_spells;
+use vcard_text::laws::{canonical_text_spells, card_is_one};
 
 /// What form `Cards` writes of any cards is read as these cards, in the order of the octets of
 /// their UIDs.
@@ -18,4 +18,13 @@ pub fn written_cards_are_read()
 {
     // A law, which does nothing: the canonical text of any card spells the card.
     canonical_text_spells();
+}
+
+/// A text's rows stand for at most one list of cards.
+pub fn cards_of_rows_are_one()
+    ensures { (text : List ℕ) (a b : List (List Line)) → AreCards text a → AreCards text b
+        → a ≡ b }
+{
+    // A law, which does nothing: a text spells at most one card.
+    card_is_one();
 }
