@@ -71,11 +71,11 @@ one_fault one form.Cards row a b is too = one.text (field row 1) a b is.first to
 one_fault one form.Columns row a b is too = some_is a b (sym ((one.made (column_lines row) a).0 is.first) ∙ (one.made (column_lines row) b).0 too.first)
 
 module _ (one_card : (text : List ℕ) (a b : List Line) → Spells text a → Spells text b → a ≡ b) (row : Row) (lines : List Line) where
-  is_named : (f : Form) → StandsFor f row lines → (f ≡ form.Columns) × (name_in row ≡ []) → ⊥
+  pub is_named : (f : Form) → StandsFor f row lines → (f ≡ form.Columns) × (name_in row ≡ []) → ⊥
   is_named form.Cards stands nameless = cc nameless.0
   is_named form.Columns stands nameless = stands.holds.named nameless.1
 
-  has_no_fault : (f : Form) (fault : CardFault) → StandsFor f row lines → HasCardFault f row fault → ⊥
+  pub has_no_fault : (f : Form) (fault : CardFault) → StandsFor f row lines → HasCardFault f row fault → ⊥
   has_no_fault form.Cards fault stands bad = bad.none lines stands.holds.text
   has_no_fault form.Columns fault stands bad = bad.none (subst IsCard stands.holds.lines stands.holds.rules)
 
@@ -83,7 +83,7 @@ module _ (one_card : (text : List ℕ) (a b : List Line) → Spells text a → S
   its_uid other same (inl none) = other.given none
   its_uid other same (inr own) = other.other (own ∙ ap uid_of same)
 
-  has_its_uid : (f : Form) → StandsFor f row lines → (f ≡ form.Cards) × HasOtherUid row → ⊥
+  pub has_its_uid : (f : Form) → StandsFor f row lines → (f ≡ form.Cards) × HasOtherUid row → ⊥
   has_its_uid form.Cards stands other = its_uid other.1 (one_card (field row 1) lines other.1.card stands.holds.text other.1.text) stands.holds.uid
   has_its_uid form.Columns stands other = cc other.0
 

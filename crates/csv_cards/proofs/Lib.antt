@@ -5,3 +5,4 @@ pub mod CauseLemmas
 pub mod ColumnLemmas
 pub mod ReadBackLemmas
 pub mod OneReadingLemmas
+pub mod FirstFaultLemmas

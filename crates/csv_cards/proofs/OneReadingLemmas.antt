@@ -18,7 +18,7 @@ some_read : (a b : Read) → Some a ≡ Some b → a ≡ b
 some_read a b e = cc e
 
 -- rows that a text begins with begin all its rows
-starts : (s : State) (text : List ℕ) (rows all : List Row) (s2 t2 : State) (y z : List ℕ) → Reached default_config s text rows s2 y → Reached default_config s text all t2 z → next_record default_config t2 [] [] z ≡ None → (others : List Row) × (all ≡ rows ++ others)
+pub starts : (s : State) (text : List ℕ) (rows all : List Row) (s2 t2 : State) (y z : List ℕ) → Reached default_config s text rows s2 y → Reached default_config s text all t2 z → next_record default_config t2 [] [] z ≡ None → (others : List Row) × (all ≡ rows ++ others)
 unfolding Reached
 starts s text [] all s2 t2 y z some whole end = (all, refl)
 starts s text (r ∷ rs) [] s2 t2 y z some whole end = cc (sym some.1 ∙ subst (λ at. next_record default_config at [] [] text ≡ None) (sym whole.0) (subst (λ rest. next_record default_config t2 [] [] rest ≡ None) (sym whole.1) end))
@@ -49,18 +49,18 @@ abbrev first_length : List Row → ℕ
 first_length [] = 0
 first_length (r ∷ rs) = length r
 
-header_one : (f g : Form) (rows more : List Row) → header f ∷ rows ≡ header g ∷ more → f ≡ g
+pub header_one : (f g : Form) (rows more : List Row) → header f ∷ rows ≡ header g ∷ more → f ≡ g
 header_one form.Cards form.Cards rows more e = refl
 header_one form.Columns form.Columns rows more e = refl
 header_one form.Cards form.Columns rows more e = absurd (omega (arith, ap first_length e))
 header_one form.Columns form.Cards rows more e = absurd (omega (arith, ap first_length e))
 
 module _ (one_card : (text : List ℕ) (a b : List Line) → Spells text a → Spells text b → a ≡ b) where
-  stands_for_one : (f : Form) (row : Row) (a b : List Line) → StandsFor f row a → StandsFor f row b → a ≡ b
+  pub stands_for_one : (f : Form) (row : Row) (a b : List Line) → StandsFor f row a → StandsFor f row b → a ≡ b
   stands_for_one form.Cards row a b one other = one_card _ a b one.holds.text other.holds.text
   stands_for_one form.Columns row a b one other = one.holds.lines ∙ sym other.holds.lines
 
-  each_one : (f : Form) (rows : List Row) (a b : List (List Line)) → StandForEach f rows a → StandForEach f rows b → a ≡ b
+  pub each_one : (f : Form) (rows : List Row) (a b : List (List Line)) → StandForEach f rows a → StandForEach f rows b → a ≡ b
   each_one f [] [] [] one other = refl
   each_one f [] [] (d ∷ ds) one other = absurd other
   each_one f [] (c ∷ cs) b one other = absurd one

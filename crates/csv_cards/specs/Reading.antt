@@ -1,6 +1,6 @@
 -- What a CSV text stands for: its cards, or the first row that is none, and why. This project's
 -- own.
-use Rattle.std.specs.Prelude.{ℕ, ◌≡◌, ◌≢◌, ◌≤◌, ◌⊎◌, ◌+◌, List, [], ◌∷◌, ◌++◌, length, map, Some}
+use Rattle.std.specs.Prelude.{ℕ, ◌≡◌, ◌≢◌, ◌≤◌, ◌⊎◌, ◌+◌, List, [], ◌∷◌, ◌++◌, length, map}
 use Rattle.std.specs.List.{AllPairs, Contains}
 use Rattle.csv.specs.Records.{AllText}
 use Rattle.vcard_text.specs.declared.line.Line.{Line}

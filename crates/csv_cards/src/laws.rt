@@ -3,10 +3,11 @@ ghost use Rattle.std.specs.Prelude.{◌≡◌, ℕ, List};
 ghost use Rattle.std.specs.FinMap as finite;
 ghost use Rattle.base_types.specs.TextMaps.{text_cmp};
 ghost use Rattle.vcard_text.specs.declared.line.Line.{Line};
-ghost use Rattle.csv_cards.specs.Reading.{AreCards};
+ghost use Rattle.csv_cards.specs.Reading.{AreCards, IsFirstFault};
 ghost use Rattle.csv_cards.specs.ReadBack.{AreUnderUids};
 ghost use Rattle.csv_cards.specs.Writing.{csv_text};
 ghost use Rattle.csv_cards.specs.declared.form.Form.TheVariants.{Cards};
+ghost use Rattle.csv_cards.specs.declared.fault.CsvFault.{CsvFault};
 
 use vcard_text::laws::{canonical_text_spells, card_is_one};
 
@@ -24,6 +25,15 @@ pub fn written_cards_are_read()
 pub fn cards_of_rows_are_one()
     ensures { (text : List ℕ) (a b : List (List Line)) → AreCards text a → AreCards text b
         → a ≡ b }
+{
+    // A law, which does nothing: a text spells at most one card.
+    card_is_one();
+}
+
+/// A text whose rows stand for cards has no first fault.
+pub fn cards_have_no_first_fault()
+    ensures { (text : List ℕ) (cards : List (List Line)) (fault : CsvFault) → AreCards text cards
+        → IsFirstFault text fault → ⊥ }
 {
     // A law, which does nothing: a text spells at most one card.
     card_is_one();

@@ -1,0 +1,97 @@
+-- A text whose rows stand for cards has no first fault.
+use Rattle.std.proofs.Common.{◌≡◌, ◌≢◌, ◌∷◌, ◌++◌, [], ℕ, List, length, map, refl, sym, ap, subst, ◌∙◌, arith, drop, inl, inr, append_assoc}
+use Rattle.std.specs.List.{AllPairs, Contains}
+use Rattle.std.proofs.lemmas.List.{get_or_append_left, length-append, map-append}
+use Rattle.std.proofs.Math.Seq.{get_or-append_seam}
+use Rattle.csv.specs.Reading.{strip_bom}
+use Rattle.csv.specs.declared.parser.State.TheVariants as st
+use Rattle.vcard_text.specs.declared.line.Line.{Line}
+use Rattle.vcard_text.specs.Cards.{uid_of}
+use Rattle.vcard_text.specs.Spelling.{Spells}
+use Rattle.csv_cards.specs.declared.form.Form.{Form}
+use Rattle.csv_cards.specs.declared.cause.CsvCause.{CsvCause}
+use Rattle.csv_cards.specs.declared.cause.CsvCause.TheVariants as cause
+use Rattle.csv_cards.specs.declared.fault.CsvFault.{CsvFault}
+use Rattle.csv_cards.specs.Rows.{Row, AreRows, BeginWith, header}
+use Rattle.csv_cards.specs.Reading.{Applies, AreCards, HasBadHeader, IsFirstFault, IsFirstFaultyRow, StandForEach, StandsFor}
+use Rattle.csv_cards.proofs.CauseLemmas.{is_named, has_no_fault, has_its_uid}
+use Rattle.csv_cards.proofs.OneReadingLemmas.{starts, are_rows_one, header_one, stands_for_one, each_one}
+
+-- ---- the cards on both sides of a row's
+
+pub record Split (f : Form) (before : List Row) (row : Row) (cards : List (List Line)) : Type 0 where
+  pub front : List (List Line)
+  pub card : List Line
+  pub back : List (List Line)
+  pub is : cards ≡ front ++ card ∷ back
+  pub each : StandForEach f before front
+  pub stands : StandsFor f row card
+
+pub split : (f : Form) (before : List Row) (row : Row) (after : List Row) (cards : List (List Line)) → StandForEach f (before ++ row ∷ after) cards → Split f before row cards
+split f [] row after [] each = absurd each
+split f [] row after (card ∷ cards) each = record { front = []; card = card; back = cards; is = refl; each = tt; stands = each.0 }
+split f (b ∷ before) row after [] each = absurd each
+split f (b ∷ before) row after (card ∷ cards) each =
+    let rest = split f before row after cards each.1 in
+    record { front = card ∷ rest.front; card = rest.card; back = rest.back; is = ap (λ all. card ∷ all) rest.is; each = (each.0, rest.each); stands = rest.stands }
+
+-- of different texts none is among those before it
+apart : (us : List (List ℕ)) (u : List ℕ) (vs : List (List ℕ)) → AllPairs (λ a b. a ≢ b) (us ++ u ∷ vs) → Contains us u → ⊥
+apart us u vs distinct had =
+    let long = length-append us (u ∷ vs) in
+    distinct had.0 (length us) u had.1 (omega (arith, long))
+    (get_or_append_left us (u ∷ vs) u had.0 had.1 ∙ had.2 ∙ sym (get_or-append_seam us u vs u))
+
+pub is_new : (front : List (List Line)) (card : List Line) (back : List (List Line)) → AllPairs (λ a b. a ≢ b) (map uid_of (front ++ card ∷ back)) → Contains (map uid_of front) (uid_of card) → ⊥
+is_new front card back distinct =
+    apart (map uid_of front) (uid_of card) (map uid_of back) (subst (AllPairs (λ a b. a ≢ b)) (map-append uid_of front (card ∷ back)) distinct)
+
+module _ (one_card : (text : List ℕ) (a b : List Line) → Spells text a → Spells text b → a ≡ b) where
+  -- ---- no cause applies to a row that stands for a card with a new UID
+
+  pub no_cause : (f : Form) (earlier : List (List Line)) (row : Row) (card : List Line) → StandsFor f row card → (Contains (map uid_of earlier) (uid_of card) → ⊥) → (why : CsvCause) → Applies f earlier row why → ⊥
+  no_cause f earlier row card stands new cause.BadHeader none = none
+  no_cause f earlier row card stands new cause.Columns none = none stands.fields
+  no_cause f earlier row card stands new cause.NotUtf8 none = none stands.utf8
+  no_cause f earlier row card stands new cause.EmptyName none = is_named one_card row card f stands none
+  no_cause f earlier row card stands new (cause.BadCard fault) none = has_no_fault one_card row card f fault stands none
+  no_cause f earlier row card stands new cause.UidMismatch none = has_its_uid one_card row card f stands none
+  no_cause f earlier row card stands new cause.DuplicateUid none =
+      new (subst (λ lines. Contains (map uid_of earlier) (uid_of lines)) (stands_for_one one_card f row none.card card none.stands stands) none.repeated)
+  no_cause f earlier row card stands new cause.Memory none = none
+
+  -- no cause applies behind the cards of the rows before
+  pub none_behind : (f : Form) (before : List Row) (row : Row) (after : List Row) (earlier cards : List (List Line)) → StandForEach f before earlier → StandForEach f (before ++ row ∷ after) cards → AllPairs (λ a b. a ≢ b) (map uid_of cards) → (why : CsvCause) → Applies f earlier row why → ⊥
+  none_behind f before row after earlier cards stood each distinct =
+      let at = split f before row after cards each in
+      let same : at.front ≡ earlier = each_one one_card f before at.front earlier at.each stood in
+      no_cause f earlier row at.card at.stands
+      (subst (λ front. Contains (map uid_of front) (uid_of at.card) → ⊥) same
+      (is_new at.front at.card at.back (subst (λ all. AllPairs (λ a b. a ≢ b) (map uid_of all)) at.is distinct)))
+
+  -- ---- a text of cards
+
+  begun : (text : List ℕ) (rows all : List Row) → BeginWith text rows → AreRows text all → (others : List Row) × (all ≡ rows ++ others)
+  begun text rows all begin whole = starts st.StartRecord (strip_bom text) rows all begin.state whole.0 begin.rest whole.1 begin.reached whole.2 whole.3
+
+  first_is : (a b : Row) (more rest : List Row) → a ∷ more ≡ b ∷ rest → a ≡ b
+  first_is a b more rest e = cc e
+
+  header_is_good : (text : List ℕ) (cards : List (List Line)) → AreCards text cards → HasBadHeader text → ⊥
+  header_is_good text cards are (inl none) = cc (are_rows_one text [] (header are.kind ∷ are.rows) none are.are_rows)
+  header_is_good text cards are (inr (row, begin, other)) =
+      let more = begun text (row ∷ []) (header are.kind ∷ are.rows) begin are.are_rows in
+      other are.kind (sym (first_is (header are.kind) row are.rows more.0 more.1))
+
+  rows_are_good : (text : List ℕ) (cards : List (List Line)) (fault : CsvFault) → AreCards text cards → IsFirstFaultyRow text fault → ⊥
+  rows_are_good text cards fault are bad =
+      let more = begun text (header bad.kind ∷ (bad.before ++ bad.row ∷ [])) (header are.kind ∷ are.rows) bad.begin are.are_rows in
+      let kind : are.kind ≡ bad.kind = header_one are.kind bad.kind are.rows ((bad.before ++ bad.row ∷ []) ++ more.0) more.1 in
+      let rows : are.rows ≡ bad.before ++ bad.row ∷ more.0 = ap (drop 1) more.1 ∙ append_assoc bad.before (bad.row ∷ []) more.0 in
+      none_behind bad.kind bad.before bad.row more.0 bad.cards cards bad.stand.each
+      (subst (λ f. StandForEach f (bad.before ++ bad.row ∷ more.0) cards) kind (subst (λ rows. StandForEach are.kind rows cards) rows are.stand.each))
+      are.stand.distinct fault.cause bad.cause.applies
+
+  pub no_first_fault : (text : List ℕ) (cards : List (List Line)) (fault : CsvFault) → AreCards text cards → IsFirstFault text fault → ⊥
+  no_first_fault text cards fault are (inl bad) = header_is_good text cards are bad.0
+  no_first_fault text cards fault are (inr bad) = rows_are_good text cards fault are bad
