@@ -1,5 +1,5 @@
 -- A text whose rows stand for cards has no first fault.
-use Rattle.std.proofs.Common.{◌≡◌, ◌≢◌, ◌∷◌, ◌++◌, [], ℕ, List, length, map, refl, sym, ap, subst, ◌∙◌, arith, drop, inl, inr, append_assoc}
+use Rattle.std.proofs.Common.{Result, Ok, Err, IfOk, IfErr, MatchResult, ◌≡◌, ◌≢◌, ◌∷◌, ◌++◌, [], ℕ, List, length, map, refl, sym, ap, subst, ◌∙◌, arith, drop, inl, inr, append_assoc}
 use Rattle.std.specs.List.{AllPairs, Contains}
 use Rattle.std.proofs.lemmas.List.{get_or_append_left, length-append, map-append}
 use Rattle.std.proofs.Math.Seq.{get_or-append_seam}
@@ -95,3 +95,24 @@ module _ (one_card : (text : List ℕ) (a b : List Line) → Spells text a → S
   pub no_first_fault : (text : List ℕ) (cards : List (List Line)) (fault : CsvFault) → AreCards text cards → IsFirstFault text fault → ⊥
   no_first_fault text cards fault are (inl bad) = header_is_good text cards are bad.0
   no_first_fault text cards fault are (inr bad) = rows_are_good text cards fault are bad
+
+-- ---- what is answered for a text of cards
+
+pub is_memory : (why : CsvCause) → (why ≢ cause.Memory → ⊥) → why ≡ cause.Memory
+is_memory cause.BadHeader never = absurd (never (λ e. cc e))
+is_memory cause.Columns never = absurd (never (λ e. cc e))
+is_memory cause.NotUtf8 never = absurd (never (λ e. cc e))
+is_memory cause.EmptyName never = absurd (never (λ e. cc e))
+is_memory (cause.BadCard fault) never = absurd (never (λ e. cc e))
+is_memory cause.UidMismatch never = absurd (never (λ e. cc e))
+is_memory cause.DuplicateUid never = absurd (never (λ e. cc e))
+is_memory cause.Memory never = refl
+
+-- an answer that is right as cards or as a fault is these cards, or for want of memory
+pub answers_cards : {T : Type 0} (cards_of : T → List (List Line)) (text : List ℕ)
+    → ((a b : List (List Line)) → AreCards text a → AreCards text b → a ≡ b)
+    → ((cards : List (List Line)) (fault : CsvFault) → AreCards text cards → IsFirstFault text fault → ⊥)
+    → (r : Result T CsvFault) → IfOk r (λ read. AreCards text (cards_of read)) → IfErr r (λ fault. fault.cause ≢ cause.Memory → IsFirstFault text fault)
+    → (cards : List (List Line)) → AreCards text cards → MatchResult r (λ read. cards_of read ≡ cards) (λ fault. fault.cause ≡ cause.Memory)
+answers_cards cards_of text one none (Ok read) is bad cards are = one (cards_of read) cards is are
+answers_cards cards_of text one none (Err fault) is bad cards are = is_memory fault.cause (λ n. none cards fault are (bad n))

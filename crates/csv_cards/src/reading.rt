@@ -1,5 +1,5 @@
 //! The cards of a CSV text.
-ghost use Rattle.std.specs.Prelude.{◌≡◌, ◌≢◌, ◌∷◌, ◌++◌, [], ℕ, List, IfOk, IfErr, OnOk, Ok, Err, Contains, map};
+ghost use Rattle.std.specs.Prelude.{◌≡◌, ◌≢◌, ◌∷◌, ◌++◌, [], ℕ, List, IfOk, IfErr, OnOk, Ok, Err, MatchResult, Contains, map};
 ghost use Rattle.csv.specs.Records.{fields_of};
 ghost use Rattle.vcard_text.specs.declared.line.Line.{Line};
 ghost use Rattle.vcard_text.specs.Cards.{uid_of};
@@ -11,6 +11,7 @@ ghost use Rattle.csv_cards.specs.declared.cause.CsvCause.TheVariants.{BadHeader,
 use crate::cause::CsvCause;
 use crate::fault::CsvFault;
 use crate::form::Form;
+use crate::laws::{cards_have_no_first_fault, cards_of_rows_are_one};
 use crate::records::{form_of, read_record, reader_of};
 use crate::row::card_of_row;
 use csv::{ByteRecord, Reader};
@@ -138,9 +139,17 @@ pub fn read_rows(alloc: Global, text: &[u8]) -> Result<Vec<Card>, CsvFault>
     // What is read are the cards that the rows stand for.
     ensures cards { IfOk result (λ cards. AreCards text.now cards.items) }
 
+    // A text whose rows stand for cards is read as these, unless memory runs out.
+    ensures every { (cards : List (List Line)) → AreCards text.now cards
+        → MatchResult result (λ read. read.items ≡ cards) (λ fault. fault.cause ≡ Memory) }
+
     // What is refused is refused for the first fault, unless memory ran out.
     ensures fault { IfErr result (λ fault. fault.cause ≢ Memory → IsFirstFault text.now fault) }
 {
+    // Laws, which do nothing: a text has one list of cards, or a first fault.
+    cards_of_rows_are_one();
+    cards_have_no_first_fault();
+
     let mut reader = reader_of(alloc, text);
     let form = read_header(alloc, &mut reader)?;
     read_cards(alloc, form, &mut reader)
