@@ -18,9 +18,14 @@ use Rattle.base_types.proofs.TextLemmas.{text_total, same-equal, same}
 abbrev Members : Type 0
 Members = List (List ℕ × Row)
 
-T_parts : (a b : Bool) → T (a && b) → T a × T b
+pub T_parts : (a b : Bool) → T (a && b) → T a × T b
 T_parts true b h = (tt, h)
 T_parts false b h = absurd h
+
+pub less_differs : (o : Ordering) → T (is_lt o) → is_eq o ≡ false
+less_differs Less h = refl
+less_differs Equal h = absurd h
+less_differs Greater h = absurd h
 
 -- no card is live at a UID below those of the rows
 no_live_below : (q : List ℕ) (es : Members) → T (below_all text_cmp q es) → find text_cmp q (flat_map live_entry es) ≡ None
@@ -32,11 +37,6 @@ no_live_below q (e ∷ es) h =
       | Some s ↦ cond-false (same q e.0) (Some s) _ (less_differs (text_cmp q e.0) parts.0) ∙ rest
       | None ↦ rest
     ]
-  where
-    less_differs : (o : Ordering) → T (is_lt o) → is_eq o ≡ false
-    less_differs Less h = refl
-    less_differs Equal h = absurd h
-    less_differs Greater h = absurd h
 
 -- cards that are put in one after another
 folded : (q : List ℕ) (es : Members) → T (is_sorted text_cmp es) → (cards : LiveCards) → finite.get (fold with_live cards es) q ≡ option_or (find text_cmp q (flat_map live_entry es)) (finite.get cards q)

@@ -73,6 +73,13 @@ impl BookStore for FailingStore {
         self.inner.move_card(from, to, uid, expect)
     }
 
+    fn forget(&mut self, book: &str, upto: u64) -> Result<u64, Denied> {
+        if let Some(fault) = self.fault {
+            return Err(Denied::Fault(fault));
+        }
+        self.inner.forget(book, upto)
+    }
+
     fn get(&mut self, book: &str, uid: &str) -> Result<Stored, Denied> {
         if let Some(fault) = self.fault {
             return Err(Denied::Fault(fault));

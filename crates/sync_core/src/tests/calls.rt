@@ -188,3 +188,30 @@ fn names_are_1_to_40_small_letters_digits_and_hyphens(rt: HostRuntime) {
         assert_eq!(rt; is_book_name(name), is_name, "{name}");
     }
 }
+
+/// After five changes what is removed is forgotten, and the horizon only rises, up to the number.
+#[test]
+fn removed_members_are_forgotten(rt: HostRuntime) -> Result<(), Fail> {
+    let alloc = rt.alloc();
+    let mut store = PlainStore::new(alloc, Limits::standard());
+    five_changes(&rt, alloc, &mut store)?;
+    let too_far = Denied::Refused(Refusal::BadForget);
+    for (upto, dropped) in [(5, Ok(1)), (5, Ok(0)), (6, Err(too_far)), (4, Err(too_far))] {
+        assert_eq!(rt; store.forget("staff", upto), dropped, "{upto}");
+    }
+    let forgotten = Tally {
+        horizon: 5,
+        remembered: 0,
+        ..STAFF
+    };
+    assert_eq!(rt; store.tally("staff"), Ok(forgotten));
+    assert_eq!(rt;
+        store.report("staff", token(1, 4, 4), None).err(),
+        Some(Denied::Refused(Refusal::BadToken(TokenCause::TooOld)))
+    );
+    let first = store.report("staff", None, Some(1))?;
+    assert_eq!(rt; (first.mark, first.truncated), (mark(3, 5), true));
+    let last = store.report("staff", token(1, 3, 5), None)?;
+    assert_eq!(rt; (last.mark, last.truncated), (mark(5, 5), false));
+    Ok(())
+}
