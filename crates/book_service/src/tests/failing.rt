@@ -8,7 +8,7 @@ use std::alloc::Global;
 use std::collections::BTreeMap;
 use std::test::Fail;
 use sync_core::{
-    BookLine, BookStore, Denied, Device, Fault, Limits, Moved, Page, PlainStore, PutAnswer, Stored,
+    BookLine, BookStore, Denied, Device, Fault, ImportTally, Limits, Moved, Page, PlainStore, PutAnswer, Stored,
     Tally, Token,
 };
 use vcard_text::Card;
@@ -78,6 +78,13 @@ impl BookStore for FailingStore {
             return Err(Denied::Fault(fault));
         }
         self.inner.forget(book, upto)
+    }
+
+    fn kept_import(&mut self, book: &str, key: &str) -> Result<Option<ImportTally>, Denied> {
+        if let Some(fault) = self.fault {
+            return Err(Denied::Fault(fault));
+        }
+        self.inner.kept_import(book, key)
     }
 
     fn get(&mut self, book: &str, uid: &str) -> Result<Stored, Denied> {

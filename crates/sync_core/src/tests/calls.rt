@@ -215,3 +215,20 @@ fn removed_members_are_forgotten(rt: HostRuntime) -> Result<(), Fail> {
     assert_eq!(rt; (last.mark, last.truncated), (mark(5, 5), false));
     Ok(())
 }
+
+/// No book has imports, and a key is letters, digits, dots, underscores and hyphens.
+#[test]
+fn no_import_is_kept(rt: HostRuntime) -> Result<(), Fail> {
+    let mut store = PlainStore::new(rt.alloc(), Limits::standard());
+    store.create_book("staff")?;
+    assert_eq!(rt; store.kept_import("staff", "k1"), Ok(None));
+    assert_eq!(rt;
+        store.kept_import("staff", "k/3"),
+        Err(Denied::Refused(Refusal::BadKey))
+    );
+    assert_eq!(rt;
+        store.kept_import("clients", "k/3"),
+        Err(Denied::Refused(Refusal::NoSuchBook))
+    );
+    Ok(())
+}
