@@ -41,7 +41,7 @@ told_fault card.Twice why e n = (e, λ m. cc m)
 told_fault card.MemberOutsideGroup why e n = (e, λ m. cc m)
 told_fault card.Memory why e n = absurd (n e)
 
-few_numbers : (fault : CardFault) → fault_number fault ≤ 13
+pub few_numbers : (fault : CardFault) → fault_number fault ≤ 13
 few_numbers card.TooLong = omega arith
 few_numbers card.NotUtf8 = omega arith
 few_numbers card.BadChar = omega arith
@@ -66,7 +66,7 @@ pub record FaultsAreOne : Type 0 where
   pub text : (text : List ℕ) (a b : CardFault) → IsFirstCardFault text a → IsFirstCardFault text b → a ≡ b
   pub made : (lines : List Line) (fault : CardFault) → IsFirstMadeFault lines fault ↔ (first_made_fault lines ≡ Some fault)
 
-one_fault : FaultsAreOne → (f : Form) (row : Row) (a b : CardFault) → HasCardFault f row a → HasCardFault f row b → a ≡ b
+pub one_fault : FaultsAreOne → (f : Form) (row : Row) (a b : CardFault) → HasCardFault f row a → HasCardFault f row b → a ≡ b
 one_fault one form.Cards row a b is too = one.text (field row 1) a b is.first too.first
 one_fault one form.Columns row a b is too = some_is a b (sym ((one.made (column_lines row) a).0 is.first) ∙ (one.made (column_lines row) b).0 too.first)
 

@@ -46,6 +46,14 @@ pub is_new : (front : List (List Line)) (card : List Line) (back : List (List Li
 is_new front card back distinct =
     apart (map uid_of front) (uid_of card) (map uid_of back) (subst (AllPairs (λ a b. a ≢ b)) (map-append uid_of front (card ∷ back)) distinct)
 
+-- ---- rows that a text begins with
+
+pub begun : (text : List ℕ) (rows all : List Row) → BeginWith text rows → AreRows text all → (others : List Row) × (all ≡ rows ++ others)
+begun text rows all begin whole = starts st.StartRecord (strip_bom text) rows all begin.state whole.0 begin.rest whole.1 begin.reached whole.2 whole.3
+
+pub first_is : (a b : Row) (more rest : List Row) → a ∷ more ≡ b ∷ rest → a ≡ b
+first_is a b more rest e = cc e
+
 module _ (one_card : (text : List ℕ) (a b : List Line) → Spells text a → Spells text b → a ≡ b) where
   -- ---- no cause applies to a row that stands for a card with a new UID
 
@@ -70,12 +78,6 @@ module _ (one_card : (text : List ℕ) (a b : List Line) → Spells text a → S
       (is_new at.front at.card at.back (subst (λ all. AllPairs (λ a b. a ≢ b) (map uid_of all)) at.is distinct)))
 
   -- ---- a text of cards
-
-  begun : (text : List ℕ) (rows all : List Row) → BeginWith text rows → AreRows text all → (others : List Row) × (all ≡ rows ++ others)
-  begun text rows all begin whole = starts st.StartRecord (strip_bom text) rows all begin.state whole.0 begin.rest whole.1 begin.reached whole.2 whole.3
-
-  first_is : (a b : Row) (more rest : List Row) → a ∷ more ≡ b ∷ rest → a ≡ b
-  first_is a b more rest e = cc e
 
   header_is_good : (text : List ℕ) (cards : List (List Line)) → AreCards text cards → HasBadHeader text → ⊥
   header_is_good text cards are (inl none) = cc (are_rows_one text [] (header are.kind ∷ are.rows) none are.are_rows)

@@ -6,3 +6,4 @@ pub mod ColumnLemmas
 pub mod ReadBackLemmas
 pub mod OneReadingLemmas
 pub mod FirstFaultLemmas
+pub mod OneFaultLemmas

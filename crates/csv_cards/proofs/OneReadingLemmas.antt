@@ -14,7 +14,7 @@ use Rattle.csv_cards.specs.Reading.{AreCards, StandForEach, StandsFor}
 
 -- ---- rows
 
-some_read : (a b : Read) → Some a ≡ Some b → a ≡ b
+pub some_read : (a b : Read) → Some a ≡ Some b → a ≡ b
 some_read a b e = cc e
 
 -- rows that a text begins with begin all its rows

@@ -1,4 +1,4 @@
-//! Laws of rows. Each is a function that does nothing, whose clause holds of all cards.
+//! Laws of rows. Each is a function that does nothing, whose clause holds of all cards and texts.
 ghost use Rattle.std.specs.Prelude.{◌≡◌, ℕ, List};
 ghost use Rattle.std.specs.FinMap as finite;
 ghost use Rattle.base_types.specs.TextMaps.{text_cmp};
@@ -9,7 +9,9 @@ ghost use Rattle.csv_cards.specs.Writing.{csv_text};
 ghost use Rattle.csv_cards.specs.declared.form.Form.TheVariants.{Cards};
 ghost use Rattle.csv_cards.specs.declared.fault.CsvFault.{CsvFault};
 
-use vcard_text::laws::{canonical_text_spells, card_is_one};
+use vcard_text::laws::{
+    canonical_text_spells, card_is_one, first_fault_without_card, first_made_fault_is_computed,
+};
 
 /// What form `Cards` writes of any cards is read as these cards, in the order of the octets of
 /// their UIDs.
@@ -37,4 +39,16 @@ pub fn cards_have_no_first_fault()
 {
     // A law, which does nothing: a text spells at most one card.
     card_is_one();
+}
+
+/// A text has at most one first fault.
+pub fn first_faults_are_one()
+    ensures { (text : List ℕ) (a b : CsvFault) → IsFirstFault text a → IsFirstFault text b
+        → a ≡ b }
+{
+    // Laws, which do nothing: a text spells at most one card, and text and lines have at most one
+    // first fault.
+    card_is_one();
+    first_fault_without_card();
+    first_made_fault_is_computed();
 }
