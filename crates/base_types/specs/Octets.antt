@@ -3,7 +3,8 @@
 --
 -- Each is an `abbrev`, so it is its number wherever the prover looks: `octet == colon` is
 -- `octet == 58`, which is what a body's `*octet == b':'` tests, and `is_digit octet` is what
--- `matches!(octet, b'0'..=b'9')` tests. An answer or a lemma that writes the number meets it as well.
+-- `matches!(octet, b'0'..=b'9')` tests. An answer or a lemma that writes the number meets it as
+-- well.
 use Rattle.std.specs.Prelude.{ℕ, Bool, ◌&&◌, ◌||◌, ◌==◌, nat_le, nat_lt}
 
 -- ---- white space and the ends of lines

@@ -53,9 +53,9 @@ fault_of_front : (input : List ℕ) (fault : CardFault) → IsFirstFault (front 
 fault_of_front input fault first = ⊎_elim
     (λ within. subst (λ text. IsFirstFault text fault) (whole_front input (leb-true _ _ within)) first)
     (λ over.
-      let longer = leb-false (length input) read_octets_max over in
-      let full : length (front input) ≡ read_octets_max = length-take-le read_octets_max input (omega arith) in
-      of_length (long_fault (front input) fault (omega arith) first) (omega arith))
+    let longer = leb-false (length input) read_octets_max over in
+    let full : length (front input) ≡ read_octets_max = length-take-le read_octets_max input (omega arith) in
+    of_length (long_fault (front input) fault (omega arith) first) (omega arith))
     (cases_Bool (nat_le (length input) read_octets_max))
 
 -- ---- what came of the front came of the whole

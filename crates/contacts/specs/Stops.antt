@@ -27,7 +27,8 @@ status_of Device = 3
 abbrev pub stop_line : Stop → List ℕ
 stop_line (Refused refusal) =
     codes "refused " ++ (refusal_text refusal ++ space ∷ decimal (refusal_number refusal))
-stop_line (Fault fault) = codes "fault " ++ (fault_text fault ++ space ∷ decimal (fault_number fault))
+stop_line (Fault fault) =
+    codes "fault " ++ (fault_text fault ++ space ∷ decimal (fault_number fault))
 stop_line Device = codes "fault device 1"
 
 -- A refusal is of the text's first fault; else memory ran out, or the reader or the writer failed.

@@ -7,7 +7,8 @@ use crate::tried::run_try;
 use std::alloc::Global;
 use std::test::Fail;
 
-/// Ann's card as a person types it: line feeds alone, a name in small letters, and a fold inside the value.
+/// Ann's card as a person types it: line feeds alone, a name in small letters, and a fold inside
+/// the value.
 const TYPED_ANN: &str = "BEGIN:VCARD\nVERSION:4.0\nUID:a\nfn:An\n n\nEND:VCARD\n";
 
 /// Ann's card as it is kept: 52 octets.

@@ -8,8 +8,8 @@ use std::alloc::Global;
 use std::collections::BTreeMap;
 use std::test::Fail;
 use sync_core::{
-    BookLine, BookStore, Denied, Device, Fault, ImportTally, Limits, Moved, Page, PlainStore, PutAnswer, Stored,
-    Tally, Token,
+    BookLine, BookStore, Denied, Device, Fault, ImportTally, Limits, Moved, Page, PlainStore,
+    PutAnswer, Stored, Tally, Token,
 };
 use vcard_text::Card;
 

@@ -1,4 +1,5 @@
-//! Whom a group reaches, found a second time and plainly: by passes over all cards, as many as there are cards.
+//! Whom a group reaches, found a second time and plainly: by passes over all cards, as many as
+//! there are cards.
 use super::examples::EXAMPLES;
 use super::{cards_of, told};
 use std::alloc::Global;

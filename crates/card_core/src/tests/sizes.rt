@@ -1,4 +1,5 @@
-//! A chain of 10,000 groups, a group of 10,000 members, and 20,000 members that name one large card.
+//! A chain of 10,000 groups, a group of 10,000 members, and 20,000 members that name one large
+//! card.
 use super::card_of;
 use crate::groups::expand;
 use std::alloc::Global;
