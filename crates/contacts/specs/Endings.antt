@@ -34,7 +34,7 @@ pub record IsDone (input : List ℕ) (before after : Option (List ℕ))
   pub silent : Keeps errors_before errors_after
   pub status_is : status ≡ 0
 
--- it stopped for what the input is, or for want of memory or of a device
+-- it stopped for what the input is, or since memory ran out or a device failed
 pub record IsStopped (input : List ℕ) (before after : Option (List ℕ))
     (errors_before errors_after : Option (List ℕ)) (status : ℕ) : Type 0 where
   pub stop : Stop

@@ -110,7 +110,7 @@ is_memory cause.UidMismatch never = absurd (never (λ e. cc e))
 is_memory cause.DuplicateUid never = absurd (never (λ e. cc e))
 is_memory cause.Memory never = refl
 
--- an answer that is right as cards or as a fault is these cards, or for want of memory
+-- an answer that is right as cards or as a fault is these cards, or out of memory
 pub answers_cards : {T : Type 0} (cards_of : T → List (List Line)) (text : List ℕ)
     → ((a b : List (List Line)) → AreCards text a → AreCards text b → a ≡ b)
     → ((cards : List (List Line)) (fault : CsvFault) → AreCards text cards → IsFirstFault text fault → ⊥)

@@ -22,8 +22,8 @@ pub(crate) fn reader_of(alloc: Global, text: &[u8]) -> Reader<&[u8]>
 }
 
 /// Reads the next record, and answers whether there is one. Over memory the library gives no error
-/// but want of memory; its contract leaves one of the reader underneath open, which is taken for
-/// want of memory too.
+/// but out of memory; its contract leaves one of the reader underneath open, which is taken for
+/// out of memory too.
 pub(crate) fn read_record(
     reader: &mut Reader<&[u8]>,
     row: &mut ByteRecord,
