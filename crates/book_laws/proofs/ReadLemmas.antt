@@ -15,7 +15,7 @@ use Rattle.book_laws.specs.Histories.{live, last, touched_uids}
 use Rattle.book_model.specs.Outcomes.{◌>>=◌}
 use Rattle.book_laws.specs.ReadLaws.{BooksFollow, BookLinesFollow, GettingFollows, CardsFollow, KeptImportsFollow, TalliesFollow}
 use Rattle.book_model.specs.Reading.{book_line, live_entry, live_cards, tally_with, is_removed_after, remembered_in, tally_of}
-use Rattle.book_model.specs.Removing.{live_card}
+use Rattle.book_model.specs.Books.{live_card}
 use Rattle.book_laws.specs.Rows.{is_kept, kept_rows}
 use Rattle.book_laws.specs.Worlds.{Story, Stories, IsSound, book_of, rows}
 use Rattle.book_laws.specs.WorldReads.{story_line, is_remembered_of, tally_of_story}

@@ -31,7 +31,7 @@ use Rattle.book_model.specs.Importing.{Importing, import_state, import_card, imp
 use Rattle.book_model.specs.Moving.{Moving, move_numbers, move_answer, books_after_move}
 use Rattle.book_model.specs.Outcomes.{◌>>=◌, provided}
 use Rattle.book_model.specs.Putting.{Found, answer_over, books_after_put, found_in, is_expected, next_number, put_answer, reason_for, version_of}
-use Rattle.book_model.specs.Removing.{live_card, remove_number}
+use Rattle.book_model.specs.Removing.{remove_number}
 use Rattle.book_model.specs.SameCards.{same_card}
 use Rattle.book_model.specs.WellFormed.{IsWellFormedBook, IsWellFormed}
 use Rattle.book_laws.specs.WellFormedLaws.{LeavesWellFormed, CreatingKeepsForm, PuttingKeepsForm, RemovingKeepsForm, MovingKeepsForm, ImportingKeepsForm, ForgettingKeepsForm}

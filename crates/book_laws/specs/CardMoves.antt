@@ -10,6 +10,7 @@ use Rattle.book_model.specs.declared.change.StoreReason.TheVariants.{MoveIn}
 use Rattle.book_model.specs.declared.change.RemovalReason.TheVariants.{MoveOut}
 use Rattle.book_laws.specs.Histories.{live}
 use Rattle.book_laws.specs.Worlds.{Story, Stories}
+use Rattle.book_laws.specs.WorldSteps.{with_event}
 
 -- how many cards are live in all books together
 abbrev pub cards_in : Stories → ℕ
@@ -23,7 +24,7 @@ pub record ChangesOneMember (stories : Stories) (name uid : List ℕ) (change : 
   pub new : Story
   pub was : finite.get stories name ≡ Some old
   pub is : finite.get after name ≡ Some new
-  pub goes_on : new ≡ record old { history = record { uid = uid; change = change } ∷ old.history }
+  pub goes_on : new ≡ with_event old (record { uid = uid; change = change })
   pub member : finite.get (live new.history) uid ≡ then_live
   pub others : (other : List ℕ) → other ≢ uid →
       finite.get (live new.history) other ≡ finite.get (live old.history) other

@@ -3,7 +3,7 @@ use Rattle.std.specs.Prelude.{ℕ, ◌+◌, Bool, ◌||◌, nat_lt, List, [], �
 use Rattle.std.specs.FinMap as finite
 use Rattle.base_types.specs.TextMaps.{text_cmp}
 use Rattle.book_model.specs.declared.row.Row.{Row}
-use Rattle.book_model.specs.Books.{card_after}
+use Rattle.book_model.specs.Changing.{card_after}
 use Rattle.book_laws.specs.Histories.{BookEvent, live, last}
 
 -- a row for each member with an event, of its last one

@@ -9,12 +9,12 @@ use Rattle.book_model.specs.declared.refusal.Refusal.{Refusal}
 use Rattle.book_model.specs.declared.refusal.Refusal.TheVariants.{BadKey}
 use Rattle.book_laws.specs.HistoryCounts.{counts_of}
 use Rattle.book_model.specs.Books.{LiveCards}
-use Rattle.book_laws.specs.Histories.{live, last, touched_uids}
+use Rattle.book_laws.specs.Histories.{live}
 use Rattle.book_model.specs.Importing.{is_legal_key}
 use Rattle.book_model.specs.Outcomes.{◌>>=◌, provided}
 use Rattle.book_model.specs.Reading.{line_of, tally_with}
-use Rattle.book_model.specs.Removing.{live_card}
-use Rattle.book_laws.specs.Worlds.{Story, Stories}
+use Rattle.book_model.specs.Books.{live_card}
+use Rattle.book_laws.specs.Worlds.{Story, Stories, remembered_uids}
 use Rattle.book_laws.specs.WorldSteps.{story_named}
 
 abbrev pub story_line : List ℕ × Story → BookLine
@@ -45,20 +45,10 @@ kept_import_meaning stories name key = do
   legal ← provided (is_legal_key key) BadKey
   Ok (finite.get story.imports key)
 
--- a member that was removed after the horizon
-abbrev pub is_remembered_of : Story → List ℕ → Bool
-is_remembered_of story uid =
-    not (is_some (finite.get (live story.history) uid))
-    && nat_lt story.horizon (last story.history uid)
-
--- how many members are
-abbrev pub remembered_count : Story → ℕ
-remembered_count story = length (filter (is_remembered_of story) (touched_uids story.history))
-
 abbrev pub tally_of_story : Story → Tally
 tally_of_story story =
     tally_with (length story.history) story.horizon (finite.len (live story.history))
-    (counts_of story.history) (remembered_count story)
+    (counts_of story.history) (length (remembered_uids story))
 
 abbrev pub tally_meaning : Stories → List ℕ → Result Tally Refusal
 tally_meaning stories name = do

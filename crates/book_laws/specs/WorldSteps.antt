@@ -1,11 +1,12 @@
 -- What the calls that store mean on whole histories, and a report. This project's own.
-use Rattle.std.specs.Prelude.{ℕ, List, [], ◌∷◌, length, Option, Some, None, Result, Ok, Err}
+use Rattle.std.specs.Prelude.{ℕ, nat_le, List, [], ◌∷◌, length, Option, Some, None, Result, Ok, Err, if◌then◌else◌}
 use Rattle.std.specs.Option.{option_map_or}
 use Rattle.std.specs.FinMap as finite
 use Rattle.vcard_text.specs.declared.line.Line.{Line}
 use Rattle.vcard_text.specs.Cards.{uid_of}
 use Rattle.book_model.specs.declared.answers.PutAnswer.{PutAnswer}
-use Rattle.book_model.specs.declared.change.Change.TheVariants.{Stores}
+use Rattle.book_model.specs.declared.change.Change.{Change}
+use Rattle.book_model.specs.declared.change.Change.TheVariants.{Stores, TakesAway}
 use Rattle.book_model.specs.declared.change.StoreReason.{StoreReason}
 use Rattle.book_model.specs.declared.page.Page.{Page}
 use Rattle.book_model.specs.declared.refusal.Refusal.{Refusal}
@@ -13,19 +14,38 @@ use Rattle.book_model.specs.declared.refusal.Refusal.TheVariants.{NoSuchBook}
 use Rattle.book_model.specs.declared.token.Token.{Token}
 use Rattle.book_model.specs.Bounds.{Bounds}
 use Rattle.book_model.specs.Creating.{new_id}
-use Rattle.book_laws.specs.Histories.{BookEvent, live}
+use Rattle.book_laws.specs.Histories.{BookEvent, live, last}
 use Rattle.book_model.specs.Outcomes.{◌>>=◌}
 use Rattle.book_model.specs.Pages.{mark_asked, page_size, page_of}
 use Rattle.book_model.specs.Putting.{Found, put_answer, reason_for}
 use Rattle.book_laws.specs.Reports.{report}
-use Rattle.book_laws.specs.Worlds.{Story, Stories}
+use Rattle.book_laws.specs.Worlds.{Story, Stories, remembered_uids}
 
-abbrev pub empty_story : ℕ → Story
-empty_story id = record { id = id; history = []; horizon = 0; imports = finite.empty }
+abbrev pub empty_story : ℕ → ℕ → Story
+empty_story id keep =
+    record { id = id; history = []; horizon = 0; keep = keep; imports = finite.empty }
+
+-- ---- a story that goes on
+
+-- the horizon up to which the first of these members is forgotten
+abbrev pub horizon_without : Story → List (List ℕ) → ℕ
+horizon_without story [] = story.horizon
+horizon_without story (uid ∷ uids) = last story.history uid
+
+-- The horizon after a change: a removal that leaves more removed members than the book keeps makes
+-- it forget the one whose removal lies longest back.
+abbrev pub horizon_after : Change → Story → ℕ
+horizon_after (Stores card why) story = story.horizon
+horizon_after (TakesAway why) story =
+    if nat_le (length (remembered_uids story)) story.keep then story.horizon
+    else horizon_without story (remembered_uids story)
 
 -- the story goes on by one event
 abbrev pub with_event : Story → BookEvent → Story
-with_event story e = record story { history = e ∷ story.history }
+with_event story e = record story {
+  history = e ∷ story.history;
+  horizon = horizon_after e.change (record story { history = e ∷ story.history });
+}
 
 abbrev pub story_named : Stories → List ℕ → Result Story Refusal
 story_named stories name = option_map_or Ok (finite.get stories name) (Err NoSuchBook)
@@ -35,7 +55,7 @@ story_named stories name = option_map_or Ok (finite.get stories name) (Err NoSuc
 abbrev pub create_meaning : Bounds → Stories → List ℕ → Result (ℕ × Stories) Refusal
 create_meaning limits stories name = do
   id ← new_id limits name (finite.contains_key stories name) (finite.len stories)
-  Ok (id, finite.insert stories name (empty_story id))
+  Ok (id, finite.insert stories name (empty_story id limits.keep))
 
 -- ---- storing a card
 

@@ -9,7 +9,7 @@ use Rattle.book_model.specs.Bounds.{Bounds}
 use Rattle.book_model.specs.Moving.{Moving, move_numbers, move_answer}
 use Rattle.book_model.specs.Outcomes.{◌>>=◌, provided}
 use Rattle.book_model.specs.Putting.{Found, is_expected}
-use Rattle.book_model.specs.Removing.{live_card}
+use Rattle.book_model.specs.Books.{live_card}
 
 pub same_answer : {A : Type 0} (x y : A) → ◌≡◌ {A = Result A Refusal} (Ok x) (Ok y) → x ≡ y
 same_answer x y e = cc

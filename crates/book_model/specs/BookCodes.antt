@@ -65,16 +65,17 @@ coded_tally =
 
 abbrev pub coded_book : Coded Book
 coded_book =
-    code_by (ℕ × (ℕ × (ℕ × (Counts × (finite.FinMap text_cmp Row
-    × finite.FinMap text_cmp ImportTally)))))
-    (coded× coded_ℕ (coded× coded_ℕ (coded× coded_ℕ (coded× coded_counts
-    (coded× (finite.code coded_text coded_row) (finite.code coded_text coded_tally))))))
-    (λ b. (b.id, (b.number, (b.horizon, (b.counts, (b.members, b.imports))))))
+    code_by (ℕ × (ℕ × (ℕ × (ℕ × (Counts × (finite.FinMap text_cmp Row
+    × finite.FinMap text_cmp ImportTally))))))
+    (coded× coded_ℕ (coded× coded_ℕ (coded× coded_ℕ (coded× coded_ℕ (coded× coded_counts
+    (coded× (finite.code coded_text coded_row) (finite.code coded_text coded_tally)))))))
+    (λ b. (b.id, (b.number, (b.horizon, (b.keep, (b.counts, (b.members, b.imports)))))))
     (λ p. record {
       id = p.0;
       number = p.1.0;
       horizon = p.1.1.0;
-      counts = p.1.1.1.0;
-      members = p.1.1.1.1.0;
-      imports = p.1.1.1.1.1;
+      keep = p.1.1.1.0;
+      counts = p.1.1.1.1.0;
+      members = p.1.1.1.1.1.0;
+      imports = p.1.1.1.1.1.1;
     }) (λ _. refl)

@@ -1,5 +1,5 @@
 -- What contracts see of a store: its books by name, each with its rows. This project's own.
-use Rattle.std.specs.Prelude.{ℕ, ◌+◌, Bool, List, Option, Some, None, Result, Ok, Err}
+use Rattle.std.specs.Prelude.{ℕ, Bool, List, Option, Result, Ok, Err}
 use Rattle.std.specs.Option.{option_map, option_map_or, option_and_then}
 use Rattle.std.specs.Borrow.{Bor}
 use Rattle.std.specs.Ordering.{eq_by_cmp}
@@ -8,21 +8,20 @@ use Rattle.base_types.specs.TextMaps.{text_cmp}
 use Rattle.vcard_text.specs.declared.line.Line.{Line}
 use Rattle.book_model.specs.declared.answers.ImportTally.{ImportTally}
 use Rattle.book_model.specs.declared.answers.Stored.{Stored}
-use Rattle.book_model.specs.declared.change.Change.{Change}
-use Rattle.book_model.specs.declared.change.Change.TheVariants.{Stores, TakesAway}
 use Rattle.book_model.specs.declared.counts.Counts.{Counts}
 use Rattle.book_model.specs.declared.refusal.Refusal.{Refusal}
-use Rattle.book_model.specs.declared.refusal.Refusal.TheVariants.{NoSuchBook}
+use Rattle.book_model.specs.declared.refusal.Refusal.TheVariants.{NoSuchBook, NoSuchCard}
 use Rattle.book_model.specs.declared.row.Row.{Row}
-use Rattle.book_model.specs.Counting.{no_counts, counts_with}
+use Rattle.book_model.specs.Counting.{no_counts}
 
 -- A book: its id, the number of its last change, the number up to which removed members may be
--- forgotten, how many changes had each reason, a row for each member by UID, and what imports
--- answered by their keys.
+-- forgotten, how many removed members it remembers at most, how many changes had each reason, a row
+-- for each member by UID, and what imports answered by their keys.
 pub record Book : Type 0 where
   pub id : ℕ
   pub number : ℕ
   pub horizon : ℕ
+  pub keep : ℕ
   pub counts : Counts
   pub members : finite.FinMap text_cmp Row
   pub imports : finite.FinMap text_cmp ImportTally
@@ -38,12 +37,13 @@ Books = finite.FinMap text_cmp Book
 abbrev pub same_name : List ℕ → List ℕ → Bool
 same_name a b = eq_by_cmp text_cmp a b
 
--- a book to which nothing happened
-abbrev pub empty_book : ℕ → Book
-empty_book id = record {
+-- a book to which nothing happened, with this id and keep
+abbrev pub empty_book : ℕ → ℕ → Book
+empty_book id keep = record {
   id = id;
   number = 0;
   horizon = 0;
+  keep = keep;
   counts = no_counts;
   members = finite.empty;
   imports = finite.empty;
@@ -60,19 +60,10 @@ stored_in row = option_map (λ card. record { version = row.changed; card = card
 abbrev pub live_at : Book → List ℕ → Option Stored
 live_at book uid = option_and_then stored_in (finite.get book.members uid)
 
+-- what is live, where something is
+abbrev pub live_card : Option Stored → Result Stored Refusal
+live_card live = option_map_or Ok live (Err NoSuchCard)
+
 -- what a version and a borrowed card say
 abbrev pub stored_behind : Option (ℕ × Bor (List Line)) → Option Stored
 stored_behind live = option_map (λ p. record { version = p.0; card = p.1.now }) live
-
-abbrev pub card_after : Change → Option (List Line)
-card_after (Stores card why) = Some card
-card_after (TakesAway why) = None
-
--- a change takes the book's next number, which its member's row keeps, and is counted by its reason
-abbrev pub with_change : Book → List ℕ → Change → Book
-with_change book uid change = record book {
-  number = book.number + 1;
-  counts = counts_with change book.counts;
-  members = finite.insert book.members uid
-      (record { changed = book.number + 1; card = card_after change });
-}

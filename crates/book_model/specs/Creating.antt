@@ -20,4 +20,4 @@ new_id limits name is_there books = do
 abbrev pub create_step : Bounds → Books → List ℕ → Result (ℕ × Books) Refusal
 create_step limits books name = do
   id ← new_id limits name (finite.contains_key books name) (finite.len books)
-  Ok (id, finite.insert books name (empty_book id))
+  Ok (id, finite.insert books name (empty_book id limits.keep))

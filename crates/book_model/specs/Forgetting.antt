@@ -19,13 +19,15 @@ abbrev pub dropped_rows : finite.FinMap text_cmp Row → ℕ → ℕ
 dropped_rows members horizon =
     length (filter (λ member. not (is_row_kept horizon member.1)) (finite.entries members))
 
+-- the rows that stay with this horizon
+abbrev pub kept_rows : finite.FinMap text_cmp Row → ℕ → finite.FinMap text_cmp Row
+kept_rows members horizon = finite.retain_keys members
+    (λ uid. option_map_or (is_row_kept horizon) (finite.get members uid) false)
+
 -- the book with this horizon, without the rows of members that were removed up to it
 abbrev pub book_after_forget : Book → ℕ → Book
-book_after_forget book upto = record book {
-  horizon = upto;
-  members = finite.retain_keys book.members
-      (λ uid. option_map_or (is_row_kept upto) (finite.get book.members uid) false);
-}
+book_after_forget book upto =
+    record book { horizon = upto; members = kept_rows book.members upto }
 
 -- the horizon only rises, and not above the book's number
 abbrev pub may_forget : ℕ → ℕ → ℕ → Bool

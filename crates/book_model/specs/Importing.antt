@@ -14,7 +14,8 @@ use Rattle.book_model.specs.declared.change.StoreReason.TheVariants.{Import, Imp
 use Rattle.book_model.specs.declared.refusal.Refusal.{Refusal}
 use Rattle.book_model.specs.declared.refusal.Refusal.TheVariants.{BookFull, ChangesSpent, BadKey}
 use Rattle.book_model.specs.Bounds.{Bounds}
-use Rattle.book_model.specs.Books.{Book, Books, book_named, live_at, with_change}
+use Rattle.book_model.specs.Books.{Book, Books, book_named, live_at}
+use Rattle.book_model.specs.Changing.{with_change}
 use Rattle.book_model.specs.Counting.{live_count}
 use Rattle.book_model.specs.Outcomes.{◌>>=◌, provided}
 use Rattle.book_model.specs.SameCards.{same_card}

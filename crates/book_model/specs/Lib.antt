@@ -13,8 +13,8 @@ pub mod Moving
 pub mod Importing
 pub mod ImportLaws
 pub mod Forgetting
+pub mod Changing
 pub mod Pages
 pub mod Reading
-pub mod LoopSteps
 pub mod Devices
 pub mod WellFormed

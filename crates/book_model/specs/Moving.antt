@@ -10,10 +10,11 @@ use Rattle.book_model.specs.declared.change.RemovalReason.TheVariants.{MoveOut}
 use Rattle.book_model.specs.declared.refusal.Refusal.{Refusal}
 use Rattle.book_model.specs.declared.refusal.Refusal.TheVariants.{VersionMismatch, UidTaken, SameBook, BookFull}
 use Rattle.book_model.specs.Bounds.{Bounds}
-use Rattle.book_model.specs.Books.{Book, Books, book_named, same_name, with_change}
+use Rattle.book_model.specs.Books.{Book, Books, book_named, same_name}
+use Rattle.book_model.specs.Changing.{with_change}
 use Rattle.book_model.specs.Outcomes.{◌>>=◌, provided}
 use Rattle.book_model.specs.Putting.{Found, is_expected, next_number, found_in}
-use Rattle.book_model.specs.Removing.{live_card}
+use Rattle.book_model.specs.Books.{live_card}
 
 -- the card that moves, and the numbers that the move takes in both books
 pub record Moving : Type 0 where

@@ -16,7 +16,8 @@ use Rattle.book_model.specs.declared.decisions.finding.Finding.{Finding}
 use Rattle.book_model.specs.declared.refusal.Refusal.{Refusal}
 use Rattle.book_model.specs.declared.refusal.Refusal.TheVariants.{VersionMismatch, BookFull, ChangesSpent}
 use Rattle.book_model.specs.Bounds.{Bounds}
-use Rattle.book_model.specs.Books.{Book, Books, book_named, live_at, stored_behind, with_change}
+use Rattle.book_model.specs.Books.{Book, Books, book_named, live_at, stored_behind}
+use Rattle.book_model.specs.Changing.{with_change}
 use Rattle.book_model.specs.Counting.{live_count}
 use Rattle.book_model.specs.Outcomes.{◌>>=◌, provided}
 use Rattle.book_model.specs.SameCards.{same_card}

@@ -12,7 +12,7 @@ use Rattle.book_model.specs.declared.row.Row.{Row}
 use Rattle.book_model.specs.Books.{Book, Books, book_named, live_at, stored_in, LiveCards}
 use Rattle.book_model.specs.Counting.{live_count}
 use Rattle.book_model.specs.Outcomes.{◌>>=◌}
-use Rattle.book_model.specs.Removing.{live_card}
+use Rattle.book_model.specs.Books.{live_card}
 
 -- ---- lines of books
 

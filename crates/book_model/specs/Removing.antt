@@ -9,13 +9,10 @@ use Rattle.book_model.specs.declared.change.RemovalReason.TheVariants.{Deletion}
 use Rattle.book_model.specs.declared.refusal.Refusal.{Refusal}
 use Rattle.book_model.specs.declared.refusal.Refusal.TheVariants.{NoSuchCard, VersionMismatch}
 use Rattle.book_model.specs.Bounds.{Bounds}
-use Rattle.book_model.specs.Books.{Books, book_named, with_change}
+use Rattle.book_model.specs.Books.{Books, book_named, live_card}
+use Rattle.book_model.specs.Changing.{with_change}
 use Rattle.book_model.specs.Outcomes.{◌>>=◌, provided}
 use Rattle.book_model.specs.Putting.{Found, is_expected, next_number, found_in}
-
--- what is live, where something is
-abbrev pub live_card : Option Stored → Result Stored Refusal
-live_card live = option_map_or Ok live (Err NoSuchCard)
 
 -- the number of the removal
 abbrev pub remove_number : Bounds → Found → Option ℕ → Result ℕ Refusal

@@ -11,7 +11,7 @@ use Rattle.book_model.specs.BookNames.{is_legal_name}
 use Rattle.book_model.specs.Books.{Book, Books}
 use Rattle.book_model.specs.Counting.{total, arrivals, departures}
 use Rattle.book_model.specs.Importing.{is_legal_key}
-use Rattle.book_model.specs.Reading.{live_cards}
+use Rattle.book_model.specs.Reading.{live_cards, remembered_in}
 
 -- The row of a member was written by one of the book's changes. A live member's card has its UID,
 -- and a member that is gone is remembered: it went after the horizon.
@@ -31,6 +31,9 @@ pub record IsWellFormedBook (limits : Bounds) (book : Book) : Type 0 where
   pub counted_once : book.number ≡ total book.counts
   pub within_limit : book.number ≤ limits.changes_max
   pub horizon_known : book.horizon ≤ book.number
+  -- it keeps some removed members, and remembers no more than that
+  pub keep_least : 1 ≤ book.keep
+  pub within_keep : remembered_in book ≤ book.keep
   -- the live cards are those that came in, less those that went
   pub cards_counted : finite.len (live_cards book) + departures book.counts ≡ arrivals book.counts
   pub rows : (uid : List ℕ) (row : Row) → finite.get book.members uid ≡ Some row

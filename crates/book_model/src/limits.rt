@@ -1,16 +1,18 @@
 //! The limits of a store.
 ghost use Rattle.std.specs.Prelude.{◌≡◌, ◌≤◌, ◌↔◌, IfSome, IsSome};
-ghost use Rattle.book_model.specs.Bounds.{bounds_of, IsInRange};
+ghost use Rattle.book_model.specs.Bounds.{bounds_of, with_keep, IsInRange};
 
 use std::marker::Model;
 
-/// The most entries of a page, live cards of a book, changes of a book, and books of a store.
+/// The most entries of a page, live cards of a book, changes of a book, books of a store, and
+/// removed members that a new book remembers.
 #[derive(Clone, Copy, Debug, PartialEq, Eq)]
 pub struct Limits {
     page_max: u64,
     cards_max: u64,
     changes_max: u64,
     books_max: u64,
+    keep: u64,
 }
 
 impl Model for Limits {
@@ -23,6 +25,7 @@ impl Model for Limits {
       cards_max = l.cards_max;
       changes_max = l.changes_max;
       books_max = l.books_max;
+      keep = l.keep;
     } };
 
     ghost inverse = { λ b. record {
@@ -30,6 +33,7 @@ impl Model for Limits {
       cards_max = b.cards_max;
       changes_max = b.changes_max;
       books_max = b.books_max;
+      keep = b.keep;
     } };
 
     ghost invariant = { λ l. IsInRange (record {
@@ -37,6 +41,7 @@ impl Model for Limits {
       cards_max = l.cards_max;
       changes_max = l.changes_max;
       books_max = l.books_max;
+      keep = l.keep;
     }) };
 }
 
@@ -62,22 +67,37 @@ impl Limits {
             cards_max,
             changes_max,
             books_max,
+            keep: 10_000,
         })
     }
 
-    /// A page of 100 entries, 10,000 live cards and 1,000,000,000,000 changes in a book, and 100
-    /// books.
+    /// The same limits but for `keep`: how many removed members a book remembers that is made from
+    /// now on, from 1 to 10,000. It takes no memory.
+    pub fn with_keep(self, keep: u64) -> Option<Limits>
+        ensures some { IfSome result (λ limits. limits ≡ with_keep self keep) }
+        ensures range { IsSome result ↔ ((1 ≤ keep) × (keep ≤ 10000)) }
+    {
+        if !matches!(keep, 1..=10_000) {
+            return None;
+        }
+        Some(Limits { keep, ..self })
+    }
+
+    /// A page of 100 entries, 10,000 live cards and 1,000,000,000,000 changes in a book, 100 books,
+    /// and 10,000 removed members that a book remembers.
     pub fn standard() -> Limits
         ensures page { result.page_max ≡ 100 }
         ensures cards { result.cards_max ≡ 10000 }
         ensures changes { result.changes_max ≡ 1000000000000 }
         ensures books { result.books_max ≡ 100 }
+        ensures keep { result.keep ≡ 10000 }
     {
         Limits {
             page_max: 100,
             cards_max: 10_000,
             changes_max: 1_000_000_000_000,
             books_max: 100,
+            keep: 10_000,
         }
     }
 
@@ -115,5 +135,14 @@ impl Limits {
         ensures most { result ≤ 100 }
     {
         self.books_max
+    }
+
+    /// How many removed members a new book remembers, from 1 to 10,000.
+    pub fn keep(&self) -> u64
+        ensures value { result ≡ self.now.keep }
+        ensures least { 1 ≤ result }
+        ensures most { result ≤ 10000 }
+    {
+        self.keep
     }
 }
