@@ -17,7 +17,8 @@ use Rattle.book_model.specs.declared.denied.Denied.TheVariants.{Refused}
 use Rattle.book_model.specs.declared.refusal.Refusal.{Refusal}
 use Rattle.book_model.specs.declared.refusal.Refusal.TheVariants.{NoSuchBook, SameBook}
 use Rattle.book_model.specs.Bounds.{Bounds}
-use Rattle.book_model.specs.Books.{Book, Books, empty_book, live_at, same_name, with_change}
+use Rattle.book_model.specs.Books.{Book, Books, empty_book, live_at, same_name}
+use Rattle.book_model.specs.Changing.{with_change}
 use Rattle.book_model.specs.Creating.{new_id, create_step}
 use Rattle.book_model.specs.Moving.{Moving, moving_of, move_answer, books_after_move, move_step}
 use Rattle.book_model.specs.Outcomes.{Does, RefusesFirst, ◌>>=◌, provided}
@@ -51,10 +52,10 @@ module _ (limits : Bounds) (books : Books) (name : List ℕ) (book : Book) (at :
       ∙ ap (λ n. Ok (number, n)) (sym wrote))
 
 pub creates : (limits : Bounds) (books : Books) (name : List ℕ) (id : ℕ) (new : Books) → new_id limits name (finite.contains_key books name) (finite.len books) ≡ Ok id
-    → new ≡ finite.insert books name (empty_book id) → Does {A = ℕ} (Ok id) (create_step limits books name) books new
+    → new ≡ finite.insert books name (empty_book id limits.keep) → Does {A = ℕ} (Ok id) (create_step limits books name) books new
 creates limits books name id new given wrote =
     did id (create_step limits books name) books new
-    (ap (λ r. r >>= λ i. Ok (i, finite.insert books name (empty_book i))) given ∙ ap (λ n. Ok (id, n)) (sym wrote))
+    (ap (λ r. r >>= λ i. Ok (i, finite.insert books name (empty_book i limits.keep))) given ∙ ap (λ n. Ok (id, n)) (sym wrote))
 
 module _ (limits : Bounds) (books : Books) (from to uid : List ℕ) (expect : Option ℕ) (source target : Book) (at_from : finite.get books from ≡ Some source) (at_to : finite.get books to ≡ Some target) where
   abbrev answered : Book → Book → Moving → Result (Moved × Books) Refusal

@@ -1,6 +1,6 @@
 -- What the store in memory relies on in its own books. This project's own.
-use Rattle.std.specs.Prelude.{ℕ, ◌≡◌, ◌≤◌, false, List, Option}
-use Rattle.std.specs.Option.{option_and_then, option_map_or}
+use Rattle.std.specs.Prelude.{ℕ, ◌≡◌, ◌≤◌, List, map, filter, Option}
+use Rattle.std.specs.Option.{option_and_then}
 use Rattle.std.specs.List.{AllByRecursion}
 use Rattle.std.specs.FinMap as finite
 use Rattle.base_types.specs.TextMaps.{text_cmp}
@@ -9,8 +9,8 @@ use Rattle.book_model.specs.declared.counts.Counts.{Counts}
 use Rattle.book_model.specs.declared.row.Row.{Row}
 use Rattle.book_model.specs.Books.{Book}
 use Rattle.book_model.specs.Counting.{total}
-use Rattle.book_model.specs.Forgetting.{is_row_kept}
 use Rattle.book_model.specs.Pages.{Member}
+use Rattle.book_model.specs.Reading.{is_removed_after}
 
 -- the counts add up to the number, and no row has a later one
 pub record IsNumbered (number : ℕ) (counts : Counts)
@@ -22,7 +22,7 @@ pub record IsNumbered (number : ℕ) (counts : Counts)
 abbrev pub card_at : Book → List ℕ → Option (List Line)
 card_at book uid = option_and_then (λ row. row.card) (finite.get book.members uid)
 
--- the rows that stay in a book with this horizon
-abbrev pub kept_rows : finite.FinMap text_cmp Row → ℕ → finite.FinMap text_cmp Row
-kept_rows members horizon = finite.retain_keys members
-    (λ uid. option_map_or (is_row_kept horizon) (finite.get members uid) false)
+-- the numbers of the removals after the horizon, in the order of their members' UIDs
+abbrev pub removal_numbers : finite.FinMap text_cmp Row → ℕ → List ℕ
+removal_numbers members horizon = map (λ member. member.1.changed)
+    (filter (λ member. is_removed_after horizon member.1) (finite.entries members))

@@ -1,16 +1,16 @@
 //! Each call of a store in memory once, where there is memory enough. What calls answer in which
 //! order is tried by the scripts of `book_service`.
-use super::{card, mark, token};
+use super::{card, changed, mark, page_of_one, removed, token};
 use crate::plain_store::PlainStore;
 use crate::store::BookStore;
 use book_model::decisions::is_book_name;
 use book_model::{
-    BookLine, Denied, Entry, Limits, Moved, Page, PutAnswer, Refusal, Stored, Tally, TokenCause,
+    BookLine, Denied, Limits, Moved, Page, PutAnswer, Refusal, Stored, Tally, TokenCause,
 };
 use std::alloc::Global;
 use std::process::Abort;
 use std::test::Fail;
-use vcard_text::{Items, Text};
+use vcard_text::Text;
 
 /// A book to which nothing happened, in numbers.
 const NO_CHANGES: Tally = Tally {
@@ -95,15 +95,7 @@ fn staff_line(alloc: Global) -> Result<BookLine, Fail> {
 
 /// What a device that heard of the first four changes is told of the fifth.
 fn last_page(alloc: Global) -> Result<Page, Fail> {
-    let uid = Text::copy_of(alloc, "b")?;
-    let mut entries = Items::new(alloc);
-    entries.push(Entry::Removed { uid })?;
-    Ok(Page {
-        book: 1,
-        entries,
-        mark: mark(5, 5),
-        truncated: false,
-    })
+    page_of_one(alloc, removed(alloc, "b")?, mark(5, 5), false)
 }
 
 /// What is told of the cards after five changes.
@@ -209,10 +201,16 @@ fn removed_members_are_forgotten(rt: HostRuntime) -> Result<(), Fail> {
         store.report("staff", token(1, 4, 4), None).err(),
         Some(Denied::Refused(Refusal::BadToken(TokenCause::TooOld)))
     );
-    let first = store.report("staff", None, Some(1))?;
-    assert_eq!(rt; (first.mark, first.truncated), (mark(3, 5), true));
-    let last = store.report("staff", token(1, 3, 5), None)?;
-    assert_eq!(rt; (last.mark, last.truncated), (mark(5, 5), false));
+    let cy = changed(alloc, 3, "c", "Cy")?;
+    assert_eq!(rt;
+        store.report("staff", None, Some(1))?,
+        page_of_one(alloc, cy, mark(3, 5), true)?
+    );
+    let anna = changed(alloc, 4, "a", "Anna")?;
+    assert_eq!(rt;
+        store.report("staff", token(1, 3, 5), None)?,
+        page_of_one(alloc, anna, mark(5, 5), false)?
+    );
     Ok(())
 }
 

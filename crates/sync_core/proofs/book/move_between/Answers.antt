@@ -1,7 +1,7 @@
 use Rattle.std.proofs.Common.{◌≡◌, IsSome, List, ◌∙◌, subst}
 use Rattle.std.specs.FinMap as finite
 use Rattle.vcard_text.specs.declared.line.Line.{Line}
-use Rattle.book_model.specs.Books.{with_change}
+use Rattle.book_model.specs.Changing.{with_change}
 use Rattle.book_model.specs.declared.change.Change.TheVariants.{Stores}
 use Rattle.book_model.specs.declared.change.StoreReason.TheVariants.{MoveIn}
 use Rattle.sync_core.proofs.RowLemmas.{live_card_at}
@@ -11,7 +11,7 @@ pub returns-in-Some-clause-came : goal.returns-in-Some-clause-came
 returns-in-Some-clause-came c =
     let room = subst (λ u. IsSome (finite.get c.make_room.new.self.members u)) c.requires.key c.in_ok-make_room.ensures.row in
     live_card_at (finite.get c.args.source.now.members c.args.uid.now) c.in-Some.card
-    (λ (k : List Line). c.write_over-in-Some.new.self ≡ with_change c.args.target.now c.args.uid.now (Stores k MoveIn))
+    (λ (k : List Line). c.write_over.new.self ≡ with_change c.args.target.now c.args.uid.now (Stores k MoveIn))
     c.in-Some.ensures.card
-    (c.write_over-in-Some.ensures.written room
+    (c.write_over.ensures.written room
     ∙ subst (λ u. with_change c.make_room.new.self u (Stores c.in-Some.card MoveIn) ≡ with_change c.args.target.now u (Stores c.in-Some.card MoveIn)) c.requires.key (c.in_ok-make_room.ensures.change (Stores c.in-Some.card MoveIn)))

@@ -4,7 +4,8 @@ use Rattle.book_model.specs.declared.answers.Stored.{Stored}
 use Rattle.book_model.specs.declared.change.Change.TheVariants.{Stores, TakesAway}
 use Rattle.book_model.specs.declared.change.RemovalReason.TheVariants.{MoveOut}
 use Rattle.book_model.specs.declared.change.StoreReason.TheVariants.{MoveIn}
-use Rattle.book_model.specs.Books.{Book, Books, live_at, with_change}
+use Rattle.book_model.specs.Books.{Book, Books, live_at}
+use Rattle.book_model.specs.Changing.{with_change}
 use Rattle.sync_core.proofs.MapLemmas.{on_ok_map, on_err_map, on_ok_both, on_err_both, if_some_map, both_in_place, none_there, insert_same, get_other}
 use Rattle.sync_core.proofs.plain_store.move_within.Goals as goal
 

@@ -1,6 +1,7 @@
 use Rattle.std.proofs.Common.{◌≡◌, ◌<◌, IfSome, IsSome, IsSomeAnd, Option, sym, ap, ◌∙◌, subst}
 use Rattle.std.specs.FinMap as finite
-use Rattle.book_model.specs.Books.{Book, with_change}
+use Rattle.book_model.specs.Books.{Book}
+use Rattle.book_model.specs.Changing.{with_change}
 use Rattle.book_model.specs.declared.change.Change.TheVariants.{TakesAway}
 use Rattle.book_model.specs.declared.change.RemovalReason.TheVariants.{Deletion}
 use Rattle.sync_core.proofs.MapLemmas.{in_place}
@@ -10,5 +11,5 @@ pub returns : goal.returns
 returns c =
     let has = subst (λ (o : Option Book). IsSomeAnd o (λ book. (book.number < 9223372036854775808) × IsSome (finite.get book.members c.args.uid.now))) (sym c.in-Some.ensures.value) c.requires in
     subst (λ (o : Option Book). IfSome o (λ book. c.replace-2.new.self ≡ finite.insert c.args.books.now c.args.name.now (with_change book c.args.uid.now (TakesAway Deletion)))) c.in-Some.ensures.value
-    (in_place c.args.books.now c.replace.new.self c.replace-2.new.self c.args.name.now c.new.result c.write_over.new.self c.replace-2.result c.in-Some.ensures.written c.replace-2.ensures.value c.replace-2.ensures.written
-    ∙ ap (finite.insert c.args.books.now c.args.name.now) (c.write_over.ensures.written has.1))
+    (in_place c.args.books.now c.replace.new.self c.replace-2.new.self c.args.name.now c.new.result c.take_away.new.self c.replace-2.result c.in-Some.ensures.written c.replace-2.ensures.value c.replace-2.ensures.written
+    ∙ ap (finite.insert c.args.books.now c.args.name.now) (c.take_away.ensures.written has.1))

@@ -16,5 +16,5 @@ returns-clause-row c = room_there c.self.inside.members c.insert.new.self (strin
 pub returns-clause-change : goal.returns-clause-change
 returns-clause-change c = λ change.
     room_over c.args.self.now _ _ (string_bytes c.args.uid) change
-    (ap (λ (m : Rows). let b : Book = record { id = c.self.inside.id; number = c.self.inside.number; horizon = c.self.inside.horizon; counts = c.self.inside.counts; members = m; imports = c.self.inside.imports } in b) c.in_ok-insert.ensures.ok
+    (ap (λ (m : Rows). let b : Book = record { id = c.self.inside.id; number = c.self.inside.number; horizon = c.self.inside.horizon; keep = c.self.inside.keep; counts = c.self.inside.counts; members = m; imports = c.self.inside.imports } in b) c.in_ok-insert.ensures.ok
     ∙ ap (λ (b : Book). let r : Book = record b { members = finite.insert b.members (string_bytes c.args.uid) (record { changed = 0; card = None }) } in r) c.self.view_is)
