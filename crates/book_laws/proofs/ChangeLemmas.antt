@@ -17,7 +17,8 @@ use Rattle.book_model.specs.declared.change.RemovalReason.TheVariants.{Deletion,
 use Rattle.book_model.specs.declared.refusal.Refusal.{Refusal}
 use Rattle.book_model.specs.declared.refusal.Refusal.TheVariants.{SameBook}
 use Rattle.book_model.specs.Bounds.{Bounds}
-use Rattle.book_model.specs.Books.{Books, with_change}
+use Rattle.book_model.specs.Books.{Books}
+use Rattle.book_model.specs.Changing.{with_change}
 use Rattle.book_laws.specs.ChangeLaws.{RemovingFollows, MovingFollows}
 use Rattle.book_laws.specs.Histories.{BookEvent, same_uid, cards_after_change, live}
 use Rattle.book_laws.specs.Lawful.{MayHappen, IsLawful}
@@ -29,11 +30,13 @@ use Rattle.book_laws.specs.Worlds.{Story, Stories, IsSound, AreSound, book_of, r
 use Rattle.book_laws.specs.WorldChanges.{event, stories_after_move}
 use Rattle.book_laws.specs.WorldSteps.{with_event, found_of}
 use Rattle.book_laws.specs.Following.{AreStoriesOf, Follows}
-use Rattle.book_laws.proofs.FollowLemmas.{follow_named, follow_test, follow_given, sound_with}
+use Rattle.book_laws.proofs.FollowLemmas.{follow_named, follow_test, follow_given}
 use Rattle.book_laws.proofs.HistoryLemmas.{get-changed}
+use Rattle.book_laws.proofs.DropLemmas.{book_of-with_event}
+use Rattle.book_laws.proofs.RememberLemmas.{sound_with}
 use Rattle.base_types.proofs.TextLemmas.{text_total, same-equal}
 use Rattle.book_model.proofs.AnswerLemmas.{live_first, found_to_move, FoundToMove}
-use Rattle.book_laws.proofs.WorldLemmas.{rows-insert, sound-insert, wrote_story, book_of-with_event, found_is}
+use Rattle.book_laws.proofs.WorldLemmas.{rows-insert, sound-insert, wrote_story, found_is}
 
 -- ---- taking a card away
 

@@ -259,12 +259,12 @@ events_keep_all_right stories name story e device is right token at =
     (cases_Bool (same_uid device.book name))
 
 pub new_books_keep_all_right : NewBooksKeepAllRight
-new_books_keep_all_right stories name id device none right token at =
+new_books_keep_all_right stories name id keep device none right token at =
     let r = right token at in ⊎_elim
     (λ here. absurd (none_is_some r.story (sym none ∙ ap (finite.get stories) (sym (same-equal device.book name here)) ∙ r.found)))
     (λ other. record {
       story = r.story;
-      found = get-insert text_total stories name (empty_story id) device.book ∙ cond-false _ _ _ other ∙ r.found;
+      found = get-insert text_total stories name (empty_story id keep) device.book ∙ cond-false _ _ _ other ∙ r.found;
       own = r.own;
       agrees = r.agrees;
     })

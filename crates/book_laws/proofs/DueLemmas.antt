@@ -66,7 +66,7 @@ module _ (f : List ℕ → ℕ) where
   above_filter p n (v ∷ uids) a =
       elim (p v) as (λ b. AllByRecursion (λ v. n < f v) (cond b (v ∷ filter p uids) (filter p uids))) [ true ↦ (a.0, above_filter p n uids a.1) | false ↦ above_filter p n uids a.1 ]
 
-  rises-filter : (p : List ℕ → Bool) (uids : List (List ℕ)) → Rises f uids → Rises f (filter p uids)
+  pub rises-filter : (p : List ℕ → Bool) (uids : List (List ℕ)) → Rises f uids → Rises f (filter p uids)
   rises-filter p [] r = tt
   rises-filter p (v ∷ uids) r =
       elim (p v) as (λ b. Rises f (cond b (v ∷ filter p uids) (filter p uids))) [ true ↦ (above_filter p (f v) uids r.0, rises-filter p uids r.1) | false ↦ rises-filter p uids r.1 ]

@@ -1,15 +1,13 @@
 -- How the steps on rows are led beside their meanings on histories, test by test.
-use Rattle.std.proofs.Common.{◌≡◌, ℕ, Bool, true, false, List, Option, Some, None, Result, Ok, Err, refl, sym, subst, arith}
+use Rattle.std.proofs.Common.{◌≡◌, ℕ, Bool, true, false, List, Option, Some, None, Result, Ok, Err, refl, sym, subst}
 use Rattle.std.specs.Option.{option_map, option_map_or}
 use Rattle.std.specs.FinMap as finite
 use Rattle.book_model.specs.declared.refusal.Refusal.{Refusal}
 use Rattle.book_model.specs.declared.refusal.Refusal.TheVariants.{NoSuchBook}
 use Rattle.book_model.specs.Books.{Book, Books, book_named}
-use Rattle.book_laws.specs.Histories.{BookEvent, live}
-use Rattle.book_laws.specs.Lawful.{MayHappen}
 use Rattle.book_model.specs.Outcomes.{◌>>=◌, provided}
 use Rattle.book_laws.specs.Worlds.{Story, Stories, IsSound, AreSound, book_of, rows}
-use Rattle.book_laws.specs.WorldSteps.{with_event, story_named}
+use Rattle.book_laws.specs.WorldSteps.{story_named}
 use Rattle.book_laws.specs.Following.{Follows}
 use Rattle.book_laws.proofs.WorldLemmas.{get-rows}
 
@@ -39,7 +37,3 @@ module _ {A : Type 0} where
       → Follows (given >>= f) (given >>= g)
   follow_given (Ok x) f g h = h x refl
   follow_given (Err refusal) f g h = refl
-
--- a story goes on soundly by an event that may come next
-pub sound_with : (story : Story) (e : BookEvent) → IsSound story → MayHappen e.uid e.change (finite.get (live story.history) e.uid) → IsSound (with_event story e)
-sound_with story e sound may = record { lawful = (may, sound.lawful); past = let before = sound.past in omega (arith, before) }

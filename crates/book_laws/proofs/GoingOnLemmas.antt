@@ -34,6 +34,8 @@ use Rattle.book_laws.specs.Worlds.{Story, Stories}
 use Rattle.book_laws.specs.WorldChanges.{event, is_forgotten, live_of, storing_event, story_import, story_with_kept_import, import_meaning_under, with_horizon, forget_meaning, stories_after_move}
 use Rattle.book_laws.specs.WorldSteps.{with_event, empty_story, story_named, found_of, stories_after_put}
 use Rattle.base_types.proofs.TextLemmas.{text_total, same-equal}
+use Rattle.book_laws.proofs.LossLemmas.{LostAbove, event_loses}
+use Rattle.book_laws.proofs.RememberLemmas.{by_event}
 
 -- a forgetting that was answered raised the book's horizon to this number
 pub record Raised (limits : Bounds) (stories : Stories) (call : Call) (name : List ℕ) (upto : ℕ) : Type 0 where
@@ -42,13 +44,18 @@ pub record Raised (limits : Bounds) (stories : Stories) (call : Call) (name : Li
   pub left : Stories
   pub accepted : forget_meaning stories name upto ≡ Ok (dropped, left)
 
--- a story goes on, and its horizon is the same, or was raised by the call
+-- the horizon was raised by a forgetting, or where more cards left the book than it keeps
+abbrev pub IsRaised : Bounds → Stories → Call → List ℕ → Story → Story → Type 0
+IsRaised limits stories call name old new =
+    Raised limits stories call name new.horizon ⊎ ((base : ℕ) → old.horizon ≤ base → LostAbove new base)
+
+-- a story goes on, and its horizon is the same, or was raised
 pub record Continues (limits : Bounds) (stories : Stories) (call : Call) (name : List ℕ) (old new : Story) : Type 0 where
   pub goes_on : GoesOn old new
-  pub horizon : (new.horizon ≡ old.horizon) ⊎ Raised limits stories call name new.horizon
+  pub horizon : (new.horizon ≡ old.horizon) ⊎ IsRaised limits stories call name old new
 
 pub same_story : (story : Story) → GoesOn story story
-same_story story = record { id = refl; later = []; history = refl; horizon = omega arith; imports = λ key tally e. e }
+same_story story = record { id = refl; later = []; history = refl; horizon = omega arith; keep = refl; imports = λ key tally e. e }
 
 pub goes_on_twice : (a b c : Story) → GoesOn a b → GoesOn b c → GoesOn a c
 goes_on_twice a b c p q = record {
@@ -56,11 +63,9 @@ goes_on_twice a b c p q = record {
   later = q.later ++ p.later;
   history = q.history ∙ ap (λ h. q.later ++ h) p.history ∙ sym (append_assoc q.later p.later a.history);
   horizon = let x = p.horizon in let y = q.horizon in omega (arith, x, y);
+  keep = q.keep ∙ p.keep;
   imports = λ key tally e. q.imports key tally (p.imports key tally e);
 }
-
-pub by_event : (story : Story) (e : BookEvent) → GoesOn story (with_event story e)
-by_event story e = record { id = refl; later = e ∷ []; history = refl; horizon = omega arith; imports = λ key tally is. is }
 
 -- ---- from any stories to those after a call
 
@@ -87,6 +92,9 @@ module _ (limits : Bounds) (stories : Stories) (call : Call) where
 
   plainly : (name : List ℕ) (old new : Story) → GoesOn old new → new.horizon ≡ old.horizon → Continues limits stories call name old new
   plainly name old new g h = record { goes_on = g; horizon = inl h }
+
+  by_any_event : (name : List ℕ) (old : Story) (e : BookEvent) → Continues limits stories call name old (with_event old e)
+  by_any_event name old e = record { goes_on = by_event old e; horizon = ⊎_elim (λ same. inl same) (λ lost. inr (inr lost)) (event_loses old e) }
 
   module _ {A : Type 0} (f : A → Returned) where
     -- a step that has to find a book
@@ -139,6 +147,7 @@ keeping_goes_on story key tally none = record {
   later = [];
   history = refl;
   horizon = omega arith;
+  keep = refl;
   imports = λ other kept e. get-insert text_total story.imports key tally other ∙ cond-false (same_name other key) (Some tally) (finite.get story.imports other) (differs other kept e) ∙ e;
 }
   where
@@ -196,7 +205,7 @@ call_continues limits stories (CreatesBook name) =
     let none : finite.get stories name ≡ None = not_there (finite.get stories name) BookExists _ id (past_first (is_legal_name name) BadBookName _ id given) in
     let differs : same_name other name ≡ false = apart stories name other story none e in (
       story,
-      get-insert text_total stories name (empty_story id) other ∙ cond-false _ _ _ differs ∙ e,
+      get-insert text_total stories name (empty_story id limits.keep) other ∙ cond-false _ _ _ differs ∙ e,
       plainly limits stories call other story story (same_story story) refl,
     ))
 call_continues limits stories (Puts name card expect) =
@@ -215,7 +224,7 @@ call_continues limits stories (Removes name uid expect) =
     let e = event uid (TakesAway Deletion) in
     by_named limits stories call DidRemove name _ (λ story found.
     by_given limits stories call DidRemove (remove_number limits (found_of story.history uid) expect) _ (λ number given.
-    insert_one limits stories call name story (with_event story e) found (plainly limits stories call name story (with_event story e) (by_event story e) refl)))
+    insert_one limits stories call name story (with_event story e) found (by_any_event limits stories call name story e)))
 call_continues limits stories (Moves from to uid expect) =
     let call = Moves from to uid expect in
     by_named limits stories call DidMove from _ (λ source at.
@@ -233,7 +242,7 @@ call_continues limits stories (Moves from to uid expect) =
         let story_is : source ≡ story = same_Some _ _ (sym at ∙ ap (finite.get stories) (sym (same-equal name from here)) ∙ e) in (
           with_event source left,
           get-insert text_total first from (with_event source left) name ∙ cond-true _ _ _ here,
-          subst (λ (s : Story). Continues limits stories (Moves from to uid expect) name s (with_event source left)) story_is (plainly limits stories (Moves from to uid expect) name source (with_event source left) (by_event source left) refl),
+          subst (λ (s : Story). Continues limits stories (Moves from to uid expect) name s (with_event source left)) story_is (by_any_event limits stories (Moves from to uid expect) name source left),
         ))
         (λ other.
         let rest = insert_one limits stories (Moves from to uid expect) to target (with_event target came) at' (plainly limits stories (Moves from to uid expect) to target (with_event target came) (by_event target came) refl) name story e in
@@ -267,8 +276,8 @@ call_continues limits stories (Forgets name upto) =
     by_test limits stories call DidForget (may_forget story.horizon (length story.history) upto) BadForget _ (λ allowed.
     let rises : story.horizon ≤ upto = leb-true _ _ (and_parts _ _ allowed).0 in
     insert_one limits stories call name story (with_horizon story upto) found (record {
-      goes_on = record { id = refl; later = []; history = refl; horizon = rises; imports = λ k t e. e };
-      horizon = inr (record { call_is = refl; dropped = length (filter (is_forgotten story upto) (touched_uids story.history)); left = finite.insert stories name (with_horizon story upto); accepted = forgets story found allowed });
+      goes_on = record { id = refl; later = []; history = refl; horizon = rises; keep = refl; imports = λ k t e. e };
+      horizon = inr (inl (record { call_is = refl; dropped = length (filter (is_forgotten story upto) (touched_uids story.history)); left = finite.insert stories name (with_horizon story upto); accepted = forgets story found allowed }));
     })))
   where
     forgets : (story : Story) → finite.get stories name ≡ Some story → may_forget story.horizon (length story.history) upto ≡ true

@@ -25,10 +25,12 @@ use Rattle.book_laws.specs.Worlds.{Story, Stories, IsSound, AreSound, World, boo
 use Rattle.book_laws.specs.WorldChanges.{event, live_of, storing_event, story_import, story_with_kept_import, import_meaning_under}
 use Rattle.book_laws.specs.Following.{Follows}
 use Rattle.book_laws.proofs.CountLemmas.{live_count_is}
-use Rattle.book_laws.proofs.FollowLemmas.{follow_named, follow_test, follow_given, sound_with}
+use Rattle.book_laws.proofs.FollowLemmas.{follow_named, follow_test, follow_given}
+use Rattle.book_laws.proofs.DropLemmas.{book_of-with_event}
+use Rattle.book_laws.proofs.RememberLemmas.{sound_with}
 use Rattle.book_laws.proofs.RowLemmas.{live_by_row}
 use Rattle.book_model.proofs.SameCardLemmas.{card-Decides}
-use Rattle.book_laws.proofs.WorldLemmas.{wrote_story, same_stories, book_of-with_event}
+use Rattle.book_laws.proofs.WorldLemmas.{wrote_story, same_stories}
 
 -- the rows of an import as far as it came
 abbrev rows_so_far : Importing Story → Importing Book
@@ -102,7 +104,7 @@ module _ (limits : Bounds) (story : Story) (cards : List (List Line)) (sound : I
 
 -- the story with the answer under its key is sound
 pub keeping_sound : (story : Story) (key : List ℕ) (tally : ImportTally) → IsSound story → IsSound (story_with_kept_import story key tally)
-keeping_sound story key tally sound = record { lawful = sound.lawful; past = sound.past }
+keeping_sound story key tally sound = record { lawful = sound.lawful; past = sound.past; keep_least = sound.keep_least; within_keep = sound.within_keep }
 
 module _ (world : World) (name key : List ℕ) (cards : List (List Line)) (story : Story) (all : AreSound world.books) (sound : IsSound story) where
   abbrev written : Importing Book → ImportTally → Result (ImportTally × Books) Refusal

@@ -3,8 +3,14 @@ pub mod CountLemmas
 pub mod HistoryLemmas
 pub mod LiveLemmas
 pub mod DueLemmas
+pub mod FilterLemmas
 pub mod RowLemmas
 pub mod ReportLemmas
+pub mod PassingRows
+pub mod RememberLemmas
+pub mod LossLemmas
+pub mod DropLemmas
+pub mod RemovedRows
 pub mod WorldLemmas
 pub mod FollowLemmas
 pub mod ChangeLemmas

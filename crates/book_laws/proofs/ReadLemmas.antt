@@ -1,29 +1,27 @@
 -- What the rows tell of a book, beside what its history tells.
-use Rattle.std.proofs.Common.{◌≡◌, ℕ, true, false, not, ◌&&◌, ◌||◌, List, [], ◌∷◌, map, flat_map, length, filter, Option, Some, None, Result, Ok, Err, is_some, nat_lt, ◌<◌, refl, sym, ap, ◌∙◌}
+use Rattle.std.proofs.Common.{◌≡◌, ℕ, List, [], ◌∷◌, map, flat_map, length, Option, Some, None, Result, Ok, Err, refl, sym, ap, ◌∙◌}
 use Rattle.std.specs.Option.{option_map, option_map_or, option_and_then}
 use Rattle.std.specs.FinMap as finite
 use Rattle.std.specs.FinMap.{get-from_entries, same_map}
 use Rattle.std.proofs.lemmas.Map.Lookups.{exact_bytes}
 use Rattle.base_types.specs.TextMaps.{text_cmp}
-use Rattle.book_model.specs.declared.answers.Stored.{Stored}
 use Rattle.book_model.specs.declared.refusal.Refusal.{Refusal}
 use Rattle.book_model.specs.declared.refusal.Refusal.TheVariants.{NoSuchBook}
 use Rattle.book_model.specs.declared.row.Row.{Row}
 use Rattle.book_model.specs.Books.{Book, book_named, stored_in}
 use Rattle.book_laws.specs.HistoryCounts.{counts_of}
-use Rattle.book_laws.specs.Histories.{live, last, touched_uids}
+use Rattle.book_laws.specs.Histories.{live}
 use Rattle.book_model.specs.Outcomes.{◌>>=◌}
 use Rattle.book_laws.specs.ReadLaws.{BooksFollow, BookLinesFollow, GettingFollows, CardsFollow, KeptImportsFollow, TalliesFollow}
-use Rattle.book_model.specs.Reading.{book_line, live_entry, live_cards, tally_with, is_removed_after, remembered_in, tally_of}
+use Rattle.book_model.specs.Reading.{book_line, live_entry, live_cards, tally_with, remembered_in, tally_of}
 use Rattle.book_model.specs.Books.{live_card}
-use Rattle.book_laws.specs.Rows.{is_kept, kept_rows}
+use Rattle.book_laws.specs.Rows.{kept_rows}
 use Rattle.book_laws.specs.Worlds.{Story, Stories, IsSound, book_of, rows}
-use Rattle.book_laws.specs.WorldReads.{story_line, is_remembered_of, tally_of_story}
+use Rattle.book_laws.specs.WorldReads.{story_line, tally_of_story}
 use Rattle.book_laws.specs.WorldSteps.{story_named}
-use Rattle.book_model.proofs.BasicLemmas.{is_some-map}
 use Rattle.book_laws.proofs.CountLemmas.{live_count_is}
-use Rattle.book_laws.proofs.ForgetLemmas.{passing_rows}
-use Rattle.book_laws.proofs.RowLemmas.{row_at, live_by_row}
+use Rattle.book_laws.proofs.DropLemmas.{remembered_is}
+use Rattle.book_laws.proofs.RowLemmas.{live_by_row}
 use Rattle.base_types.proofs.TextLemmas.{text_total}
 use Rattle.book_model.proofs.LiveCardLemmas.{find_live}
 use Rattle.book_laws.proofs.WorldLemmas.{get-rows, entries-rows}
@@ -76,21 +74,10 @@ kept_imports_follow stories name key = told_named stories name _ _ (λ story at.
 -- ---- a book in numbers
 
 module _ (story : Story) where
-  removed_after : (uid : List ℕ) → 0 < last story.history uid → (is_kept story.history story.horizon uid && is_removed_after story.horizon (row_at story.history uid)) ≡ is_remembered_of story uid
-  removed_after uid some =
-      ap (λ b. is_kept story.history story.horizon uid && (not b && nat_lt story.horizon (last story.history uid))) (is_some-map (λ (s : Stored). s.card) (finite.get (live story.history) uid))
-      ∙ elim (is_some (finite.get (live story.history) uid)) as (λ b. ((b || nat_lt story.horizon (last story.history uid)) && (not b && nat_lt story.horizon (last story.history uid))) ≡ (not b && nat_lt story.horizon (last story.history uid))) [
-        | true ↦ refl
-        | false ↦ elim (nat_lt story.horizon (last story.history uid)) as (λ b. (b && b) ≡ b) [ true ↦ refl | false ↦ refl ]
-      ]
-
-  remembered_is : remembered_in (book_of story) ≡ length (filter (is_remembered_of story) (touched_uids story.history))
-  remembered_is = passing_rows story.history story.horizon (is_removed_after story.horizon) (is_remembered_of story) removed_after
-
   tally_is : IsSound story → tally_of (book_of story) ≡ tally_of_story story
   tally_is sound =
       ap (λ n. tally_with (length story.history) story.horizon n (counts_of story.history) (remembered_in (book_of story))) (live_count_is story.history sound.lawful)
-      ∙ ap (tally_with (length story.history) story.horizon (finite.len (live story.history)) (counts_of story.history)) remembered_is
+      ∙ ap (tally_with (length story.history) story.horizon (finite.len (live story.history)) (counts_of story.history)) (remembered_is story)
 
 pub tallies_follow : TalliesFollow
 tallies_follow stories name sound = told_named stories name _ _ (λ story at. ap Ok (tally_is story (sound name story at)))

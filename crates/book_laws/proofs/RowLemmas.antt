@@ -13,7 +13,8 @@ use Rattle.book_model.specs.declared.change.Change.{Change}
 use Rattle.book_model.specs.declared.change.Change.TheVariants.{Stores, TakesAway}
 use Rattle.book_model.specs.declared.row.Row.{Row}
 use Rattle.book_model.specs.declared.token.Mark.{Mark}
-use Rattle.book_model.specs.Books.{card_after, stored_in, LiveCards}
+use Rattle.book_model.specs.Books.{stored_in, LiveCards}
+use Rattle.book_model.specs.Changing.{card_after}
 use Rattle.book_laws.specs.Histories.{BookEvent, same_uid, cards_after_change, live, last}
 use Rattle.book_model.specs.Pages.{row_is_due}
 use Rattle.book_laws.specs.Reports.{is_due}

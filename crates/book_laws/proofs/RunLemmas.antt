@@ -3,7 +3,7 @@ use Rattle.std.proofs.Common.{◌≡◌, [], ◌∷◌, Result, Ok, Err, refl, s
 use Rattle.std.specs.Result.{result_unwrap_or}
 use Rattle.book_model.specs.declared.page.Page.{Page}
 use Rattle.book_model.specs.declared.refusal.Refusal.{Refusal}
-use Rattle.book_model.specs.Bounds.{Bounds}
+use Rattle.book_model.specs.Bounds.{Bounds, IsInRange}
 use Rattle.book_model.specs.Books.{Books}
 use Rattle.book_laws.specs.Calls.{Call, CreatesBook, Puts, Removes, Moves, Imports, Forgets, AsksReport, AsksImport, ListsBooks, ShowsBook, Gets, ListsCards, Tallies, Returned, MadeBook, DidPut, DidRemove, DidMove, DidImport, DidForget, GavePage, GaveImport, GaveBooks, GaveBook, GaveCard, GaveCards, GaveTally, with_answer, with_reading, meaning, answer_of, state_after, stories_after, answers_to}
 use Rattle.book_model.specs.Creating.{create_step}
@@ -41,27 +41,27 @@ reading_sound : {A : Type 0} (stories : Stories) (f : A → Returned) (reading :
 reading_sound stories f (Ok told) sound = sound
 reading_sound stories f (Err refusal) sound = sound
 
-sound_after : (world : World) (call : Call) → AreSound world.books → AreSound (stories_after world.limits world.books call)
-sound_after world (CreatesBook name) sound = sound_by world.books MadeBook _ _ sound (creating_follows world name sound)
-sound_after world (Puts name card expect) sound = sound_by world.books DidPut _ _ sound (putting_follows world name card expect sound)
-sound_after world (Removes name uid expect) sound = sound_by world.books DidRemove _ _ sound (removing_follows world name uid expect sound)
-sound_after world (Moves from to uid expect) sound = sound_by world.books DidMove _ _ sound (moving_follows world from to uid expect sound)
-sound_after world (Imports name key cards) sound = sound_by world.books DidImport _ _ sound (importing_follows world name key cards sound)
-sound_after world (Forgets name upto) sound = sound_by world.books DidForget _ _ sound (forgetting_follows world.books name upto sound)
-sound_after world (AsksReport name token limit) sound = reading_sound world.books GavePage _ sound
-sound_after world (AsksImport name key) sound = reading_sound world.books GaveImport _ sound
-sound_after world ListsBooks sound = sound
-sound_after world (ShowsBook name) sound = reading_sound world.books GaveBook _ sound
-sound_after world (Gets name uid) sound = reading_sound world.books GaveCard _ sound
-sound_after world (ListsCards name) sound = reading_sound world.books GaveCards _ sound
-sound_after world (Tallies name) sound = reading_sound world.books GaveTally _ sound
+sound_after : (world : World) (call : Call) → IsInRange world.limits → AreSound world.books → AreSound (stories_after world.limits world.books call)
+sound_after world (CreatesBook name) range sound = sound_by world.books MadeBook _ _ sound (creating_follows world name range sound)
+sound_after world (Puts name card expect) range sound = sound_by world.books DidPut _ _ sound (putting_follows world name card expect sound)
+sound_after world (Removes name uid expect) range sound = sound_by world.books DidRemove _ _ sound (removing_follows world name uid expect sound)
+sound_after world (Moves from to uid expect) range sound = sound_by world.books DidMove _ _ sound (moving_follows world from to uid expect sound)
+sound_after world (Imports name key cards) range sound = sound_by world.books DidImport _ _ sound (importing_follows world name key cards sound)
+sound_after world (Forgets name upto) range sound = sound_by world.books DidForget _ _ sound (forgetting_follows world.books name upto sound)
+sound_after world (AsksReport name token limit) range sound = reading_sound world.books GavePage _ sound
+sound_after world (AsksImport name key) range sound = reading_sound world.books GaveImport _ sound
+sound_after world ListsBooks range sound = sound
+sound_after world (ShowsBook name) range sound = reading_sound world.books GaveBook _ sound
+sound_after world (Gets name uid) range sound = reading_sound world.books GaveCard _ sound
+sound_after world (ListsCards name) range sound = reading_sound world.books GaveCards _ sound
+sound_after world (Tallies name) range sound = reading_sound world.books GaveTally _ sound
 
 abbrev next : World → Call → World
 next world call = record { limits = world.limits; books = stories_after world.limits world.books call }
 
 pub stays_sound : StaysSound
-stays_sound world [] sound = sound
-stays_sound world (call ∷ calls) sound = stays_sound (next world call) calls (sound_after world call sound)
+stays_sound world [] range sound = sound
+stays_sound world (call ∷ calls) range sound = stays_sound (next world call) calls range (sound_after world call range sound)
 
 -- ---- the rows that calls leave
 
@@ -76,26 +76,26 @@ rows_by_reading : {A : Type 0} (stories : Stories) (f : A → Returned) (reading
 rows_by_reading stories f (Ok told) = refl
 rows_by_reading stories f (Err refusal) = refl
 
-rows_follow : (world : World) (call : Call) → AreSound world.books → rows_after world.limits (rows world.books) call ≡ rows (stories_after world.limits world.books call)
-rows_follow world (CreatesBook name) sound = rows_by world.books MadeBook _ _ (creating_follows world name sound)
-rows_follow world (Puts name card expect) sound = rows_by world.books DidPut _ _ (putting_follows world name card expect sound)
-rows_follow world (Removes name uid expect) sound = rows_by world.books DidRemove _ _ (removing_follows world name uid expect sound)
-rows_follow world (Moves from to uid expect) sound = rows_by world.books DidMove _ _ (moving_follows world from to uid expect sound)
-rows_follow world (Imports name key cards) sound = rows_by world.books DidImport _ _ (importing_follows world name key cards sound)
-rows_follow world (Forgets name upto) sound = rows_by world.books DidForget _ _ (forgetting_follows world.books name upto sound)
-rows_follow world (AsksReport name token limit) sound = rows_by_reading world.books GavePage _
-rows_follow world (AsksImport name key) sound = rows_by_reading world.books GaveImport _
-rows_follow world ListsBooks sound = refl
-rows_follow world (ShowsBook name) sound = rows_by_reading world.books GaveBook _
-rows_follow world (Gets name uid) sound = rows_by_reading world.books GaveCard _
-rows_follow world (ListsCards name) sound = rows_by_reading world.books GaveCards _
-rows_follow world (Tallies name) sound = rows_by_reading world.books GaveTally _
+rows_follow : (world : World) (call : Call) → IsInRange world.limits → AreSound world.books → rows_after world.limits (rows world.books) call ≡ rows (stories_after world.limits world.books call)
+rows_follow world (CreatesBook name) range sound = rows_by world.books MadeBook _ _ (creating_follows world name range sound)
+rows_follow world (Puts name card expect) range sound = rows_by world.books DidPut _ _ (putting_follows world name card expect sound)
+rows_follow world (Removes name uid expect) range sound = rows_by world.books DidRemove _ _ (removing_follows world name uid expect sound)
+rows_follow world (Moves from to uid expect) range sound = rows_by world.books DidMove _ _ (moving_follows world from to uid expect sound)
+rows_follow world (Imports name key cards) range sound = rows_by world.books DidImport _ _ (importing_follows world name key cards sound)
+rows_follow world (Forgets name upto) range sound = rows_by world.books DidForget _ _ (forgetting_follows world.books name upto sound)
+rows_follow world (AsksReport name token limit) range sound = rows_by_reading world.books GavePage _
+rows_follow world (AsksImport name key) range sound = rows_by_reading world.books GaveImport _
+rows_follow world ListsBooks range sound = refl
+rows_follow world (ShowsBook name) range sound = rows_by_reading world.books GaveBook _
+rows_follow world (Gets name uid) range sound = rows_by_reading world.books GaveCard _
+rows_follow world (ListsCards name) range sound = rows_by_reading world.books GaveCards _
+rows_follow world (Tallies name) range sound = rows_by_reading world.books GaveTally _
 
 pub rows_follow_calls : RowsFollowCalls
-rows_follow_calls world [] sound = refl
-rows_follow_calls world (call ∷ calls) sound =
-    ap (λ (books : Books). rows_after_all world.limits books calls) (rows_follow world call sound)
-    ∙ rows_follow_calls (next world call) calls (sound_after world call sound)
+rows_follow_calls world [] range sound = refl
+rows_follow_calls world (call ∷ calls) range sound =
+    ap (λ (books : Books). rows_after_all world.limits books calls) (rows_follow world call range sound)
+    ∙ rows_follow_calls (next world call) calls range (sound_after world call range sound)
 
 -- ---- one call of two worlds with the same rows
 
@@ -138,7 +138,7 @@ module _ (a b : World) (same : rows a.books ≡ rows b.books) where
   page_same (Err r) (Err s) (Err t) p q = ap (λ z. Err z) (sym p ∙ q)
 
 -- under the limits of the first, which are those of the second
-module _ (a b : World) (sound : AreSound a.books) (other_sound : AreSound b.books) (limits_same : a.limits ≡ b.limits) (same : rows a.books ≡ rows b.books) where
+module _ (a b : World) (range : IsInRange a.limits) (sound : AreSound a.books) (other_sound : AreSound b.books) (limits_same : a.limits ≡ b.limits) (same : rows a.books ≡ rows b.books) where
   turned : {A : Type 0} (step : Bounds → Books → Result (A × Books) Refusal) (meant : Bounds → Stories → Result (A × Stories) Refusal)
       → Follows (step b.limits (rows b.books)) (meant b.limits b.books) → Follows (step a.limits (rows a.books)) (meant a.limits b.books)
   turned step meant f =
@@ -154,7 +154,7 @@ module _ (a b : World) (sound : AreSound a.books) (other_sound : AreSound b.book
   told_alike step x y p q = sym p ∙ ap step same ∙ q
 
   call_alike : (call : Call) → SameStep a.books b.books (meaning a.limits a.books call) (meaning a.limits b.books call)
-  call_alike (CreatesBook name) = change_same a b same MadeBook (create_step a.limits (rows a.books) name) _ _ (creating_follows a name sound) (turned (λ limits books. create_step limits books name) (λ limits stories. create_meaning limits stories name) (creating_follows b name other_sound))
+  call_alike (CreatesBook name) = change_same a b same MadeBook (create_step a.limits (rows a.books) name) _ _ (creating_follows a name range sound) (turned (λ limits books. create_step limits books name) (λ limits stories. create_meaning limits stories name) (creating_follows b name (subst IsInRange limits_same range) other_sound))
   call_alike (Puts name card expect) = change_same a b same DidPut (put_step a.limits (rows a.books) name card expect) _ _ (putting_follows a name card expect sound) (turned (λ limits books. put_step limits books name card expect) (λ limits stories. put_meaning limits stories name card expect) (putting_follows b name card expect other_sound))
   call_alike (Removes name uid expect) = change_same a b same DidRemove (remove_step a.limits (rows a.books) name uid expect) _ _ (removing_follows a name uid expect sound) (turned (λ limits books. remove_step limits books name uid expect) (λ limits stories. remove_meaning limits stories name uid expect) (removing_follows b name uid expect other_sound))
   call_alike (Moves from to uid expect) = change_same a b same DidMove (move_step a.limits (rows a.books) from to uid expect) _ _ (moving_follows a from to uid expect sound) (turned (λ limits books. move_step limits books from to uid expect) (λ limits stories. move_meaning limits stories from to uid expect) (moving_follows b from to uid expect other_sound))
@@ -174,10 +174,10 @@ module _ (a b : World) (sound : AreSound a.books) (other_sound : AreSound b.book
 -- ---- lists of calls
 
 pub rows_are_enough : RowsAreEnough
-rows_are_enough a b [] sound other_sound limits same = record { answers_are = refl; rows_are = same }
-rows_are_enough a b (call ∷ calls) sound other_sound limits same =
-    let now = step_alike a b sound other_sound limits same call in
-    let rest = rows_are_enough (next a call) (next b call) calls (sound_after a call sound) (sound_after b call other_sound) limits now.rows_same in
+rows_are_enough a b [] range sound other_sound limits same = record { answers_are = refl; rows_are = same }
+rows_are_enough a b (call ∷ calls) range sound other_sound limits same =
+    let now = step_alike a b range sound other_sound limits same call in
+    let rest = rows_are_enough (next a call) (next b call) calls range (sound_after a call range sound) (sound_after b call (subst IsInRange limits range) other_sound) limits now.rows_same in
     record {
       answers_are =
           ap (λ t. t ∷ answers_to a.limits (stories_after a.limits a.books call) calls) now.told_same

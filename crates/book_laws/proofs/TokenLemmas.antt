@@ -1,5 +1,5 @@
 -- The token of a page, as calls come: its book keeps its id, and the numbers of its mark stay within the history.
-use Rattle.std.proofs.Common.{◌≡◌, ℕ, ◌+◌, ◌-◌, ◌<◌, ◌≤◌, min, Bool, true, false, cond, ◌&&◌, ◌==◌, List, [], ◌∷◌, length, Option, Some, None, Result, Ok, Err, nat_lt, nat_le, get_or, refl, sym, ap, ◌∙◌, subst, ⊎_elim, arith}
+use Rattle.std.proofs.Common.{◌≡◌, ℕ, ◌+◌, ◌-◌, ◌<◌, ◌≤◌, ◌⊎◌, inl, inr, min, Bool, true, false, cond, ◌&&◌, ◌==◌, List, [], ◌∷◌, length, Option, Some, None, Result, Ok, Err, nat_lt, nat_le, get_or, refl, sym, ap, ◌∙◌, subst, ⊎_elim, arith}
 use Rattle.std.specs.Option.{option_map_or}
 use Rattle.std.specs.FinMap as finite
 use Rattle.std.proofs.lemmas.Bool.{cases_lt, leb-true, le-leb, both_ways, eq-eqb}
@@ -19,12 +19,14 @@ use Rattle.book_laws.specs.Histories.{last}
 use Rattle.book_model.specs.Outcomes.{◌>>=◌, provided}
 use Rattle.book_model.specs.Pages.{mark_asked, page_size, page_of, token_of}
 use Rattle.book_laws.specs.Reports.{due, cut_page, whole_page, report}
+use Rattle.book_laws.specs.Losses.{LostMoreThanKept}
 use Rattle.book_laws.specs.TokenLaws.{ForgotAbove, TokensStayGood}
 use Rattle.book_laws.specs.Worlds.{Story, Stories, IsSound, AreSound, World}
 use Rattle.book_laws.specs.WorldSteps.{report_meaning}
 use Rattle.book_model.proofs.AnswerLemmas.{same_answer, no_answer}
 use Rattle.book_laws.proofs.GoingOnLemmas.{call_continues, books_go_on}
 use Rattle.book_laws.proofs.HistoryLemmas.{last-le}
+use Rattle.book_laws.proofs.LossLemmas.{still_lost}
 
 -- ---- a page of a book
 
@@ -129,9 +131,10 @@ too_old false known old rest mark f cause o k none e = absurd (both_ways false r
 
 -- ---- a horizon that rose
 
--- a horizon is above a number only where a forgetting raised it there
+-- A horizon is above a number only where a forgetting raised it there, or where more cards left the
+-- book after the number than it keeps.
 rose : (limits : Bounds) (calls : List Call) (stories : Stories) (name : List ℕ) (base : ℕ) (story new : Story) → finite.get stories name ≡ Some story → story.horizon ≤ base
-    → finite.get (stories_after_all limits stories calls) name ≡ Some new → base < new.horizon → ForgotAbove limits stories calls name base
+    → finite.get (stories_after_all limits stories calls) name ≡ Some new → base < new.horizon → ForgotAbove limits stories calls name base ⊎ LostMoreThanKept (stories_after_all limits stories calls) name base
 rose limits [] stories name base story new found low at high =
     let same : story ≡ new = same_Some story new (sym found ∙ at) in
     let h = ap (λ (s : Story). s.horizon) same in absurd (omega (arith, low, high, h))
@@ -141,20 +144,24 @@ rose limits (call ∷ calls) stories name base story new found low at high =
     ⊎_elim
     (λ above. ⊎_elim
     (λ same. absurd (omega (arith, low, above, same)))
-    (λ raised. record {
+    (λ raised. ⊎_elim
+    (λ forgot. inl (record {
       earlier = [];
       later = calls;
       upto = next.horizon;
       above = above;
-      calls_are = ap (λ c. c ∷ calls) raised.call_is;
-      dropped = raised.dropped;
-      left = raised.left;
-      accepted = raised.accepted;
-    })
+      calls_are = ap (λ c. c ∷ calls) forgot.call_is;
+      dropped = forgot.dropped;
+      left = forgot.left;
+      accepted = forgot.accepted;
+    }))
+    (λ lost.
+    let g = books_go_on limits (stories_after limits stories call) calls name next one.1 in
+    inr (record { story = g.0; is = g.1; more = still_lost next g.0 base g.2 (lost base low above) }))
+    raised)
     one.2.horizon)
-    (λ below.
-    let f = rose limits calls (stories_after limits stories call) name base next new one.1 below at high in
-    record {
+    (λ below. ⊎_elim
+    (λ f. inl (record {
       earlier = call ∷ f.earlier;
       later = f.later;
       upto = f.upto;
@@ -163,7 +170,9 @@ rose limits (call ∷ calls) stories name base story new found low at high =
       dropped = f.dropped;
       left = f.left;
       accepted = f.accepted;
-    })
+    }))
+    (λ lost. inr lost)
+    (rose limits calls (stories_after limits stories call) name base next new one.1 below at high))
     (cases_lt base next.horizon)
 
 -- ---- the whole

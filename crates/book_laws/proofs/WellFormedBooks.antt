@@ -1,9 +1,10 @@
 -- A book stays well formed by a change that fits what is live, and by forgetting; and books do when one is written over.
-use Rattle.std.proofs.Common.{◌≡◌, ℕ, ◌+◌, ◌<◌, ◌≤◌, Bool, true, false, cond, ◌⊎◌, ◌||◌, nat_lt, inl, inr, List, Option, Some, None, is_some, refl, sym, ap, ◌∙◌, subst, ⊎_elim, arith}
+use Rattle.std.proofs.Common.{◌≡◌, ℕ, ◌+◌, ◌<◌, ◌≤◌, Bool, true, false, cond, ◌⊎◌, ◌||◌, nat_lt, nat_le, not, inl, inr, List, [], length, filter, Option, Some, None, is_some, refl, sym, ap, ◌∙◌, subst, ⊎_elim, arith}
 use Rattle.std.specs.Option.{option_and_then, option_map_or}
 use Rattle.std.specs.FinMap as finite
 use Rattle.std.specs.FinMap.{get-empty, get-insert, get-remove, get-retain_keys, get-from_entries, len-insert, len-empty, same_map}
-use Rattle.std.proofs.lemmas.Bool.{cases_Bool, cond-true, cond-false, ltb-true}
+use Rattle.std.proofs.lemmas.Bool.{cases_Bool, and_parts, cond-true, cond-false, leb-true, ltb-true}
+use Rattle.std.proofs.lemmas.List.{length-map, nil_from_length}
 use Rattle.std.proofs.lemmas.Map.Lookups.{exact_bytes}
 use Rattle.std.proofs.lemmas.Option.{same_Some, cond_some}
 use Rattle.base_types.specs.TextMaps.{text_cmp}
@@ -20,15 +21,21 @@ use Rattle.book_model.specs.declared.change.RemovalReason.TheVariants.{Deletion,
 use Rattle.book_model.specs.declared.row.Row.{Row}
 use Rattle.book_model.specs.Bounds.{Bounds}
 use Rattle.book_model.specs.BookNames.{is_legal_name}
-use Rattle.book_model.specs.Books.{Book, Books, LiveCards, card_after, empty_book, live_at, same_name, stored_in, with_change}
+use Rattle.book_model.specs.Books.{Book, Books, LiveCards, empty_book, live_at, same_name, stored_in}
+use Rattle.book_model.specs.Changing.{card_after, with_row, first_removal, book_after_drop, with_change}
 use Rattle.book_model.specs.Counting.{arrivals, departures}
 use Rattle.book_model.specs.Forgetting.{book_after_forget}
 use Rattle.book_model.specs.Importing.{is_legal_key, with_kept_import}
-use Rattle.book_model.specs.Reading.{live_cards}
+use Rattle.book_model.specs.Reading.{is_removed_after, live_cards, remembered_in}
 use Rattle.book_model.specs.WellFormed.{IsWellFormedRow, IsWellFormedImport, IsWellFormedBook, IsWellFormed}
-use Rattle.book_model.proofs.LiveCardLemmas.{find_live}
+use Rattle.book_model.proofs.LiveCardLemmas.{Members, find_live}
 use Rattle.base_types.proofs.TextLemmas.{text_total, same-equal}
 use Rattle.book_laws.proofs.CountLemmas.{total-counted, len-removed}
+use Rattle.book_laws.proofs.DropLemmas.{numbers}
+use Rattle.book_laws.proofs.FilterLemmas.{least_among, none_least}
+use Rattle.book_laws.proofs.RememberLemmas.{not_below}
+use Rattle.book_laws.proofs.RemovedRows.{removed_written, removed_kept, removed_higher, removed_dropped, row_among}
+use Rattle.book_laws.proofs.ReportLemmas.{each_found}
 
 -- what stands in a map after a write was written, or was there before
 pub written_or_there : {X : Type 0} (m : finite.FinMap text_cmp X) (k : List ℕ) (v : X) (q : List ℕ) (x : X) → finite.get (finite.insert m k v) q ≡ Some x → ((q ≡ k) × (v ≡ x)) ⊎ (finite.get m q ≡ Some x)
@@ -50,24 +57,24 @@ module _ (book : Book) (uid : List ℕ) where
   chosen q row true = refl
   chosen q row false = refl
 
-  at_change : (change : Change) (q : List ℕ) → live_at (with_change book uid change) q ≡ cond (same_name q uid) (stored_in (record { changed = book.number + 1; card = card_after change })) (finite.get (live_cards book) q)
+  at_change : (change : Change) (q : List ℕ) → live_at (with_row book uid change) q ≡ cond (same_name q uid) (stored_in (record { changed = book.number + 1; card = card_after change })) (finite.get (live_cards book) q)
   at_change change q =
       let row : Row = record { changed = book.number + 1; card = card_after change } in
       ap (option_and_then stored_in) (get-insert text_total book.members uid row q) ∙ chosen q row (same_name q uid) ∙ ap (cond (same_name q uid) (stored_in row)) (sym (get-live_cards book q))
 
-  after_store : (card : List Line) (why : StoreReason) → live_cards (with_change book uid (Stores card why)) ≡ finite.insert (live_cards book) uid (record { version = book.number + 1; card = card })
-  after_store card why = same_live (finite.insert (live_cards book) uid (record { version = book.number + 1; card = card })) (with_change book uid (Stores card why)) (λ q. at_change (Stores card why) q ∙ sym (get-insert text_total (live_cards book) uid (record { version = book.number + 1; card = card }) q))
+  after_store : (card : List Line) (why : StoreReason) → live_cards (with_row book uid (Stores card why)) ≡ finite.insert (live_cards book) uid (record { version = book.number + 1; card = card })
+  after_store card why = same_live (finite.insert (live_cards book) uid (record { version = book.number + 1; card = card })) (with_row book uid (Stores card why)) (λ q. at_change (Stores card why) q ∙ sym (get-insert text_total (live_cards book) uid (record { version = book.number + 1; card = card }) q))
 
-  after_removal : (why : RemovalReason) → live_cards (with_change book uid (TakesAway why)) ≡ finite.remove (live_cards book) uid
-  after_removal why = same_live (finite.remove (live_cards book) uid) (with_change book uid (TakesAway why)) (λ q. at_change (TakesAway why) q ∙ sym (get-remove text_total (live_cards book) uid q))
+  after_removal : (why : RemovalReason) → live_cards (with_row book uid (TakesAway why)) ≡ finite.remove (live_cards book) uid
+  after_removal why = same_live (finite.remove (live_cards book) uid) (with_row book uid (TakesAway why)) (λ q. at_change (TakesAway why) q ∙ sym (get-remove text_total (live_cards book) uid q))
 
-  one_more : (card : List Line) (why : StoreReason) → live_at book uid ≡ None → finite.len (live_cards (with_change book uid (Stores card why))) ≡ finite.len (live_cards book) + 1
+  one_more : (card : List Line) (why : StoreReason) → live_at book uid ≡ None → finite.len (live_cards (with_row book uid (Stores card why))) ≡ finite.len (live_cards book) + 1
   one_more card why none = ap finite.len (after_store card why) ∙ len-insert text_total (live_cards book) uid _ ∙ cond-false _ _ _ (ap is_some (get-live_cards book uid ∙ none))
 
-  as_many : (card : List Line) (why : StoreReason) → is_some (live_at book uid) ≡ true → finite.len (live_cards (with_change book uid (Stores card why))) ≡ finite.len (live_cards book)
+  as_many : (card : List Line) (why : StoreReason) → is_some (live_at book uid) ≡ true → finite.len (live_cards (with_row book uid (Stores card why))) ≡ finite.len (live_cards book)
   as_many card why some = ap finite.len (after_store card why) ∙ len-insert text_total (live_cards book) uid _ ∙ cond-true _ _ _ (ap is_some (get-live_cards book uid) ∙ some)
 
-  one_less : (why : RemovalReason) → is_some (live_at book uid) ≡ true → finite.len (live_cards (with_change book uid (TakesAway why))) + 1 ≡ finite.len (live_cards book)
+  one_less : (why : RemovalReason) → is_some (live_at book uid) ≡ true → finite.len (live_cards (with_row book uid (TakesAway why))) + 1 ≡ finite.len (live_cards book)
   one_less why some = ap (λ cards. finite.len cards + 1) (after_removal why) ∙ len-removed (live_cards book) uid (ap is_some (get-live_cards book uid) ∙ some)
 
 -- ---- one change
@@ -84,7 +91,7 @@ Fits (TakesAway why) live = is_some live ≡ true
 abbrev AreCounted : Book → Type 0
 AreCounted book = finite.len (live_cards book) + departures book.counts ≡ arrivals book.counts
 
-still_counted : (book : Book) (uid : List ℕ) (change : Change) → Fits change (live_at book uid) → AreCounted book → AreCounted (with_change book uid change)
+still_counted : (book : Book) (uid : List ℕ) (change : Change) → Fits change (live_at book uid) → AreCounted book → AreCounted (with_row book uid change)
 still_counted book uid (Stores card Creation) fits so = let n = one_more book uid card Creation fits in omega (arith, n, so)
 still_counted book uid (Stores card Edit) fits so = let n = as_many book uid card Edit fits in omega (arith, n, so)
 still_counted book uid (Stores card Import) fits so = let n = one_more book uid card Import fits in omega (arith, n, so)
@@ -99,8 +106,8 @@ IsOwn (Stores card why) uid = uid_of card ≡ uid
 IsOwn (TakesAway why) uid = Unit {0}
 
 module _ (limits after : Bounds) (book : Book) (uid : List ℕ) (change : Change) (is : IsWellFormedBook limits book) (room : book.number + 1 ≤ after.changes_max) (fits : Fits change (live_at book uid)) (own : IsOwn change uid) where
-  abbrev next : Book
-  next = with_change book uid change
+  abbrev pub next : Book
+  next = with_row book uid change
 
   abbrev row : Row
   row = record { changed = book.number + 1; card = card_after change }
@@ -133,17 +140,35 @@ module _ (limits after : Bounds) (book : Book) (uid : List ℕ) (change : Change
       (written_or_there book.members uid row b y q))
       (written_or_there book.members uid row a x p)
 
-  pub well_changed : IsWellFormedBook after next
-  well_changed =
+  -- with room for one more removed member
+  abbrev pub roomy : Book
+  roomy = record next { keep = book.keep + 1 }
+
+  pub one_more_removed : remembered_in next ≤ remembered_in book + 1
+  one_more_removed =
+      let more = removed_written book.members uid row book.horizon in
+      let one = at_most_one (is_removed_after book.horizon row) in
+      omega (arith, more, one)
+    where
+      at_most_one : (b : Bool) → cond b 1 0 ≤ 1
+      at_most_one true = omega arith
+      at_most_one false = omega arith
+
+  pub well_roomy : IsWellFormedBook after roomy
+  well_roomy =
       let once = is.counted_once in
       let one = total-counted change book.counts in
       let past = is.horizon_known in
+      let more = one_more_removed in
+      let within = is.within_keep in
       record {
         counted_once = omega (arith, once, one);
         within_limit = room;
         horizon_known = omega (arith, past);
+        keep_least = omega arith;
+        within_keep = omega (arith, more, within);
         cards_counted = still_counted book uid change fits is.cards_counted;
-        rows = rows;
+        rows = λ q r e. let old = rows q r e in record { first = old.first; known = old.known; own_card = old.own_card; remembered = old.remembered };
         rows_apart = rows_apart;
         imports = λ key tally e. let old = is.imports key tally e in let le = old.known in record { legal = old.legal; known = omega (arith, le) };
       }
@@ -154,37 +179,61 @@ within limits after book room is = record {
   counted_once = is.counted_once;
   within_limit = room;
   horizon_known = is.horizon_known;
+  keep_least = is.keep_least;
+  within_keep = is.within_keep;
   cards_counted = is.cards_counted;
   rows = is.rows;
   rows_apart = is.rows_apart;
   imports = is.imports;
 }
 
+-- and with any keep that is enough for the removed members that it remembers
+pub with_other_keep : (limits : Bounds) (book : Book) (keep : ℕ) → 1 ≤ keep → remembered_in book ≤ keep → IsWellFormedBook limits book → IsWellFormedBook limits (record book { keep = keep })
+with_other_keep limits book keep least enough is = record {
+  counted_once = is.counted_once;
+  within_limit = is.within_limit;
+  horizon_known = is.horizon_known;
+  keep_least = least;
+  within_keep = enough;
+  cards_counted = is.cards_counted;
+  rows = λ q r e. let old = is.rows q r e in record { first = old.first; known = old.known; own_card = old.own_card; remembered = old.remembered };
+  rows_apart = is.rows_apart;
+  imports = λ key tally e. let old = is.imports key tally e in record { legal = old.legal; known = old.known };
+}
+
 -- ---- a book that nothing happened to, that keeps an import, and that forgets
 
-module _ (id : ℕ) (limits : Bounds) where
-  no_row : (q : List ℕ) (r : Row) → finite.get (empty_book id).members q ≡ Some r → ⊥
+module _ (id keep : ℕ) (limits : Bounds) where
+  no_row : (q : List ℕ) (r : Row) → finite.get (empty_book id keep).members q ≡ Some r → ⊥
   no_row q r e = none r (sym (get-empty text_cmp q) ∙ e)
     where
       none : (r : Row) → ◌≡◌ {A = Option Row} None (Some r) → ⊥
       none r e = cc
 
-  no_import : (q : List ℕ) (t : ImportTally) → finite.get (empty_book id).imports q ≡ Some t → ⊥
+  no_import : (q : List ℕ) (t : ImportTally) → finite.get (empty_book id keep).imports q ≡ Some t → ⊥
   no_import q t e = none t (sym (get-empty text_cmp q) ∙ e)
     where
       none : (t : ImportTally) → ◌≡◌ {A = Option ImportTally} None (Some t) → ⊥
       none t e = cc
 
-  none_live : live_cards (empty_book id) ≡ finite.empty
-  none_live = same_live finite.empty (empty_book id) (λ q. ap (option_and_then stored_in) (get-empty text_cmp q) ∙ sym (get-empty text_cmp q))
+  none_live : live_cards (empty_book id keep) ≡ finite.empty
+  none_live = same_live finite.empty (empty_book id keep) (λ q. ap (option_and_then stored_in) (get-empty text_cmp q) ∙ sym (get-empty text_cmp q))
 
-  pub well_empty : IsWellFormedBook limits (empty_book id)
-  well_empty =
+  none_removed : remembered_in (empty_book id keep) ≡ 0
+  none_removed =
+      let none : finite.entries (empty_book id keep).members ≡ [] = nil_from_length _ (sym (finite.len-entries (empty_book id keep).members) ∙ len-empty text_cmp Row) in
+      ap (λ (es : Members). length (filter (λ (e : List ℕ × Row). is_removed_after 0 e.1) es)) none
+
+  pub well_empty : 1 ≤ keep → IsWellFormedBook limits (empty_book id keep)
+  well_empty least =
       let none = ap finite.len none_live ∙ len-empty text_cmp Stored in
+      let forgotten = none_removed in
       record {
         counted_once = refl;
         within_limit = omega arith;
         horizon_known = omega arith;
+        keep_least = least;
+        within_keep = omega (arith, forgotten);
         cards_counted = omega (arith, none);
         rows = λ q r e. absurd (no_row q r e);
         rows_apart = λ a b x y p q same. absurd (no_row a x p);
@@ -196,6 +245,8 @@ well_kept limits book key tally legal known is = record {
   counted_once = is.counted_once;
   within_limit = is.within_limit;
   horizon_known = is.horizon_known;
+  keep_least = is.keep_least;
+  within_keep = is.within_keep;
   cards_counted = is.cards_counted;
   rows = λ uid row e. let old = is.rows uid row e in record { first = old.first; known = old.known; own_card = old.own_card; remembered = old.remembered };
   rows_apart = is.rows_apart;
@@ -211,7 +262,7 @@ well_kept limits book key tally legal known is = record {
 abbrev stays : ℕ → Row → Bool
 stays upto row = is_some row.card || nat_lt upto row.changed
 
-module _ (limits : Bounds) (book : Book) (upto : ℕ) (is : IsWellFormedBook limits book) (past : upto ≤ book.number) where
+module _ (limits : Bounds) (book : Book) (upto : ℕ) (is : IsWellFormedBook limits book) (rises : book.horizon ≤ upto) (past : upto ≤ book.number) where
   abbrev less : Book
   less = book_after_forget book upto
 
@@ -253,15 +304,52 @@ module _ (limits : Bounds) (book : Book) (upto : ℕ) (is : IsWellFormedBook lim
       by (Some x) = row_by x x.card refl
 
   pub well_forgotten : IsWellFormedBook limits less
-  well_forgotten = let counted = is.cards_counted in let same = ap finite.len live_still in record {
+  well_forgotten = let counted = is.cards_counted in let same = ap finite.len live_still in let within = is.within_keep in let fewer = removed_kept book.members upto upto in let higher = removed_higher book.members book.horizon upto rises in record {
     counted_once = is.counted_once;
     within_limit = is.within_limit;
     horizon_known = past;
+    keep_least = is.keep_least;
+    within_keep = omega (arith, within, fewer, higher);
     cards_counted = omega (arith, counted, same);
     rows = λ q r e. let l = left q r e in let old = is.rows q r l.0 in record { first = old.first; known = old.known; own_card = old.own_card; remembered = later r l.1 };
     rows_apart = λ a b x y p q same. is.rows_apart a b x y (left a x p).0 (left b y q).0 same;
     imports = λ key tally e. let old = is.imports key tally e in record { legal = old.legal; known = old.known };
   }
+
+-- ---- a change and what it drops
+
+drops : (after : Bounds) (next : Book) (keep : ℕ) (drop : Option ℕ) → IsWellFormedBook after (record next { keep = keep + 1 }) → first_removal next ≡ drop → 1 ≤ keep → keep < remembered_in next → IsWellFormedBook after (record (book_after_drop next drop) { keep = keep })
+drops after next keep None is first least more =
+    let none = ap length (none_least (numbers (is_removed_after next.horizon) (finite.entries next.members)) first) in
+    let many = length-map (filter (λ (e : List ℕ × Row). is_removed_after next.horizon e.1) (finite.entries next.members)) (λ e. e.1.changed) in
+    absurd (omega (arith, none, many, more))
+drops after next keep (Some n) is first least more =
+    let among = least_among (numbers (is_removed_after next.horizon) (finite.entries next.members)) n first in
+    let found = row_among (λ e. finite.get next.members e.0 ≡ Some e.1) (is_removed_after next.horizon) n (finite.entries next.members) (each_found next.members) among in
+    let row = is.rows found.0.0 found.0.1 found.1 in
+    let above : next.horizon < found.0.1.changed = ltb-true next.horizon found.0.1.changed (and_parts (not (is_some found.0.1.card)) (nat_lt next.horizon found.0.1.changed) found.2).1 in
+    let number = found.3 in
+    let known = row.known in
+    let less = removed_dropped next.members next.horizon n (omega (arith, above, number)) among in
+    let within = is.within_keep in
+    with_other_keep after (book_after_forget (record next { keep = keep + 1 }) n) keep least (omega (arith, less, within))
+    (well_forgotten after (record next { keep = keep + 1 }) n is (omega (arith, above, number)) (omega (arith, known, number)))
+
+module _ (limits after : Bounds) (book : Book) (uid : List ℕ) where
+  pub well_changed : (change : Change) → IsWellFormedBook limits book → book.number + 1 ≤ after.changes_max → Fits change (live_at book uid) → IsOwn change uid → IsWellFormedBook after (with_change book uid change)
+  well_changed (Stores card why) is room fits own =
+      let more = removed_written book.members uid (record { changed = book.number + 1; card = Some card }) book.horizon in
+      let within = is.within_keep in
+      with_other_keep after (roomy limits after book uid (Stores card why) is room fits own) book.keep is.keep_least (omega (arith, more, within))
+      (well_roomy limits after book uid (Stores card why) is room fits own)
+  well_changed (TakesAway why) is room fits own = by_test (nat_le (remembered_in removed) book.keep) refl
+    where
+      removed : Book
+      removed = with_row book uid (TakesAway why)
+
+      by_test : (b : Bool) → nat_le (remembered_in removed) book.keep ≡ b → IsWellFormedBook after (book_after_drop removed (cond b None (first_removal removed)))
+      by_test true few = with_other_keep after (roomy limits after book uid (TakesAway why) is room fits own) book.keep is.keep_least (leb-true _ _ few) (well_roomy limits after book uid (TakesAway why) is room fits own)
+      by_test false many = drops after removed book.keep (first_removal removed) (well_roomy limits after book uid (TakesAway why) is room fits own) refl is.keep_least (not_below (remembered_in removed) book.keep many)
 
 -- ---- books
 
@@ -304,9 +392,9 @@ module _ (limits : Bounds) (books : Books) (name : List ℕ) (is : IsWellFormed 
       }
 
   -- a book is new
-  pub well_new : finite.contains_key books name ≡ false → is_legal_name name ≡ true → finite.len books < limits.books_max → IsWellFormed limits (finite.insert books name (empty_book (finite.len books + 1)))
-  well_new free legal room =
-      let book : Book = empty_book (finite.len books + 1) in
+  pub well_new : 1 ≤ limits.keep → finite.contains_key books name ≡ false → is_legal_name name ≡ true → finite.len books < limits.books_max → IsWellFormed limits (finite.insert books name (empty_book (finite.len books + 1) limits.keep))
+  well_new least free legal room =
+      let book : Book = empty_book (finite.len books + 1) limits.keep in
       let n : finite.len (finite.insert books name book) ≡ finite.len books + 1 = len-insert text_total books name book ∙ cond-false _ _ _ free in
       record {
         within_limit = omega (arith, n, room);
@@ -314,7 +402,7 @@ module _ (limits : Bounds) (books : Books) (name : List ℕ) (is : IsWellFormed 
         first_id = for_each (λ q x. 1 ≤ x.id) book is.first_id (omega arith);
         last_id = for_each (λ q x. x.id ≤ finite.len (finite.insert books name book)) book (λ q x e. let le = is.last_id q x e in omega (arith, le, n)) (omega (arith, n));
         ids_apart = apart book (λ q x e same_id. let le = is.last_id q x e in absurd (omega (arith, le, same_id)));
-        each = for_each (λ q x. IsWellFormedBook limits x) book is.each (well_empty (finite.len books + 1) limits);
+        each = for_each (λ q x. IsWellFormedBook limits x) book is.each (well_empty (finite.len books + 1) limits.keep limits least);
       }
 
 abbrev no_books : Books

@@ -2,7 +2,7 @@
 use Rattle.std.proofs.Common.{[], ◌∷◌, Result, Ok, Err}
 use Rattle.std.specs.Result.{IfOk, result_unwrap_or}
 use Rattle.book_model.specs.declared.refusal.Refusal.{Refusal}
-use Rattle.book_model.specs.Bounds.{Bounds}
+use Rattle.book_model.specs.Bounds.{Bounds, IsInRange}
 use Rattle.book_model.specs.Books.{Books}
 use Rattle.book_model.specs.WellFormed.{IsWellFormed}
 use Rattle.book_laws.specs.Calls.{Call, CreatesBook, Puts, Removes, Moves, Imports, Forgets}
@@ -14,20 +14,20 @@ left_well : {A : Type 0} (limits : Bounds) (step : Result (A × Books) Refusal) 
 left_well limits (Ok done) is = is
 left_well limits (Err refusal) is = tt
 
-call_leaves_well : (limits : Bounds) (books : Books) (call : Call) → IsWellFormed limits books → IfOk (rows_left_by limits books call) (IsWellFormed limits)
-call_leaves_well limits books (CreatesBook name) is = left_well limits _ (creating_keeps_form limits books name is)
-call_leaves_well limits books (Puts name card expect) is = left_well limits _ (putting_keeps_form limits books name card expect is)
-call_leaves_well limits books (Removes name uid expect) is = left_well limits _ (removing_keeps_form limits books name uid expect is)
-call_leaves_well limits books (Moves from to uid expect) is = left_well limits _ (moving_keeps_form limits books from to uid expect is)
-call_leaves_well limits books (Imports name key cards) is = left_well limits _ (importing_keeps_form limits books name key cards is)
-call_leaves_well limits books (Forgets name upto) is = left_well limits _ (forgetting_keeps_form limits books name upto is)
-call_leaves_well limits books reading is = is
+call_leaves_well : (limits : Bounds) (books : Books) (call : Call) → IsInRange limits → IsWellFormed limits books → IfOk (rows_left_by limits books call) (IsWellFormed limits)
+call_leaves_well limits books (CreatesBook name) range is = left_well limits _ (creating_keeps_form limits books name range is)
+call_leaves_well limits books (Puts name card expect) range is = left_well limits _ (putting_keeps_form limits books name card expect is)
+call_leaves_well limits books (Removes name uid expect) range is = left_well limits _ (removing_keeps_form limits books name uid expect is)
+call_leaves_well limits books (Moves from to uid expect) range is = left_well limits _ (moving_keeps_form limits books from to uid expect is)
+call_leaves_well limits books (Imports name key cards) range is = left_well limits _ (importing_keeps_form limits books name key cards is)
+call_leaves_well limits books (Forgets name upto) range is = left_well limits _ (forgetting_keeps_form limits books name upto is)
+call_leaves_well limits books reading range is = is
 
 either_way : (limits : Bounds) (books : Books) (r : Result Books Refusal) → IfOk r (IsWellFormed limits) → IsWellFormed limits books → IsWellFormed limits (result_unwrap_or r books)
 either_way limits books (Ok after) left is = left
 either_way limits books (Err refusal) left is = is
 
 pub calls_keep_form : CallsKeepForm
-calls_keep_form limits books [] is = is
-calls_keep_form limits books (call ∷ calls) is =
-    calls_keep_form limits (rows_after limits books call) calls (either_way limits books (rows_left_by limits books call) (call_leaves_well limits books call is) is)
+calls_keep_form limits books [] range is = is
+calls_keep_form limits books (call ∷ calls) range is =
+    calls_keep_form limits (rows_after limits books call) calls range (either_way limits books (rows_left_by limits books call) (call_leaves_well limits books call range is) is)

@@ -23,7 +23,8 @@ use Rattle.book_model.specs.declared.refusal.Refusal.TheVariants.{BadBookName, B
 use Rattle.book_model.specs.declared.row.Row.{Row}
 use Rattle.book_model.specs.Bounds.{Bounds, bounds_of}
 use Rattle.book_model.specs.BookNames.{is_legal_name}
-use Rattle.book_model.specs.Books.{Book, Books, empty_book, live_at, same_name, stored_in, with_change}
+use Rattle.book_model.specs.Books.{Book, Books, empty_book, live_at, live_card, same_name, stored_in}
+use Rattle.book_model.specs.Changing.{with_change}
 use Rattle.book_model.specs.Counting.{live_count}
 use Rattle.book_model.specs.Creating.{new_id}
 use Rattle.book_model.specs.Forgetting.{book_after_forget, may_forget}
@@ -63,10 +64,10 @@ new_id_is limits books name =
     record { legal = legal; free = not-true (finite.contains_key books name) free; room = ltb-true (finite.len books) limits.books_max room; id_is = refl })))
 
 pub creating_keeps_form : CreatingKeepsForm
-creating_keeps_form limits books name is =
+creating_keeps_form limits books name range is =
     after_known (λ (done : ℕ × Books). IsWellFormed limits done.1) (IsNewId limits books name)
-    (new_id limits name (finite.contains_key books name) (finite.len books)) (λ id. Ok (id, finite.insert books name (empty_book id))) (new_id_is limits books name)
-    (λ id new. subst (λ (n : ℕ). IsWellFormed limits (finite.insert books name (empty_book n))) new.id_is (well_new limits books name is new.free new.legal new.room))
+    (new_id limits name (finite.contains_key books name) (finite.len books)) (λ id. Ok (id, finite.insert books name (empty_book id limits.keep))) (new_id_is limits books name)
+    (λ id new. subst (λ (n : ℕ). IsWellFormed limits (finite.insert books name (empty_book n limits.keep))) new.id_is (well_new limits books name is range.keep_least new.free new.legal new.room))
 
 -- ---- storing a card
 
@@ -289,4 +290,4 @@ forgetting_keeps_form limits books name upto is =
     after_named P books name _ (λ book at.
     after_test P (may_forget book.horizon book.number upto) BadForget _ (λ allowed.
     well_over limits books name is book (book_after_forget book upto) at refl
-    (well_forgotten limits book upto (is.each name book at) (leb-true upto book.number (and_parts _ _ allowed).1))))
+    (well_forgotten limits book upto (is.each name book at) (leb-true book.horizon upto (and_parts _ _ allowed).0) (leb-true upto book.number (and_parts _ _ allowed).1))))

@@ -14,8 +14,8 @@ use Rattle.book_model.specs.declared.refusal.Refusal.{Refusal}
 use Rattle.book_model.specs.declared.refusal.Refusal.TheVariants.{BadKey, BookExists, NoSuchCard, UidTaken, SameBook, VersionMismatch, BadToken, BadLimit, BadForget, BookFull, ChangesSpent, TooManyBooks}
 use Rattle.book_model.specs.declared.refusal.TokenCause.TheVariants.{OtherBook, TooNew, TooOld}
 use Rattle.book_model.specs.declared.token.Token.{Token}
-use Rattle.book_model.specs.Bounds.{Bounds}
-use Rattle.book_laws.specs.Calls.{Call, CreatesBook, Puts, Removes, Moves, Imports, AsksImport, Forgets, AsksReport, Tallies, Returned, MadeBook, DidPut, DidRemove, DidMove, DidImport, DidForget, GaveImport, GavePage, GaveTally, answers_to, stories_after_all}
+use Rattle.book_model.specs.Bounds.{Bounds, bounds_of, standard_keep}
+use Rattle.book_laws.specs.Calls.{Call, CreatesBook, Puts, Removes, Moves, Imports, AsksImport, Forgets, AsksReport, ShowsBook, Tallies, Returned, MadeBook, DidPut, DidRemove, DidMove, DidImport, DidForget, GaveBook, GaveImport, GavePage, GaveTally, answers_to, stories_after_all}
 use Rattle.book_laws.specs.Histories.{BookEvent}
 use Rattle.book_laws.specs.Worlds.{Story, Stories}
 use Rattle.book_laws.specs.WorldChanges.{event}
@@ -27,11 +27,8 @@ line name value = record { group = None; name = name; params = []; value = value
 abbrev card : List ℕ → List ℕ → List Line
 card uid name = line (codes "UID") uid ∷ line (codes "FN") name ∷ []
 
-abbrev bounds : ℕ → ℕ → ℕ → ℕ → Bounds
-bounds page_max cards_max changes_max books_max = record { page_max = page_max; cards_max = cards_max; changes_max = changes_max; books_max = books_max }
-
 abbrev standard : Bounds
-standard = bounds 100 10000 1000000000000 100
+standard = bounds_of 100 10000 1000000000000 100
 
 abbrev none : Stories
 none = finite.empty
@@ -82,7 +79,7 @@ abbrev cut : List Entry → ℕ → ℕ → Result Returned Refusal
 cut entries at base = Ok (GavePage (record { book = 1; entries = entries; mark = record { at = at; base = base }; truncated = true }))
 
 abbrev story : ℕ → ℕ → List BookEvent → Story
-story id horizon history = record { id = id; history = history; horizon = horizon; imports = finite.empty }
+story id horizon history = record { id = id; history = history; horizon = horizon; keep = standard_keep; imports = finite.empty }
 
 abbrev only_staff : ℕ → List BookEvent → Stories
 only_staff horizon history = finite.insert none staff (story 1 horizon history)
@@ -126,6 +123,30 @@ later_reports = simp gets
 pub forgets : answers_to standard (only_staff 0 five) (Forgets staff 5 ∷ AsksReport staff (token 1 3 5) (Some 1) ∷ AsksReport staff (token 1 4 4) None ∷ Forgets staff 4 ∷ Forgets staff 6 ∷ Forgets staff 5 ∷ [])
     ≡ Ok (DidForget 1) ∷ page (Changed a 4 anna ∷ []) 5 5 ∷ Err (BadToken TooOld) ∷ Err BadForget ∷ Err BadForget ∷ Ok (DidForget 0) ∷ []
 forgets = simp gets
+
+-- ---- a book that remembers one removed member
+
+abbrev shown : ℕ → ℕ → Result Returned Refusal
+shown number horizon = Ok (GaveBook (record { name = staff; id = 1; number = number; horizon = horizon }))
+
+-- a book of this history that keeps one removed member
+abbrev one_kept : ℕ → List BookEvent → Stories
+one_kept horizon history = finite.insert none staff (record { id = 1; history = history; horizon = horizon; keep = 1; imports = finite.empty })
+
+abbrev three : List BookEvent
+three = event c (Stores cy Creation) ∷ event b (Stores bob Creation) ∷ event a (Stores ann Creation) ∷ []
+
+abbrev four : List BookEvent
+four = event a (TakesAway Deletion) ∷ three
+
+pub the_first_removal_is_remembered : answers_to standard (one_kept 0 three) (Removes staff a None ∷ ShowsBook staff ∷ []) ≡ Ok (DidRemove 4) ∷ shown 4 0 ∷ []
+the_first_removal_is_remembered = simp gets
+
+pub the_second_drops_the_first : answers_to standard (one_kept 0 four) (Removes staff b None ∷ ShowsBook staff ∷ []) ≡ Ok (DidRemove 5) ∷ shown 5 4 ∷ []
+the_second_drops_the_first = simp gets
+
+pub the_third_drops_the_second : answers_to standard (one_kept 4 (event b (TakesAway Deletion) ∷ four)) (Removes staff c None ∷ ShowsBook staff ∷ []) ≡ Ok (DidRemove 6) ∷ shown 6 5 ∷ []
+the_third_drops_the_second = simp gets
 
 -- ---- changes between pages
 
@@ -215,19 +236,19 @@ pub import_edits_are_tallied : answers_to standard (two_books ten (event (codes 
 import_edits_are_tallied = simp gets
 
 -- an import of no cards takes no number, and is kept
-pub empty_imports_are_kept : answers_to (bounds 100 1 2 1) (only_staff 0 (event b (TakesAway Deletion) ∷ event b (Stores bob Creation) ∷ [])) (Imports staff (codes "k") [] ∷ Imports staff (codes "m") (sy ∷ []) ∷ AsksImport staff (codes "k") ∷ AsksImport staff (codes "m") ∷ [])
+pub empty_imports_are_kept : answers_to (bounds_of 100 1 2 1) (only_staff 0 (event b (TakesAway Deletion) ∷ event b (Stores bob Creation) ∷ [])) (Imports staff (codes "k") [] ∷ Imports staff (codes "m") (sy ∷ []) ∷ AsksImport staff (codes "k") ∷ AsksImport staff (codes "m") ∷ [])
     ≡ imported 0 0 0 2 ∷ Err ChangesSpent ∷ Ok (GaveImport (Some (record { added = 0; edited = 0; same = 0; number = 2 }))) ∷ Ok (GaveImport None) ∷ []
 empty_imports_are_kept = simp gets
 
 -- ---- limits
 
-pub changes_are_limited : answers_to (bounds 100 10000 3 100) none (CreatesBook staff ∷ Puts staff ann None ∷ Puts staff bob None ∷ Puts staff anna None ∷ Puts staff cy None ∷ Puts staff bob None ∷ [])
+pub changes_are_limited : answers_to (bounds_of 100 10000 3 100) none (CreatesBook staff ∷ Puts staff ann None ∷ Puts staff bob None ∷ Puts staff anna None ∷ Puts staff cy None ∷ Puts staff bob None ∷ [])
     ≡ Ok (MadeBook 1) ∷ Ok (DidPut (Created 1)) ∷ Ok (DidPut (Created 2)) ∷ Ok (DidPut (Edited 3)) ∷ Err ChangesSpent ∷ Ok (DidPut (Unchanged 2)) ∷ []
 changes_are_limited = simp gets
 
-pub cards_are_limited : answers_to (bounds 100 2 1000 100) none (CreatesBook staff ∷ Puts staff ann None ∷ Puts staff bob None ∷ Puts staff cy None ∷ Puts staff anna None ∷ [])
+pub cards_are_limited : answers_to (bounds_of 100 2 1000 100) none (CreatesBook staff ∷ Puts staff ann None ∷ Puts staff bob None ∷ Puts staff cy None ∷ Puts staff anna None ∷ [])
     ≡ Ok (MadeBook 1) ∷ Ok (DidPut (Created 1)) ∷ Ok (DidPut (Created 2)) ∷ Err BookFull ∷ Ok (DidPut (Edited 3)) ∷ []
 cards_are_limited = simp gets
 
-pub books_are_limited : answers_to (bounds 100 10000 1000 1) none (CreatesBook staff ∷ CreatesBook staff ∷ CreatesBook clients ∷ []) ≡ Ok (MadeBook 1) ∷ Err BookExists ∷ Err TooManyBooks ∷ []
+pub books_are_limited : answers_to (bounds_of 100 10000 1000 1) none (CreatesBook staff ∷ CreatesBook staff ∷ CreatesBook clients ∷ []) ≡ Ok (MadeBook 1) ∷ Err BookExists ∷ Err TooManyBooks ∷ []
 books_are_limited = simp gets

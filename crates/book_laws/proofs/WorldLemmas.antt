@@ -1,5 +1,5 @@
 -- The rows of a world, before and after a step.
-use Rattle.std.proofs.Common.{◌≡◌, ℕ, ◌+◌, ◌≤◌, Bool, true, false, cond, ◌&&◌, T, List, [], ◌∷◌, length, map, Option, Some, None, Result, Ok, Err, is_some, nat_le, ◌==◌, refl, sym, ap, ◌∙◌, subst, arith}
+use Rattle.std.proofs.Common.{◌≡◌, ℕ, ◌≤◌, Bool, true, false, cond, ◌&&◌, T, List, [], ◌∷◌, length, map, Option, Some, None, Result, Ok, Err, is_some, nat_le, ◌==◌, refl, sym, ap, ◌∙◌, subst, arith}
 use Rattle.std.specs.Option.{option_map, option_map_or}
 use Rattle.std.specs.FinMap as finite
 use Rattle.std.specs.FinMap.{get-empty, get-insert, same_map, entries-from_sorted, get-from_sorted}
@@ -21,8 +21,9 @@ use Rattle.book_model.specs.declared.row.Row.{Row}
 use Rattle.book_model.specs.declared.token.Mark.{Mark}
 use Rattle.book_model.specs.declared.token.Token.{Token}
 use Rattle.book_model.specs.Bounds.{Bounds}
-use Rattle.book_model.specs.Books.{Book, empty_book, with_change}
-use Rattle.book_model.specs.Counting.{no_counts, counts_with, live_count}
+use Rattle.book_model.specs.Books.{Book, empty_book}
+use Rattle.book_model.specs.Changing.{with_change}
+use Rattle.book_model.specs.Counting.{no_counts, live_count}
 use Rattle.book_laws.specs.HistoryCounts.{counts_of}
 use Rattle.book_model.specs.Creating.{new_id}
 use Rattle.book_laws.specs.Histories.{BookEvent, same_uid, live}
@@ -40,9 +41,11 @@ use Rattle.book_laws.specs.ReadLaws.{ReportsFollow}
 use Rattle.book_model.proofs.BasicLemmas.{T_parts, T_both, is_some-map}
 use Rattle.base_types.proofs.TextLemmas.{text_total}
 use Rattle.book_laws.proofs.CountLemmas.{live_count_is}
+use Rattle.book_laws.proofs.DropLemmas.{book_of-with_event}
 use Rattle.book_laws.proofs.PutLemmas.{may_store}
+use Rattle.book_laws.proofs.RememberLemmas.{sound_with}
 use Rattle.book_laws.proofs.ReportLemmas.{page_is_report}
-use Rattle.book_laws.proofs.RowLemmas.{get-kept_rows, writes_row, live_by_row}
+use Rattle.book_laws.proofs.RowLemmas.{get-kept_rows, live_by_row}
 
 abbrev named_rows : List ℕ × Story → List ℕ × Book
 named_rows named = (named.0, book_of named.1)
@@ -112,14 +115,14 @@ no_rows = same_map text_total exact_bytes _ _ (λ q. get-kept_rows [] 0 q ∙ no
     none true q = get-empty text_cmp q
     none false q = refl
 
-book_of-empty : (id : ℕ) → book_of (empty_story id) ≡ empty_book id
-book_of-empty id = ap (λ (members : finite.FinMap text_cmp Row). let b : Book = record { id = id; number = 0; horizon = 0; counts = no_counts; members = members; imports = finite.empty } in b) no_rows
+book_of-empty : (id keep : ℕ) → book_of (empty_story id keep) ≡ empty_book id keep
+book_of-empty id keep = ap (λ (members : finite.FinMap text_cmp Row). let b : Book = record { id = id; number = 0; horizon = 0; keep = keep; counts = no_counts; members = members; imports = finite.empty } in b) no_rows
 
 pub creating_follows : CreatingFollows
-creating_follows world name sound =
-    subst (λ (is_there : Bool). Follows (new_id limits name is_there (finite.len (rows stories)) >>= λ id. Ok (id, finite.insert (rows stories) name (empty_book id))) (create_meaning limits stories name))
+creating_follows world name range sound =
+    subst (λ (is_there : Bool). Follows (new_id limits name is_there (finite.len (rows stories)) >>= λ id. Ok (id, finite.insert (rows stories) name (empty_book id limits.keep))) (create_meaning limits stories name))
     (sym (ap is_some (get-rows stories name) ∙ is_some-map book_of (finite.get stories name)))
-    (subst (λ n. Follows (new_id limits name (finite.contains_key stories name) n >>= λ id. Ok (id, finite.insert (rows stories) name (empty_book id))) (create_meaning limits stories name))
+    (subst (λ n. Follows (new_id limits name (finite.contains_key stories name) n >>= λ id. Ok (id, finite.insert (rows stories) name (empty_book id limits.keep))) (create_meaning limits stories name))
     (sym (len-rows stories)) (by_id (new_id limits name (finite.contains_key stories name) (finite.len stories))))
   where
     limits : Bounds
@@ -128,18 +131,11 @@ creating_follows world name sound =
     stories : Stories
     stories = world.books
 
-    by_id : (given : Result ℕ Refusal) → Follows (given >>= λ id. Ok (id, finite.insert (rows stories) name (empty_book id))) (given >>= λ id. Ok (id, finite.insert stories name (empty_story id)))
-    by_id (Ok id) = (refl, wrote_story stories name (empty_story id) (empty_book id) sound (record { lawful = tt; past = omega arith }) (book_of-empty id))
+    by_id : (given : Result ℕ Refusal) → Follows (given >>= λ id. Ok (id, finite.insert (rows stories) name (empty_book id limits.keep))) (given >>= λ id. Ok (id, finite.insert stories name (empty_story id limits.keep)))
+    by_id (Ok id) = (refl, wrote_story stories name (empty_story id limits.keep) (empty_book id limits.keep) sound (record { lawful = tt; past = omega arith; keep_least = range.keep_least; within_keep = omega arith }) (book_of-empty id limits.keep))
     by_id (Err refusal) = refl
 
 -- ---- storing a card
-
-pub book_of-with_event : (story : Story) (e : BookEvent) → story.horizon ≤ length story.history → book_of (with_event story e) ≡ with_change (book_of story) e.uid e.change
-book_of-with_event story e past =
-    let B : ℕ → finite.FinMap text_cmp Row → Book = λ n members. record { id = story.id; number = n; horizon = story.horizon; counts = counts_with e.change (counts_of story.history); members = members; imports = story.imports } in
-    let longer : length (e ∷ story.history) ≡ length story.history + 1 = omega arith in
-    ap (λ n. B n (kept_rows (e ∷ story.history) story.horizon)) longer
-    ∙ ap (B (length story.history + 1)) (writes_row story.history e story.horizon past)
 
 pub found_is : (story : Story) (uid : List ℕ) → IsSound story → found_in (book_of story) uid ≡ found_of story.history uid
 found_is story uid sound =
@@ -167,7 +163,7 @@ putting_follows world name card expect all =
     after story answer (Some why) sound may =
         let e : BookEvent = record { uid = uid; change = Stores card why } in
         wrote_story stories name (with_event story e) (with_change (book_of story) uid (Stores card why)) all
-        (record { lawful = ((refl, may why refl), sound.lawful); past = let before = sound.past in omega (arith, before) })
+        (sound_with story e sound (refl, may why refl))
         (book_of-with_event story e sound.past)
 
     by_answer : (story : Story) → IsSound story → (given : Result PutAnswer Refusal) → put_answer limits (found_of story.history uid) card expect ≡ given

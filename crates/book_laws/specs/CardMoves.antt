@@ -1,6 +1,6 @@
 -- What a move does to all books: it takes one card between two of them, and alters nothing else.
 -- This project's own.
-use Rattle.std.specs.Prelude.{ℕ, ◌≡◌, ◌≢◌, ◌+◌, List, ◌∷◌, length, sum_by, Option, Some, None}
+use Rattle.std.specs.Prelude.{ℕ, ◌≡◌, ◌≢◌, ◌+◌, List, length, sum_by, Option, Some, None}
 use Rattle.std.specs.FinMap as finite
 use Rattle.book_model.specs.declared.answers.Moved.{Moved}
 use Rattle.book_model.specs.declared.answers.Stored.{Stored}

@@ -2,6 +2,7 @@
 use Rattle.std.specs.Prelude.{ℕ, List, Option}
 use Rattle.std.specs.FinMap as finite
 use Rattle.vcard_text.specs.declared.line.Line.{Line}
+use Rattle.book_model.specs.Bounds.{IsInRange}
 use Rattle.book_model.specs.Forgetting.{forget_step}
 use Rattle.book_model.specs.Importing.{import_step}
 use Rattle.book_model.specs.Moving.{move_step}
@@ -18,7 +19,8 @@ abbrev pub NothingFollows : Type 0
 NothingFollows = AreStoriesOf finite.empty finite.empty
 
 abbrev pub CreatingFollows : Type 0
-CreatingFollows = (world : World) (name : List ℕ) → AreSound world.books →
+CreatingFollows = (world : World) (name : List ℕ) → IsInRange world.limits →
+    AreSound world.books →
     Follows (create_step world.limits (rows world.books) name)
     (create_meaning world.limits world.books name)
 

@@ -64,9 +64,9 @@ EventsKeepAllRight = (stories : Stories) (name : List ℕ) (story : Story) (e : 
 
 -- and so does a book that is made, since no device has a token of it yet
 abbrev pub NewBooksKeepAllRight : Type 0
-NewBooksKeepAllRight = (stories : Stories) (name : List ℕ) (id : ℕ) (device : Holding) →
+NewBooksKeepAllRight = (stories : Stories) (name : List ℕ) (id keep : ℕ) (device : Holding) →
     finite.get stories name ≡ None → IsRight stories device →
-    IsRight (finite.insert stories name (empty_story id)) device
+    IsRight (finite.insert stories name (empty_story id keep)) device
 
 -- a right device that applies a page of its book in part is right
 abbrev pub PartsKeepAllRight : Type 0

@@ -15,6 +15,7 @@ pub mod WorldChanges
 pub mod WorldReads
 pub mod Following
 pub mod GoingOn
+pub mod Losses
 pub mod CardMoves
 pub mod ChangeLaws
 pub mod ImportLaws

@@ -3,7 +3,7 @@ use Rattle.std.specs.Prelude.{ℕ, ◌≡◌, List, ◌∷◌, Some, Ok}
 use Rattle.std.specs.FinMap as finite
 use Rattle.vcard_text.specs.declared.line.Line.{Line}
 use Rattle.book_model.specs.declared.answers.ImportTally.{ImportTally}
-use Rattle.book_model.specs.Bounds.{Bounds}
+use Rattle.book_model.specs.Bounds.{Bounds, IsInRange}
 use Rattle.book_laws.specs.Calls.{Call, Imports, DidImport, meaning, answer_of, answers_to, stories_after_all}
 use Rattle.book_model.specs.Devices.{Holding}
 use Rattle.book_laws.specs.RightDevices.{IsRight}
@@ -11,14 +11,17 @@ use Rattle.book_laws.specs.GoingOn.{GoesOn}
 use Rattle.book_laws.specs.RowsAfterCalls.{rows_after_all}
 use Rattle.book_laws.specs.Worlds.{Story, Stories, AreSound, World, rows}
 
--- Every history stays lawful, and no horizon gets past its history.
+-- Every history stays lawful, no horizon gets past its history, and no book remembers more removed
+-- members than it keeps.
 abbrev pub StaysSound : Type 0
-StaysSound = (world : World) (calls : List Call) → AreSound world.books →
+StaysSound = (world : World) (calls : List Call) → IsInRange world.limits →
+    AreSound world.books →
     AreSound (stories_after_all world.limits world.books calls)
 
 -- The rows that calls leave are those of the histories that they leave.
 abbrev pub RowsFollowCalls : Type 0
-RowsFollowCalls = (world : World) (calls : List Call) → AreSound world.books →
+RowsFollowCalls = (world : World) (calls : List Call) → IsInRange world.limits →
+    AreSound world.books →
     rows_after_all world.limits (rows world.books) calls
     ≡ rows (stories_after_all world.limits world.books calls)
 
@@ -30,7 +33,8 @@ pub record AreAlike (a b : World) (calls : List Call) : Type 0 where
       ≡ rows (stories_after_all b.limits b.books calls)
 
 abbrev pub RowsAreEnough : Type 0
-RowsAreEnough = (a b : World) (calls : List Call) → AreSound a.books → AreSound b.books →
+RowsAreEnough = (a b : World) (calls : List Call) → IsInRange a.limits →
+    AreSound a.books → AreSound b.books →
     a.limits ≡ b.limits → rows a.books ≡ rows b.books → AreAlike a b calls
 
 -- No book goes away, and nothing that happened is undone.

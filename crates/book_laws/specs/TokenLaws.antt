@@ -1,5 +1,5 @@
 -- How long the token of a page is taken (RFC 6578, section 3.2, the precondition valid-sync-token).
-use Rattle.std.specs.Prelude.{ℕ, ◌≡◌, ◌<◌, List, ◌∷◌, ◌++◌, Option, Some, Ok, Err}
+use Rattle.std.specs.Prelude.{ℕ, ◌≡◌, ◌<◌, ◌⊎◌, List, ◌∷◌, ◌++◌, Option, Some, Ok, Err}
 use Rattle.book_model.specs.declared.page.Page.{Page}
 use Rattle.book_model.specs.declared.refusal.Refusal.TheVariants.{BadToken}
 use Rattle.book_model.specs.declared.refusal.TokenCause.{TokenCause}
@@ -8,6 +8,7 @@ use Rattle.book_model.specs.declared.token.Token.{Token}
 use Rattle.book_model.specs.Bounds.{Bounds}
 use Rattle.book_model.specs.Pages.{token_of}
 use Rattle.book_laws.specs.Calls.{Call, Forgets, stories_after_all}
+use Rattle.book_laws.specs.Losses.{LostMoreThanKept}
 use Rattle.book_laws.specs.Worlds.{Stories, AreSound, World}
 use Rattle.book_laws.specs.WorldChanges.{forget_meaning}
 use Rattle.book_laws.specs.WorldSteps.{report_meaning}
@@ -27,11 +28,13 @@ pub record ForgotAbove (limits : Bounds) (stories : Stories) (calls : List Call)
       ≡ Ok (dropped, left)
 
 -- A page's own book refuses its token only as too old, and only where it was made to forget above
--- the token's base since.
+-- the token's base since, or where more cards left it after the base than it keeps.
 abbrev pub TokensStayGood : Type 0
 TokensStayGood = (world : World) (name : List ℕ) (token : Option Token) (limit again : Option ℕ)
     (page : Page) (calls : List Call) (cause : TokenCause) → AreSound world.books →
     report_meaning world.limits world.books name token limit ≡ Ok page →
     report_meaning world.limits (stories_after_all world.limits world.books calls) name
     (Some (token_of page)) again ≡ Err (BadToken cause) →
-    (cause ≡ TooOld) × ForgotAbove world.limits world.books calls name page.mark.base
+    (cause ≡ TooOld)
+    × (ForgotAbove world.limits world.books calls name page.mark.base
+    ⊎ LostMoreThanKept (stories_after_all world.limits world.books calls) name page.mark.base)

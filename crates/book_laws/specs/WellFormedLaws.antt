@@ -31,7 +31,7 @@ LeavesWellFormed limits step = IfOk step (λ done. IsWellFormed limits done.1)
 -- ---- each step that changes books keeps them well formed
 
 abbrev pub CreatingKeepsForm : Type 0
-CreatingKeepsForm = (limits : Bounds) (books : Books) (name : List ℕ) →
+CreatingKeepsForm = (limits : Bounds) (books : Books) (name : List ℕ) → IsInRange limits →
     IsWellFormed limits books → LeavesWellFormed limits (create_step limits books name)
 
 abbrev pub PuttingKeepsForm : Type 0
@@ -60,7 +60,7 @@ ForgettingKeepsForm = (limits : Bounds) (books : Books) (name : List ℕ) (upto 
 
 -- whatever calls are made, and whichever of them are refused
 abbrev pub CallsKeepForm : Type 0
-CallsKeepForm = (limits : Bounds) (books : Books) (calls : List Call) →
+CallsKeepForm = (limits : Bounds) (books : Books) (calls : List Call) → IsInRange limits →
     IsWellFormed limits books → IsWellFormed limits (rows_after_all limits books calls)
 
 -- ---- what is read from well-formed books

@@ -1,5 +1,5 @@
 -- What the calls that change nothing tell of whole histories. This project's own.
-use Rattle.std.specs.Prelude.{ℕ, Bool, not, ◌&&◌, nat_lt, List, map, length, filter, is_some, Option, Result, Ok}
+use Rattle.std.specs.Prelude.{ℕ, List, map, length, Option, Result, Ok}
 use Rattle.std.specs.FinMap as finite
 use Rattle.book_model.specs.declared.answers.BookLine.{BookLine}
 use Rattle.book_model.specs.declared.answers.ImportTally.{ImportTally}

@@ -4,7 +4,7 @@ ghost use Rattle.book_laws.specs.TokenLaws.{TokensStayGood};
 ghost use Rattle.book_laws.specs.MoveLaws.{MoveCallsTakeOneCard};
 
 /// Over every list of calls each history stays lawful: cards come in where their UIDs aren't live,
-/// and are edited and go where they are.
+/// and are edited and go where they are. No book remembers more removed members than it keeps.
 pub fn histories_stay_lawful()
     ensures { StaysSound }
 {}
@@ -21,8 +21,8 @@ pub fn rows_are_enough()
     ensures { RowsAreEnough }
 {}
 
-/// No call takes a book away or undoes what happened to it: it keeps its id, its events and what
-/// it keeps of imports, and its horizon doesn't fall.
+/// No call takes a book away or undoes what happened to it: it keeps its id, its events, how many
+/// removed members it remembers and what it keeps of imports, and its horizon doesn't fall.
 pub fn books_go_on()
     ensures { CallsLetBooksGoOn }
 {}
@@ -34,7 +34,8 @@ pub fn imports_act_once()
 {}
 
 /// The book of a page refuses its token only as too old, and only where it was made to forget
-/// above the token's base since the page was made.
+/// above the token's base since the page was made, or where more cards left it after that base than
+/// it keeps.
 pub fn tokens_stay_good()
     ensures { TokensStayGood }
 {}
