@@ -35,14 +35,14 @@ fn without_first(piece: &str) -> &str
 }
 
 /// Reads a logical line, unless it is empty.
-fn take_line(alloc: Global, scan: Scan, line: &str) -> Result<Scan, CardFault>
-    ensures goes_on { IfOk result (λ next. (others : List (List ℕ)) →
-        card_from scan (before line.now others) ≡ card_from next others) }
+fn take_line(alloc: Global, scan: &mut Scan, line: &str) -> Result<(), CardFault>
+    ensures goes_on { OnOk result ((others : List (List ℕ)) →
+        card_from scan.old (before line.now others) ≡ card_from scan.new others) }
     ensures ends { IfErr result (λ fault. fault ≢ Memory → (others : List (List ℕ)) →
-        card_from scan (before line.now others) ≡ Err fault) }
+        card_from scan.old (before line.now others) ≡ Err fault) }
 {
     if line.is_empty() {
-        return Ok(scan);
+        return Ok(());
     }
     scan.take(alloc, line)
 }
@@ -74,27 +74,27 @@ fn join(first: &str, joined: &mut String, piece: &str) -> Result<(), NoMemory>
 /// Reads a physical line: it goes on with the logical line so far, or ends it and begins the next.
 fn take_piece<'a>(
     alloc: Global,
-    scan: Scan,
+    scan: &mut Scan,
     first: &'a str,
     joined: &mut String,
     piece: &'a str,
-) -> Result<(Scan, &'a str), CardFault>
+) -> Result<&'a str, CardFault>
     ensures goes_on { IfOk result (λ next. (pieces : List (List ℕ)) →
-        card_from scan (unfolded_from (line_so_far first.now (string_bytes joined.old))
+        card_from scan.old (unfolded_from (line_so_far first.now (string_bytes joined.old))
         (piece.now ∷ pieces))
-        ≡ card_from next.0 (unfolded_from (line_so_far next.1.now (string_bytes joined.new))
+        ≡ card_from scan.new (unfolded_from (line_so_far next.now (string_bytes joined.new))
         pieces)) }
     ensures ends { IfErr result (λ fault. fault ≢ Memory → (pieces : List (List ℕ)) →
-        card_from scan (unfolded_from (line_so_far first.now (string_bytes joined.old))
+        card_from scan.old (unfolded_from (line_so_far first.now (string_bytes joined.old))
         (piece.now ∷ pieces)) ≡ Err fault) }
 {
     if continues(piece) {
         join(first, joined, piece)?;
-        return Ok((scan, first));
+        return Ok(first);
     }
-    let next = take_line(alloc, scan, line_so_far(first, joined))?;
+    take_line(alloc, scan, line_so_far(first, joined))?;
     joined.clear();
-    Ok((next, piece))
+    Ok(piece)
 }
 
 /// The lines of the card that a text's logical lines spell, or their first fault. A logical line
@@ -109,9 +109,9 @@ fn read_lines(alloc: Global, text: &str) -> Result<Items<Line>, CardFault>
     };
     let mut joined = String::new(alloc);
     for piece in pieces {
-        (scan, first) = take_piece(alloc, scan, first, &mut joined, piece)?;
+        first = take_piece(alloc, &mut scan, first, &mut joined, piece)?;
     }
-    let scan = take_line(alloc, scan, line_so_far(first, &joined))?;
+    take_line(alloc, &mut scan, line_so_far(first, &joined))?;
     scan.finish()
 }
 
