@@ -1,0 +1,14 @@
+pub mod Queries
+pub mod Texts
+pub mod Picks
+pub mod Cells
+pub mod ShownLemmas
+pub mod Lookups
+pub mod FindLemmas
+pub mod KeyedRows
+pub mod RowLemmas
+pub mod PutLemmas
+pub mod ForgetLemmas
+pub mod CountLemmas
+pub mod UpdateLemmas
+pub mod DueLemmas

@@ -1,0 +1,67 @@
+-- What the texts stand for.
+use Rattle.std.proofs.Common.{◌≡◌, ℕ, List, [], ◌∷◌, codes, false, Some, None, Ok, Err, Option, Result, refl}
+use Rattle.sqlite.specs.Command.TheVariants.{Select, Update, Delete}
+use Rattle.sqlite_tied.specs.Compute.{everything}
+use Rattle.sqlite.specs.Listing.{understood, reads_listing}
+use Rattle.sqlite.proofs.Callers.{IsPlain, command_of}
+use Rattle.sqlite_resolve.specs.declared.compiled.Compiled.{Compiled}
+use Rattle.sqlite_resolve.specs.declared.error.CompileError.{CompileError}
+use Rattle.sqlite_schema.specs.declared.command.Returning.{Returning}
+use Rattle.book_tables.specs.Tables.{book_schema}
+use Rattle.book_tables.proofs.Queries.{put_text, put_command, put_shows, find_text, find_query, due_text, due_query, book_text, book_query, forget_text, forget_query, count_text, count_query, update_text, update_query, update_shows, number_names, books_count_text, books_count_query, import_text, import_query, keep_text, keep_query}
+
+abbrev pub returning_of : Result Compiled CompileError → Option Returning
+returning_of (Ok c) = c.returning
+returning_of (Err e) = None
+
+abbrev pub formats_of : Result Compiled CompileError → List (List ℕ)
+formats_of (Ok c) = c.formats
+formats_of (Err e) = []
+
+pub put_is : command_of (understood book_schema put_text) ≡ put_command
+unfolding understood everything
+put_is = refl
+
+pub put_returns : (returning_of (understood book_schema put_text) ≡ Some put_shows) × (formats_of (understood book_schema put_text) ≡ [])
+unfolding understood everything
+put_returns = (refl, refl)
+
+pub find_is : (command_of (understood book_schema find_text) ≡ Select (record { lets = []; body = find_query }) (codes "changed" ∷ codes "card" ∷ [])) × (reads_listing book_schema find_text ≡ false) × IsPlain (understood book_schema find_text)
+unfolding understood everything
+find_is = (refl, refl, (refl, refl))
+
+pub due_is : (command_of (understood book_schema due_text) ≡ Select (record { lets = []; body = due_query }) (codes "uid" ∷ codes "changed" ∷ codes "card" ∷ [])) × (reads_listing book_schema due_text ≡ false) × IsPlain (understood book_schema due_text)
+unfolding understood everything
+due_is = (refl, refl, (refl, refl))
+
+pub forget_is : (command_of (understood book_schema forget_text) ≡ Delete 2 (record { lets = []; body = forget_query })) × IsPlain (understood book_schema forget_text)
+unfolding understood everything
+forget_is = (refl, (refl, refl))
+
+pub count_is : (command_of (understood book_schema count_text) ≡ Select (record { lets = []; body = count_query }) (codes "COUNT(*)" ∷ [])) × (reads_listing book_schema count_text ≡ false) × IsPlain (understood book_schema count_text)
+unfolding understood everything
+count_is = (refl, refl, (refl, refl))
+
+pub book_is : (command_of (understood book_schema book_text) ≡ Select (record { lets = []; body = book_query }) (codes "id" ∷ number_names)) × (reads_listing book_schema book_text ≡ false) × IsPlain (understood book_schema book_text)
+unfolding understood everything
+book_is = (refl, refl, (refl, refl))
+
+pub update_is : command_of (understood book_schema update_text) ≡ Update 1 (record { lets = []; body = update_query })
+unfolding understood everything
+update_is = refl
+
+pub update_returns : (returning_of (understood book_schema update_text) ≡ Some update_shows) × (formats_of (understood book_schema update_text) ≡ [])
+unfolding understood everything
+update_returns = (refl, refl)
+
+pub books_count_is : (command_of (understood book_schema books_count_text) ≡ Select (record { lets = []; body = books_count_query }) (codes "COUNT(*)" ∷ [])) × (reads_listing book_schema books_count_text ≡ false) × IsPlain (understood book_schema books_count_text)
+unfolding understood everything
+books_count_is = (refl, refl, (refl, refl))
+
+pub import_is : (command_of (understood book_schema import_text) ≡ Select (record { lets = []; body = import_query }) (codes "added" ∷ codes "edited" ∷ codes "same" ∷ codes "number" ∷ [])) × (reads_listing book_schema import_text ≡ false) × IsPlain (understood book_schema import_text)
+unfolding understood everything
+import_is = (refl, refl, (refl, refl))
+
+pub keep_is : (command_of (understood book_schema keep_text) ≡ Select (record { lets = []; body = keep_query }) (codes "keep" ∷ [])) × (reads_listing book_schema keep_text ≡ false) × IsPlain (understood book_schema keep_text)
+unfolding understood everything
+keep_is = (refl, refl, (refl, refl))
