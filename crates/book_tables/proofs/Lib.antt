@@ -11,4 +11,5 @@ pub mod PutLemmas
 pub mod ForgetLemmas
 pub mod CountLemmas
 pub mod UpdateLemmas
+pub mod OrderLemmas
 pub mod DueLemmas

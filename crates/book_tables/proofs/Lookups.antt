@@ -30,7 +30,8 @@ use Rattle.sqlite.specs.State.{Fails}
 use Rattle.sqlite.specs.State.{Survives, CommitsShowing}
 use Rattle.book_tables.proofs.Queries.{picks}
 use Rattle.book_tables.specs.Answers.{Finds, IfAnswered}
-use Rattle.std.specs.Prelude.{OnOk}
+use Rattle.std.specs.Prelude.{OnOk, IfOk, Vec}
+use Rattle.std.specs.declared.alloc.Global.{Global}
 use Rattle.book_tables.specs.Tables.{book_schema}
 use Rattle.book_tables.specs.States.{LeavesAs, IsSettled, OnlyReads}
 use Rattle.book_tables.proofs.Picks.{passes, shows, picked}
@@ -214,3 +215,20 @@ reads_then a b c before same after = record {
       let later = after.same clean (ap (λ (d : Database). d.schema) kept.0.now_is ∙ has) up (λ _. kept.0.now_is ∙ settled kept.0.was_open ∙ sym kept.0.committed_is) in
       record { was_open = kept.0.was_open; now_is = later.now_is ∙ kept.0.now_is; committed_is = later.committed_is ∙ kept.0.committed_is };
 }
+
+-- all rows at once
+pub all_reads : (sql : List ℕ) (params : Row) (old new : State) (r : Result (Vec Row Global) Error) → IsPlain (understood book_schema sql)
+    → (HasCleanDisk new → IfOk r (λ rows. Shown sql params old new rows.items)) → (HasCleanDisk new → IfErr r (FailsToQuery sql params old new))
+    → (old.in_transaction ≡ false → new.in_transaction ≡ false) → Survives old new (CommitsShowing sql params old) → OnlyReads old new
+all_reads sql params old new (Ok rows) plain ok err mode survives = record {
+  mode = mode;
+  was_open = λ clean up. shown_open sql params old new rows.items (ok clean);
+  survives = commits_nothing sql params old new plain survives;
+  same = λ clean has up settled. leaves_as old new settled (inl (plain_shown sql params old new rows.items (plain_under sql old book_schema has plain) (ok clean))) up;
+}
+all_reads sql params old new (Err e) plain ok err mode survives = refused_reads sql params old new e plain err mode survives
+
+pub all_unchanged : (sql : List ℕ) (params : Row) (old new : State) (r : Result (Vec Row Global) Error) → IsPlain (understood book_schema sql) → old.now.schema ≡ book_schema
+    → IfOk r (λ rows. Shown sql params old new rows.items) → OnOk r (IsUnchanged old new)
+all_unchanged sql params old new (Ok rows) plain has ok = plain_shown sql params old new rows.items (plain_under sql old book_schema has plain) ok
+all_unchanged sql params old new (Err e) plain has ok = tt

@@ -11,6 +11,7 @@ use Rattle.sqlite_schema.specs.declared.command.Returning.{Returning}
 use Rattle.sqlite_sql.specs.declared.ops.CompareOp.TheVariants.{Eq, Gt, Le}
 use Rattle.sqlite_sql.specs.declared.ops.BinaryOp.TheVariants.{Compare, Or, Is}
 use Rattle.sqlite_sql.specs.declared.ops.UnaryOp.TheVariants.{Not}
+use Rattle.sqlite_value.specs.declared.keys.Key.{Key}
 use Rattle.sqlite.specs.Term.{Term, lit, col, op1, op2}
 use Rattle.sqlite.specs.Query.{Query, inner, end}
 use Rattle.sqlite_sql.specs.declared.aggregate.AggregateOp.TheVariants.{CountRows}
@@ -64,6 +65,29 @@ due_tests =
 abbrev pub due_query : Query
 due_query = record (picks 4 due_tests (col 1 2 ∷ col 1 3 ∷ col 1 4 ∷ [])) { order = (col 1 3, record { collation = Binary; descending = false }) ∷ [] }
 
+-- one table, in an order
+abbrev pub ordering : ℕ → List Term → List Term → List (Term × Key) → Query
+ordering tree filter project order = record (picks tree filter project) { order = order }
+
+abbrev pub rising : Term → List (Term × Key)
+rising by = (by, record { collation = Binary; descending = false }) ∷ []
+
+-- removed after a number
+abbrev pub count_tests : List Term
+count_tests = op2 (Compare Eq Binary) (col 1 1) (col 0 0) ∷ op2 (Is Binary) (col 1 4) (lit Null) ∷ op2 (Compare Gt Binary) (col 1 3) (col 0 1) ∷ []
+
+abbrev pub removed_text : List ℕ
+removed_text = codes "SELECT changed FROM member WHERE book = ?1 AND card IS NULL AND changed > ?2 ORDER BY changed"
+
+abbrev pub removed_query : Query
+removed_query = ordering 4 count_tests (col 1 3 ∷ []) (rising (col 1 3))
+
+abbrev pub members_text : List ℕ
+members_text = codes "SELECT uid, changed, card FROM member WHERE book = ?1 ORDER BY changed"
+
+abbrev pub members_query : Query
+members_query = ordering 4 (op2 (Compare Eq Binary) (col 1 1) (col 0 0) ∷ []) (col 1 2 ∷ col 1 3 ∷ col 1 4 ∷ []) (rising (col 1 3))
+
 -- the book under its name
 abbrev pub book_text : List ℕ
 book_text = codes "SELECT id, number, horizon, created, edited, imported, import_edited, moved_in, deleted, moved_out FROM book WHERE name = ?1"
@@ -85,9 +109,6 @@ forget_tests = op2 (Compare Eq Binary) (col 1 1) (col 0 0) ∷ op2 (Is Binary) (
 
 abbrev pub forget_query : Query
 forget_query = picks 4 forget_tests (col 1 0 ∷ [])
-
-abbrev pub count_tests : List Term
-count_tests = op2 (Compare Eq Binary) (col 1 1) (col 0 0) ∷ op2 (Is Binary) (col 1 4) (lit Null) ∷ op2 (Compare Gt Binary) (col 1 3) (col 0 1) ∷ []
 
 -- the row's id, and the row as it is to be
 abbrev pub update_query : Query

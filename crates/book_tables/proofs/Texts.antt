@@ -8,7 +8,7 @@ use Rattle.sqlite_resolve.specs.declared.compiled.Compiled.{Compiled}
 use Rattle.sqlite_resolve.specs.declared.error.CompileError.{CompileError}
 use Rattle.sqlite_schema.specs.declared.command.Returning.{Returning}
 use Rattle.book_tables.specs.Tables.{book_schema}
-use Rattle.book_tables.proofs.Queries.{put_text, put_command, put_shows, find_text, find_query, due_text, due_query, book_text, book_query, forget_text, forget_query, count_text, count_query, update_text, update_query, update_shows, number_names, books_count_text, books_count_query, import_text, import_query, keep_text, keep_query}
+use Rattle.book_tables.proofs.Queries.{put_text, put_command, put_shows, find_text, find_query, due_text, due_query, book_text, book_query, forget_text, forget_query, count_text, count_query, update_text, update_query, update_shows, number_names, books_count_text, books_count_query, import_text, import_query, keep_text, keep_query, removed_text, removed_query, members_text, members_query}
 
 abbrev pub returning_of : Result Compiled CompileError → Option Returning
 returning_of (Ok c) = c.returning
@@ -65,3 +65,11 @@ import_is = (refl, refl, (refl, refl))
 pub keep_is : (command_of (understood book_schema keep_text) ≡ Select (record { lets = []; body = keep_query }) (codes "keep" ∷ [])) × (reads_listing book_schema keep_text ≡ false) × IsPlain (understood book_schema keep_text)
 unfolding understood everything
 keep_is = (refl, refl, (refl, refl))
+
+pub removed_is : (command_of (understood book_schema removed_text) ≡ Select (record { lets = []; body = removed_query }) (codes "changed" ∷ [])) × (reads_listing book_schema removed_text ≡ false) × IsPlain (understood book_schema removed_text)
+unfolding understood everything
+removed_is = (refl, refl, (refl, refl))
+
+pub members_is : (command_of (understood book_schema members_text) ≡ Select (record { lets = []; body = members_query }) (codes "uid" ∷ codes "changed" ∷ codes "card" ∷ [])) × (reads_listing book_schema members_text ≡ false) × IsPlain (understood book_schema members_text)
+unfolding understood everything
+members_is = (refl, refl, (refl, refl))

@@ -1,5 +1,6 @@
 -- What a statement answers, for rows of any table. This project's own.
-use Rattle.std.specs.Prelude.{ℕ, pos, min, take, map, ◌≡◌, Bool, List, [], filter, Result, Ok, Err}
+use Rattle.std.specs.Prelude.{ℕ, pos, min, ◌≡◌, Bool, List, [], ◌∷◌, map, filter, take}
+use Rattle.std.specs.Prelude.{Result, Ok, Err}
 use Rattle.std.specs.declared.cmp.Ordering.{Ordering}
 use Rattle.std.specs.List.Sorted.{IsPermutation, IsSorted}
 use Rattle.sqlite.specs.Order.{Row}
@@ -38,3 +39,9 @@ pub record AreFirstInOrder {X : Type 0} (compare : X → X → Ordering) (show :
   pub same : IsPermutation xs ordered
   pub rises : IsSorted compare ordered
   pub first : rows ≡ take most (map show ordered)
+
+-- the row is what is shown of one of these that none is below, or there is none
+abbrev pub FindsFirst : {X : Type 0} → (X → X → Ordering) → (X → Row) → List X → Result Row Error
+    → Type 0
+FindsFirst compare show xs (Ok row) = AreFirstInOrder compare show 1 xs (row ∷ [])
+FindsFirst compare show xs (Err e) = e ≡ QueryReturnedNoRows → xs ≡ []

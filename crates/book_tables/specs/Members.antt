@@ -66,7 +66,13 @@ due_shown m = Text m.uid ∷ Int m.changed ∷ or_null Text m.card ∷ []
 abbrev pub by_changed : MemberRow → MemberRow → Ordering
 by_changed a b = int_cmp a.changed b.changed
 
+abbrev pub changed_shown : MemberRow → Row
+changed_shown m = Int m.changed ∷ []
+
 -- ---- which members
+
+abbrev pub is_in : ℤ → MemberRow → Bool
+is_in book m = int_eq m.book book
 
 -- changed since, and there still or removed since
 abbrev pub is_due : ℤ → ℤ → ℤ → MemberRow → Bool

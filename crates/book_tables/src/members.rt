@@ -1,12 +1,16 @@
 //! The statements over the table `member`.
-ghost use Rattle.book_tables.specs.Answers.{Finds, IfAnswered, count_value};
+ghost use Rattle.book_tables.specs.Answers.{AreInOrder, Finds, FindsFirst, IfAnswered, count_value};
 ghost use Rattle.book_tables.specs.Members.{
   ChangesMembers,
   HasMembers,
   IsPut,
   OverMembers,
+  by_changed,
   change_shown,
+  changed_shown,
+  due_shown,
   is_at,
+  is_in,
   is_removed_after,
   is_removed_by,
   without_removed,
@@ -68,6 +72,47 @@ pub fn count_removed<S: Alter>(
     conn.query_row(
         "SELECT COUNT(*) FROM member WHERE book = ?1 AND card IS NULL AND changed > ?2",
         params![book, horizon],
+    )
+}
+
+/// The least number above the given one, of a change that removed a member of the book with the
+/// id, where the member is removed still.
+///
+/// The error is `QueryReturnedNoRows` where there is none. The index of the key `(book, changed)`
+/// has the order: rows are read from the given number on up to the first that is removed, so it
+/// costs as many rows as there are live members whose last changes lie between the two.
+pub fn first_removed<S: Alter>(
+    conn: &mut Connection<S>,
+    book: i64,
+    horizon: i64,
+) -> Result<Row, Error>
+    ensures first { OverMembers (state S.Store conn.old) (state S.Store conn.new)
+        (λ ms. FindsFirst by_changed changed_shown (filter (is_removed_after book horizon) ms)
+        result) }
+    ensures unchanged { OverTables (state S.Store conn.old) (state S.Store conn.new)
+        (IfAnswered result (IsUnchanged (state S.Store conn.old) (state S.Store conn.new))) }
+    ensures left { OnlyReads (state S.Store conn.old) (state S.Store conn.new) }
+{
+    conn.query_row(
+        "SELECT changed FROM member WHERE book = ?1 AND card IS NULL AND changed > ?2 \
+         ORDER BY changed",
+        params![book, horizon],
+    )
+}
+
+/// All members of the book with the id, in the order of their numbers: the UID, the number and the
+/// card, null where the member is removed and remembered.
+pub fn members_of<S: Alter>(conn: &mut Connection<S>, book: i64) -> Result<Vec<Row>, Error>
+    ensures lists { OverMembers (state S.Store conn.old) (state S.Store conn.new)
+        (λ ms. IfOk result (λ rows.
+        AreInOrder by_changed due_shown (filter (is_in book) ms) rows.items)) }
+    ensures unchanged { OverTables (state S.Store conn.old) (state S.Store conn.new)
+        (OnOk result (IsUnchanged (state S.Store conn.old) (state S.Store conn.new))) }
+    ensures left { OnlyReads (state S.Store conn.old) (state S.Store conn.new) }
+{
+    conn.query_all(
+        "SELECT uid, changed, card FROM member WHERE book = ?1 ORDER BY changed",
+        params![book],
     )
 }
 

@@ -66,8 +66,8 @@ returns-in_default-clause-first g c ms clean has rows =
     let was = c.rows.invariant.3 (omega (arith, moved.survives.clean)) has in
     let change_shown = (rw (c.in_ok-row.was, c.in_default.is) at (moved.ok late)) due_text _ c.rows.first.items was.0 in
     let count : length c.rows.first.items ≤ c.args.most = omega (arith, c.rows.invariant.1, c.rows-test.true) in
-    due_whole (state g.S.Store c.rows.rows.conn.now) c.args.book c.args.at c.args.base ms c.rows.first.items (ap (λ (d : Database). d.schema) was.1.0.now_is ∙ has)
-    (subst (λ (d : Database). HoldMembers (d.trees 4) ms) (sym was.1.0.now_is) rows) (state g.S.Store c.next.follows.lender-at-none.conn.now) c.args.most count
+    due_whole (state g.S.Store c.rows.rows.conn.now) c.args.book c.args.at c.args.base ms (ap (λ (d : Database). d.schema) was.1.0.now_is ∙ has)
+    (subst (λ (d : Database). HoldMembers (d.trees 4) ms) (sym was.1.0.now_is) rows) (state g.S.Store c.next.follows.lender-at-none.conn.now) c.args.most c.rows.first.items count
     (rw (to_z-of_z c.ranges.book, to_z-of_z c.ranges.at, to_z-of_z c.ranges.base) at change_shown)
 
 pub returns-in_default-clause-unchanged : goal.returns-in_default-clause-unchanged
@@ -102,6 +102,6 @@ returns-clause-first g c ms clean has rows =
     let late : HasCleanDisk (state g.S.Store c.rows.rows.conn.now) = subst (λ h. HasCleanDisk (state g.S.Store h)) (sym same) clean in
     let was = c.rows.invariant.3 late has in
     let count : length c.rows.first.items ≡ c.args.most = omega (arith, c.rows.invariant.1, c.rows-test.false, c.rows.auto.counter-end) in
-    due_first (state g.S.Store c.rows.rows.conn.now) c.args.book c.args.at c.args.base ms c.rows.first.items (ap (λ (d : Database). d.schema) was.1.0.now_is ∙ has)
-    (subst (λ (d : Database). HoldMembers (d.trees 4) ms) (sym was.1.0.now_is) rows) c.args.most count
+    due_first (state g.S.Store c.rows.rows.conn.now) c.args.book c.args.at c.args.base ms (ap (λ (d : Database). d.schema) was.1.0.now_is ∙ has)
+    (subst (λ (d : Database). HoldMembers (d.trees 4) ms) (sym was.1.0.now_is) rows) c.args.most c.rows.first.items count
     (rw (to_z-of_z c.ranges.book, to_z-of_z c.ranges.at, to_z-of_z c.ranges.base) at (given_begin g.S.Store due_text _ c.rows.rows.conn.now c.rows.first.items was.0))
