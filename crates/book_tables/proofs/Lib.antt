@@ -13,3 +13,4 @@ pub mod CountLemmas
 pub mod UpdateLemmas
 pub mod OrderLemmas
 pub mod DueLemmas
+pub mod AddLemmas

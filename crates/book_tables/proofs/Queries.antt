@@ -3,7 +3,7 @@ use Rattle.std.specs.Prelude.{ℕ, pos, negsuc, List, [], ◌∷◌, codes, fals
 use Rattle.sqlite.specs.Collation.TheVariants.{Binary}
 use Rattle.sqlite.specs.declared.types.Value.TheVariants.{Null, Int}
 use Rattle.sqlite.specs.Command.{Command}
-use Rattle.sqlite.specs.Command.TheVariants.{InsertOr}
+use Rattle.sqlite.specs.Command.TheVariants.{Insert, InsertOr}
 use Rattle.sqlite.specs.Source.TheVariants.{Values}
 use Rattle.sqlite_schema.specs.declared.command.Conflict.TheVariants.{Abort}
 use Rattle.sqlite_schema.specs.declared.command.Upsert.{Upsert}
@@ -149,3 +149,36 @@ number_names = codes "number" ∷ codes "horizon" ∷ codes "created" ∷ codes 
 
 abbrev pub update_shows : Returning
 update_shows = record { names = number_names; row = Values (col 0 14 ∷ col 0 15 ∷ col 0 16 ∷ col 0 17 ∷ col 0 18 ∷ col 0 19 ∷ col 0 20 ∷ col 0 21 ∷ col 0 22 ∷ []) 9 }
+
+-- an import under its key
+abbrev pub add_import_text : List ℕ
+add_import_text = codes "INSERT INTO import_key (book, ikey, added, edited, same, number) VALUES (?1, ?2, ?3, ?4, ?5, ?6)"
+
+abbrev pub add_import_terms : List Term
+add_import_terms = lit Null ∷ col 0 0 ∷ col 0 1 ∷ col 0 2 ∷ col 0 3 ∷ col 0 4 ∷ col 0 5 ∷ []
+
+abbrev pub add_import_command : Command
+add_import_command = Insert 3 (Values add_import_terms 7)
+
+-- an empty book
+abbrev pub add_book_text : List ℕ
+add_book_text = codes "INSERT INTO book (id, name, number, horizon, created, edited, imported, import_edited, moved_in, deleted, moved_out) VALUES (?1, ?2, 0, 0, 0, 0, 0, 0, 0, 0, 0)"
+
+abbrev pub zero : Term
+zero = lit (Int (pos 0))
+
+abbrev pub add_book_terms : List Term
+add_book_terms = col 0 0 ∷ lit Null ∷ col 0 1 ∷ zero ∷ zero ∷ zero ∷ zero ∷ zero ∷ zero ∷ zero ∷ zero ∷ zero ∷ []
+
+abbrev pub add_book_command : Command
+add_book_command = Insert 1 (Values add_book_terms 12)
+
+-- the keep of a book
+abbrev pub add_keep_text : List ℕ
+add_keep_text = codes "INSERT INTO keeping (book, keep) VALUES (?1, ?2)"
+
+abbrev pub add_keep_terms : List Term
+add_keep_terms = col 0 0 ∷ lit Null ∷ col 0 1 ∷ []
+
+abbrev pub add_keep_command : Command
+add_keep_command = Insert 4 (Values add_keep_terms 3)

@@ -8,7 +8,7 @@ use Rattle.sqlite_resolve.specs.declared.compiled.Compiled.{Compiled}
 use Rattle.sqlite_resolve.specs.declared.error.CompileError.{CompileError}
 use Rattle.sqlite_schema.specs.declared.command.Returning.{Returning}
 use Rattle.book_tables.specs.Tables.{book_schema}
-use Rattle.book_tables.proofs.Queries.{put_text, put_command, put_shows, find_text, find_query, due_text, due_query, book_text, book_query, forget_text, forget_query, count_text, count_query, update_text, update_query, update_shows, number_names, books_count_text, books_count_query, import_text, import_query, keep_text, keep_query, removed_text, removed_query, members_text, members_query}
+use Rattle.book_tables.proofs.Queries.{put_text, put_command, put_shows, find_text, find_query, due_text, due_query, book_text, book_query, forget_text, forget_query, count_text, count_query, update_text, update_query, update_shows, number_names, books_count_text, books_count_query, import_text, import_query, keep_text, keep_query, removed_text, removed_query, members_text, members_query, add_import_text, add_import_command, add_book_text, add_book_command, add_keep_text, add_keep_command}
 
 abbrev pub returning_of : Result Compiled CompileError → Option Returning
 returning_of (Ok c) = c.returning
@@ -73,3 +73,15 @@ removed_is = (refl, refl, (refl, refl))
 pub members_is : (command_of (understood book_schema members_text) ≡ Select (record { lets = []; body = members_query }) (codes "uid" ∷ codes "changed" ∷ codes "card" ∷ [])) × (reads_listing book_schema members_text ≡ false) × IsPlain (understood book_schema members_text)
 unfolding understood everything
 members_is = (refl, refl, (refl, refl))
+
+pub add_import_is : (command_of (understood book_schema add_import_text) ≡ add_import_command) × IsPlain (understood book_schema add_import_text)
+unfolding understood everything
+add_import_is = (refl, (refl, refl))
+
+pub add_book_is : (command_of (understood book_schema add_book_text) ≡ add_book_command) × IsPlain (understood book_schema add_book_text)
+unfolding understood everything
+add_book_is = (refl, (refl, refl))
+
+pub add_keep_is : (command_of (understood book_schema add_keep_text) ≡ add_keep_command) × IsPlain (understood book_schema add_keep_text)
+unfolding understood everything
+add_keep_is = (refl, (refl, refl))

@@ -43,7 +43,7 @@ book_id b = b.id
 pub apart_books : (bs : List BookRow) → AreBooks bs → Apart book_id book_row (λ _. refl) bs
 apart_books bs kept = ascending_weaker _ _ (λ a b h. h.0) bs kept
 
-cast_book : (b : BookRow) → cast_row book (book_row b) ≡ book_row b
+pub cast_book : (b : BookRow) → cast_row book (book_row b) ≡ book_row b
 cast_book b = rw (
   cast_int b.id,
   cast_null,

@@ -1,7 +1,9 @@
 -- What a statement answers, for rows of any table. This project's own.
-use Rattle.std.specs.Prelude.{ℕ, pos, min, ◌≡◌, Bool, List, [], ◌∷◌, map, filter, take}
+use Rattle.std.specs.Prelude.{ℕ, ℤ, pos, min, ◌≡◌, Bool, false, List, [], ◌∷◌, map, filter, take}
 use Rattle.std.specs.Prelude.{Result, Ok, Err}
 use Rattle.std.specs.declared.cmp.Ordering.{Ordering}
+use Rattle.std.specs.Ordering.{int_eq}
+use Rattle.std.specs.List.{AllByRecursion}
 use Rattle.std.specs.List.Sorted.{IsPermutation, IsSorted}
 use Rattle.sqlite.specs.Order.{Row}
 use Rattle.sqlite.specs.declared.types.Value.{Value}
@@ -45,3 +47,9 @@ abbrev pub FindsFirst : {X : Type 0} → (X → X → Ordering) → (X → Row) 
     → Type 0
 FindsFirst compare show xs (Ok row) = AreFirstInOrder compare show 1 xs (row ∷ [])
 FindsFirst compare show xs (Err e) = e ≡ QueryReturnedNoRows → xs ≡ []
+
+-- the rows are those from before and the new one, whose id was free
+pub record IsAdded {X : Type 0} (Hold : List Row → List X → Type 0) (id_of : X → ℤ) (new : X)
+    (before : List X) (rows : List Row) : Type 0 where
+  pub hold : Hold rows (new ∷ before)
+  pub free : AllByRecursion (λ x. int_eq (id_of x) (id_of new) ≡ false) before

@@ -1,11 +1,12 @@
 -- The rows of the table `book`, one for each book. This project's own.
-use Rattle.std.specs.Prelude.{◌≡◌, ℕ, ℤ, Bool, false, if◌then◌else◌, List, [], ◌∷◌, map, bytes_eq}
+use Rattle.std.specs.Prelude.{◌≡◌, ℕ, ℤ, pos, Bool, false, if◌then◌else◌, List, [], ◌∷◌, map, bytes_eq}
 use Rattle.std.specs.Ordering.{int_eq}
 use Rattle.std.specs.List.Sorted.{IsPermutation}
 use Rattle.sqlite.specs.declared.types.Value.TheVariants.{Null, Int, Text}
 use Rattle.sqlite.specs.Order.{Row, column}
 use Rattle.sqlite.specs.State.{State}
 use Rattle.sqlite_trees.specs.Tree.{IsAscending}
+use Rattle.book_tables.specs.Answers.{IsAdded}
 use Rattle.book_tables.specs.States.{OverRows, ChangesRows}
 use Rattle.book_tables.specs.declared.books.BookNumbers.{BookNumbers}
 
@@ -105,3 +106,15 @@ numbers_shown b = Int b.id ∷ number_cells b.numbers
 -- the book with the id has these numbers, and all others are as they were
 abbrev pub renumbered : ℤ → Numbers → List BookRow → List BookRow
 renumbered id numbers = map (λ b. if has_id id b then record b { numbers = numbers } else b)
+
+-- a book that took no change yet
+abbrev pub empty_book : ℤ → List ℕ → BookRow
+empty_book id name = record {
+  id = id;
+  name = name;
+  numbers = numbers (pos 0) (pos 0) (pos 0) (pos 0) (pos 0) (pos 0) (pos 0) (pos 0) (pos 0);
+}
+
+-- the empty book stands beside the others
+abbrev pub AddsBook : State → ℤ → List ℕ → List BookRow → Type 0
+AddsBook new id name bs = IsAdded HoldBooks (λ b. b.id) (empty_book id name) bs (new.now.trees 2)

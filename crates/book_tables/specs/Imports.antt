@@ -7,6 +7,7 @@ use Rattle.sqlite.specs.declared.types.Value.TheVariants.{Int, Text}
 use Rattle.sqlite.specs.Order.{Row, column}
 use Rattle.sqlite.specs.State.{State}
 use Rattle.sqlite_trees.specs.Tree.{IsAscending}
+use Rattle.book_tables.specs.Answers.{IsAdded}
 use Rattle.book_tables.specs.States.{OverRows, ChangesRows}
 
 -- what the import answered, and the number of its last change; the id is the table's own
@@ -55,3 +56,22 @@ ChangesImports = ChangesRows AreImports HoldImports 7
 
 abbrev pub import_shown : ImportRow → Row
 import_shown i = Int i.added ∷ Int i.edited ∷ Int i.same ∷ Int i.number ∷ []
+
+-- ---- what a statement makes of them
+
+abbrev pub imported : ℤ → ℤ → List ℕ → ℤ → ℤ → ℤ → ℤ → ImportRow
+imported id book key added edited same number = record {
+  id = id;
+  book = book;
+  key = key;
+  added = added;
+  edited = edited;
+  same = same;
+  number = number;
+}
+
+-- the import is kept beside the others, under an id that was free
+abbrev pub IsKept : State → ℤ → List ℕ → ℤ → ℤ → ℤ → ℤ → List ImportRow → Type 0
+IsKept new book key added edited same number imports = (id : ℤ) ×
+    IsAdded HoldImports (λ i. i.id) (imported id book key added edited same number) imports
+    (new.now.trees 7)

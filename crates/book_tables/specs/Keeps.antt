@@ -7,6 +7,7 @@ use Rattle.sqlite.specs.declared.types.Value.TheVariants.{Null, Int}
 use Rattle.sqlite.specs.Order.{Row, column}
 use Rattle.sqlite.specs.State.{State}
 use Rattle.sqlite_trees.specs.Tree.{IsAscending}
+use Rattle.book_tables.specs.Answers.{IsAdded}
 use Rattle.book_tables.specs.States.{OverRows, ChangesRows}
 
 -- the book's id is the row's own
@@ -47,3 +48,13 @@ ChangesKeeps = ChangesRows AreKeeps HoldKeeps 9
 
 abbrev pub keep_shown : KeepRow → Row
 keep_shown k = Int k.keep ∷ []
+
+-- ---- what a statement makes of them
+
+abbrev pub keeping_of : ℤ → ℤ → KeepRow
+keeping_of book keep = record { book = book; keep = keep }
+
+-- the book's keep stands beside the others
+abbrev pub AddsKeep : State → ℤ → ℤ → List KeepRow → Type 0
+AddsKeep new book keep keeps =
+    IsAdded HoldKeeps (λ k. k.book) (keeping_of book keep) keeps (new.now.trees 9)

@@ -1,6 +1,7 @@
 //! The statements over the table `book`.
 ghost use Rattle.book_tables.specs.Answers.{Finds, IfAnswered, count_value};
 ghost use Rattle.book_tables.specs.Books.{
+  AddsBook,
   BookRow,
   ChangesBooks,
   HasBooks,
@@ -66,6 +67,32 @@ pub fn count_books<S: Alter>(conn: &mut Connection<S>) -> Result<Row, Error>
     ensures left { OnlyReads (state S.Store conn.old) (state S.Store conn.new) }
 {
     conn.query_row("SELECT COUNT(*) FROM book", params![])
+}
+
+/// The empty book with the id and the name is made: its nine numbers are 0.
+///
+/// The error is of a constraint where a book has the id or the name.
+pub fn insert_book<S: Alter>(
+    tx: &mut Transaction<'_, S>,
+    id: i64,
+    name: &str,
+) -> Result<usize, Error>
+    ensures same_reference { tx.new.conn.ghost_name ≡ tx.old.conn.ghost_name }
+    ensures adds { ChangesBooks (state S.Store tx.old.conn.now) (state S.Store tx.new.conn.now)
+        (λ bs. OnOk result (AddsBook (state S.Store tx.new.conn.now) id name.now bs)) }
+    ensures writes { ChangesBooks (state S.Store tx.old.conn.now) (state S.Store tx.new.conn.now)
+        (λ _. OnOk result
+        (WritesOnly 2 (state S.Store tx.old.conn.now) (state S.Store tx.new.conn.now))) }
+    ensures left { StaysInside (state S.Store tx.old.conn.now) (state S.Store tx.new.conn.now) }
+    ensures undone { Inside (state S.Store tx.old.conn.now) (state S.Store tx.new.conn.now)
+        (OnErr result
+        (IsUndone (state S.Store tx.old.conn.now) (state S.Store tx.new.conn.now))) }
+{
+    tx.execute(
+        "INSERT INTO book (id, name, number, horizon, created, edited, imported, import_edited, \
+         moved_in, deleted, moved_out) VALUES (?1, ?2, 0, 0, 0, 0, 0, 0, 0, 0, 0)",
+        params![id, name],
+    )
 }
 
 fn renumber<S: Alter>(

@@ -1,11 +1,19 @@
 //! The statements over the table `keeping`.
 ghost use Rattle.book_tables.specs.Answers.{Finds, IfAnswered};
-ghost use Rattle.book_tables.specs.Keeps.{OverKeeps, is_keep_of, keep_shown};
-ghost use Rattle.book_tables.specs.States.{OnlyReads, OverTables};
+ghost use Rattle.book_tables.specs.Keeps.{AddsKeep, ChangesKeeps, OverKeeps, is_keep_of, keep_shown};
+ghost use Rattle.book_tables.specs.States.{
+  Inside,
+  IsUndone,
+  OnlyReads,
+  OverTables,
+  StaysInside,
+  WritesOnly,
+};
 ghost use Rattle.sqlite.specs.Held.{state};
 ghost use Rattle.sqlite.specs.State.{IsUnchanged};
+ghost use Rattle.std.specs.Prelude.{◌≡◌, OnErr, OnOk};
 
-use sqlite::{Alter, Connection, Error, Row, params};
+use sqlite::{Alter, Connection, Error, Row, Transaction, params};
 
 /// How many removed members the book with the id remembers at most.
 ///
@@ -18,4 +26,29 @@ pub fn find_keep<S: Alter>(conn: &mut Connection<S>, book: i64) -> Result<Row, E
     ensures left { OnlyReads (state S.Store conn.old) (state S.Store conn.new) }
 {
     conn.query_row("SELECT keep FROM keeping WHERE book = ?1", params![book])
+}
+
+/// The book with the id is to remember at most so many removed members.
+///
+/// The error is of a constraint where the book has a keep already, or no book has the id.
+pub fn insert_keep<S: Alter>(
+    tx: &mut Transaction<'_, S>,
+    book: i64,
+    keep: i64,
+) -> Result<usize, Error>
+    ensures same_reference { tx.new.conn.ghost_name ≡ tx.old.conn.ghost_name }
+    ensures adds { ChangesKeeps (state S.Store tx.old.conn.now) (state S.Store tx.new.conn.now)
+        (λ keeps. OnOk result (AddsKeep (state S.Store tx.new.conn.now) book keep keeps)) }
+    ensures writes { ChangesKeeps (state S.Store tx.old.conn.now) (state S.Store tx.new.conn.now)
+        (λ _. OnOk result
+        (WritesOnly 9 (state S.Store tx.old.conn.now) (state S.Store tx.new.conn.now))) }
+    ensures left { StaysInside (state S.Store tx.old.conn.now) (state S.Store tx.new.conn.now) }
+    ensures undone { Inside (state S.Store tx.old.conn.now) (state S.Store tx.new.conn.now)
+        (OnErr result
+        (IsUndone (state S.Store tx.old.conn.now) (state S.Store tx.new.conn.now))) }
+{
+    tx.execute(
+        "INSERT INTO keeping (book, keep) VALUES (?1, ?2)",
+        params![book, keep],
+    )
 }
