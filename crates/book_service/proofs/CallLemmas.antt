@@ -15,6 +15,7 @@ use Rattle.book_model.specs.declared.token.Token.{Token}
 use Rattle.book_model.specs.Bounds.{Bounds}
 use Rattle.book_model.specs.Books.{Books}
 use Rattle.book_model.specs.Creating.{create_step}
+use Rattle.book_model.specs.Forgetting.{forget_step}
 use Rattle.book_model.specs.Moving.{move_step}
 use Rattle.book_model.specs.Outcomes.{◌>>=◌, Does, Reads, Tells}
 use Rattle.book_model.specs.Pages.{Asked, IsReport, report_step, mark_asked, page_size, page_of}
@@ -22,16 +23,16 @@ use Rattle.book_model.specs.Putting.{put_step, put_answer, reason_for}
 use Rattle.book_model.specs.Reading.{book_lines, book_line_step, get_step, tally_step}
 use Rattle.book_model.specs.Removing.{remove_step}
 use Rattle.vcard_text.specs.Cards.{uid_of}
-use Rattle.book_laws.specs.Calls.{Puts, Gets, AsksReport, DidMove, DidPut, DidRemove, MadeBook, GaveBooks, GaveCard, GavePage, GaveTally, meaning, with_answer, with_reading}
-use Rattle.book_laws.specs.ChangeLaws.{CreatingFollows, PuttingFollows, RemovingFollows, MovingFollows}
+use Rattle.book_laws.specs.Calls.{Puts, Gets, AsksReport, DidForget, DidMove, DidPut, DidRemove, MadeBook, GaveBooks, GaveCard, GavePage, GaveTally, meaning, with_answer, with_reading}
+use Rattle.book_laws.specs.ChangeLaws.{CreatingFollows, PuttingFollows, RemovingFollows, MovingFollows, ForgettingFollows}
 use Rattle.book_laws.specs.Following.{AreStoriesOf, Follows, PagesFollow}
 use Rattle.book_laws.specs.ReadLaws.{BooksFollow, BookLinesFollow, GettingFollows, TalliesFollow, ReportsFollow}
 use Rattle.book_laws.specs.Reports.{report}
-use Rattle.book_laws.specs.WorldChanges.{remove_meaning, move_meaning}
+use Rattle.book_laws.specs.WorldChanges.{remove_meaning, move_meaning, forget_meaning}
 use Rattle.book_laws.specs.WorldReads.{books_meaning, book_line_meaning, get_meaning, tally_meaning}
 use Rattle.book_laws.specs.Worlds.{Story, World}
 use Rattle.book_laws.specs.WorldSteps.{story_named, create_meaning, found_of, stories_after_put, put_meaning, report_meaning}
-use Rattle.book_service.specs.declared.command.Command.TheVariants.{CreateBook, Books as ListBooks, Get, Put, Remove, MoveCard, Report, TallyOf}
+use Rattle.book_service.specs.declared.command.Command.TheVariants.{CreateBook, Books as ListBooks, Get, Put, Remove, MoveCard, Report, Forget, TallyOf}
 use Rattle.book_service.specs.declared.reply.Reply.{Reply}
 use Rattle.book_service.specs.declared.reply.Reply.TheVariants as reply
 use Rattle.book_service.specs.OnRows.{DoesCommand, first_denial, DeniesIn, IsFault}
@@ -57,6 +58,13 @@ module _ (limits : Bounds) (old new : Books) where
   moves law book to uid expect outcome d =
       did reply.Moved DidMove (MoveCard book uid to expect) (λ numbers. refl) limits old new outcome (move_step limits old book to uid expect) (λ world. move_meaning world.limits world.books book to uid expect) (λ numbers. tt)
       (λ world same w. of_world (λ l b. Follows (move_step l b book to uid expect) (move_meaning world.limits world.books book to uid expect)) world same w (law world book to uid expect w.sound))
+      (λ world. refl) d
+
+  pub forgets : ForgettingFollows → (book : List ℕ) (upto : ℕ) (outcome : Result ℕ Denied) → Does outcome (forget_step old book upto) old new
+      → DoesCommand limits old (Forget book upto) (reply_to (λ dropped. reply.Forgot dropped upto) outcome) new
+  forgets law book upto outcome d =
+      did (λ dropped. reply.Forgot dropped upto) DidForget (Forget book upto) (λ dropped. refl) limits old new outcome (forget_step old book upto) (λ world. forget_meaning world.books book upto) (λ dropped. tt)
+      (λ world same w. of_world (λ l b. Follows (forget_step b book upto) (forget_meaning world.books book upto)) world same w (law world.books book upto w.sound))
       (λ world. refl) d
 
   pub puts : PuttingFollows → (book uid : List ℕ) (card : List Line) (expect : Option ℕ) (text : List ℕ) (outcome : Result PutAnswer Denied) → ReadsCard uid text (Ok card) → Does outcome (put_step limits old book card expect) old new

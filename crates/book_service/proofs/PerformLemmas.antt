@@ -40,6 +40,7 @@ keeps_same (reply.Card uid version card) old new same = same
 keeps_same (reply.Put answer) old new same = tt
 keeps_same (reply.Gone number) old new same = tt
 keeps_same (reply.Moved numbers) old new same = tt
+keeps_same (reply.Forgot dropped horizon) old new same = tt
 keeps_same (reply.Page page) old new same = same
 keeps_same (reply.Tally tally) old new same = same
 

@@ -87,6 +87,7 @@ answers_right parts whole limits books room limit (reply.Card uid version card) 
 answers_right parts whole limits books room limit (reply.Put answer) old new a right = absurd a
 answers_right parts whole limits books room limit (reply.Gone number) old new a right = absurd a
 answers_right parts whole limits books room limit (reply.Moved numbers) old new a right = absurd a
+answers_right parts whole limits books room limit (reply.Forgot dropped horizon) old new a right = absurd a
 answers_right parts whole limits books room limit (reply.Tally tally) old new a right = absurd a
 
 module _ (calls : CallsKeepAllRight) (parts : PartsKeepAllRight) (whole : WholePagesKeepAllRight) where

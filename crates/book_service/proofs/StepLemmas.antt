@@ -3,13 +3,13 @@ use Rattle.std.proofs.Common.{◌≡◌, List, [], ◌∷◌, ◌++◌, refl, sy
 use Rattle.std.proofs.lemmas.Option.{same_Some}
 use Rattle.book_model.specs.Bounds.{Bounds, IsInRange}
 use Rattle.book_laws.specs.RunLaws.{StaysSound}
-use Rattle.book_laws.specs.Worlds.{AreSound, IsSoundWorld}
+use Rattle.book_laws.specs.Worlds.{Stories, AreSound, IsSoundWorld}
 use Rattle.book_service.specs.declared.event.Event.{Event}
 use Rattle.book_service.specs.declared.event.Event.TheVariants.{Do, Ask}
 use Rattle.book_service.specs.declared.reply.Reply.{Reply}
 use Rattle.book_service.specs.Promise.{Always, RunsAppend}
 use Rattle.book_service.specs.Runs.{Moment, Step, Happening, Run, end_of}
-use Rattle.book_service.proofs.RunLemmas.{Leads, leads_on, leads_nowhere, performs_leads}
+use Rattle.book_service.proofs.RunLemmas.{Leads, EventLeads, leads_on, leads_nowhere, leads_nowhere_by, performs_leads}
 
 -- ---- a place in a list
 
@@ -29,11 +29,14 @@ pub step_limits : (now next : Moment) (event : Event) (r : Reply) → Step now e
 step_limits now next (Do command) r s = ap (λ (m : Moment). m.world.limits) s.2
 step_limits now next (Ask i limit) r s = ap (λ (m : Moment). m.world.limits) s.next_is
 
--- calls that forget nothing lead from the books to the next
-pub step_leads : (now next : Moment) (event : Event) (r : Reply) → Step now event r next → Leads now.world.limits now.world.books next.world.books
-step_leads now next (Do command) r s =
-    subst (Leads now.world.limits now.world.books) (sym (ap (λ (m : Moment). m.world.books) s.2)) (performs_leads now.world command r s.0 s.1)
-step_leads now next (Ask i limit) r s = leads_nowhere now.world.limits now.world.books next.world.books (ap (λ (m : Moment). m.world.books) s.next_is)
+-- calls lead from the books to the next
+pub event_leads : (now next : Moment) (event : Event) (r : Reply) → Step now event r next → EventLeads now.world.limits now.world.books next.world.books event r
+event_leads now next (Do command) r s =
+    subst (λ (books : Stories). EventLeads now.world.limits now.world.books books (Do command) r) (sym (ap (λ (m : Moment). m.world.books) s.2)) (performs_leads now.world command r s.0 s.1)
+event_leads now next (Ask i limit) r s = leads_nowhere_by now.world.limits now.world.books next.world.books (Ask i limit) r (ap (λ (m : Moment). m.world.books) s.next_is)
+
+abbrev pub step_leads : (now next : Moment) (event : Event) (r : Reply) → Step now event r next → Leads now.world.limits now.world.books next.world.books
+step_leads now next event r s = (event_leads now next event r s).leads
 
 -- calls lead from a sound world to a sound world
 pub leads_world : StaysSound → (now next : Moment) → IsSoundWorld now.world → next.world.limits ≡ now.world.limits → Leads now.world.limits now.world.books next.world.books → IsSoundWorld next.world

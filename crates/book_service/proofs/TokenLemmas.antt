@@ -1,6 +1,5 @@
 -- How long the book of a page takes the page's token.
-use Rattle.std.proofs.Common.{refl, ◌≡◌, ℕ, ◌<◌, true, false, List, [], ◌∷◌, ◌++◌, Option, Some, None, Result, Ok, Err, sym, ap, ◌∙◌, subst, ⊎_elim, inl, inr, ◌⊎◌}
-use Rattle.std.specs.List.{AllByRecursion}
+use Rattle.std.proofs.Common.{refl, ◌≡◌, ℕ, ◌<◌, List, [], ◌∷◌, ◌++◌, Option, Some, None, Result, Ok, Err, sym, ap, ◌∙◌, subst, ⊎_elim, inl, inr, ◌⊎◌}
 use Rattle.std.proofs.lemmas.Option.{same_Some}
 use Rattle.book_model.specs.declared.page.Page.{Page as Told}
 use Rattle.book_model.specs.declared.denied.Fault.{Fault}
@@ -20,7 +19,7 @@ use Rattle.book_laws.specs.Worlds.{Stories, IsSoundWorld}
 use Rattle.sync_core.specs.TokenTextLaws.{TextsTellTokens}
 use Rattle.sync_core.specs.TokenTexts.{IsToken, token_octets}
 use Rattle.book_service.specs.declared.command.Command.{Command}
-use Rattle.book_service.specs.declared.command.Command.TheVariants.{CreateBook, Books as ListBooks, Get, Put, Remove, MoveCard, Report, TallyOf}
+use Rattle.book_service.specs.declared.command.Command.TheVariants.{CreateBook, Books as ListBooks, Get, Put, Remove, MoveCard, Report, Forget, TallyOf}
 use Rattle.book_service.specs.declared.event.Event.{Event}
 use Rattle.book_service.specs.declared.event.Event.TheVariants.{Do, Ask}
 use Rattle.book_service.specs.declared.reply.Reply.{Reply}
@@ -31,8 +30,8 @@ use Rattle.book_service.specs.Promise.{AsksAfter, AtSomeStep, ForgetsAbove, Toke
 use Rattle.book_service.specs.Runs.{Moment, Step, Happening, Run, end_of}
 use Rattle.book_service.specs.Mirrors.{report_at}
 use Rattle.book_service.specs.Texts.{ReadsToken}
-use Rattle.book_service.proofs.RunLemmas.{after_more, forgets}
-use Rattle.book_service.proofs.StepLemmas.{step_leads, step_limits, step_world, run_limits, runs_split}
+use Rattle.book_service.proofs.RunLemmas.{after_more}
+use Rattle.book_service.proofs.StepLemmas.{event_leads, step_leads, step_limits, step_world, run_limits, runs_split}
 use Rattle.book_laws.specs.RunLaws.{StaysSound}
 
 -- ---- a token's text is read in one way
@@ -113,6 +112,7 @@ module _ (law : TextsTellTokens) (now next : Moment) where
   told_page (Do (Put book uid expect text)) r name token page s asks is = absurd asks
   told_page (Do (Remove book uid expect)) r name token page s asks is = absurd asks
   told_page (Do (MoveCard book uid to expect)) r name token page s asks is = absurd asks
+  told_page (Do (Forget book upto)) r name token page s asks is = absurd asks
   told_page (Do (TallyOf book)) r name token page s asks is = absurd asks
 
   pub told_refusal : (event : Event) (r : Reply) (name : List ℕ) (token : Option Token) (refusal : Refusal) → Step now event r next → AsksAfter now event name token → r ≡ reply.Refused refusal
@@ -136,6 +136,7 @@ module _ (law : TextsTellTokens) (now next : Moment) where
   told_refusal (Do (Put book uid expect text)) r name token refusal s asks is = absurd asks
   told_refusal (Do (Remove book uid expect)) r name token refusal s asks is = absurd asks
   told_refusal (Do (MoveCard book uid to expect)) r name token refusal s asks is = absurd asks
+  told_refusal (Do (Forget book upto)) r name token refusal s asks is = absurd asks
   told_refusal (Do (TallyOf book)) r name token refusal s asks is = absurd asks
 
   pub asking_keeps : (event : Event) (r : Reply) (name : List ℕ) (token : Option Token) → Step now event r next → AsksAfter now event name token → next.world.books ≡ now.world.books
@@ -149,19 +150,10 @@ module _ (law : TextsTellTokens) (now next : Moment) where
   asking_keeps (Do (Put book uid expect text)) r name token s asks = absurd asks
   asking_keeps (Do (Remove book uid expect)) r name token s asks = absurd asks
   asking_keeps (Do (MoveCard book uid to expect)) r name token s asks = absurd asks
+  asking_keeps (Do (Forget book upto)) r name token s asks = absurd asks
   asking_keeps (Do (TallyOf book)) r name token s asks = absurd asks
 
 -- ---- forgets among the calls of a run
-
--- among calls that forget nothing none forgets
-all_there : (P : Call → Type 0) (earlier later : List Call) (call : Call) → AllByRecursion P (earlier ++ call ∷ later) → P call
-all_there P [] later call all = all.0
-all_there P (first ∷ earlier) later call all = all_there P earlier later call all.1
-
-none_forgets : (calls earlier later : List Call) (name : List ℕ) (upto : ℕ) → AllByRecursion (λ call. forgets call ≡ false) calls → calls ≡ earlier ++ Forgets name upto ∷ later → ⊥
-none_forgets calls earlier later name upto keep is =
-    let forgot : true ≡ false = all_there (λ call. forgets call ≡ false) earlier later (Forgets name upto) (subst (AllByRecursion (λ call. forgets call ≡ false)) is keep) in
-    cc
 
 -- among the calls of a step there is an accepted forget of this book up to a number above this one
 pub record StepForgets (now next : Moment) (event : Event) (r : Reply) (s : Step now event r next) (name : List ℕ) (base : ℕ) : Type 0 where
@@ -174,10 +166,10 @@ pub record StepForgets (now next : Moment) (event : Event) (r : Reply) (s : Step
   pub left : Stories
   pub accepted : forget_meaning (stories_after_all now.world.limits now.world.books earlier) name upto ≡ Ok (dropped, left)
 
--- no command forgets yet
 step_forgets : (now next : Moment) (event : Event) (r : Reply) (s : Step now event r next) (name : List ℕ) (base : ℕ) → StepForgets now next event r s name base → ForgetsAbove name base event r
 step_forgets now next event r s name base forgot =
-    none_forgets (step_leads now next event r s).calls forgot.earlier forgot.later name forgot.upto (step_leads now next event r s).keep forgot.calls_are
+    let is = (event_leads now next event r s).forgot forgot.earlier forgot.later name forgot.upto forgot.dropped forgot.left forgot.calls_are forgot.accepted in
+    record { upto = forgot.upto; event_is = is.0; above = forgot.above; dropped = forgot.dropped; reply_is = is.1 }
 
 -- the calls of a run, step by step
 abbrev calls_of : (now : Moment) (run : List Happening) → Run now run → List Call

@@ -3,11 +3,11 @@ use Rattle.std.specs.Prelude.{ℕ, ◌≡◌, ◌⊎◌, List, Result, Ok, Err}
 use Rattle.book_model.specs.declared.denied.Fault.{Fault}
 use Rattle.book_model.specs.declared.refusal.Refusal.{Refusal}
 use Rattle.book_model.specs.Outcomes.{◌>>=◌}
-use Rattle.book_laws.specs.Calls.{Call, CreatesBook, Puts, Removes, Moves, AsksReport, ListsBooks, Gets, Tallies, Returned, meaning}
+use Rattle.book_laws.specs.Calls.{Call, CreatesBook, Puts, Removes, Moves, Forgets, AsksReport, ListsBooks, Gets, Tallies, Returned, meaning}
 use Rattle.book_laws.specs.Worlds.{Stories, World}
 use Rattle.book_laws.specs.WorldSteps.{story_named}
 use Rattle.book_service.specs.declared.command.Command.{Command}
-use Rattle.book_service.specs.declared.command.Command.TheVariants.{CreateBook, Books as ListBooks, Get, Put, Remove, MoveCard, Report, TallyOf}
+use Rattle.book_service.specs.declared.command.Command.TheVariants.{CreateBook, Books as ListBooks, Get, Put, Remove, MoveCard, Report, Forget, TallyOf}
 use Rattle.book_service.specs.declared.reply.Reply.{Reply}
 use Rattle.book_service.specs.declared.reply.Reply.TheVariants as reply
 use Rattle.book_service.specs.Replies.{TellsReturned}
@@ -48,6 +48,7 @@ Means world (Remove book uid expect) meant = IsCall world (Removes book uid expe
 Means world (MoveCard book uid to expect) meant = IsCall world (Moves book to uid expect) meant
 Means world (Report book token limit) meant =
     IsCallWith world book (ReadsToken token) (λ from. AsksReport book from limit) meant
+Means world (Forget book upto) meant = IsCall world (Forgets book upto) meant
 Means world (TallyOf book) meant = IsCall world (Tallies book) meant
 
 -- ---- the reply

@@ -1,7 +1,7 @@
 -- What holds over every run. This project's own.
 use Rattle.book_laws.specs.Reasons.{CountsReasons}
 use Rattle.book_laws.specs.LastChanges.{IsStoredLast}
-use Rattle.std.specs.Prelude.{ℕ, ◌+◌, ◌≡◌, ◌⊎◌, false, List, [], ◌∷◌, ◌++◌, length, ◌↔◌, Option, Some, Ok, slice_get}
+use Rattle.std.specs.Prelude.{ℕ, ◌+◌, ◌<◌, ◌≡◌, ◌⊎◌, false, List, [], ◌∷◌, ◌++◌, length, ◌↔◌, Option, Some, Ok, slice_get}
 use Rattle.std.specs.FinMap as finite
 use Rattle.book_model.specs.declared.answers.Moved.{Moved as Numbers}
 use Rattle.book_model.specs.declared.answers.Stored.{Stored}
@@ -21,11 +21,11 @@ use Rattle.book_laws.specs.CardMoves.{TakesOneCard}
 use Rattle.book_laws.specs.RightDevices.{IsComplete, IsRight}
 use Rattle.book_laws.specs.GoingOn.{GoesOn}
 use Rattle.book_laws.specs.Worlds.{Story, IsSoundWorld, World, rows}
-use Rattle.book_service.specs.declared.command.Command.TheVariants.{MoveCard, Report}
+use Rattle.book_service.specs.declared.command.Command.TheVariants.{MoveCard, Report, Forget}
 use Rattle.book_service.specs.declared.event.Event.{Event}
 use Rattle.book_service.specs.declared.event.Event.TheVariants.{Do, Ask}
 use Rattle.book_service.specs.declared.reply.Reply.{Reply}
-use Rattle.book_service.specs.declared.reply.Reply.TheVariants.{Moved, Page, Refused}
+use Rattle.book_service.specs.declared.reply.Reply.TheVariants.{Moved, Page, Forgot, Refused}
 use Rattle.book_service.specs.PageCounts.{FewAreTruncated}
 use Rattle.book_service.specs.Runs.{Moment, Happening, AtEachStep, Run, end_of, events_of, replies_of, IsAt}
 use Rattle.book_service.specs.Texts.{ReadsToken}
@@ -104,9 +104,13 @@ AsksAfter now (Ask i limit) name token = (device : Holding) ×
 AsksAfter now event name token = ⊥
 
 -- The event made the book of this name forget what was removed up to a number above this one, and
--- was not refused. No command does so yet.
-abbrev pub ForgetsAbove : List ℕ → ℕ → Event → Reply → Type 0
-ForgetsAbove name base event r = ⊥
+-- was accepted.
+pub record ForgetsAbove (name : List ℕ) (base : ℕ) (event : Event) (r : Reply) : Type 0 where
+  pub upto : ℕ
+  pub event_is : event ≡ Do (Forget name upto)
+  pub above : base < upto
+  pub dropped : ℕ
+  pub reply_is : r ≡ Forgot dropped upto
 
 -- it holds of some event and its reply
 abbrev pub AtSomeStep : (Event → Reply → Type 0) → List Happening → Type 0

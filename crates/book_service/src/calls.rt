@@ -1,6 +1,6 @@
 //! What a command asks of any store.
 ghost use Rattle.std.specs.Prelude.{◌≡◌, ◌⊎◌, Err, IfOk};
-ghost use Rattle.book_laws.specs.ChangeLaws.{CreatingFollows, PuttingFollows, RemovingFollows, MovingFollows};
+ghost use Rattle.book_laws.specs.ChangeLaws.{CreatingFollows, PuttingFollows, RemovingFollows, MovingFollows, ForgettingFollows};
 ghost use Rattle.book_laws.specs.ReadLaws.{BooksFollow, BookLinesFollow, GettingFollows, TalliesFollow, ReportsFollow};
 ghost use Rattle.book_model.specs.Bounds.{IsInRange};
 ghost use Rattle.book_model.specs.Outcomes.{IfFault};
@@ -15,8 +15,8 @@ use crate::reply::Reply;
 use crate::texts::{card_for, token_in};
 use book_laws::following::{
     book_lines_follow_histories, cards_follow_histories, creating_follows_histories,
-    moving_follows_histories, putting_follows_histories, removing_follows_histories,
-    reports_follow_histories, tallies_follow_histories,
+    forgetting_follows_histories, moving_follows_histories, putting_follows_histories,
+    removing_follows_histories, reports_follow_histories, tallies_follow_histories,
 };
 use std::alloc::Global;
 use sync_core::{BookStore, Denied, Page, PutAnswer, Stored};
@@ -28,6 +28,7 @@ fn calls_follow_histories()
     ensures putting { PuttingFollows }
     ensures removing { RemovingFollows }
     ensures moving { MovingFollows }
+    ensures forgetting { ForgettingFollows }
     ensures books { BooksFollow }
     ensures lines { BookLinesFollow }
     ensures getting { GettingFollows }
@@ -38,6 +39,7 @@ fn calls_follow_histories()
     putting_follows_histories();
     removing_follows_histories();
     moving_follows_histories();
+    forgetting_follows_histories();
     book_lines_follow_histories();
     cards_follow_histories();
     tallies_follow_histories();
@@ -101,6 +103,13 @@ pub(crate) fn outcome_of<S: BookStore>(
         Command::Report { book, token, limit } => {
             let page = report(store, book, token, *limit)?;
             Ok(Reply::Page(page))
+        }
+        Command::Forget { book, upto } => {
+            let dropped = store.forget(book.as_str(), *upto)?;
+            Ok(Reply::Forgot {
+                dropped,
+                horizon: *upto,
+            })
         }
         Command::TallyOf { book } => {
             let tally = store.tally(book.as_str())?;

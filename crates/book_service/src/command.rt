@@ -55,6 +55,12 @@ pub enum Command {
         token: Text,
         limit: Option<u64>,
     },
+    /// Makes the book forget the members that were removed up to the number, which is its horizon
+    /// then. Tokens whose base is below the horizon aren't taken any more (RFC 6578, section 3.2).
+    Forget {
+        book: Text,
+        upto: u64,
+    },
     /// Asks for the book in numbers.
     TallyOf {
         book: Text,

@@ -22,6 +22,8 @@ pub enum Reply {
     Moved(Moved),
     /// The page of the report.
     Page(Page),
+    /// So many removed members were forgotten, and the book's horizon is at this number.
+    Forgot { dropped: u64, horizon: u64 },
     /// The book in numbers.
     Tally(Tally),
     /// The command was refused for what it asks.

@@ -2,6 +2,7 @@ mod command_rows;
 mod commands;
 mod devices;
 mod failing;
+mod forget_rows;
 mod long_run;
 mod mirrors;
 mod plain;

@@ -102,7 +102,7 @@ ask 0";
 const A_MOVE: &str = "create clients
 move staff a clients";
 
-const ROWS: [Row; 13] = [
+const ROWS: [Row; 15] = [
     // A truncated page is applied.
     Row {
         scripts: &[FIVE_CHANGES],
@@ -298,6 +298,38 @@ http://contacts.invalid/sync/1/3/5",
         scripts: &[""],
         device: 0,
         wanted: "no token",
+    },
+    // A token whose base is forgotten is given up, and the next ask is for an initial report.
+    Row {
+        scripts: &[
+            FIVE_CHANGES,
+            "remove staff c
+forget staff 6
+ask 0
+ask 0",
+        ],
+        device: 0,
+        wanted: "gone 6
+forgot 2 up to 6
+refused 10 cause 4
+a 4 Anna, 1/6/6
+a 4 Anna
+http://contacts.invalid/sync/1/6/6",
+    },
+    // A token at the horizon isn't, and is told of what went after it.
+    Row {
+        scripts: &[
+            FIVE_CHANGES,
+            "remove staff c
+forget staff 5
+ask 0",
+        ],
+        device: 0,
+        wanted: "gone 6
+forgot 1 up to 5
+a 4 Anna, c gone, 1/6/6
+a 4 Anna
+http://contacts.invalid/sync/1/6/6",
     },
 ];
 

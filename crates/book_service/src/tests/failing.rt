@@ -155,6 +155,7 @@ move staff a staff
 get staff a
 books
 tally staff
+forget staff 0
 report staff -";
 
 #[test]

@@ -30,6 +30,7 @@ ask 0 2
 put staff d Dee
 remove staff d
 ask 0
+forget staff 6
 books
 create clients
 move staff a clients

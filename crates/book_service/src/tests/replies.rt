@@ -126,6 +126,9 @@ pub(super) fn told(alloc: Global, reply: &Reply) -> Result<String, NoMemory> {
             Ok(format!(in alloc; "moved {} {}\n", numbers.from, numbers.version)?)
         }
         Reply::Page(page) => page_told(alloc, page),
+        Reply::Forgot { dropped, horizon } => {
+            Ok(format!(in alloc; "forgot {dropped} up to {horizon}\n")?)
+        }
         Reply::Tally(tally) => tally_told(alloc, tally),
         Reply::Refused(refusal) => refusal_told(alloc, refusal),
         Reply::Fault(fault) => Ok(format!(in alloc; "fault {}\n", fault.number())?),

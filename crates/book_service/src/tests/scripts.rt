@@ -107,6 +107,14 @@ fn report(alloc: Global, words: &[&str]) -> Result<Command, NoMemory> {
     })
 }
 
+/// `forget BOOK UPTO`, where a number that is left out is 0.
+fn forget(alloc: Global, words: &[&str]) -> Result<Command, NoMemory> {
+    Ok(Command::Forget {
+        book: text(alloc, words, 1)?,
+        upto: number(words, 2).unwrap_or(0),
+    })
+}
+
 /// `create BOOK`, `tally BOOK`, and `books` for any other word.
 fn plain(alloc: Global, words: &[&str]) -> Result<Command, NoMemory> {
     let book = text(alloc, words, 1)?;
@@ -126,6 +134,7 @@ fn command_of(alloc: Global, words: &[&str]) -> Result<Command, NoMemory> {
         "remove" => remove(alloc, words),
         "move" => move_card(alloc, words),
         "report" => report(alloc, words),
+        "forget" => forget(alloc, words),
         _ => plain(alloc, words),
     }
 }

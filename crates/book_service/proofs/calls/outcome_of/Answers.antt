@@ -7,17 +7,18 @@ use Rattle.book_model.specs.declared.denied.Fault.TheVariants.{Memory}
 use Rattle.book_model.specs.Bounds.{Bounds}
 use Rattle.book_model.specs.Books.{Books}
 use Rattle.book_model.specs.Creating.{create_step}
+use Rattle.book_model.specs.Forgetting.{forget_step}
 use Rattle.book_model.specs.Moving.{move_step}
 use Rattle.book_model.specs.Outcomes.{Does, Tells}
 use Rattle.book_model.specs.Reading.{get_step, tally_step}
 use Rattle.book_model.specs.Removing.{remove_step}
 use Rattle.book_service.specs.declared.command.Command.{Command}
-use Rattle.book_service.specs.declared.command.Command.TheVariants.{CreateBook, Books as ListBooks, Get, Put, Remove, MoveCard, TallyOf}
+use Rattle.book_service.specs.declared.command.Command.TheVariants.{CreateBook, Books as ListBooks, Get, Put, Remove, MoveCard, Forget, TallyOf}
 use Rattle.book_service.specs.declared.reply.Reply.{Reply}
 use Rattle.book_service.specs.declared.reply.Reply.TheVariants as reply
 use Rattle.book_service.specs.OnRows.{DoesCommand}
 use Rattle.book_service.specs.Replies.{denied_reply, reply_to}
-use Rattle.book_service.proofs.CallLemmas.{creates, removes, moves, gets, gets_not, tallies, lists, lists_not}
+use Rattle.book_service.proofs.CallLemmas.{creates, removes, moves, forgets, gets, gets_not, tallies, lists, lists_not}
 use Rattle.book_service.proofs.PerformLemmas.{read_keeps}
 use Rattle.book_service.proofs.calls.outcome_of.Goals as goal
 
@@ -151,6 +152,25 @@ returns-in_ok-numbers-in-MoveCard-clause-does g c = λ premise.
     (subst (λ (book : List ℕ). Does (Ok c.in_ok-numbers-in-MoveCard.numbers) (move_step limits old book c.in-MoveCard.to c.in-MoveCard.uid c.in-MoveCard.expect) old new) c.as_str-in-MoveCard.ensures
     (subst (λ (to : List ℕ). Does (Ok c.in_ok-numbers-in-MoveCard.numbers) (move_step limits old c.as_str-in-MoveCard.result.now to c.in-MoveCard.uid c.in-MoveCard.expect) old new) c.as_str-in-MoveCard-2.ensures
     (subst (λ (uid : List ℕ). Does (Ok c.in_ok-numbers-in-MoveCard.numbers) (move_step limits old c.as_str-in-MoveCard.result.now c.as_str-in-MoveCard-2.result.now uid c.in-MoveCard.expect) old new) c.as_str-in-MoveCard-3.ensures (c.in_ok-numbers-in-MoveCard.ensures.does premise)))))
+
+pub returns-in_err-dropped-in-Forget-clause-does : goal.returns-in_err-dropped-in-Forget-clause-does
+returns-in_err-dropped-in-Forget-clause-does g c = λ premise.
+    let limits = g.S.BookStore.limits c.args.store.now in
+    let old = g.S.BookStore.books c.args.store.now in
+    let new = g.S.BookStore.books c.forget.new.self in
+    let p = err_from_is_err_and c.from_residual-in_err-dropped-in-Forget.result c.from_residual-in_err-dropped-in-Forget.ensures.1 in
+    denied limits old new c.args.command.now (Forget c.in-Forget.book c.in-Forget.upto) c.from_residual-in_err-dropped-in-Forget.result c.in_err-dropped-in-Forget.field-0.0 c.in-Forget.is (p.1 ∙ ap (λ (d : Denied). Err d) p.2)
+    (forgets limits old new c.calls_follow_histories.ensures.forgetting c.in-Forget.book c.in-Forget.upto (Err c.in_err-dropped-in-Forget.field-0.0)
+    (subst (λ (book : List ℕ). Does (Err c.in_err-dropped-in-Forget.field-0.0) (forget_step old book c.in-Forget.upto) old new) c.as_str-in-Forget.ensures (c.in_err-dropped-in-Forget.ensures.does premise)))
+
+pub returns-in_ok-dropped-in-Forget-clause-does : goal.returns-in_ok-dropped-in-Forget-clause-does
+returns-in_ok-dropped-in-Forget-clause-does g c = λ premise.
+    let limits = g.S.BookStore.limits c.args.store.now in
+    let old = g.S.BookStore.books c.args.store.now in
+    let new = g.S.BookStore.books c.forget.new.self in
+    done limits old new c.args.command.now (Forget c.in-Forget.book c.in-Forget.upto) (reply.Forgot c.in_ok-dropped-in-Forget.dropped c.in-Forget.upto) c.in-Forget.is
+    (forgets limits old new c.calls_follow_histories.ensures.forgetting c.in-Forget.book c.in-Forget.upto (Ok c.in_ok-dropped-in-Forget.dropped)
+    (subst (λ (book : List ℕ). Does (Ok c.in_ok-dropped-in-Forget.dropped) (forget_step old book c.in-Forget.upto) old new) c.as_str-in-Forget.ensures (c.in_ok-dropped-in-Forget.ensures.does premise)))
 
 pub returns-in_err-tally-in-TallyOf-clause-does : goal.returns-in_err-tally-in-TallyOf-clause-does
 returns-in_err-tally-in-TallyOf-clause-does g c = λ premise.
