@@ -1,0 +1,6 @@
+pub mod FaultLemmas
+pub mod MemberLemmas
+pub mod OnePageLemmas
+pub mod OneFaultLemmas
+pub mod ReportableLemmas
+pub mod WrittenLemmas
