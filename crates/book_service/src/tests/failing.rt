@@ -87,6 +87,13 @@ impl BookStore for FailingStore {
         self.inner.kept_import(book, key)
     }
 
+    fn import(&mut self, book: &str, key: &str, cards: &[Card]) -> Result<ImportTally, Denied> {
+        if let Some(fault) = self.fault {
+            return Err(Denied::Fault(fault));
+        }
+        self.inner.import(book, key, cards)
+    }
+
     fn get(&mut self, book: &str, uid: &str) -> Result<Stored, Denied> {
         if let Some(fault) = self.fault {
             return Err(Denied::Fault(fault));
