@@ -51,7 +51,7 @@ module _ (story : Story) where
   remembered_is = passing_rows story.history story.horizon (is_removed_after story.horizon) (is_remembered story) removed_after
 
   -- who is remembered is in the list, and has a row
-  remembered_has : (uid : List ℕ) → is_remembered story uid ≡ true → has (remembered_uids story) uid ≡ true
+  pub remembered_has : (uid : List ℕ) → is_remembered story uid ≡ true → has (remembered_uids story) uid ≡ true
   remembered_has uid r =
       let since : story.horizon < last story.history uid = ltb-true story.horizon (last story.history uid) (and_parts (not (is_some (finite.get (live story.history) uid))) (nat_lt story.horizon (last story.history uid)) r).1 in
       any-filter_same (same_uid uid) (is_remembered story) true

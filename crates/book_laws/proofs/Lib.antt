@@ -33,3 +33,4 @@ pub mod WellFormedBooks
 pub mod WellFormedSteps
 pub mod WellFormedCalls
 pub mod WellFormedPages
+pub mod KeepLemmas

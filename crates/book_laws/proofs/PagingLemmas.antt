@@ -1,6 +1,7 @@
 -- How many members are due, and how many pages are truncated.
 use Rattle.std.proofs.Common.{◌≡◌, ℕ, zero, suc, ◌+◌, ◌-◌, ◌*◌, ◌<◌, ◌≤◌, max, Bool, true, false, cond, not, ◌||◌, ◌&&◌, List, [], ◌∷◌, ◌++◌, length, map, filter, take, drop, get_or, Some, is_some, nat_lt, refl, sym, ap, ◌∙◌, subst, arith, length-append}
 use Rattle.std.specs.List.{AllByRecursion}
+use Rattle.std.specs.List.Sorted.{IsStrictlyIncreasing}
 use Rattle.std.specs.FinMap as finite
 use Rattle.std.proofs.lemmas.Bool.{cond-true, cond-false, and_parts, not-true, ltb-true, ltb-false, lt-ltb, le-ltb, false≢true}
 use Rattle.std.proofs.lemmas.Bool.Decides.{nat_tests}
@@ -39,10 +40,14 @@ module _ (f : List ℕ → ℕ) where
   rises_at (x ∷ xs) r zero l = first_above (f x) xs r.0 (omega arith)
   rises_at (x ∷ xs) r (suc i) l = rises_at xs r.1 i (omega arith)
 
+  -- by the number of each, the list rises strictly
+  pub increasing : (xs : List (List ℕ)) → Rises f xs → IsStrictlyIncreasing (map f xs)
+  increasing xs r i l =
+      let next : i + 1 ≡ suc i = omega arith in
+      subst (λ j. get_or (map f xs) i 0 < get_or (map f xs) j 0) (sym next) (rises_at xs r i (omega (arith, l)))
+
 pub due_rises : DueRises
-due_rises h mark i l =
-    let next : i + 1 ≡ suc i = omega arith in
-    subst (λ j. get_or (map (last h) (due h mark)) i 0 < get_or (map (last h) (due h mark)) j 0) (sym next) (rises_at (last h) (due h mark) (due-rises h mark) i (omega (arith, l)))
+due_rises h mark = increasing (last h) (due h mark) (due-rises h mark)
 
 pub entries_are_first_due : EntriesAreFirstDue
 entries_are_first_due h mark k =

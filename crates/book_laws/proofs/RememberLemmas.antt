@@ -31,7 +31,7 @@ abbrev pub longer : Story → BookEvent → Story
 longer story e = record story { history = e ∷ story.history }
 
 module _ (story : Story) (e : BookEvent) where
-  abbrev others : List ℕ → Bool
+  abbrev pub others : List ℕ → Bool
   others v = not (same_uid v e.uid)
 
   remembered_other : (v : List ℕ) → same_uid v e.uid ≡ false → is_remembered (longer story e) v ≡ is_remembered story v

@@ -27,6 +27,7 @@ pub mod DeviceLaws
 pub mod Paging
 pub mod PagingLaws
 pub mod RunLaws
+pub mod KeepLaws
 pub mod TokenLaws
 pub mod MoveLaws
 pub mod RowsAfterCalls

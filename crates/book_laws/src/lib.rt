@@ -6,5 +6,6 @@
 pub mod devices;
 pub mod following;
 pub mod histories;
+pub mod keeping;
 pub mod runs;
 pub mod well_formed;
