@@ -20,7 +20,7 @@ use Rattle.book_model.specs.Outcomes.{◌>>=◌, provided}
 use Rattle.book_model.specs.Pages.{mark_asked, page_size, page_of, token_of}
 use Rattle.book_laws.specs.Reports.{due, cut_page, whole_page, report}
 use Rattle.book_laws.specs.Losses.{LostMoreThanKept}
-use Rattle.book_laws.specs.TokenLaws.{ForgotAbove, TokensStayGood}
+use Rattle.book_laws.specs.TokenLaws.{ForgotAbove, NewTokensAreTaken, TokensStayGood}
 use Rattle.book_laws.specs.Worlds.{Story, Stories, IsSound, AreSound, World}
 use Rattle.book_laws.specs.WorldSteps.{report_meaning}
 use Rattle.book_model.proofs.AnswerLemmas.{same_answer, no_answer}
@@ -177,8 +177,19 @@ rose limits (call ∷ calls) stories name base story new found low at high =
 
 -- ---- the whole
 
-pub tokens_stay_good : TokensStayGood
-tokens_stay_good world name token limit again page calls cause sound made refused =
+-- the book of a page at a later moment, where it refuses the page's token
+record IsRefused (limits : Bounds) (stories : Stories) (calls : List Call) (name : List ℕ) (page : Page) (cause : TokenCause) : Type 0 where
+  old : Answered stories name page
+  new : Story
+  found : finite.get (stories_after_all limits stories calls) name ≡ Some new
+  cause_is : cause ≡ TooOld
+  above : page.mark.base < new.horizon
+
+refused_later : (world : World) (name : List ℕ) (token : Option Token) (limit again : Option ℕ) (page : Page) (calls : List Call) (cause : TokenCause) → AreSound world.books
+    → report_meaning world.limits world.books name token limit ≡ Ok page
+    → report_meaning world.limits (stories_after_all world.limits world.books calls) name (Some (token_of page)) again ≡ Err (BadToken cause)
+    → IsRefused world.limits world.books calls name page cause
+refused_later world name token limit again page calls cause sound made refused =
     let a = answered world name token limit page sound made in
     let g = books_go_on world.limits world.books calls name a.story a.found in
     let new = g.0 in
@@ -195,10 +206,24 @@ tokens_stay_good world name token limit again page calls cause sound made refuse
     let why = too_old (page.book == new.id) (nat_le page.mark.at (length new.history) && nat_le page.mark.base (length new.history)) (nat_le new.horizon page.mark.base) (Err BadLimit) page.mark sized cause own known
     (size_no_token world.limits.page_max again (λ k. Ok (page_of new.id (report new.history page.mark k))) cause (λ k. (page_of new.id (report new.history page.mark k), refl)))
     refused_there in
-    (why.0, rose world.limits calls world.books name page.mark.base a.story new a.found a.within.remembered g.1 (above new.horizon page.mark.base why.1))
+    record { old = a; new = new; found = g.1; cause_is = why.0; above = above new.horizon page.mark.base why.1 }
   where
     asked : Option ℕ → Story → Result Page Refusal
     asked limit story = mark_asked story.id (length story.history) story.horizon (Some (token_of page)) >>= λ m. page_size world.limits.page_max limit >>= λ k. Ok (page_of story.id (report story.history m k))
 
     above : (m n : ℕ) → nat_le m n ≡ false → n < m
     above m n e = grind (arith, nat_tests, e)
+
+pub tokens_stay_good : TokensStayGood
+tokens_stay_good world name token limit again page calls cause sound made refused =
+    let r = refused_later world name token limit again page calls cause sound made refused in
+    (r.cause_is, rose world.limits calls world.books name page.mark.base r.old.story r.new r.old.found r.old.within.remembered r.found r.above)
+
+pub new_tokens_are_taken : NewTokensAreTaken
+new_tokens_are_taken world name token limit again page cause sound made refused =
+    let r = refused_later world name token limit again page [] cause sound made refused in
+    let same : r.old.story ≡ r.new = same_Some r.old.story r.new (sym r.old.found ∙ r.found) in
+    let horizon = ap (λ (s : Story). s.horizon) same in
+    let low = r.old.within.remembered in
+    let high = r.above in
+    absurd (omega (arith, horizon, low, high))

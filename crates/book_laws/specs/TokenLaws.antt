@@ -1,5 +1,5 @@
 -- How long the token of a page is taken (RFC 6578, section 3.2, the precondition valid-sync-token).
-use Rattle.std.specs.Prelude.{ℕ, ◌≡◌, ◌<◌, ◌⊎◌, List, ◌∷◌, ◌++◌, Option, Some, Ok, Err}
+use Rattle.std.specs.Prelude.{ℕ, ◌≡◌, ◌≢◌, ◌<◌, ◌⊎◌, List, ◌∷◌, ◌++◌, Option, Some, Ok, Err}
 use Rattle.book_model.specs.declared.page.Page.{Page}
 use Rattle.book_model.specs.declared.refusal.Refusal.TheVariants.{BadToken}
 use Rattle.book_model.specs.declared.refusal.TokenCause.{TokenCause}
@@ -38,3 +38,11 @@ TokensStayGood = (world : World) (name : List ℕ) (token : Option Token) (limit
     (cause ≡ TooOld)
     × (ForgotAbove world.limits world.books calls name page.mark.base
     ⊎ LostMoreThanKept (stories_after_all world.limits world.books calls) name page.mark.base)
+
+-- and it takes the token as long as nothing happened
+abbrev pub NewTokensAreTaken : Type 0
+NewTokensAreTaken = (world : World) (name : List ℕ) (token : Option Token)
+    (limit again : Option ℕ) (page : Page) (cause : TokenCause) → AreSound world.books →
+    report_meaning world.limits world.books name token limit ≡ Ok page →
+    report_meaning world.limits world.books name (Some (token_of page)) again
+    ≢ Err (BadToken cause)

@@ -1,6 +1,6 @@
 //! What holds over every list of calls.
 ghost use Rattle.book_laws.specs.RunLaws.{StaysSound, RowsFollowCalls, RowsAreEnough, CallsLetBooksGoOn, ImportsActOnce};
-ghost use Rattle.book_laws.specs.TokenLaws.{TokensStayGood};
+ghost use Rattle.book_laws.specs.TokenLaws.{NewTokensAreTaken, TokensStayGood};
 ghost use Rattle.book_laws.specs.MoveLaws.{MoveCallsTakeOneCard};
 
 /// Over every list of calls each history stays lawful: cards come in where their UIDs aren't live,
@@ -38,6 +38,11 @@ pub fn imports_act_once()
 /// it keeps.
 pub fn tokens_stay_good()
     ensures { TokensStayGood }
+{}
+
+/// The book of a page takes the page's token as long as nothing happened since the page was made.
+pub fn new_tokens_are_taken()
+    ensures { NewTokensAreTaken }
 {}
 
 /// A move takes one card between two books and alters nothing else: an event in each of two
