@@ -1,5 +1,5 @@
 -- What the store in memory relies on in its own books. This project's own.
-use Rattle.std.specs.Prelude.{ℕ, ◌≡◌, ◌≤◌, List, map, filter, Option}
+use Rattle.std.specs.Prelude.{ℕ, ◌≡◌, ◌≤◌, Bool, List, map, filter, Option, if◌then◌else◌}
 use Rattle.std.specs.Option.{option_and_then}
 use Rattle.std.specs.List.{AllByRecursion}
 use Rattle.std.specs.FinMap as finite
@@ -26,3 +26,6 @@ card_at book uid = option_and_then (λ row. row.card) (finite.get book.members u
 abbrev pub removal_numbers : finite.FinMap text_cmp Row → ℕ → List ℕ
 removal_numbers members horizon = map (λ member. member.1.changed)
     (filter (λ member. is_removed_after horizon member.1) (finite.entries members))
+
+abbrev pub one_if : Bool → ℕ
+one_if holds = if holds then 1 else 0

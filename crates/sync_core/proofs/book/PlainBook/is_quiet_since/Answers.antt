@@ -7,4 +7,4 @@ use Rattle.sync_core.proofs.book.PlainBook.is_quiet_since.Goals as goal
 pub returns-clause-none_due : goal.returns-clause-none_due
 returns-clause-none_due c = λ heard.
     subst (λ (b : Book). due_rows b.members c.args.mark ≡ []) c.self.view_is
-    (quiet_by c.args.mark c.self.inside.number c.self.inside.members heard c.self.invariant.rows)
+    (quiet_by c.args.mark c.self.inside.number c.self.inside.members heard c.self.invariant.0.rows)
