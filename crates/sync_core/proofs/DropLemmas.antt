@@ -1,5 +1,5 @@
 -- Which removal a book drops.
-use Rattle.std.proofs.Common.{◌≡◌, ℕ, ◌+◌, ◌≤◌, Bool, true, false, not, cond, is_some, nat_lt, length, List, [], ◌∷◌, ◌++◌, map, filter, Option, Some, None, Less, Equal, Greater, min, refl, sym, ap, ◌∙◌, subst, arith}
+use Rattle.std.proofs.Common.{◌≡◌, ℕ, ◌+◌, ◌≤◌, Bool, true, false, not, ◌&&◌, cond, is_some, nat_lt, length, List, [], ◌∷◌, ◌++◌, map, filter, Option, Some, None, Less, Equal, Greater, min, refl, sym, ap, ◌∙◌, subst, arith}
 use Rattle.std.specs.Option.{option_map_or}
 use Rattle.std.specs.FinMap as finite
 use Rattle.std.specs.FinMap.{entries-insert}
@@ -114,3 +114,11 @@ bound_room h bound members uid before =
     let put = bound_insert h bound members uid (record { changed = 0; card = None }) before in
     let none = ap one_if (nat_lt-false h 0 (omega arith)) in
     omega (arith, put, none)
+
+-- a card that is stored is no removal
+pub bound_stored : (h bound : ℕ) (members new : Rows) (uid : List ℕ) (row : Row) (card : List Line) → removed_after members h ≤ bound → new ≡ finite.insert members uid row → row.card ≡ Some card
+    → removed_after new h ≤ bound
+bound_stored h bound members new uid row card before wrote some =
+    let put = bound_insert h bound members uid row before in
+    let none : one_if (is_removed_after h row) ≡ 0 = ap (λ (o : Option (List Line)). one_if (not (is_some o) && nat_lt h row.changed)) some in
+    subst (λ (m : Rows). removed_after m h ≤ bound) (sym wrote) (omega (arith, put, none))

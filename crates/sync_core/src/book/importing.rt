@@ -1,7 +1,8 @@
 //! How a book in memory takes an import: all of it, or nothing.
 ghost use Rattle.std.specs.Prelude.{◌≡◌, ◌+◌, ◌<◌, ◌≤◌, ◌^◌, ℕ, IfOk, OnOk, OnErr, fold, length, string_bytes, take};
 ghost use Rattle.std.specs.FinMap as finite;
-ghost use Rattle.book_model.specs.Books.{card_after, live_at};
+ghost use Rattle.book_model.specs.Books.{live_at};
+ghost use Rattle.book_model.specs.Changing.{card_after};
 ghost use Rattle.book_model.specs.Importing.{import_cards, import_state, import_tally, storing_in, with_kept_import};
 ghost use Rattle.book_model.specs.ImportLaws.{CountsCards, HaveDistinctUids};
 ghost use Rattle.book_model.specs.Counting.{live_count, total};
@@ -263,6 +264,7 @@ impl PlainBook {
     {
         let number = self.number;
         let counts = self.counts;
+        let bound = self.remembered_bound;
         let mut written = Vec::new(alloc);
         let Err(error) = self.write_import(alloc, &mut written, key, tally, cards) else {
             return Ok(());
@@ -270,6 +272,7 @@ impl PlainBook {
         put_all_back(&mut self.members, written);
         self.number = number;
         self.counts = counts;
+        self.remembered_bound = bound;
         Err(error)
     }
 }
