@@ -2,17 +2,12 @@
 -- This project's own.
 use Rattle.std.specs.Prelude.{ℕ, Bool, false, ◌==◌, ◌&&◌, List, [], ◌∷◌, ◌++◌, codes, None, if◌then◌else◌, length}
 use Rattle.std.specs.Str.{chars, encode_utf8_all}
+use Rattle.base_types.specs.Octets.{line_feed, carriage_return}
 use Rattle.vcard_text.specs.declared.line.Line.{Line}
 use Rattle.vcard_text.specs.TextValues.{escaped}
 use Rattle.csv_cards.specs.Rows.{Row, field}
 
 -- ---- line ends
-
-abbrev pub carriage_return : ℕ
-carriage_return = 13
-
-abbrev pub line_feed : ℕ
-line_feed = 10
 
 abbrev pub begins_with_line_feed : List ℕ → Bool
 begins_with_line_feed [] = false

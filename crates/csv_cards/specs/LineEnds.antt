@@ -2,7 +2,7 @@
 -- loop that does so needs. This project's own.
 use Rattle.std.specs.Prelude.{ℕ, Bool, true, false, ◌&&◌, ◌==◌, not, List, [], ◌∷◌, ◌++◌, if◌then◌else◌}
 use Rattle.std.specs.Char.{encode_utf8}
-use Rattle.csv_cards.specs.Columns.{carriage_return, line_feed}
+use Rattle.base_types.specs.Octets.{line_feed, carriage_return}
 
 -- the text so far, and whether a carriage return is held back behind it
 pub record Reading : Type 0 where

@@ -2,18 +2,18 @@
 //! columns.
 #![tactic(auto)]
 
-pub mod cause;
+mod cause;
 mod columns;
-pub mod fault;
-pub mod form;
+mod fault;
+mod form;
 pub mod laws;
-pub mod order;
-pub mod reading;
+mod order;
+mod reading;
 mod records;
 mod row;
 #[cfg(test)]
 mod tests;
-pub mod writing;
+mod writing;
 
 pub use cause::CsvCause;
 pub use fault::CsvFault;
