@@ -20,8 +20,8 @@ fn told(alloc: Global, text: &[u8]) -> Result<String, Fail> {
     let mut told = String::new(alloc);
     for card in cards {
         for line in card.lines() {
-            let name = line.name.as_str();
-            let value = line.value.as_str();
+            let name = &line.name;
+            let value = &line.value;
             told.push_str(format!(in alloc; "{name}:{value}|")?.as_str())?;
         }
         told.push_str("\n")?;
