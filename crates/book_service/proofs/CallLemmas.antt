@@ -1,5 +1,5 @@
 -- Each command, by the store's call that it is.
-use Rattle.std.proofs.Common.{◌≡◌, ℕ, List, length, Option, Result, Ok, Err, refl, ap, ◌∙◌, subst, inl, ◌⊎◌}
+use Rattle.std.proofs.Common.{◌≡◌, ℕ, List, length, Option, Result, Ok, Err, refl, sym, ap, ◌∙◌, subst, inl, ◌⊎◌}
 use Rattle.vcard_text.specs.declared.line.Line.{Line}
 use Rattle.book_model.specs.declared.answers.BookLine.{BookLine}
 use Rattle.book_model.specs.declared.answers.Moved.{Moved}
@@ -12,7 +12,7 @@ use Rattle.book_model.specs.declared.denied.Fault.{Fault as FaultKind}
 use Rattle.book_model.specs.declared.page.Page.{Page}
 use Rattle.book_model.specs.declared.refusal.Refusal.{Refusal}
 use Rattle.book_model.specs.declared.token.Token.{Token}
-use Rattle.book_model.specs.Bounds.{Bounds}
+use Rattle.book_model.specs.Bounds.{Bounds, IsInRange}
 use Rattle.book_model.specs.Books.{Books}
 use Rattle.book_model.specs.Creating.{create_step}
 use Rattle.book_model.specs.Forgetting.{forget_step}
@@ -42,10 +42,10 @@ use Rattle.book_service.specs.TextReaders.{IsReadAs}
 use Rattle.book_service.proofs.PerformLemmas.{of_world, same_rows, keeps_same, fault_performs, did, told, ReadFollows, tells, denied_read}
 
 module _ (limits : Bounds) (old new : Books) where
-  pub creates : CreatingFollows → (book : List ℕ) (outcome : Result ℕ Denied) → Does outcome (create_step limits old book) old new → DoesCommand limits old (CreateBook book) (reply_to reply.Created outcome) new
-  creates law book outcome d =
+  pub creates : CreatingFollows → IsInRange limits → (book : List ℕ) (outcome : Result ℕ Denied) → Does outcome (create_step limits old book) old new → DoesCommand limits old (CreateBook book) (reply_to reply.Created outcome) new
+  creates law range book outcome d =
       did reply.Created MadeBook (CreateBook book) (λ id. refl) limits old new outcome (create_step limits old book) (λ world. create_meaning world.limits world.books book) (λ id. tt)
-      (λ world same w. of_world (λ l b. Follows (create_step l b book) (create_meaning world.limits world.books book)) world same w (law world book w.sound))
+      (λ world same w. of_world (λ l b. Follows (create_step l b book) (create_meaning world.limits world.books book)) world same w (law world book (subst IsInRange (sym same) range) w.sound))
       (λ world. refl) d
 
   pub removes : RemovingFollows → (book uid : List ℕ) (expect : Option ℕ) (outcome : Result ℕ Denied) → Does outcome (remove_step limits old book uid expect) old new → DoesCommand limits old (Remove book uid expect) (reply_to reply.Gone outcome) new

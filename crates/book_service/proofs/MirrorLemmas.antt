@@ -19,7 +19,6 @@ use Rattle.book_model.specs.declared.token.Mark.{Mark}
 use Rattle.book_model.specs.declared.token.Token.{Token}
 use Rattle.book_model.specs.Bounds.{Bounds}
 use Rattle.book_model.specs.Books.{Books}
-use Rattle.book_laws.specs.Calls.{Call, Forgets}
 use Rattle.book_model.specs.Devices.{Holding, after_page}
 use Rattle.book_laws.specs.RightDevices.{IsRight, IsComplete}
 use Rattle.book_laws.specs.DeviceLaws.{PartsKeepAllRight, WholePagesKeepAllRight, LastPagesCompleteAll}
@@ -28,7 +27,7 @@ use Rattle.book_laws.specs.PagingLaws.{TruncatedPagesLeaveFewer, LastPagesLeaveN
 use Rattle.book_model.specs.Outcomes.{◌>>=◌, provided}
 use Rattle.book_model.specs.Pages.{mark_asked, page_size, page_of, Answer, token_of}
 use Rattle.book_laws.specs.Reports.{due, cut_page, whole_page, report}
-use Rattle.book_laws.specs.TokenLaws.{TokensStayGood}
+use Rattle.book_laws.specs.TokenLaws.{NewTokensAreTaken}
 use Rattle.book_laws.specs.Worlds.{AreSound, Story, Stories}
 use Rattle.book_laws.specs.WorldSteps.{report_meaning}
 use Rattle.book_service.specs.declared.event.Event.TheVariants.{Ask}
@@ -316,19 +315,14 @@ refused_for_token limits stories name first second limit page refusal told refus
     by_story (Some story) told refused =
         by_mark story (mark_asked story.id (length story.history) story.horizon first) (mark_asked story.id (length story.history) story.horizon (Some second)) (page_size limits.page_max limit) refl told refused
 
-no_calls : (earlier later : List Call) (call : Call) → [] ≡ earlier ++ call ∷ later → ⊥
-no_calls [] later call e = cc
-no_calls (first ∷ earlier) later call e = cc
-
 -- and the token of a page is taken as long as nothing happened
-never_refused : TokensStayGood → (now : Moment) → AreSound now.world.books → (name : List ℕ) (token : Option Token) (limit : ℕ) (page : Page) (refusal : Refusal)
+never_refused : NewTokensAreTaken → (now : Moment) → AreSound now.world.books → (name : List ℕ) (token : Option Token) (limit : ℕ) (page : Page) (refusal : Refusal)
     → report_at now name token (Some limit) ≡ Ok page → report_at now name (Some (token_of page)) (Some limit) ≡ Err refusal → ⊥
 never_refused good now sound name token limit page refusal told refused =
     let bad = refused_for_token now.world.limits now.world.books name token (token_of page) (Some limit) page refusal told refused in
-    let forgot = (good now.world name token (Some limit) (Some limit) page [] bad.0 sound told (refused ∙ ap (λ r. Err r) bad.1)).1 in
-    no_calls forgot.earlier forgot.later (Forgets name forgot.upto) forgot.calls_are
+    good now.world name token (Some limit) (Some limit) page bad.0 sound told (refused ∙ ap (λ r. Err r) bad.1)
 
-pub mirror_denied : TokensStayGood → (now : Moment) (books : Books) → IsAt now now.world.limits books → (book : List ℕ) (limit pages max_pages : ℕ) (device next : Holding) → pages < max_pages
+pub mirror_denied : NewTokensAreTaken → (now : Moment) (books : Books) → IsAt now now.world.limits books → (book : List ℕ) (limit pages max_pages : ℕ) (device next : Holding) → pages < max_pages
     → IsMirroring now book limit pages device → (denied : Denied) → Answers (denied_reply denied) (report_at now device.book device.token (Some limit)) device next → IsMirrorDenied now book limit max_pages denied
 mirror_denied good now books at book limit pages max_pages device next within so_far (Fault fault) answered = tt
 mirror_denied good now books at book limit pages max_pages device next within so_far (Refused refusal) answered = (

@@ -127,9 +127,9 @@ pub step_keeps_form : StaysSound → RowsFollowCalls → CallsKeepForm → (now 
 step_keeps_form stays follow keep now next event r w s formed =
     let leads = step_leads now next event r s in
     let same : next.world.limits ≡ now.world.limits = step_limits now next event r s in
-    let rows_are : rows_after_all now.world.limits (rows now.world.books) leads.calls ≡ rows next.world.books = follow now.world leads.calls w.books ∙ ap rows (sym leads.new_is) in
+    let rows_are : rows_after_all now.world.limits (rows now.world.books) leads.calls ≡ rows next.world.books = follow now.world leads.calls w.limits w.books ∙ ap rows (sym leads.new_is) in
     subst (λ (limits : Bounds). IsWellFormed limits (rows next.world.books)) (sym same)
-    (subst (IsWellFormed now.world.limits) rows_are (keep now.world.limits (rows now.world.books) leads.calls formed))
+    (subst (IsWellFormed now.world.limits) rows_are (keep now.world.limits (rows now.world.books) leads.calls w.limits formed))
 
 pub rows_stay_well_formed : StaysSound → RowsFollowCalls → CallsKeepForm → RowsStayWellFormed
 rows_stay_well_formed stays follow keep now [] w formed run = tt

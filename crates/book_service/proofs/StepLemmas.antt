@@ -42,7 +42,7 @@ step_leads now next event r s = (event_leads now next event r s).leads
 pub leads_world : StaysSound → (now next : Moment) → IsSoundWorld now.world → next.world.limits ≡ now.world.limits → Leads now.world.limits now.world.books next.world.books → IsSoundWorld next.world
 leads_world stays now next w same leads = record {
   limits = subst IsInRange (sym same) w.limits;
-  books = subst AreSound (sym leads.new_is) (stays now.world leads.calls w.books);
+  books = subst AreSound (sym leads.new_is) (stays now.world leads.calls w.limits w.books);
 }
 
 pub step_world : StaysSound → (now next : Moment) (event : Event) (r : Reply) → IsSoundWorld now.world → Step now event r next → IsSoundWorld next.world

@@ -11,6 +11,7 @@ use Rattle.book_model.specs.declared.token.Token.{Token}
 use Rattle.book_model.specs.Bounds.{Bounds}
 use Rattle.book_model.specs.Devices.{Holding}
 use Rattle.book_laws.specs.Calls.{Call, Forgets, GavePage, AsksReport, with_reading, stories_after_all}
+use Rattle.book_laws.specs.Losses.{LostMoreThanKept}
 use Rattle.book_laws.specs.TokenLaws.{TokensStayGood}
 use Rattle.book_model.specs.Pages.{token_of}
 use Rattle.book_laws.specs.WorldChanges.{forget_meaning}
@@ -228,14 +229,18 @@ forgot_at name base (h ∷ run) now steps earlier later upto dropped left above 
 -- where a book told a page at the start of a run, and refuses its token at the end
 grow_old : TokensStayGood → (now : Moment) (run : List Happening) (name : List ℕ) (token : Option Token) (limit again : Option ℕ) (page : Told) (cause : TokenCause)
     → IsSoundWorld now.world → Run now run → report_at now name token limit ≡ Ok page → report_at (end_of now run) name (Some (token_of page)) again ≡ Err (BadToken cause)
-    → (cause ≡ TooOld) × AtSomeStep (ForgetsAbove name page.mark.base) run
+    → (cause ≡ TooOld) × (AtSomeStep (ForgetsAbove name page.mark.base) run ⊎ LostMoreThanKept (end_of now run).world.books name page.mark.base)
 grow_old good now run name token limit again page cause w steps told refused =
     let refused_then : report_meaning now.world.limits (stories_after_all now.world.limits now.world.books (calls_of now run steps)) name (Some (token_of page)) again ≡ Err (BadToken cause) =
     subst (λ (b : Stories). report_meaning now.world.limits b name (Some (token_of page)) again ≡ Err (BadToken cause)) (run_calls now run steps)
     (subst (λ (l : Bounds). report_meaning l (end_of now run).world.books name (Some (token_of page)) again ≡ Err (BadToken cause)) (run_limits now run steps) refused) in
-    let old = good now.world name token limit again page (calls_of now run steps) cause w.books told refused_then in
-    let forgot = old.1 in
-    (old.0, forgot_at name page.mark.base run now steps forgot.earlier forgot.later forgot.upto forgot.dropped forgot.left forgot.above forgot.calls_are forgot.accepted)
+    let old = good now.world name token limit again page (calls_of now run steps) cause w.books told refused_then in (
+      old.0,
+      ⊎_elim
+          (λ forgot. inl (forgot_at name page.mark.base run now steps forgot.earlier forgot.later forgot.upto forgot.dropped forgot.left forgot.above forgot.calls_are forgot.accepted))
+          (λ lost. inr (subst (λ (b : Stories). LostMoreThanKept b name page.mark.base) (sym (run_calls now run steps)) lost))
+          old.1,
+    )
 
 pub tokens_grow_old : StaysSound → TextsTellTokens → TokensStayGood → TokensGrowOld
 tokens_grow_old stays law good now told again between name token page cause w steps asked is_page asks_again is_refusal =

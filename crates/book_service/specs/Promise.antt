@@ -20,6 +20,7 @@ use Rattle.book_laws.specs.Lawful.{IsLawful}
 use Rattle.book_laws.specs.CardMoves.{TakesOneCard}
 use Rattle.book_laws.specs.RightDevices.{IsComplete, IsRight}
 use Rattle.book_laws.specs.GoingOn.{GoesOn}
+use Rattle.book_laws.specs.Losses.{LostMoreThanKept}
 use Rattle.book_laws.specs.Worlds.{Story, IsSoundWorld, World, rows}
 use Rattle.book_service.specs.declared.command.Command.TheVariants.{MoveCard, Report, Forget}
 use Rattle.book_service.specs.declared.event.Event.{Event}
@@ -118,7 +119,8 @@ AtSomeStep holds [] = ⊥
 AtSomeStep holds (h ∷ run) = holds h.event h.reply ⊎ AtSomeStep holds run
 
 -- A book told a page, and refuses the page's token later in the run: only as too old, and only
--- where it was made to forget above the token's base since it told the page.
+-- where it was made to forget above the token's base since it told the page, or where more cards
+-- left it after that base than it keeps.
 abbrev pub TokensGrowOld : Type 0
 TokensGrowOld = (now : Moment) (told again : Happening) (between : List Happening)
     (name : List ℕ) (token : Option Token) (page : Told) (cause : TokenCause) →
@@ -126,7 +128,9 @@ TokensGrowOld = (now : Moment) (told again : Happening) (between : List Happenin
     AsksAfter now told.event name token → told.reply ≡ Page page →
     AsksAfter (end_of told.after between) again.event name (Some (token_of page)) →
     again.reply ≡ Refused (BadToken cause) →
-    (cause ≡ TooOld) × AtSomeStep (ForgetsAbove name page.mark.base) between
+    (cause ≡ TooOld)
+    × (AtSomeStep (ForgetsAbove name page.mark.base) between
+    ⊎ LostMoreThanKept (end_of told.after between).world.books name page.mark.base)
 
 -- ---- the rows
 

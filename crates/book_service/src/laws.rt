@@ -39,7 +39,7 @@ pub fn runs_keep_the_promise()
     ensures whole { Always LastPagesComplete }
 
     // A book refuses the token of a page that it told only as too old, and only where it was made
-    // to forget since.
+    // to forget since, or where more cards left it since than it keeps.
     ensures tokens { TokensGrowOld }
 {
     histories_stay_lawful();

@@ -9,7 +9,7 @@ use crate::asking::next_page;
 use book_laws::devices::{
     devices_stay_right_among_books, due_members_are_counted, last_pages_complete_copies,
 };
-use book_laws::runs::tokens_stay_good;
+use book_laws::runs::new_tokens_are_taken;
 use std::alloc::Global;
 use sync_core::{BookStore, Denied, Device};
 
@@ -62,7 +62,7 @@ pub fn mirror<S: BookStore>(
     // are counted.
     devices_stay_right_among_books();
     last_pages_complete_copies();
-    tokens_stay_good();
+    new_tokens_are_taken();
     due_members_are_counted();
 
     let mut device = Device::new(alloc, book)?;

@@ -4,7 +4,7 @@ use Rattle.book_model.specs.declared.answers.Stored.{Stored}
 use Rattle.book_model.specs.declared.denied.Denied.{Denied}
 use Rattle.book_model.specs.declared.denied.Denied.TheVariants.{Fault}
 use Rattle.book_model.specs.declared.denied.Fault.TheVariants.{Memory}
-use Rattle.book_model.specs.Bounds.{Bounds}
+use Rattle.book_model.specs.Bounds.{Bounds, IsInRange}
 use Rattle.book_model.specs.Books.{Books}
 use Rattle.book_model.specs.Creating.{create_step}
 use Rattle.book_model.specs.Forgetting.{forget_step}
@@ -38,7 +38,7 @@ returns-in_err-id-in-CreateBook-clause-does g c = λ premise.
     let new = g.S.BookStore.books c.create_book.new.self in
     let p = err_from_is_err_and c.from_residual.result c.from_residual.ensures.1 in
     denied limits old new c.args.command.now (CreateBook c.in-CreateBook.book) c.from_residual.result c.in_err-id-in-CreateBook.field-0.0 c.in-CreateBook.is (p.1 ∙ ap (λ (d : Denied). Err d) p.2)
-    (creates limits old new c.calls_follow_histories.ensures.creating c.in-CreateBook.book (Err c.in_err-id-in-CreateBook.field-0.0)
+    (creates limits old new c.calls_follow_histories.ensures.creating (subst IsInRange c.create_book.ensures.limits c.create_book.ensures.range) c.in-CreateBook.book (Err c.in_err-id-in-CreateBook.field-0.0)
     (subst (λ (name : List ℕ). Does (Err c.in_err-id-in-CreateBook.field-0.0) (create_step limits old name) old new) c.as_str.ensures (c.in_err-id-in-CreateBook.ensures.does premise)))
 
 pub returns-in_ok-id-in-CreateBook-clause-does : goal.returns-in_ok-id-in-CreateBook-clause-does
@@ -47,7 +47,7 @@ returns-in_ok-id-in-CreateBook-clause-does g c = λ premise.
     let old = g.S.BookStore.books c.args.store.now in
     let new = g.S.BookStore.books c.create_book.new.self in
     done limits old new c.args.command.now (CreateBook c.in-CreateBook.book) (reply.Created c.in_ok-id-in-CreateBook.id) c.in-CreateBook.is
-    (creates limits old new c.calls_follow_histories.ensures.creating c.in-CreateBook.book (Ok c.in_ok-id-in-CreateBook.id)
+    (creates limits old new c.calls_follow_histories.ensures.creating (subst IsInRange c.create_book.ensures.limits c.create_book.ensures.range) c.in-CreateBook.book (Ok c.in_ok-id-in-CreateBook.id)
     (subst (λ (name : List ℕ). Does (Ok c.in_ok-id-in-CreateBook.id) (create_step limits old name) old new) c.as_str.ensures (c.in_ok-id-in-CreateBook.ensures.does premise)))
 
 pub returns-in_err-lines-in-Books-clause-does : goal.returns-in_err-lines-in-Books-clause-does

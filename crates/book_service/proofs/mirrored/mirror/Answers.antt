@@ -10,7 +10,7 @@ returns-in_err-page-clause-denied g c =
     rw (p.1, p.2) (λ premise now at.
     let books = g.S.BookStore.books c.args.store.now in
     let before = c.next_page.ensures.premise premise in
-    mirror_denied c.tokens_stay_good.ensures now books (record { limits_are = refl; stories = at.stories }) c.args.book.now c.args.limit c.loop-pages.pages c.args.max_pages c.loop-pages.device c.next_page.new.device c.loop-pages-test.true
+    mirror_denied c.new_tokens_are_taken.ensures now books (record { limits_are = refl; stories = at.stories }) c.args.book.now c.args.limit c.loop-pages.pages c.args.max_pages c.loop-pages.device c.next_page.new.device c.loop-pages-test.true
     (c.loop-pages.invariant.so_far before now at) c.in_err-page.field-0.0
     (c.in_err-page.ensures.answers premise now (still_at now (g.S.BookStore.limits c.args.store.now) (g.S.BookStore.limits c.loop-pages.store) books (g.S.BookStore.books c.loop-pages.store) c.loop-pages.invariant.limits (c.loop-pages.invariant.kept before) at)))
 
