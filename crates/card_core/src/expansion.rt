@@ -3,7 +3,7 @@
 use vcard_text::{Items, Text};
 
 /// The people whom a group reaches, and the member values that name no card.
-#[derive(Debug, Drop)]
+#[derive(Debug, Drop, PartialEq, Eq)]
 pub struct Expansion {
     /// The UIDs of the cards reached that are no groups, each once, in the order of their octets.
     pub people: Items<Text>,
