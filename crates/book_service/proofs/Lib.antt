@@ -1,5 +1,6 @@
 pub mod PerformLemmas
 pub mod CallLemmas
+pub mod WholeBookLemmas
 pub mod TextLemmas
 pub mod AskLemmas
 pub mod RunLemmas

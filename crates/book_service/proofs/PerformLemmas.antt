@@ -43,6 +43,8 @@ keeps_same (reply.Moved numbers) old new same = tt
 keeps_same (reply.Forgot dropped horizon) old new same = tt
 keeps_same (reply.Page page) old new same = same
 keeps_same (reply.Tally tally) old new same = same
+keeps_same (reply.Csv text) old new same = same
+keeps_same (reply.People expansion) old new same = same
 
 -- ---- a fault
 

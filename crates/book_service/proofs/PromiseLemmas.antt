@@ -89,6 +89,8 @@ answers_right parts whole limits books room limit (reply.Gone number) old new a 
 answers_right parts whole limits books room limit (reply.Moved numbers) old new a right = absurd a
 answers_right parts whole limits books room limit (reply.Forgot dropped horizon) old new a right = absurd a
 answers_right parts whole limits books room limit (reply.Tally tally) old new a right = absurd a
+answers_right parts whole limits books room limit (reply.Csv text) old new a right = absurd a
+answers_right parts whole limits books room limit (reply.People expansion) old new a right = absurd a
 
 module _ (calls : CallsKeepAllRight) (parts : PartsKeepAllRight) (whole : WholePagesKeepAllRight) where
   pub devices_stay_right : (now next : Moment) (event : Event) (r : Reply) → IsSoundWorld now.world → Step now event r next → DevicesStayRight now event r next

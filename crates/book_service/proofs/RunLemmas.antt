@@ -1,14 +1,19 @@
 -- A command is at most one call of a store, and forgets only where it is the command to forget.
 use Rattle.std.proofs.Common.{◌≡◌, ℕ, Bool, true, false, List, [], ◌∷◌, ◌++◌, Result, Ok, Err, refl, sym, ap, ◌∙◌, subst, ⊎_elim, inl, inr, ◌⊎◌}
+use Rattle.vcard_text.specs.Cards.{kind_of}
+use Rattle.vcard_text.specs.FirstFaults.{is_group}
+use Rattle.book_model.specs.declared.answers.Stored.{Stored}
 use Rattle.book_model.specs.declared.refusal.Refusal.{Refusal}
+use Rattle.book_model.specs.declared.refusal.Refusal.TheVariants.{NotGroup}
 use Rattle.book_model.specs.Bounds.{Bounds}
-use Rattle.book_model.specs.Outcomes.{◌>>=◌}
+use Rattle.book_model.specs.Outcomes.{◌>>=◌, provided}
 use Rattle.book_laws.specs.Calls.{Call, CreatesBook, Puts, Removes, Moves, Imports, Forgets, AsksReport, AsksImport, ListsBooks, ShowsBook, Gets, ListsCards, Tallies, DidForget, meaning, with_answer, state_after, stories_after, stories_after_all}
 use Rattle.book_laws.specs.WorldChanges.{forget_meaning}
+use Rattle.book_laws.specs.WorldReads.{get_meaning}
 use Rattle.book_laws.specs.Worlds.{Story, Stories, World}
 use Rattle.book_laws.specs.WorldSteps.{story_named}
 use Rattle.book_service.specs.declared.command.Command.{Command}
-use Rattle.book_service.specs.declared.command.Command.TheVariants.{CreateBook, Books as ListBooks, Get, Put, Remove, MoveCard, Report, Forget, TallyOf}
+use Rattle.book_service.specs.declared.command.Command.TheVariants.{CreateBook, Books as ListBooks, Get, Put, Remove, MoveCard, Report, Forget, TallyOf, Export, People}
 use Rattle.book_service.specs.declared.event.Event.{Event}
 use Rattle.book_service.specs.declared.event.Event.TheVariants.{Do}
 use Rattle.book_service.specs.declared.reply.Reply.{Reply}
@@ -101,6 +106,17 @@ means_call world meant (Forget book upto) is = inl (record {
   own = λ name number same. let own : Forget book upto ≡ Forget name number = cc in own;
 })
 means_call world meant (TallyOf book) is = by_call world meant (TallyOf book) (Tallies book) refl is
+means_call world meant (Export book form) is = by_call world meant (Export book form) (ListsCards book) refl is
+means_call world meant (People book uid) is = by_card (get_meaning world.books book uid) is
+  where
+    by_group : (test : Result (Unit {0}) Refusal) → meant ≡ (test >>= λ group. meaning world.limits world.books (ListsCards book)) → OneCallOrNone world (People book uid) meant
+    by_group (Ok group) same = by_call world meant (People book uid) (ListsCards book) refl same
+    by_group (Err refusal) same = inr (refusal, same)
+
+    by_card : (found : Result Stored Refusal) → meant ≡ (found >>= λ stored. provided (is_group (kind_of stored.card)) NotGroup >>= λ group. meaning world.limits world.books (ListsCards book))
+        → OneCallOrNone world (People book uid) meant
+    by_card (Ok stored) same = by_group (provided (is_group (kind_of stored.card)) NotGroup) same
+    by_card (Err refusal) same = inr (refusal, same)
 
 comes_after : (command : Command) (old new : Stories) (meant : Meaning) (r : Reply) → ComesOf command old meant r new → new ≡ state_after old meant
 comes_after command old new (Ok done) r comes = comes.1

@@ -20,7 +20,7 @@ use Rattle.book_laws.specs.Worlds.{Stories, IsSoundWorld}
 use Rattle.sync_core.specs.TokenTextLaws.{TextsTellTokens}
 use Rattle.sync_core.specs.TokenTexts.{IsToken, token_octets}
 use Rattle.book_service.specs.declared.command.Command.{Command}
-use Rattle.book_service.specs.declared.command.Command.TheVariants.{CreateBook, Books as ListBooks, Get, Put, Remove, MoveCard, Report, Forget, TallyOf}
+use Rattle.book_service.specs.declared.command.Command.TheVariants.{CreateBook, Books as ListBooks, Get, Put, Remove, MoveCard, Report, Forget, TallyOf, Export, People}
 use Rattle.book_service.specs.declared.event.Event.{Event}
 use Rattle.book_service.specs.declared.event.Event.TheVariants.{Do, Ask}
 use Rattle.book_service.specs.declared.reply.Reply.{Reply}
@@ -115,6 +115,8 @@ module _ (law : TextsTellTokens) (now next : Moment) where
   told_page (Do (MoveCard book uid to expect)) r name token page s asks is = absurd asks
   told_page (Do (Forget book upto)) r name token page s asks is = absurd asks
   told_page (Do (TallyOf book)) r name token page s asks is = absurd asks
+  told_page (Do (Export book form)) r name token page s asks is = absurd asks
+  told_page (Do (People book uid)) r name token page s asks is = absurd asks
 
   pub told_refusal : (event : Event) (r : Reply) (name : List ℕ) (token : Option Token) (refusal : Refusal) → Step now event r next → AsksAfter now event name token → r ≡ reply.Refused refusal
       → (limit : Option ℕ) × (report_at now name token limit ≡ Err refusal)
@@ -139,6 +141,8 @@ module _ (law : TextsTellTokens) (now next : Moment) where
   told_refusal (Do (MoveCard book uid to expect)) r name token refusal s asks is = absurd asks
   told_refusal (Do (Forget book upto)) r name token refusal s asks is = absurd asks
   told_refusal (Do (TallyOf book)) r name token refusal s asks is = absurd asks
+  told_refusal (Do (Export book form)) r name token refusal s asks is = absurd asks
+  told_refusal (Do (People book uid)) r name token refusal s asks is = absurd asks
 
   pub asking_keeps : (event : Event) (r : Reply) (name : List ℕ) (token : Option Token) → Step now event r next → AsksAfter now event name token → next.world.books ≡ now.world.books
   asking_keeps (Do (Report book text limit)) r name token s asks =
@@ -153,6 +157,8 @@ module _ (law : TextsTellTokens) (now next : Moment) where
   asking_keeps (Do (MoveCard book uid to expect)) r name token s asks = absurd asks
   asking_keeps (Do (Forget book upto)) r name token s asks = absurd asks
   asking_keeps (Do (TallyOf book)) r name token s asks = absurd asks
+  asking_keeps (Do (Export book form)) r name token s asks = absurd asks
+  asking_keeps (Do (People book uid)) r name token s asks = absurd asks
 
 -- ---- forgets among the calls of a run
 

@@ -1,13 +1,17 @@
 -- What each command means on books with their whole histories. This project's own.
 use Rattle.std.specs.Prelude.{ℕ, ◌≡◌, ◌⊎◌, List, Result, Ok, Err}
+use Rattle.vcard_text.specs.Cards.{kind_of}
+use Rattle.vcard_text.specs.FirstFaults.{is_group}
 use Rattle.book_model.specs.declared.denied.Fault.{Fault}
 use Rattle.book_model.specs.declared.refusal.Refusal.{Refusal}
-use Rattle.book_model.specs.Outcomes.{◌>>=◌}
-use Rattle.book_laws.specs.Calls.{Call, CreatesBook, Puts, Removes, Moves, Forgets, AsksReport, ListsBooks, Gets, Tallies, Returned, meaning}
+use Rattle.book_model.specs.declared.refusal.Refusal.TheVariants.{NotGroup}
+use Rattle.book_model.specs.Outcomes.{◌>>=◌, provided}
+use Rattle.book_laws.specs.Calls.{Call, CreatesBook, Puts, Removes, Moves, Forgets, AsksReport, ListsBooks, Gets, ListsCards, Tallies, Returned, meaning}
+use Rattle.book_laws.specs.WorldReads.{get_meaning}
 use Rattle.book_laws.specs.Worlds.{Stories, World}
 use Rattle.book_laws.specs.WorldSteps.{story_named}
 use Rattle.book_service.specs.declared.command.Command.{Command}
-use Rattle.book_service.specs.declared.command.Command.TheVariants.{CreateBook, Books as ListBooks, Get, Put, Remove, MoveCard, Report, Forget, TallyOf}
+use Rattle.book_service.specs.declared.command.Command.TheVariants.{CreateBook, Books as ListBooks, Get, Put, Remove, MoveCard, Report, Forget, TallyOf, Export, People}
 use Rattle.book_service.specs.declared.reply.Reply.{Reply}
 use Rattle.book_service.specs.declared.reply.Reply.TheVariants as reply
 use Rattle.book_service.specs.Replies.{TellsReturned}
@@ -37,6 +41,13 @@ pub record IsCallWith {A : Type 0} (world : World) (book : List ℕ)
   pub read_is : reads read
   pub meant_is : meant ≡ meaning_with world book call read
 
+-- all cards are listed, where there is such a book and the UID's card is live and a group's
+abbrev pub people_meaning : World → List ℕ → List ℕ → Meaning
+people_meaning world book uid = do
+  stored ← get_meaning world.books book uid
+  group ← provided (is_group (kind_of stored.card)) NotGroup
+  meaning world.limits world.books (ListsCards book)
+
 -- what each command means
 abbrev pub Means : World → Command → Meaning → Type 0
 Means world (CreateBook book) meant = IsCall world (CreatesBook book) meant
@@ -50,6 +61,8 @@ Means world (Report book token limit) meant =
     IsCallWith world book (ReadsToken token) (λ from. AsksReport book from limit) meant
 Means world (Forget book upto) meant = IsCall world (Forgets book upto) meant
 Means world (TallyOf book) meant = IsCall world (Tallies book) meant
+Means world (Export book form) meant = IsCall world (ListsCards book) meant
+Means world (People book uid) meant = meant ≡ people_meaning world book uid
 
 -- ---- the reply
 

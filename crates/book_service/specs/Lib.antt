@@ -1,4 +1,5 @@
 pub mod Texts
+pub mod WholeBooks
 pub mod Replies
 pub mod Commands
 pub mod OnRows

@@ -2,11 +2,12 @@
 use Rattle.std.specs.Prelude.{◌≡◌, Result, Ok, Err}
 use Rattle.book_model.specs.declared.denied.Denied.{Denied}
 use Rattle.book_model.specs.declared.denied.Denied.TheVariants.{Refused, Fault}
-use Rattle.book_laws.specs.Calls.{Returned, MadeBook, DidPut, DidRemove, DidMove, DidForget, GavePage, GaveBooks, GaveCard, GaveTally}
+use Rattle.book_laws.specs.Calls.{Returned, MadeBook, DidPut, DidRemove, DidMove, DidForget, GavePage, GaveBooks, GaveCard, GaveCards, GaveTally}
 use Rattle.book_service.specs.declared.command.Command.{Command}
-use Rattle.book_service.specs.declared.command.Command.TheVariants.{Get, Forget}
+use Rattle.book_service.specs.declared.command.Command.TheVariants.{Get, Forget, Export, People}
 use Rattle.book_service.specs.declared.reply.Reply.{Reply}
 use Rattle.book_service.specs.declared.reply.Reply.TheVariants as reply
+use Rattle.book_service.specs.WholeBooks.{book_text, TellsPeople}
 
 -- ---- what was answered
 
@@ -21,6 +22,8 @@ TellsReturned command (DidMove numbers) r = r ≡ reply.Moved numbers
 TellsReturned (Forget book upto) (DidForget dropped) r = r ≡ reply.Forgot dropped upto
 TellsReturned command (GavePage page) r = r ≡ reply.Page page
 TellsReturned command (GaveTally tally) r = r ≡ reply.Tally tally
+TellsReturned (Export book form) (GaveCards live) r = r ≡ reply.Csv (book_text form live)
+TellsReturned (People book uid) (GaveCards live) r = TellsPeople live uid r
 TellsReturned command returned r = ⊥
 
 -- ---- what was denied
@@ -45,6 +48,8 @@ Keeps (reply.Books lines) old new = new ≡ old
 Keeps (reply.Card uid version card) old new = new ≡ old
 Keeps (reply.Page page) old new = new ≡ old
 Keeps (reply.Tally tally) old new = new ≡ old
+Keeps (reply.Csv text) old new = new ≡ old
+Keeps (reply.People expansion) old new = new ≡ old
 Keeps (reply.Created id) old new = Unit {0}
 Keeps (reply.Put answer) old new = Unit {0}
 Keeps (reply.Gone number) old new = Unit {0}

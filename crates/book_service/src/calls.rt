@@ -13,6 +13,7 @@ ghost use Rattle.book_service.specs.Replies.{denied_reply, reply_to};
 use crate::command::Command;
 use crate::reply::Reply;
 use crate::texts::{card_for, token_in};
+use crate::whole_books::{export, people};
 use book_laws::following::{
     book_lines_follow_histories, cards_follow_histories, creating_follows_histories,
     forgetting_follows_histories, moving_follows_histories, putting_follows_histories,
@@ -114,6 +115,14 @@ pub(crate) fn outcome_of<S: BookStore>(
         Command::TallyOf { book } => {
             let tally = store.tally(book.as_str())?;
             Ok(Reply::Tally(tally))
+        }
+        Command::Export { book, form } => {
+            let text = export(alloc, store, book, *form)?;
+            Ok(Reply::Csv(text))
+        }
+        Command::People { book, uid } => {
+            let expansion = people(alloc, store, book, uid)?;
+            Ok(Reply::People(expansion))
         }
     }
 }

@@ -8,6 +8,7 @@ ghost use Rattle.book_service.specs.Runs.{Moment, IsAt, LeadsTo};
 
 use crate::calls::outcome_of;
 use crate::reply::{Reply, denied_reply};
+use csv_cards::Form;
 use std::alloc::Global;
 use sync_core::BookStore;
 use vcard_text::{Items, Text};
@@ -65,6 +66,16 @@ pub enum Command {
     TallyOf {
         book: Text,
     },
+    /// Asks for all live cards of the book as rows of CSV, in this form.
+    Export {
+        book: Text,
+        form: Form,
+    },
+    /// Asks whom the group of the UID reaches among the live cards of the book.
+    People {
+        book: Text,
+        uid: Text,
+    },
 }
 
 /// Does the command and answers what came of it. After a refusal and after a fault the books are
@@ -74,10 +85,13 @@ pub enum Command {
 /// `NoSuchBook`; `BadCard` where the text spells no card, with its first fault; `UidMismatch`
 /// where the card has another UID; `VersionMismatch`; `BookFull`; `ChangesSpent`. A report is
 /// refused with `NoSuchBook`; `BadToken` with `Malformed` where a text that isn't empty is no
-/// token's, then with `OtherBook`, `TooNew` or `TooOld`; `BadLimit`.
+/// token's, then with `OtherBook`, `TooNew` or `TooOld`; `BadLimit`. An export is refused with
+/// `NoSuchBook`; a question for people with `NoSuchBook`, `NoSuchCard` where no card of the UID is
+/// live, `NotGroup` where its kind isn't group.
 ///
 /// `Fault::Store` comes where the store answers it. `Fault::Memory` comes where the store answers
-/// it, and in a put or a get where there is no memory to read the card's text or to copy the UID.
+/// it, and in a put or a get where there is no memory to read the card's text or to copy the UID,
+/// and in an export or a question for people where there is none for the rows or the people.
 pub fn perform<S: BookStore>(alloc: Global, store: &mut S, command: &Command) -> Reply
     ensures premise { S.premise store.new → S.premise store.old }
     ensures limits { S.limits store.new ≡ S.limits store.old }

@@ -12,6 +12,7 @@ pub mod reply;
 #[cfg(test)]
 mod tests;
 mod texts;
+mod whole_books;
 
 pub use command::{Command, perform};
 pub use event::{Event, drive};

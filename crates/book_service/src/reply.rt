@@ -2,6 +2,7 @@
 ghost use Rattle.std.specs.Prelude.{◌≡◌};
 ghost use Rattle.book_service.specs.Replies.{denied_reply as reply_of_denied};
 
+use card_core::Expansion;
 use sync_core::{BookLine, Denied, Fault, Moved, Page, PutAnswer, Refusal, Tally};
 use vcard_text::{Card, Items, Text};
 
@@ -26,6 +27,10 @@ pub enum Reply {
     Forgot { dropped: u64, horizon: u64 },
     /// The book in numbers.
     Tally(Tally),
+    /// The live cards of the book as rows of CSV, in the order of the octets of their UIDs.
+    Csv(Items<u8>),
+    /// Whom the group reaches, and the member values that name no live card.
+    People(Expansion),
     /// The command was refused for what it asks.
     Refused(Refusal),
     /// The command wasn't done, whatever it asks.

@@ -7,10 +7,12 @@ mod long_run;
 mod mirrors;
 mod plain;
 mod plain_replies;
+mod plain_whole;
 mod refused;
 mod replies;
 mod scripts;
 mod stores;
+mod whole_book_rows;
 
 use crate::event::{Event, drive};
 use crate::reply::Reply;

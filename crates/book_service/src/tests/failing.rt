@@ -163,6 +163,9 @@ get staff a
 books
 tally staff
 forget staff 0
+export staff cards
+export staff columns
+people staff a
 report staff -";
 
 #[test]

@@ -12,6 +12,7 @@ use super::plain::{
 use super::plain_replies::{
     Telling, book_word, tell_event, tell_place, tell_plain_device, uid_word,
 };
+use super::plain_whole::name_word;
 use super::stores::{InMemory, Stores};
 use std::alloc::Global;
 use std::process::Abort;
@@ -19,10 +20,10 @@ use std::test::Fail;
 use sync_core::{BookStore, Device, Limits, Mark};
 use vcard_text::NoMemory;
 
-const EVENTS: u64 = 500;
+const EVENTS: u64 = 800;
 
 /// With this one each kind of reply comes at least once.
-const SEED: u64 = 2;
+const SEED: u64 = 1;
 
 /// How many names a card may have.
 const NAMES: u64 = 12;
@@ -51,20 +52,37 @@ impl Dice {
     }
 }
 
+/// A form of the rows of a book.
+fn draw_whole(dice: &mut Dice) -> Kind {
+    if dice.roll(2) == 0 {
+        Kind::Export
+    } else {
+        Kind::Rows
+    }
+}
+
+/// A number up to which a book may forget, or one more.
+fn draw_upto(dice: &mut Dice, number: u64) -> u64 {
+    dice.roll(number.wrapping_add(2))
+}
+
 /// Cards are put most often, so that a book takes all the changes that it may.
 fn draw_kind(dice: &mut Dice) -> Kind {
     match dice.roll(100) {
-        0..=59 => Kind::Put,
-        60..=68 => Kind::Remove,
-        69..=72 => Kind::Move,
-        73..=83 => Kind::Ask,
-        84..=88 => Kind::Report,
-        89..=91 => Kind::Create,
-        92 => Kind::Swap,
-        93 => Kind::Garble,
-        94..=95 => Kind::Get,
-        96..=97 => Kind::Tally,
-        _ => Kind::Books,
+        0..=55 => Kind::Put,
+        56..=64 => Kind::Remove,
+        65..=68 => Kind::Move,
+        69..=79 => Kind::Ask,
+        80..=84 => Kind::Report,
+        85..=87 => Kind::Create,
+        88 => Kind::Swap,
+        89 => Kind::Garble,
+        90..=91 => Kind::Get,
+        92..=93 => Kind::Tally,
+        94 => Kind::Books,
+        95 => Kind::Forget,
+        96 => draw_whole(dice),
+        _ => Kind::People,
     }
 }
 
@@ -156,6 +174,7 @@ fn draw_event(dice: &mut Dice, books: &[PlainBook]) -> PlainEvent {
         expect: draw_expect(dice, version),
         token: draw_token(dice, id, number),
         limit: draw_limit(dice),
+        upto: draw_upto(dice, number),
         device: dice.roll(DEVICE_BOOKS.len() as u64) as usize,
     }
 }
@@ -173,6 +192,9 @@ fn verb(kind: Kind) -> &'static str {
         Kind::Move => "move",
         Kind::Report => "report",
         Kind::Tally => "tally",
+        Kind::Forget => "forget",
+        Kind::Export | Kind::Rows => "export",
+        Kind::People => "people",
         Kind::Ask => "ask",
     }
 }
@@ -196,10 +218,7 @@ fn write_word(line: &mut Telling, word: &str) {
 fn write_uid(line: &mut Telling, event: &PlainEvent) {
     write_word(line, uid_word(event.uid));
     match event.kind {
-        Kind::Put => {
-            line.words(" N");
-            line.number(event.name);
-        }
+        Kind::Put => write_word(line, name_word(event.name)),
         Kind::Swap => line.words(" other"),
         Kind::Move => write_word(line, book_word(event.to)),
         _ => (),
@@ -214,7 +233,14 @@ fn write_object(line: &mut Telling, event: &PlainEvent) {
             line.words(" ");
             line.number(event.device as u64);
         }
-        Kind::Create | Kind::Tally => write_word(line, book_word(event.book)),
+        Kind::Create | Kind::Tally | Kind::Forget => write_word(line, book_word(event.book)),
+        Kind::Export | Kind::Rows => {
+            write_word(line, book_word(event.book));
+            line.words(match event.kind {
+                Kind::Rows => " cards",
+                _ => " columns",
+            });
+        }
         Kind::Report => {
             write_word(line, book_word(event.book));
             write_token(line, event.token);
@@ -231,6 +257,7 @@ fn last_number(event: &PlainEvent) -> Option<u64> {
     match event.kind {
         Kind::Put | Kind::Swap | Kind::Garble | Kind::Remove | Kind::Move => event.expect,
         Kind::Report | Kind::Ask => event.limit,
+        Kind::Forget => Some(event.upto),
         _ => None,
     }
 }
@@ -248,9 +275,11 @@ fn write_event(line: &mut Telling, event: &PlainEvent) {
 
 /// A book that isn't made.
 fn plain_book(alloc: Global) -> PlainBook {
-    let id = 0;
-    let changes = Vec::new(alloc);
-    PlainBook { id, changes }
+    PlainBook {
+        id: 0,
+        horizon: 0,
+        changes: Vec::new(alloc),
+    }
 }
 
 /// A device that has heard nothing of the book of the place.
@@ -355,7 +384,7 @@ fn drive_all<S: BookStore>(alloc: Global, run: &mut LongRun<S>) -> Result<(), No
 }
 
 /// What is in each reply of a kind and in no other, or in each refusal with its cause.
-const KINDS_OF_REPLIES: [&str; 30] = [
+const KINDS_OF_REPLIES: [&str; 38] = [
     "\nbook ",
     "\nbooks, ",
     " N1\n",
@@ -368,6 +397,11 @@ const KINDS_OF_REPLIES: [&str; 30] = [
     " N1, ",
     " gone, ",
     "\nnumber ",
+    "\nforgot ",
+    ",\"BEGIN:VCARD\n",
+    ",,,,,,\n",
+    "\npeople ",
+    " nobody\n",
     "\nrefused 1\n",
     "\nrefused 2\n",
     "\nrefused 3\n",
@@ -381,9 +415,12 @@ const KINDS_OF_REPLIES: [&str; 30] = [
     "\nrefused 10 cause 1\n",
     "\nrefused 10 cause 2\n",
     "\nrefused 10 cause 3\n",
+    "\nrefused 10 cause 4\n",
     "\nrefused 11\n",
     "\nrefused 12\n",
     "\nrefused 13\n",
+    "\nrefused 16\n",
+    "\nrefused 17\n",
     "\nrefused 18\n",
     "\n2/",
 ];

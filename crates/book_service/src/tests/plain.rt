@@ -55,10 +55,11 @@ pub(super) struct PlainToken {
     pub padded: bool,
 }
 
-/// A book's changes, and its id, which is 0 before it is made.
+/// A book's changes, its id, which is 0 before it is made, and the number up to which it forgot.
 #[derive(Drop)]
 pub(super) struct PlainBook {
     pub id: u64,
+    pub horizon: u64,
     pub changes: Vec<Change>,
 }
 
@@ -116,6 +117,10 @@ pub(super) enum Kind {
     Move,
     Report,
     Tally,
+    Forget,
+    Export,
+    Rows,
+    People,
     Ask,
 }
 
@@ -130,6 +135,7 @@ pub(super) struct PlainEvent {
     pub expect: Option<u64>,
     pub token: Option<PlainToken>,
     pub limit: Option<u64>,
+    pub upto: u64,
     pub device: usize,
 }
 
@@ -190,11 +196,19 @@ pub(super) fn count_live(changes: &[Change]) -> u64 {
     count
 }
 
-/// How many UIDs had a card and have none.
-pub(super) fn count_gone(changes: &[Change]) -> u64 {
+/// Whether the UID's card went by a change above the one number and not above the other.
+fn went_between(changes: &[Change], uid: u64, from: u64, to: u64) -> bool {
+    match last_of(changes, uid) {
+        Some(member) => member.name.is_none() && member.number > from && member.number <= to,
+        None => false,
+    }
+}
+
+/// How many UIDs lost their cards so.
+pub(super) fn count_gone(changes: &[Change], from: u64, to: u64) -> u64 {
     let mut count = 0u64;
     for uid in 0..UIDS {
-        if last_of(changes, uid).is_some() && live_of(changes, uid).is_none() {
+        if went_between(changes, uid, from, to) {
             count = count.wrapping_add(1);
         }
     }

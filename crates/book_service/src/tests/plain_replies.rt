@@ -4,6 +4,7 @@ use super::plain::{
     PlainEvent, PlainOffice, PlainPage, PlainToken, Reason, UIDS, answer_to, count_gone,
     count_live, count_of, create, entry_at, keep, live_of, made, number_of, page_of, refused, said,
 };
+use super::plain_whole::{forget, name_word, tell_columns, tell_people, tell_rows};
 use std::alloc::Global;
 use std::fmt::Write;
 use sync_core::Mark;
@@ -76,14 +77,14 @@ fn tell_member(telling: &mut Telling, member: Member) {
         Some(name) => {
             telling.words(" ");
             telling.number(member.number);
-            telling.words(" N");
-            telling.number(name);
+            telling.words(" ");
+            telling.words(name_word(name));
         }
         None => telling.words(" gone"),
     }
 }
 
-fn tell_answer(telling: &mut Telling, answer: Answer) {
+pub(super) fn tell_answer(telling: &mut Telling, answer: Answer) {
     telling.words(answer.words);
     telling.number(answer.number);
     if let Some(came) = answer.came {
@@ -131,7 +132,8 @@ fn tell_book(telling: &mut Telling, place: usize, book: &PlainBook) {
     telling.number(book.id);
     telling.words(" ");
     telling.number(number_of(book.changes.as_slice()));
-    telling.words(" 0");
+    telling.words(" ");
+    telling.number(book.horizon);
 }
 
 fn tell_books(telling: &mut Telling, books: &[PlainBook]) {
@@ -150,11 +152,14 @@ fn tell_count(telling: &mut Telling, words: &str, changes: &[Change], reason: Re
     telling.number(count_of(changes, reason));
 }
 
-/// The book in numbers. No book forgets or imports here.
-fn tell_tally(telling: &mut Telling, changes: &[Change]) {
+/// The book in numbers. No book imports here.
+fn tell_tally(telling: &mut Telling, book: &PlainBook) {
+    let changes = book.changes.as_slice();
     telling.words("number ");
     telling.number(number_of(changes));
-    telling.words(" horizon 0 cards ");
+    telling.words(" horizon ");
+    telling.number(book.horizon);
+    telling.words(" cards ");
     telling.number(count_live(changes));
     tell_count(telling, " created ", changes, Reason::Creation);
     tell_count(telling, " edited ", changes, Reason::Edit);
@@ -163,7 +168,7 @@ fn tell_tally(telling: &mut Telling, changes: &[Change]) {
     tell_count(telling, " deleted ", changes, Reason::Deletion);
     tell_count(telling, " moved-out ", changes, Reason::MoveOut);
     telling.words(" remembered ");
-    telling.number(count_gone(changes));
+    telling.number(count_gone(changes, book.horizon, number_of(changes)));
     telling.words("\n");
 }
 
@@ -193,6 +198,9 @@ fn mark_for(book: &PlainBook, token: Option<PlainToken>) -> Result<Mark, Answer>
     }
     if mark.at > number || mark.base > number {
         return Err(said("refused 10 cause ", 3));
+    }
+    if mark.base < book.horizon {
+        return Err(said("refused 10 cause ", 4));
     }
     Ok(mark)
 }
@@ -308,7 +316,20 @@ fn hear(
     Ok(())
 }
 
-/// What is replied to a device that gets no page, and keeps its copy.
+/// What is replied to a device that gets no page, and keeps its copy. It gives up a token that is
+/// refused.
+fn refuse_token(
+    telling: &mut Telling,
+    device: &mut PlainDevice,
+    answer: Answer,
+) -> Result<(), NoMemory> {
+    if answer.words == "refused 10 cause " {
+        device.token = None;
+    }
+    refuse(telling, answer)
+}
+
+/// What is replied to a device that gets no page, and keeps its copy and its token.
 fn refuse(telling: &mut Telling, answer: Answer) -> Result<(), NoMemory> {
     tell_answer(telling, answer);
     Ok(())
@@ -333,7 +354,7 @@ fn tell_ask(
     };
     match asked(book, device.token, event.limit) {
         Ok(asked) => hear(telling, book, device, copies, asked),
-        Err(answer) => refuse(telling, answer),
+        Err(answer) => refuse_token(telling, device, answer),
     }
 }
 
@@ -344,7 +365,10 @@ fn tell_asked(telling: &mut Telling, books: &[PlainBook], event: &PlainEvent) {
     };
     match event.kind {
         Kind::Get => tell_card(telling, book.changes.as_slice(), event.uid),
-        Kind::Tally => tell_tally(telling, book.changes.as_slice()),
+        Kind::Tally => tell_tally(telling, book),
+        Kind::Export => tell_columns(telling, book.changes.as_slice()),
+        Kind::Rows => tell_rows(telling, book.changes.as_slice()),
+        Kind::People => tell_people(telling, book.changes.as_slice(), event.uid),
         _ => tell_report(telling, book, event),
     }
 }
@@ -370,7 +394,9 @@ pub(super) fn tell_event(
         Kind::Ask => return tell_ask(telling, office, event),
         Kind::Create => tell_answer(telling, create(&mut office.books, event.book)),
         Kind::Books => tell_books(telling, &office.books),
-        Kind::Get | Kind::Report | Kind::Tally => tell_asked(telling, &office.books, event),
+        Kind::Forget => forget(telling, &mut office.books, event),
+        Kind::Get | Kind::Report | Kind::Tally | Kind::Export | Kind::Rows | Kind::People =>
+            tell_asked(telling, &office.books, event),
         _ => return tell_done(telling, &mut office.books, event),
     }
     Ok(())

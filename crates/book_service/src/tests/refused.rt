@@ -31,6 +31,10 @@ put staff d Dee
 remove staff d
 ask 0
 forget staff 6
+put staff g All-a-nobody
+people staff g
+export staff cards
+export staff columns
 books
 create clients
 move staff a clients

@@ -1,5 +1,6 @@
 //! Replies, told as lines.
 use crate::reply::Reply;
+use card_core::Expansion;
 use std::alloc::Global;
 use std::collections::BTreeMap;
 use sync_core::{BookLine, Entry, Page, PutAnswer, Refusal, Stored, Tally};
@@ -96,6 +97,34 @@ fn tally_told(alloc: Global, tally: &Tally) -> Result<String, NoMemory> {
     )?)
 }
 
+/// The octets of rows, where carriage returns are left out, or none where they are no UTF-8.
+fn text_told(alloc: Global, octets: &[u8]) -> Result<String, NoMemory> {
+    let mut text = String::new(alloc);
+    if let Ok(rows) = str::from_utf8(octets) {
+        for line in rows.lines() {
+            text.push_str(line)?;
+            text.push_str("\n")?;
+        }
+    }
+    Ok(text)
+}
+
+/// `people` and each UID, and then `missing` and each value.
+fn people_told(alloc: Global, expansion: &Expansion) -> Result<String, NoMemory> {
+    let mut text = String::from_str(alloc, "people")?;
+    for uid in expansion.people.as_slice() {
+        text.push_str(" ")?;
+        text.push_str(uid.as_str())?;
+    }
+    text.push_str(", missing")?;
+    for value in expansion.missing.as_slice() {
+        text.push_str(" ")?;
+        text.push_str(value.as_str())?;
+    }
+    text.push_str("\n")?;
+    Ok(text)
+}
+
 /// The refusal's number, and its cause or the version that there is.
 fn refusal_told(alloc: Global, refusal: &Refusal) -> Result<String, NoMemory> {
     let number = refusal.number();
@@ -130,6 +159,8 @@ pub(super) fn told(alloc: Global, reply: &Reply) -> Result<String, NoMemory> {
             Ok(format!(in alloc; "forgot {dropped} up to {horizon}\n")?)
         }
         Reply::Tally(tally) => tally_told(alloc, tally),
+        Reply::Csv(text) => text_told(alloc, text.as_slice()),
+        Reply::People(expansion) => people_told(alloc, expansion),
         Reply::Refused(refusal) => refusal_told(alloc, refusal),
         Reply::Fault(fault) => Ok(format!(in alloc; "fault {}\n", fault.number())?),
     }

@@ -4,6 +4,7 @@
 //! `book/at/base`, and `-` is the empty text.
 use crate::command::Command;
 use crate::event::Event;
+use csv_cards::Form;
 use std::alloc::Global;
 use vcard_text::{Items, NoMemory, Text};
 
@@ -23,12 +24,30 @@ fn text(alloc: Global, words: &[&str], place: usize) -> Result<Text, NoMemory> {
     Ok(Text::copy_of(alloc, word(words, place))?)
 }
 
-/// The octets of the five-line card of the UID and name.
+/// The octets of the card of the UID and name. Words behind hyphens in the name are the members of
+/// a group.
 fn card_text(alloc: Global, uid: &str, name: &str) -> Result<Items<u8>, NoMemory> {
-    let card = format!(in alloc;
-        "BEGIN:VCARD\r\nVERSION:4.0\r\nUID:{uid}\r\nFN:{name}\r\nEND:VCARD\r\n"
-    )?;
+    let mut card = format!(in alloc; "BEGIN:VCARD\r\nVERSION:4.0\r\nUID:{uid}\r\nFN:{name}\r\n")?;
+    let words = parts_of(alloc, name)?;
+    if let Some((_, members)) = words.as_slice().split_first() {
+        if !members.is_empty() {
+            card.push_str("KIND:group\r\n")?;
+        }
+        for member in members {
+            card.push_str(format!(in alloc; "MEMBER:{member}\r\n")?.as_str())?;
+        }
+    }
+    card.push_str("END:VCARD\r\n")?;
     Ok(Items::from_vec(card.into_bytes()))
+}
+
+/// The words between hyphens.
+fn parts_of(alloc: Global, name: &str) -> Result<Vec<&str>, NoMemory> {
+    let mut parts = Vec::new(alloc);
+    for part in name.split('-') {
+        parts.push(part)?;
+    }
+    Ok(parts)
 }
 
 /// `put BOOK UID NAME EXPECT` puts the card of the UID and name.
@@ -59,6 +78,24 @@ fn garble(alloc: Global, words: &[&str]) -> Result<Command, NoMemory> {
         uid: text(alloc, words, 2)?,
         expect: number(words, 3),
         text: Items::from_vec(text_octets),
+    })
+}
+
+/// `export BOOK FORM`, where the form is `cards` or any other word for columns.
+fn export(alloc: Global, words: &[&str]) -> Result<Command, NoMemory> {
+    let form = match word(words, 2) {
+        "cards" => Form::Cards,
+        _ => Form::Columns,
+    };
+    let book = text(alloc, words, 1)?;
+    Ok(Command::Export { book, form })
+}
+
+/// `people BOOK UID`
+fn people(alloc: Global, words: &[&str]) -> Result<Command, NoMemory> {
+    Ok(Command::People {
+        book: text(alloc, words, 1)?,
+        uid: text(alloc, words, 2)?,
     })
 }
 
@@ -135,6 +172,8 @@ fn command_of(alloc: Global, words: &[&str]) -> Result<Command, NoMemory> {
         "move" => move_card(alloc, words),
         "report" => report(alloc, words),
         "forget" => forget(alloc, words),
+        "export" => export(alloc, words),
+        "people" => people(alloc, words),
         _ => plain(alloc, words),
     }
 }

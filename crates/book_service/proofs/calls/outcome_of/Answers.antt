@@ -13,7 +13,7 @@ use Rattle.book_model.specs.Outcomes.{Does, Tells}
 use Rattle.book_model.specs.Reading.{get_step, tally_step}
 use Rattle.book_model.specs.Removing.{remove_step}
 use Rattle.book_service.specs.declared.command.Command.{Command}
-use Rattle.book_service.specs.declared.command.Command.TheVariants.{CreateBook, Books as ListBooks, Get, Put, Remove, MoveCard, Forget, TallyOf}
+use Rattle.book_service.specs.declared.command.Command.TheVariants.{CreateBook, Books as ListBooks, Get, Put, Remove, MoveCard, Forget, TallyOf, Export, People}
 use Rattle.book_service.specs.declared.reply.Reply.{Reply}
 use Rattle.book_service.specs.declared.reply.Reply.TheVariants as reply
 use Rattle.book_service.specs.OnRows.{DoesCommand}
@@ -190,3 +190,19 @@ returns-in_ok-tally-in-TallyOf-clause-does g c = λ premise.
     done limits old new c.args.command.now (TallyOf c.in-TallyOf.book) (reply.Tally c.in_ok-tally-in-TallyOf.tally) c.in-TallyOf.is
     (tallies limits old new c.calls_follow_histories.ensures.tallies c.in-TallyOf.book (Ok c.in_ok-tally-in-TallyOf.tally)
     (subst (λ (book : List ℕ). Tells (Ok c.in_ok-tally-in-TallyOf.tally) (tally_step old book) old new) c.as_str-in-TallyOf.ensures (c.in_ok-tally-in-TallyOf.ensures.does premise)))
+
+pub returns-in_ok-text-in-Export-clause-does : goal.returns-in_ok-text-in-Export-clause-does
+returns-in_ok-text-in-Export-clause-does g c = λ premise.
+    let limits = g.S.BookStore.limits c.args.store.now in
+    let old = g.S.BookStore.books c.args.store.now in
+    let new = g.S.BookStore.books c.export.new.store in
+    done limits old new c.args.command.now (Export c.in-Export.book c.in-Export.form) (reply.Csv c.in_ok-text-in-Export.text) c.in-Export.is
+    (c.in_ok-text-in-Export.ensures.does premise)
+
+pub returns-in_ok-expansion-in-People-clause-does : goal.returns-in_ok-expansion-in-People-clause-does
+returns-in_ok-expansion-in-People-clause-does g c = λ premise.
+    let limits = g.S.BookStore.limits c.args.store.now in
+    let old = g.S.BookStore.books c.args.store.now in
+    let new = g.S.BookStore.books c.people.new.store in
+    done limits old new c.args.command.now (People c.in-People.book c.in-People.uid) (reply.People c.in_ok-expansion-in-People.expansion) c.in-People.is
+    (c.in_ok-expansion-in-People.ensures.does premise)

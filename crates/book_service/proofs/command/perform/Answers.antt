@@ -22,6 +22,8 @@ no_fault may (reply.Moved numbers) none = tt
 no_fault may (reply.Forgot dropped horizon) none = tt
 no_fault may (reply.Page page) none = tt
 no_fault may (reply.Tally tally) none = tt
+no_fault may (reply.Csv text) none = tt
+no_fault may (reply.People expansion) none = tt
 
 pub returns-in-Ok-clause-fault : goal.returns-in-Ok-clause-fault
 returns-in-Ok-clause-fault g c = no_fault (MayComeOf g.S.BookStore.may_fault c.args.command.now) c.in-Ok.reply c.in-Ok.ensures.told

@@ -1,0 +1,46 @@
+use Rattle.std.proofs.Common.{◌≡◌, ℕ, List, Result, Ok, Err, BTreeMap, String, Global, refl, sym, ap, ◌∙◌, subst}
+use Rattle.std.proofs.lemmas.Result.{err_from_is_err_and}
+use Rattle.base_types.specs.TextMaps.{texts}
+use Rattle.book_model.specs.declared.answers.Stored.{Stored}
+use Rattle.book_model.specs.declared.denied.Denied.{Denied}
+use Rattle.book_model.specs.declared.denied.Fault.TheVariants.{Memory}
+use Rattle.book_model.specs.Books.{LiveCards}
+use Rattle.book_model.specs.Outcomes.{Reads}
+use Rattle.book_model.specs.Reading.{cards_step}
+use Rattle.book_laws.specs.Calls.{ListsCards, meaning}
+use Rattle.book_service.specs.declared.command.Command.TheVariants.{Export}
+use Rattle.book_service.specs.declared.reply.Reply.TheVariants as reply
+use Rattle.book_service.specs.OnRows.{DoesCommand}
+use Rattle.book_service.specs.Replies.{reply_to}
+use Rattle.book_service.proofs.WholeBookLemmas.{other_answer, exports, fails, cards_keep}
+use Rattle.book_service.proofs.whole_books.export.Goals as goal
+
+pub returns-in_err-stored-clause-does : goal.returns-in_err-stored-clause-does
+returns-in_err-stored-clause-does g c = λ premise.
+    let limits = g.S.BookStore.limits c.args.store.now in
+    let old = g.S.BookStore.books c.args.store.now in
+    let new = g.S.BookStore.books c.cards.new.self in
+    let p = err_from_is_err_and c.from_residual.result c.from_residual.ensures.1 in
+    subst (λ (o : Result (List ℕ) Denied). DoesCommand limits old (Export c.args.book.now c.args.form) (reply_to (λ (text : List ℕ). reply.Csv text) o) new) (sym (p.1 ∙ ap (λ (d : Denied). Err d) p.2))
+    (exports limits old new c.cards_follow_histories.ensures.all c.args.book.now c.args.form (Err c.in_err-stored.field-0.0)
+    (other_answer {A = BTreeMap (String Global) Stored} {B = LiveCards} (λ told cards. texts cards ≡ told) (λ told cards. cards ≡ told) c.in_err-stored.field-0.0 (cards_step old c.args.book.now) old new
+    (subst (λ (book : List ℕ). Reads {A = BTreeMap (String Global) Stored} (λ told cards. texts cards ≡ told) (Err c.in_err-stored.field-0.0) (cards_step old book) old new) c.as_str.ensures (c.in_err-stored.ensures.does premise))))
+
+pub returns-in_err-text-clause-does : goal.returns-in_err-text-clause-does
+returns-in_err-text-clause-does g c = λ premise.
+    let limits = g.S.BookStore.limits c.args.store.now in
+    let old = g.S.BookStore.books c.args.store.now in
+    let new = g.S.BookStore.books c.cards.new.self in
+    let p = err_from_is_err_and c.from_residual-in_err-text.result c.from_residual-in_err-text.ensures.1 in
+    subst (λ (o : Result (List ℕ) Denied). DoesCommand limits old (Export c.args.book.now c.args.form) (reply_to (λ (text : List ℕ). reply.Csv text) o) new) (sym (p.1 ∙ ap (λ (d : Denied). Err d) p.2))
+    (fails limits old new (Export c.args.book.now c.args.form) (λ world. meaning world.limits world.books (ListsCards c.args.book.now)) (λ world. refl) Memory
+    (cards_keep limits old new (λ told cards. texts cards ≡ told) (Ok c.in_ok-stored.stored) c.as_str.result.now (c.in_ok-stored.ensures.does premise)))
+
+pub returns-clause-does : goal.returns-clause-does
+returns-clause-does g c = λ premise.
+    let limits = g.S.BookStore.limits c.args.store.now in
+    let old = g.S.BookStore.books c.args.store.now in
+    let new = g.S.BookStore.books c.cards.new.self in
+    subst (λ (text : List ℕ). DoesCommand limits old (Export c.args.book.now c.args.form) (reply.Csv text) new) (sym (c.from_vec.ensures ∙ c.in_ok-text.ensures.text))
+    (exports limits old new c.cards_follow_histories.ensures.all c.args.book.now c.args.form (Ok (texts c.in_ok-stored.stored))
+    (subst (λ (book : List ℕ). Reads {A = BTreeMap (String Global) Stored} (λ told cards. texts cards ≡ told) (Ok c.in_ok-stored.stored) (cards_step old book) old new) c.as_str.ensures (c.in_ok-stored.ensures.does premise)))
