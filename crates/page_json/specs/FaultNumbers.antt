@@ -1,6 +1,6 @@
--- The numbers under which the faults of a page's text are reported, and what a card's fault is told
--- as there. This project's own.
-use Rattle.std.specs.Prelude.{ℕ}
+-- The numbers and the words of the faults of a page's text, and what a card's fault is told as there.
+-- This project's own.
+use Rattle.std.specs.Prelude.{ℕ, List, codes}
 use Rattle.vcard_text.specs.declared.fault.CardFault.{CardFault}
 use Rattle.vcard_text.specs.declared.fault.CardFault.TheVariants as card
 use Rattle.page_json.specs.declared.fault.ReportFault.{ReportFault}
@@ -12,6 +12,13 @@ fault_number BadShape = 2
 fault_number BadCard = 3
 fault_number BadToken = 4
 fault_number Memory = 5
+
+abbrev pub fault_text : ReportFault → List ℕ
+fault_text NotJson = codes "the text isn't JSON"
+fault_text BadShape = codes "the JSON isn't that of a page"
+fault_text BadCard = codes "a member's text spells no card"
+fault_text BadToken = codes "the token isn't one"
+fault_text Memory = codes "no memory"
 
 -- whatever is wrong with a card's text, unless memory ran out
 abbrev pub fault_of_card : CardFault → ReportFault

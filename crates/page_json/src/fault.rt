@@ -40,12 +40,17 @@ impl ReportFault {
 }
 
 impl fmt::Display for ReportFault {
+    ghost use Rattle.std.specs.Prelude.{Some};
+    ghost use Rattle.page_json.specs.FaultNumbers.{fault_text};
+
+    ghost output = { λ fault. Some (fault_text fault) };
+
     fn fmt<W: fmt::Write>(&self, f: &mut fmt::Formatter<W>) -> fmt::Result {
         f.write_str(match self {
-            ReportFault::NotJson => "not JSON",
-            ReportFault::BadShape => "not the shape of a page",
-            ReportFault::BadCard => "a member's text is no card",
-            ReportFault::BadToken => "the token's text is no token",
+            ReportFault::NotJson => "the text isn't JSON",
+            ReportFault::BadShape => "the JSON isn't that of a page",
+            ReportFault::BadCard => "a member's text spells no card",
+            ReportFault::BadToken => "the token isn't one",
             ReportFault::Memory => "no memory",
         })
     }

@@ -16,6 +16,15 @@ use std::alloc::Global;
 use sync_core::Entry;
 use vcard_text::{Card, Text, read_card};
 
+/// The status of a member that is live (RFC 9110, section 15.3.1).
+pub(crate) const STATUS_OK: u64 = 200;
+
+/// The status of a member that is gone (RFC 9110, section 15.5.5).
+pub(crate) const STATUS_NOT_FOUND: u64 = 404;
+
+/// The greatest version.
+const VERSION_MAX: u64 = 9_999_999_999_999;
+
 /// A member whose card is still a text.
 #[derive(Clone, Copy, Drop)]
 pub(crate) enum Member<'a> {
@@ -74,15 +83,6 @@ fn removed_parts(value: &Value) -> Option<(&Value, &Value)>
         None
     }
 }
-
-/// The status of a member that is live (RFC 9110, section 15.3.1).
-const STATUS_OK: u64 = 200;
-
-/// The status of a member that is gone (RFC 9110, section 15.5.5).
-const STATUS_NOT_FOUND: u64 = 404;
-
-/// The greatest version.
-const VERSION_MAX: u64 = 9_999_999_999_999;
 
 /// The member that is live, where the value says one.
 fn changed_member(value: &Value) -> Option<Member<'_>>

@@ -8,6 +8,7 @@ ghost use Rattle.page_json.specs.PageValues.{member_value, page_value};
 ghost use Rattle.page_json.specs.PagesOfTexts.{IsOfPage};
 ghost use Rattle.page_json.specs.Reportable.{IsReportable, SpellsItsCard, member_texts, page_texts, report_text};
 
+use crate::member::{STATUS_NOT_FOUND, STATUS_OK};
 use serde_json::{Value, json};
 use std::alloc::Global;
 use sync_core::{Entry, Page, token_text};
@@ -31,11 +32,13 @@ fn member_value(alloc: Global, entry: &Entry) -> Result<Value, NoMemory>
         Entry::Changed { uid, version, card } => {
             let text = card_text(alloc, card)?;
             let (uid, version) = (uid.as_str(), *version);
-            Ok(json!(in alloc; {"card": text, "status": 200u64, "uid": uid, "version": version})?)
+            let status = STATUS_OK;
+            Ok(json!(in alloc; {"card": text, "status": status, "uid": uid, "version": version})?)
         }
         Entry::Removed { uid } => {
             let uid = uid.as_str();
-            Ok(json!(in alloc; {"status": 404u64, "uid": uid})?)
+            let status = STATUS_NOT_FOUND;
+            Ok(json!(in alloc; {"status": status, "uid": uid})?)
         }
     }
 }

@@ -1,0 +1,153 @@
+//! Texts of no page, each with the number of its first fault.
+use super::{is_read_as, json_card};
+use std::rt::HostRuntime;
+use std::test::Fail;
+
+/// A text and the number that the format gives its fault: 1 where it isn't JSON, 2 for its shape,
+/// and 4 for its token.
+const REFUSED: [(&str, &str); 20] = [
+    ("", "fault 1"),
+    ("[", "fault 1"),
+    (
+        "{\"members\":[],\"token\":\"x\",\"truncated\":false} x",
+        "fault 1",
+    ),
+    ("{}", "fault 2"),
+    ("[]", "fault 2"),
+    ("{\"members\":[],\"token\":\"x\"}", "fault 2"),
+    (
+        "{\"members\":{},\"token\":\"x\",\"truncated\":false}",
+        "fault 2",
+    ),
+    (
+        "{\"members\":[],\"token\":1,\"truncated\":false}",
+        "fault 2",
+    ),
+    (
+        "{\"members\":[],\"token\":\"x\",\"truncated\":0}",
+        "fault 2",
+    ),
+    (
+        "{\"members\":[],\"more\":1,\"token\":\"x\",\"truncated\":false}",
+        "fault 2",
+    ),
+    (
+        "{\"members\":[],\"token\":\"x\",\"truncated\":false,\"truncated\":null}",
+        "fault 2",
+    ),
+    (
+        "{\"members\":[{}],\"token\":\"x\",\"truncated\":false}",
+        "fault 2",
+    ),
+    (
+        "{\"members\":[{\"status\":404}],\"token\":\"x\",\"truncated\":false}",
+        "fault 2",
+    ),
+    (
+        "{\"members\":[{\"status\":200,\"uid\":\"a\"}],\"token\":\"x\",\"truncated\":false}",
+        "fault 2",
+    ),
+    (
+        "{\"members\":[{\"status\":404.0,\"uid\":\"a\"}],\"token\":\"x\",\"truncated\":false}",
+        "fault 2",
+    ),
+    (
+        "{\"members\":[{\"status\":404,\"uid\":null}],\"token\":\"x\",\"truncated\":false}",
+        "fault 2",
+    ),
+    (
+        "{\"members\":[],\"token\":\"x\",\"truncated\":false}",
+        "fault 4",
+    ),
+    (
+        "{\"members\":[{\"status\":404,\"uid\":\"a\"}],\"token\":\"x\",\"truncated\":false}",
+        "fault 4",
+    ),
+    (
+        "{\"members\":[],\"token\":\"http://contacts.invalid/sync/1/5/4\",\"truncated\":true}",
+        "fault 4",
+    ),
+    (
+        "{\"members\":[],\"token\":\"http://contacts.invalid/sync/1/07/7\",\"truncated\":true}",
+        "fault 4",
+    ),
+];
+
+#[test]
+fn texts_are_refused(rt: HostRuntime) -> Result<(), Fail> {
+    for (text, wanted) in REFUSED {
+        is_read_as(&rt, rt.alloc(), text, wanted)?;
+    }
+    Ok(())
+}
+
+/// The members of a page whose token is none, and the number of its fault. A shape counts first,
+/// wherever it stands, then the first member that has a fault: 3 where its text is no card, and 2
+/// where the card has another UID. `@` stands for the text of the card with UID a.
+const MEMBERS: [(&str, &str); 10] = [
+    (
+        "{\"card\":\"@\",\"status\":200,\"uid\":\"a\",\"version\":0}",
+        "fault 2",
+    ),
+    (
+        "{\"card\":\"@\",\"status\":200,\"uid\":\"a\",\"version\":10000000000000}",
+        "fault 2",
+    ),
+    (
+        "{\"card\":\"@\",\"status\":404,\"uid\":\"a\",\"version\":1}",
+        "fault 2",
+    ),
+    (
+        "{\"card\":\"@\",\"status\":200,\"uid\":\"a\",\"version\":\"1\"}",
+        "fault 2",
+    ),
+    (
+        "{\"card\":\"@\",\"status\":200,\"uid\":\"b\",\"version\":1}",
+        "fault 2",
+    ),
+    (
+        "{\"card\":\"x\",\"status\":200,\"uid\":\"a\",\"version\":1}",
+        "fault 3",
+    ),
+    (
+        "{\"card\":\"x\",\"status\":200,\"uid\":\"a\",\"version\":1},\
+        {\"status\":405,\"uid\":\"c\"}",
+        "fault 2",
+    ),
+    (
+        "{\"card\":\"@\",\"status\":200,\"uid\":\"b\",\"version\":1},\
+        {\"card\":\"x\",\"status\":200,\"uid\":\"a\",\"version\":1}",
+        "fault 2",
+    ),
+    (
+        "{\"card\":\"x\",\"status\":200,\"uid\":\"a\",\"version\":1},\
+        {\"card\":\"@\",\"status\":200,\"uid\":\"b\",\"version\":1}",
+        "fault 3",
+    ),
+    (
+        "{\"card\":\"@\",\"status\":200,\"uid\":\"a\",\"version\":9999999999999}",
+        "fault 4",
+    ),
+];
+
+#[test]
+fn members_are_refused(rt: HostRuntime) -> Result<(), Fail> {
+    let alloc = rt.alloc();
+    let card = json_card(alloc, "a", "Ann")?;
+    for (members, wanted) in MEMBERS {
+        let members = members.replace(alloc, "@", card.as_str())?;
+        let text = format!(in alloc;
+            "{{\"members\":[{members}],\"token\":\"x\",\"truncated\":false}}"
+        )?;
+        is_read_as(&rt, alloc, text.as_str(), wanted)?;
+    }
+    Ok(())
+}
+
+/// A text that isn't UTF-8 is no JSON.
+#[test]
+fn other_octets_are_no_json(rt: HostRuntime) -> Result<(), Fail> {
+    let told = super::told(rt.alloc(), b"\"\xFF\"")?;
+    assert_eq!(rt; told.as_str(), "fault 1");
+    Ok(())
+}
