@@ -1,5 +1,6 @@
 mod faults;
 mod pages;
+mod refused;
 
 use crate::reading::read_report;
 use std::alloc::Global;
