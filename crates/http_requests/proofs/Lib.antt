@@ -1,0 +1,9 @@
+pub mod CutLemmas
+pub mod EndLemmas
+pub mod FaultLemmas
+pub mod FieldLemmas
+pub mod HeadLemmas
+pub mod RunLemmas
+pub mod StepLemmas
+pub mod FeedLemmas
+pub mod PieceLemmas

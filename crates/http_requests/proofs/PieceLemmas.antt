@@ -1,0 +1,48 @@
+-- Pieces in turn.
+use Rattle.std.proofs.Common.{◌∙◌, ℕ, List, [], ◌∷◌, ◌++◌, sym, ap, subst, append_assoc, false, inl, arith, Option, Some, None}
+use Rattle.std.specs.List.{flat_map}
+use Rattle.std.proofs.lemmas.List.{append-nil}
+use Rattle.http_requests.specs.Requests.{HasNoRequest}
+use Rattle.http_requests.specs.Handling.{Doing, FaultReplies}
+use Rattle.http_requests.specs.Feeding.{Feeds, TakesPiece, TakesPieces, PiecesAreFedAsOne}
+use Rattle.http_requests.proofs.EndLemmas.{none_ended}
+use Rattle.http_requests.proofs.RunLemmas.{run_none, run_answered, answered_run, answered_on, stopped_on, stopped_more}
+
+none_at_first : HasNoRequest []
+none_at_first request rest begins = none_ended [] (λ e. cc e) request.head (request.body ++ rest) begins.0
+
+module _ {S : Type 0} (does : Doing S) (reply_to : FaultReplies) where
+  -- one piece behind what was fed
+  fed_on : (octets piece : List ℕ) (w u v : S) (a b : List ℕ) (before session : Option (List ℕ))
+      → Feeds does reply_to octets w a u before → TakesPiece does reply_to before u piece b v session → Feeds does reply_to (octets ++ piece) w (a ++ b) v session
+  fed_on octets piece w u v a b (Some held) (Some rest) first more =
+      (answered_on does reply_to octets piece w u v a b false held rest (answered_run does reply_to octets w a u false held first.0) more.0, more.1)
+  fed_on octets piece w u v a b (Some held) None first more =
+      stopped_on does reply_to octets piece w u v a b held (answered_run does reply_to octets w a u false held first.0) more
+  fed_on octets piece w u v a b None session first more =
+      let closed = stopped_more does reply_to octets piece w u a first in
+      subst (λ o. Feeds does reply_to (octets ++ piece) w (a ++ b) v o) (sym more.2)
+      (subst (λ s. Feeds does reply_to (octets ++ piece) w (a ++ b) s None) more.1
+      (subst (λ t. Feeds does reply_to (octets ++ piece) w t u None) (sym (append-nil a) ∙ ap (λ t. a ++ t) (sym more.0)) closed))
+
+  fed_all : (turns : List (List ℕ × List ℕ)) (octets : List ℕ) (start w v : S) (a : List ℕ) (before session : Option (List ℕ))
+      → Feeds does reply_to octets start a w before → TakesPieces does reply_to before w turns v session
+      → Feeds does reply_to (octets ++ flat_map (λ (turn : List ℕ × List ℕ). turn.0) turns) start (a ++ flat_map (λ (turn : List ℕ × List ℕ). turn.1) turns) v session
+  unfolding TakesPieces
+  fed_all [] octets start w v a before session fed takes =
+      subst (λ o. Feeds does reply_to (octets ++ []) start (a ++ []) v o) takes.0
+      (subst (λ s. Feeds does reply_to (octets ++ []) start (a ++ []) s before) takes.1
+      (subst (λ t. Feeds does reply_to t start (a ++ []) w before) (sym (append-nil octets))
+      (subst (λ t. Feeds does reply_to octets start t w before) (sym (append-nil a)) fed)))
+  fed_all (turn ∷ turns) octets start w v a before session fed takes =
+      let step = fed_on octets turn.0 start w takes.1 a turn.1 before takes.0 fed takes.2 in
+      let all = fed_all turns (octets ++ turn.0) start takes.1 v (a ++ turn.1) takes.0 session step takes.3 in
+      let pieces : List ℕ = flat_map (λ (turn : List ℕ × List ℕ). turn.0) turns in
+      let replies : List ℕ = flat_map (λ (turn : List ℕ × List ℕ). turn.1) turns in
+      subst (λ t. Feeds does reply_to t start (a ++ (turn.1 ++ replies)) v session) (append_assoc octets turn.0 pieces)
+      (subst (λ t. Feeds does reply_to ((octets ++ turn.0) ++ pieces) start t v session) (append_assoc a turn.1 replies) all)
+
+  pub pieces_are_fed : PiecesAreFedAsOne does reply_to
+  pieces_are_fed turns old new session takes =
+      fed_all turns [] old old new [] (Some []) session
+      (run_answered does reply_to [] old [] old false [] (run_none does reply_to [] old) (λ _. none_at_first), inl (omega arith)) takes

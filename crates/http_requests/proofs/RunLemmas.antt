@@ -1,0 +1,149 @@
+-- Runs of requests, one behind another.
+use Rattle.std.proofs.Common.{◌≡◌, ◌∙◌, ℕ, List, [], ◌∷◌, ◌++◌, refl, sym, ap, subst, append_assoc, Bool, true, false, inl, inr, arith, length-append}
+use Rattle.std.proofs.lemmas.List.{append-nil, take-append-le}
+use Rattle.httparse.specs.Grammar.{ReadsRequest, MayBecomeRequest}
+use Rattle.http_requests.specs.Fields.{is_last}
+use Rattle.http_requests.specs.FoundHeads.{IsUnreadable}
+use Rattle.http_requests.specs.Requests.{Request, Begins, HasNoHead, NeverHasHead, HasNoRequest, Leads}
+use Rattle.http_requests.specs.Handling.{Doing, FaultReplies, Replies, Handles, Runs}
+use Rattle.http_requests.specs.Feeding.{IsAnswered, IsRefused, IsStopped, IsTooLong, HandlesPart}
+use Rattle.http_requests.proofs.CutLemmas.{leads_on, leads_end}
+
+-- ---- what never becomes a head doesn't by octets more
+
+pub never_more : (s y : List ℕ) → NeverHasHead s → NeverHasHead (s ++ y)
+never_more s y never more = subst HasNoHead (sym (append_assoc s y more)) (never (y ++ more))
+
+pub never_requests : (s y : List ℕ) → NeverHasHead s → HasNoRequest (s ++ y)
+never_requests s y never request rest begins = never y request.head (request.body ++ rest) begins.0
+
+unreadable_more : (s y : List ℕ) → IsUnreadable s → IsUnreadable (s ++ y)
+unreadable_more s y over more h rest reads = over (y ++ more) h rest (subst (λ t. ReadsRequest t h rest) (append_assoc s y more) reads)
+
+too_long_more : (s y : List ℕ) → IsTooLong s → IsTooLong (s ++ y)
+too_long_more s y long = (omega (arith, long.0, length-append s y), subst MayBecomeRequest (sym (take-append-le 16384 s y long.0)) long.1)
+
+module _ {S : Type 0} (does : Doing S) (reply_to : FaultReplies) where
+  -- ---- one behind the other
+
+  pub handles_on : (w u v : S) (rs qs : List Request) (a b : List ℕ) → Handles does reply_to w rs a u → Handles does reply_to u qs b v → Handles does reply_to w (rs ++ qs) (a ++ b) v
+  unfolding Handles
+  handles_on w u v [] qs a b x y =
+      let moved = subst (λ s. Handles does reply_to s qs b v) (sym x.1) y in
+      subst (λ t. Handles does reply_to w qs (t ++ b) v) (sym x.0) moved
+  handles_on w u v (r ∷ rs) qs a b x y =
+      (x.0, x.1 ++ b, x.2, x.3, handles_on x.2 u v rs qs x.1 b x.4 y, ap (λ t. t ++ b) x.5 ∙ append_assoc x.0 x.1 b)
+
+  pub run_on : (s y : List ℕ) (w u v : S) (a b : List ℕ) (ended : Bool) (middle rest : List ℕ)
+      → Runs does reply_to s w a u false middle → Runs does reply_to (middle ++ y) u b v ended rest → Runs does reply_to (s ++ y) w (a ++ b) v ended rest
+  run_on s y w u v a b ended middle rest first more = record {
+    requests = first.requests ++ more.requests;
+    leads = leads_on s y first.requests more.requests ended middle rest first.leads more.leads;
+    handles = handles_on w u v first.requests more.requests a b first.handles more.handles;
+  }
+
+  -- nothing was whole
+  pub run_none : (s : List ℕ) (w : S) → Runs does reply_to s w [] w false s
+  unfolding Leads Handles
+  run_none s w = record { requests = []; leads = (refl, refl); handles = (refl, refl) }
+
+  pub run_more : (s y : List ℕ) (w v : S) (a : List ℕ) (ended : Bool) (rest : List ℕ) → Runs does reply_to s w a v ended rest → Runs does reply_to (s ++ y) w a v ended (rest ++ y)
+  run_more s y w v a false rest first =
+      subst (λ t. Runs does reply_to (s ++ y) w t v false (rest ++ y)) (append-nil a)
+      (run_on s y w v v a [] false rest (rest ++ y) first (run_none (rest ++ y) v))
+  run_more s y w v a true rest first = record { requests = first.requests; leads = leads_end s y first.requests rest first.leads; handles = first.handles }
+
+  -- one request
+  pub run_one : (s : List ℕ) (r : Request) (rest : List ℕ) (w : S) (reply : List ℕ) (v : S) (last : Bool)
+      → Begins s r rest → Replies does reply_to w r reply v → is_last r.head ≡ last → Runs does reply_to s w reply v last rest
+  unfolding Leads Handles
+  run_one s r rest w reply v true begins replies is = record {
+    requests = r ∷ [];
+    leads = (rest, begins, rw is (refl, refl, refl));
+    handles = (reply, [], v, replies, (refl, refl), sym (append-nil reply));
+  }
+  run_one s r rest w reply v false begins replies is = record {
+    requests = r ∷ [];
+    leads = (rest, begins, rw is (refl, refl));
+    handles = (reply, [], v, replies, (refl, refl), sym (append-nil reply));
+  }
+
+  -- ---- all requests of octets
+
+  pub answered_run : (s : List ℕ) (w : S) (a : List ℕ) (v : S) (ended : Bool) (rest : List ℕ) → IsAnswered does reply_to s w a v ended rest → Runs does reply_to s w a v ended rest
+  answered_run s w a v ended rest all = record { requests = all.requests; leads = all.are.0; handles = all.handles }
+
+  pub run_answered : (s : List ℕ) (w : S) (a : List ℕ) (v : S) (ended : Bool) (rest : List ℕ) → Runs does reply_to s w a v ended rest → (ended ≡ false → HasNoRequest rest)
+      → IsAnswered does reply_to s w a v ended rest
+  run_answered s w a v ended rest run none = record { requests = run.requests; are = (run.leads, none); handles = run.handles }
+
+  pub answered_on : (s y : List ℕ) (w u v : S) (a b : List ℕ) (ended : Bool) (middle rest : List ℕ)
+      → Runs does reply_to s w a u false middle → IsAnswered does reply_to (middle ++ y) u b v ended rest → IsAnswered does reply_to (s ++ y) w (a ++ b) v ended rest
+  answered_on s y w u v a b ended middle rest first more =
+      run_answered (s ++ y) w (a ++ b) v ended rest (run_on s y w u v a b ended middle rest first (answered_run (middle ++ y) u b v ended rest more)) more.are.1
+
+  pub answered_more : (s y : List ℕ) (w v : S) (a : List ℕ) (ended : Bool) (rest : List ℕ)
+      → IsAnswered does reply_to s w a v ended rest → (ended ≡ false → HasNoRequest (rest ++ y)) → IsAnswered does reply_to (s ++ y) w a v ended (rest ++ y)
+  answered_more s y w v a ended rest all none =
+      run_answered (s ++ y) w a v ended (rest ++ y) (run_more s y w v a ended rest (answered_run s w a v ended rest all)) none
+
+  -- ---- where nothing more is taken
+
+  refused_more : (s y reply : List ℕ) → IsRefused does reply_to s reply → IsRefused does reply_to (s ++ y) reply
+  refused_more s y reply refused = (
+    never_more s y refused.0,
+    elim refused.1 [
+      | inl bad ↦ inl (bad.0, unreadable_more s y bad.1)
+      | inr long ↦ inr (long.0, too_long_more s y long.1)
+    ],
+  )
+
+  pub stopped_more : (s y : List ℕ) (w v : S) (a : List ℕ) → IsStopped does reply_to s w a v → IsStopped does reply_to (s ++ y) w a v
+  stopped_more s y w v a stop = record {
+    answers = stop.answers;
+    last = stop.last;
+    ended = stop.ended;
+    rest = stop.rest ++ y;
+    answered = elim stop.why [
+      | inl over ↦ answered_more s y w v stop.answers stop.ended stop.rest stop.answered (λ e. absurd (cc (over.0, e)))
+      | inr refused ↦ answered_more s y w v stop.answers stop.ended stop.rest stop.answered (λ _. never_requests stop.rest y refused.1.0)
+    ];
+    replies_are = stop.replies_are;
+    why = elim stop.why [
+      | inl over ↦ inl over
+      | inr refused ↦ inr (refused.0, refused_more stop.rest y stop.last refused.1)
+    ];
+  }
+
+  pub stopped_on : (s y : List ℕ) (w u v : S) (a b : List ℕ) (middle : List ℕ)
+      → Runs does reply_to s w a u false middle → IsStopped does reply_to (middle ++ y) u b v → IsStopped does reply_to (s ++ y) w (a ++ b) v
+  stopped_on s y w u v a b middle first stop = record {
+    answers = a ++ stop.answers;
+    last = stop.last;
+    ended = stop.ended;
+    rest = stop.rest;
+    answered = answered_on s y w u v a stop.answers stop.ended middle stop.rest first stop.answered;
+    replies_are = ap (λ t. a ++ t) stop.replies_are ∙ sym (append_assoc a stop.answers stop.last);
+    why = stop.why;
+  }
+
+  -- ---- a beginning of the list
+
+  pub part_on : (s y : List ℕ) (w u v : S) (a : List ℕ) (middle : List ℕ) → Runs does reply_to s w a u false middle → HandlesPart does reply_to (middle ++ y) u v → HandlesPart does reply_to (s ++ y) w v
+  part_on s y w u v a middle first part = record {
+    replies = a ++ part.replies;
+    ended = part.ended;
+    rest = part.rest;
+    runs = run_on s y w u v a part.replies part.ended middle part.rest first part.runs;
+  }
+
+  pub part_more : (s y : List ℕ) (w v : S) → HandlesPart does reply_to s w v → HandlesPart does reply_to (s ++ y) w v
+  part_more s y w v part = record {
+    replies = part.replies;
+    ended = part.ended;
+    rest = part.rest ++ y;
+    runs = run_more s y w v part.replies part.ended part.rest part.runs;
+  }
+
+  pub part_none : (s : List ℕ) (w v : S) → w ≡ v → HandlesPart does reply_to s w v
+  part_none s w v same = record { replies = []; ended = false; rest = s; runs = subst (λ u. Runs does reply_to s w [] u false s) same (run_none s w) }

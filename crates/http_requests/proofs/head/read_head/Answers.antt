@@ -1,0 +1,38 @@
+use Rattle.std.proofs.Common.{◌≡◌, ◌∙◌, ◌≤◌, sym, subst, arith, length, Some, None, IsUtf8}
+use Rattle.http_requests.proofs.EndLemmas.{none_after_end}
+use Rattle.http_requests.proofs.HeadLemmas.{stands, fault_is, length_is, close_is, head_is, token_text}
+use Rattle.http_requests.proofs.head.read_head.Goals as goal
+
+pub returns-in-Err-length_or_fault : goal.returns-in-Err-length_or_fault
+returns-in-Err-length_or_fault c =
+    let of = rw c.in-Ok-Complete.field-0-is at c.in-Ok-Complete.ensures.complete in
+    let within = rw c.in-Ok-Complete.field-0-is at c.in-Ok-Complete.ensures.within in
+    let room : length c.parse_request.new.headers ≡ 64 = c.parse_request.auto.headers in
+    let few : c.in-Ok-Complete.parts.headers ≤ 64 = omega (arith, within.section.count_fits, room) in (
+      of.0,
+      stands c.args.text.now c.parse_request.new.headers c.in-Ok-Complete.parts of.0 c.requires.ends c.requires.short few of.1,
+      fault_is c.args.text.now c.parse_request.new.headers c.in-Ok-Complete.parts of.0 (Some c.in-Err-length_or_fault.fault) of.1 c.in-Err-length_or_fault.ensures,
+    )
+
+pub returns-in_ok-target-in-Ok : goal.returns-in_ok-target-in-Ok
+returns-in_ok-target-in-Ok c =
+    let of = rw c.in-Ok-Complete.field-0-is at c.in-Ok-Complete.ensures.complete in
+    let within = rw c.in-Ok-Complete.field-0-is at c.in-Ok-Complete.ensures.within in
+    let room : length c.parse_request.new.headers ≡ 64 = c.parse_request.auto.headers in
+    let few : c.in-Ok-Complete.parts.headers ≤ 64 = omega (arith, within.section.count_fits, room) in
+    let method_is = c.of.ensures ∙ of.1.method in
+    let target_is = c.of-in-Ok.ensures ∙ of.1.path in
+    let method_text : IsUtf8 c.of.result.now = subst IsUtf8 (sym method_is) (token_text of.0.method of.1.reads.0.method.1) in
+    let target_text : IsUtf8 c.of-in-Ok.result.now = subst IsUtf8 (sym target_is) of.1.reads.0.target_text in
+    let size = length_is c.args.text.now c.parse_request.new.headers c.in-Ok-Complete.parts of.0 c.in-Ok.length of.1 c.in-Ok.ensures.1 in (
+      of.0,
+      stands c.args.text.now c.parse_request.new.headers c.in-Ok-Complete.parts of.0 c.requires.ends c.requires.short few of.1,
+      fault_is c.args.text.now c.parse_request.new.headers c.in-Ok-Complete.parts of.0 None of.1 c.in-Ok.ensures.0,
+      head_is _ of.0
+          (c.new.ensures ∙ c.in_ok-method-in-Ok.ensures.ok method_text ∙ method_is) (c.new-in-Ok.ensures ∙ c.in_ok-target-in-Ok.ensures.ok target_text ∙ target_is)
+          (close_is c.args.text.now c.parse_request.new.headers c.in-Ok-Complete.parts of.0 c.closes-close.result of.1 c.closes-close.ensures) (sym size),
+      omega (arith, size, c.in-Ok.ensures.2),
+    )
+
+pub returns-in-Ok-Partial : goal.returns-in-Ok-Partial
+returns-in-Ok-Partial c = none_after_end c.args.text.now c.requires.ends (rw c.in-Ok-Partial.field-0-is at c.in-Ok-Partial.ensures.partial)

@@ -1,0 +1,10 @@
+pub mod HeadFaults
+pub mod Fields
+pub mod HeadEnds
+pub mod Requests
+pub mod RequestLaws
+pub mod Scans
+pub mod FoundHeads
+pub mod Handling
+pub mod Progress
+pub mod Feeding

@@ -1,0 +1,166 @@
+//! What a head's fields say.
+ghost use Rattle.std.specs.Prelude.{◌≡◌, ◌≤◌, ◌<◌, ◌+◌, ◌^◌, length, map, All, Some, None, MatchOption, MatchResult, IfSome, true, false, eqb};
+ghost use Rattle.std.specs.List.{list_all, list_any, position};
+ghost use Rattle.std.specs.Char.{is_ascii_digit};
+ghost use Rattle.std.specs.Str.Parse.{digits_value};
+ghost use Rattle.httparse.specs.Spans.{IsHeaderWithin, header_bytes};
+ghost use Rattle.base_types.specs.Octets.{comma};
+ghost use Rattle.http_requests.specs.Fields.{is_named, count_named, first_named, is_length, fault_in, length_in, longest_body, is_close, has_close, asks_close, closes_in};
+
+use crate::head_fault::HeadFault;
+use httparse::spans::{HeaderSpan, Span};
+
+/// Whether the field has the name, in any case.
+fn is_named(text: &[u8], field: HeaderSpan, name: &str) -> bool
+    requires { IsHeaderWithin (length text.now) field }
+    ensures { result ≡ is_named name.now (header_bytes text.now field) }
+{
+    field.name.of(text).eq_ignore_ascii_case(name.as_bytes())
+}
+
+/// How many fields have the name.
+fn count_named(text: &[u8], fields: &[HeaderSpan], name: &str) -> usize
+    requires { All (IsHeaderWithin (length text.now)) fields.now }
+    ensures { result ≡ count_named name.now (map (header_bytes text.now) fields.now) }
+{
+    let mut count = 0;
+    for i in 0..fields.len() {
+        if is_named(text, fields[i], name) {
+            count += 1;
+        }
+    }
+    count
+}
+
+/// The first field of the name.
+fn first_named(text: &[u8], fields: &[HeaderSpan], name: &str) -> Option<HeaderSpan>
+    requires { All (IsHeaderWithin (length text.now)) fields.now }
+    ensures { MatchOption result
+        (first_named name.now (map (header_bytes text.now) fields.now) ≡ None)
+        (λ field. (first_named name.now (map (header_bytes text.now) fields.now)
+        ≡ Some (header_bytes text.now field)) × IsHeaderWithin (length text.now) field) }
+{
+    for i in 0..fields.len() {
+        if is_named(text, fields[i], name) {
+            return Some(fields[i]);
+        }
+    }
+    None
+}
+
+fn all_digits(value: &[u8]) -> bool
+    ensures { result ≡ list_all is_ascii_digit value.now }
+{
+    value.iter().all(|octet| octet.is_ascii_digit())
+}
+
+/// The number that at most 15 digits write.
+fn number(value: &[u8]) -> u64
+    requires digits { list_all is_ascii_digit value.now ≡ true }
+    requires short { length value.now ≤ 15 }
+    ensures { result ≡ digits_value 10 value.now }
+{
+    let mut number = 0u64;
+    for i in 0..value.len() {
+        number = number * 10 + (value[i] - b'0') as u64;
+    }
+    number
+}
+
+/// The number that the value writes, where it is 1 to 15 digits.
+fn written_length(value: &[u8]) -> Option<u64>
+    ensures { MatchOption result (is_length value.now ≡ false)
+        (λ length. (is_length value.now ≡ true) × (length ≡ digits_value 10 value.now)) }
+{
+    if value.len() == 0 || value.len() > 15 || !all_digits(value) {
+        None
+    } else {
+        Some(number(value))
+    }
+}
+
+/// The length of the body, or the first fault that the fields have.
+pub(crate) fn length_or_fault(
+    minor: u8,
+    text: &[u8],
+    fields: &[HeaderSpan],
+) -> Result<u64, HeadFault>
+    requires { All (IsHeaderWithin (length text.now)) fields.now }
+    ensures { MatchResult result
+        (λ octets. (fault_in minor (map (header_bytes text.now) fields.now) ≡ None)
+        × (length_in minor (map (header_bytes text.now) fields.now) ≡ octets)
+        × (octets ≤ longest_body))
+        (λ fault. fault_in minor (map (header_bytes text.now) fields.now) ≡ Some fault) }
+{
+    if minor == 1 && count_named(text, fields, "host") != 1 {
+        return Err(HeadFault::BadHost);
+    }
+    if count_named(text, fields, "transfer-encoding") > 0 {
+        return Err(HeadFault::TransferEncoding);
+    }
+    if count_named(text, fields, "content-length") > 1 {
+        return Err(HeadFault::BadLength);
+    }
+    let Some(field) = first_named(text, fields, "content-length") else {
+        return Ok(0);
+    };
+    match written_length(field.value.of(text)) {
+        None => Err(HeadFault::BadLength),
+        Some(octets) => {
+            if octets > 8_388_608 {
+                Err(HeadFault::BodyTooLarge)
+            } else {
+                Ok(octets)
+            }
+        }
+    }
+}
+
+fn is_close(part: &[u8]) -> bool
+    ensures { result ≡ is_close part.now }
+{
+    part.trim_ascii().eq_ignore_ascii_case(b"close")
+}
+
+/// Where the first comma is.
+fn comma_in(value: &[u8]) -> Option<usize>
+    ensures is { result ≡ position (λ octet. eqb octet comma) value.now }
+    ensures bound { IfSome result (λ i. i < length value.now) }
+    ensures fits { IfSome result (λ i. i + 1 < 2 ^ 64) }
+{
+    value.iter().position(|octet| *octet == b',')
+}
+
+fn has_close(value: &[u8]) -> bool
+    ensures { result ≡ has_close value.now }
+{
+    let mut rest = value;
+    while let Some(at) = comma_in(rest) {
+        if is_close(&rest[..at]) {
+            return true;
+        }
+        rest = &rest[at + 1..];
+    }
+    is_close(rest)
+}
+
+/// Whether a field asks to close.
+fn asks_close(text: &[u8], fields: &[HeaderSpan]) -> bool
+    requires { All (IsHeaderWithin (length text.now)) fields.now }
+    ensures { result ≡ list_any asks_close (map (header_bytes text.now) fields.now) }
+{
+    for i in 0..fields.len() {
+        if is_named(text, fields[i], "connection") && has_close(fields[i].value.of(text)) {
+            return true;
+        }
+    }
+    false
+}
+
+/// Whether the connection is closed after the reply.
+pub(crate) fn closes(minor: u8, text: &[u8], fields: &[HeaderSpan]) -> bool
+    requires { All (IsHeaderWithin (length text.now)) fields.now }
+    ensures { result ≡ closes_in minor (map (header_bytes text.now) fields.now) }
+{
+    minor == 0 || asks_close(text, fields)
+}

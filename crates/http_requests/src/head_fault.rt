@@ -1,0 +1,64 @@
+//! What is wrong with a head.
+ghost use Rattle.std.specs.Prelude.{◌≡◌};
+ghost use Rattle.http_requests.specs.HeadFaults.{fault_number, fault_status, fault_text};
+
+/// Why a request is refused before its body is taken. Each closes the connection.
+#[derive(Clone, Copy, Debug, PartialEq, Eq)]
+pub enum HeadFault {
+    /// What stands there is no head, or one of more than 64 fields.
+    BadHead,
+    /// The first 16,384 octets are still a beginning.
+    HeadTooLarge,
+    /// Version 1.1 hasn't exactly one Host field.
+    BadHost,
+    /// There is a Transfer-Encoding field.
+    TransferEncoding,
+    /// There are two Content-Length fields, or the one hasn't 1 to 15 digits.
+    BadLength,
+    /// The body's length is above 8,388,608.
+    BodyTooLarge,
+}
+
+impl HeadFault {
+    /// The number under which the fault is reported: 21 to 26, in the order of the variants.
+    pub fn number(self) -> u8
+        ensures { result ≡ fault_number self }
+    {
+        match self {
+            HeadFault::BadHead => 21,
+            HeadFault::HeadTooLarge => 22,
+            HeadFault::BadHost => 23,
+            HeadFault::TransferEncoding => 24,
+            HeadFault::BadLength => 25,
+            HeadFault::BodyTooLarge => 26,
+        }
+    }
+
+    /// The status of the reply (RFC 9110, section 15; RFC 6585, section 5).
+    pub fn status(self) -> u16
+        ensures { result ≡ fault_status self }
+    {
+        match self {
+            HeadFault::BadHead => 400,
+            HeadFault::HeadTooLarge => 431,
+            HeadFault::BadHost => 400,
+            HeadFault::TransferEncoding => 501,
+            HeadFault::BadLength => 400,
+            HeadFault::BodyTooLarge => 413,
+        }
+    }
+
+    /// The text under which the fault is reported.
+    pub fn text(self) -> &'static str
+        ensures { result.now ≡ fault_text self }
+    {
+        match self {
+            HeadFault::BadHead => "bad-head",
+            HeadFault::HeadTooLarge => "head-too-large",
+            HeadFault::BadHost => "bad-host",
+            HeadFault::TransferEncoding => "transfer-encoding",
+            HeadFault::BadLength => "bad-length",
+            HeadFault::BodyTooLarge => "body-too-large",
+        }
+    }
+}
