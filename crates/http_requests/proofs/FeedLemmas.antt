@@ -59,7 +59,7 @@ holds_none held (stage.Body head start end) is open_ = waiting_none held head st
 holds_none held stage.Closed is open_ = absurd (open_ tt)
 
 holds_rest : (held : List ℕ) (at : Stage) → Holds held at → IsOpen at → IsRest held
-holds_rest held (stage.Head state) is open_ = inl is.short
+holds_rest held (stage.Head state) is open_ = inl (λ e. is.not_ended (is.state_is ∙ e), is.short)
 holds_rest held (stage.Body head start end) is open_ = inr (is.has_head.whole_head, is.body, is.has_head.begins, is.has_head.good)
 holds_rest held stage.Closed is open_ = absurd (open_ tt)
 

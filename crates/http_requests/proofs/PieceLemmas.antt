@@ -1,10 +1,11 @@
 -- Pieces in turn.
-use Rattle.std.proofs.Common.{◌∙◌, ℕ, List, [], ◌∷◌, ◌++◌, sym, ap, subst, append_assoc, false, inl, arith, Option, Some, None}
+use Rattle.std.proofs.Common.{◌∙◌, ℕ, List, [], ◌∷◌, ◌++◌, refl, inr, sym, ap, subst, append_assoc, false, inl, arith, Option, Some, None}
 use Rattle.std.specs.List.{flat_map}
 use Rattle.std.proofs.lemmas.List.{append-nil}
-use Rattle.http_requests.specs.Requests.{HasNoRequest}
+use Rattle.http_requests.specs.Requests.{BeginsHead, HasNoRequest}
 use Rattle.http_requests.specs.Handling.{Doing, FaultReplies}
-use Rattle.http_requests.specs.Feeding.{Feeds, TakesPiece, TakesPieces, PiecesAreFedAsOne}
+use Rattle.http_requests.specs.Feeding.{IsRest, IsRefused, IsStopped, IsAnswered, Feeds, TakesPiece, TakesPieces, PiecesAreFedAsOne, CutsMakeNoDifference}
+use Rattle.http_requests.proofs.CutLemmas.{determined}
 use Rattle.http_requests.proofs.EndLemmas.{none_ended}
 use Rattle.http_requests.proofs.RunLemmas.{run_none, run_answered, answered_run, answered_on, stopped_on, stopped_more}
 
@@ -45,4 +46,31 @@ module _ {S : Type 0} (does : Doing S) (reply_to : FaultReplies) where
   pub pieces_are_fed : PiecesAreFedAsOne does reply_to
   pieces_are_fed turns old new session takes =
       fed_all turns [] old old new [] (Some []) session
-      (run_answered does reply_to [] old [] old false [] (run_none does reply_to [] old) (λ _. none_at_first), inl (omega arith)) takes
+      (run_answered does reply_to [] old [] old false [] (run_none does reply_to [] old) (λ _. none_at_first), inl (λ e. cc e, omega arith)) takes
+
+  -- ---- whichever way octets were cut
+
+  -- what an open session holds isn't refused
+  rest_goes_on : (rest reply : List ℕ) → IsRest rest → IsRefused does reply_to rest reply → ⊥
+  rest_goes_on rest reply (inl going) refused =
+      elim refused.0 [
+        | inl ended ↦ going.0 ended
+        | inr long ↦ absurd (omega (arith, going.1, long))
+      ]
+  rest_goes_on rest reply (inr good) refused =
+      refused.1 [] good.0 good.1 (subst (λ t. BeginsHead t good.0 good.1) (sym (append-nil rest)) good.2)
+
+  open_or_stopped : (octets : List ℕ) (w v u : S) (a b : List ℕ) (rest : List ℕ) → IsAnswered does reply_to octets w a v false rest → IsRest rest → IsStopped does reply_to octets w b u → ⊥
+  open_or_stopped octets w v u a b rest all is_rest stop =
+      let same = determined octets all.requests stop.answered.requests false stop.ended rest stop.rest all.are stop.answered.are in
+      elim stop.why [
+        | inl over ↦ cc (same.1, over.0)
+        | inr refused ↦ rest_goes_on rest stop.last is_rest (subst (λ t. IsRefused does reply_to t stop.last) (sym same.2) refused.1)
+      ]
+
+  pub cuts_agree : CutsMakeNoDifference does reply_to
+  cuts_agree octets w v u a b (Some rest) (Some left) first second =
+      ap Some (determined octets first.0.requests second.0.requests false false rest left first.0.are second.0.are).2
+  cuts_agree octets w v u a b (Some rest) None first second = absurd (open_or_stopped octets w v u a b rest first.0 first.1 second)
+  cuts_agree octets w v u a b None (Some left) first second = absurd (open_or_stopped octets w u v b a left second.0 second.1 first)
+  cuts_agree octets w v u a b None None first second = refl

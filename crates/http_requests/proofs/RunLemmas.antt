@@ -6,8 +6,9 @@ use Rattle.http_requests.specs.Fields.{is_last}
 use Rattle.http_requests.specs.FoundHeads.{IsUnreadable}
 use Rattle.http_requests.specs.Requests.{Request, Begins, HasNoHead, NeverHasHead, HasNoRequest, Leads}
 use Rattle.http_requests.specs.Handling.{Doing, FaultReplies, Replies, Handles, Runs}
-use Rattle.http_requests.specs.Feeding.{IsAnswered, IsRefused, IsStopped, IsTooLong, HandlesPart}
+use Rattle.http_requests.specs.Feeding.{IsAnswered, IsRefused, IsStopped, IsOver, IsTooLong, HandlesPart}
 use Rattle.http_requests.proofs.CutLemmas.{leads_on, leads_end}
+use Rattle.http_requests.proofs.EndLemmas.{whole_more}
 
 -- ---- what never becomes a head doesn't by octets more
 
@@ -19,6 +20,10 @@ never_requests s y never request rest begins = never y request.head (request.bod
 
 unreadable_more : (s y : List ℕ) → IsUnreadable s → IsUnreadable (s ++ y)
 unreadable_more s y over more h rest reads = over (y ++ more) h rest (subst (λ t. ReadsRequest t h rest) (append_assoc s y more) reads)
+
+over_more : (s y : List ℕ) → IsOver s → IsOver (s ++ y)
+over_more s y (inl ended) = inl (whole_more s y ended)
+over_more s y (inr long) = inr (omega (arith, long, length-append s y))
 
 too_long_more : (s y : List ℕ) → IsTooLong s → IsTooLong (s ++ y)
 too_long_more s y long = (omega (arith, long.0, length-append s y), subst MayBecomeRequest (sym (take-append-le 16384 s y long.0)) long.1)
@@ -91,8 +96,9 @@ module _ {S : Type 0} (does : Doing S) (reply_to : FaultReplies) where
 
   refused_more : (s y reply : List ℕ) → IsRefused does reply_to s reply → IsRefused does reply_to (s ++ y) reply
   refused_more s y reply refused = (
-    never_more s y refused.0,
-    elim refused.1 [
+    over_more s y refused.0,
+    never_more s y refused.1,
+    elim refused.2 [
       | inl bad ↦ inl (bad.0, unreadable_more s y bad.1)
       | inr long ↦ inr (long.0, too_long_more s y long.1)
     ],
@@ -106,7 +112,7 @@ module _ {S : Type 0} (does : Doing S) (reply_to : FaultReplies) where
     rest = stop.rest ++ y;
     answered = elim stop.why [
       | inl over ↦ answered_more s y w v stop.answers stop.ended stop.rest stop.answered (λ e. absurd (cc (over.0, e)))
-      | inr refused ↦ answered_more s y w v stop.answers stop.ended stop.rest stop.answered (λ _. never_requests stop.rest y refused.1.0)
+      | inr refused ↦ answered_more s y w v stop.answers stop.ended stop.rest stop.answered (λ _. never_requests stop.rest y refused.1.1)
     ];
     replies_are = stop.replies_are;
     why = elim stop.why [

@@ -14,7 +14,7 @@ use Rattle.http_requests.specs.Fields.{fault, closes, body_length}
 use Rattle.http_requests.specs.FoundHeads.{head_of, IsBoundFault, IsUnreadable}
 use Rattle.http_requests.specs.Requests.{Request, Begins, BeginsHead}
 use Rattle.http_requests.specs.Handling.{Doing, FaultReplies, Replies, RepliesBy, Runs}
-use Rattle.http_requests.specs.Feeding.{IsRefused, IsStopped, HandlesPart}
+use Rattle.http_requests.specs.Feeding.{IsOver, IsRefused, IsStopped, HandlesPart}
 use Rattle.http_requests.specs.Scans.{Scans}
 use Rattle.http_requests.specs.Progress.{HasHead, IsBeginning, IsWaiting, IsWhole}
 use Rattle.http_requests.proofs.CutLemmas.{request_of}
@@ -191,14 +191,14 @@ module _ {S : Type 0} (does : Doing S) (reply_to : FaultReplies) where
     last = reply;
     ended = false;
     rest = s;
-    answered = run_answered does reply_to s w [] w false s (run_none does reply_to s w) (λ _ request rest begins. refused.0 [] request.head (request.body ++ rest)
+    answered = run_answered does reply_to s w [] w false s (run_none does reply_to s w) (λ _ request rest begins. refused.1 [] request.head (request.body ++ rest)
         (subst (λ t. BeginsHead t request.head (request.body ++ rest)) (sym (append-nil s)) begins.0));
     replies_are = refl;
     why = inr (refl, refused);
   }
 
-  pub unreadable_stop : (s : List ℕ) (w : S) → IsUnreadable s → IsStopped does reply_to s w (reply_to BadHead) w
-  unreadable_stop s w bad = refused_stop s w (reply_to BadHead) (unreadable_never s bad, inl (refl, bad))
+  pub unreadable_stop : (s : List ℕ) (w : S) → IsOver s → IsUnreadable s → IsStopped does reply_to s w (reply_to BadHead) w
+  unreadable_stop s w over bad = refused_stop s w (reply_to BadHead) (over, unreadable_never s bad, inl (refl, bad))
 
   pub fault_stop : (s : List ℕ) (w : S) (h : RequestHead) (f : HeadFault) → BeginsHead s h [] → fault h ≡ Some f → IsStopped does reply_to s w (reply_to f) w
   fault_stop s w h f begins is =
@@ -207,9 +207,10 @@ module _ {S : Type 0} (does : Doing S) (reply_to : FaultReplies) where
       ended_stop s w (reply_to f) w true [] (run_one does reply_to s r [] w (reply_to f) w true (begins, sym (fault_no_body h f is)) replies (fault_last h f is)) refl
 
   pub bound_stop : (s : List ℕ) (w : S) (f : HeadFault) → after Blank s ≢ Ended → length s ≡ 16384 → IsBoundFault s f → IsStopped does reply_to s w (reply_to f) w
-  bound_stop s w BadHead going long bad = unreadable_stop s w bad
+  bound_stop s w BadHead going long bad = unreadable_stop s w (inr (omega (arith, long))) bad
   bound_stop s w HeadTooLarge going long may =
       refused_stop s w (reply_to HeadTooLarge) (
+        inr (omega (arith, long)),
         none_at_bound s going (omega (arith, long)),
         inr (refl, (omega (arith, long), subst MayBecomeRequest (sym (take_all 16384 s (omega (arith, long)))) may)),
       )

@@ -39,7 +39,8 @@ longest_body = 8388608
 
 -- 1 to 15 digits
 abbrev pub is_length : List ℕ → Bool
-is_length value = nat_lt 0 (length value) && nat_le (length value) 15 && list_all is_ascii_digit value
+is_length value =
+    nat_lt 0 (length value) && nat_le (length value) 15 && list_all is_ascii_digit value
 
 -- what is wrong with the length that a value writes
 abbrev pub length_fault : List ℕ → Option HeadFault

@@ -1,5 +1,5 @@
 //! Laws of requests in streams, and of sessions that are fed in pieces.
-ghost use Rattle.http_requests.specs.Feeding.{PiecesAreFedAsOne};
+ghost use Rattle.http_requests.specs.Feeding.{CutsMakeNoDifference, PiecesAreFedAsOne};
 ghost use Rattle.http_requests.specs.RequestLaws.{RequestsAreDetermined, RequestsGoOn, EndedRequestsStay, LeadingRequestsBegin};
 
 use crate::handler::Handler;
@@ -10,6 +10,12 @@ pub fn streams_can_be_cut()
     ensures goes_on { RequestsGoOn }
     ensures ended { EndedRequestsStay }
     ensures beginning { LeadingRequestsBegin }
+{}
+
+/// Whether a session is open, and what it holds, follows from all octets that came, however they
+/// were cut.
+pub fn cuts_make_no_difference<H: Handler>()
+    ensures { CutsMakeNoDifference H.does H.fault_reply }
 {}
 
 /// A new session answers pieces as it answers all of them joined.

@@ -1,4 +1,4 @@
-use Rattle.std.proofs.Common.{sym, refl, [], arith}
+use Rattle.std.proofs.Common.{sym, refl, [], arith, inl}
 use Rattle.std.proofs.lemmas.List.{append-nil}
 use Rattle.http_requests.specs.declared.head_fault.HeadFault.TheVariants.{BadHead}
 use Rattle.http_requests.proofs.RunLemmas.{run_none, part_none}
@@ -45,5 +45,5 @@ returns-in_ok-refuse-in-Unreadable-clause-ok g c =
       is_closed = c.requires.closed;
       added = g.H.Handler.fault_reply BadHead;
       out_is = c.in_ok-refuse-in-Unreadable.ensures;
-      stopped = unreadable_stop g.H.Handler.does g.H.Handler.fault_reply c.args.self.now.held.items c.args.handler.now found;
+      stopped = unreadable_stop g.H.Handler.does g.H.Handler.fault_reply c.args.self.now.held.items c.args.handler.now (inl c.requires.ends.ended) found;
     }
