@@ -1,6 +1,12 @@
 //! The statements over the table `import_key`.
 ghost use Rattle.book_tables.specs.Answers.{Finds, IfAnswered};
-ghost use Rattle.book_tables.specs.Imports.{ChangesImports, IsKept, OverImports, import_shown, is_under};
+ghost use Rattle.book_tables.specs.Imports.{
+  ChangesImports,
+  IsKept,
+  OverImports,
+  import_shown,
+  is_under,
+};
 ghost use Rattle.book_tables.specs.States.{
   Inside,
   IsUndone,

@@ -1,6 +1,12 @@
 //! The statements over the table `keeping`.
 ghost use Rattle.book_tables.specs.Answers.{Finds, IfAnswered};
-ghost use Rattle.book_tables.specs.Keeps.{AddsKeep, ChangesKeeps, OverKeeps, is_keep_of, keep_shown};
+ghost use Rattle.book_tables.specs.Keeps.{
+  AddsKeep,
+  ChangesKeeps,
+  OverKeeps,
+  is_keep_of,
+  keep_shown,
+};
 ghost use Rattle.book_tables.specs.States.{
   Inside,
   IsUndone,

@@ -10,3 +10,5 @@ pub mod due_members;
 pub mod imports;
 pub mod keeps;
 pub mod members;
+#[cfg(test)]
+mod tests;
