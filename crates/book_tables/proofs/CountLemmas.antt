@@ -51,7 +51,7 @@ rows_are order [] h = absurd h
 rows_are order (row ∷ []) h = ap (λ r. r ∷ []) (h.0.2 ∙ values_are order h.0.0 h.0.1)
 rows_are order (row ∷ other ∷ more) h = absurd h.1
 
-every : {X : Type 0} (xs : List X) → filter (λ (x : X). true) xs ≡ xs
+pub every : {X : Type 0} (xs : List X) → filter (λ (x : X). true) xs ≡ xs
 every [] = refl
 every (x ∷ xs) = ap (λ l. x ∷ l) (every xs)
 

@@ -14,3 +14,4 @@ pub mod UpdateLemmas
 pub mod OrderLemmas
 pub mod DueLemmas
 pub mod AddLemmas
+pub mod ListLemmas

@@ -182,3 +182,38 @@ add_keep_terms = col 0 0 ∷ lit Null ∷ col 0 1 ∷ []
 
 abbrev pub add_keep_command : Command
 add_keep_command = Insert 4 (Values add_keep_terms 3)
+
+-- ---- whole tables
+
+abbrev pub books_text : List ℕ
+books_text = codes "SELECT id, name, number, horizon, created, edited, imported, import_edited, moved_in, deleted, moved_out FROM book ORDER BY name"
+
+abbrev pub books_terms : List Term
+books_terms = col 1 0 ∷ col 1 2 ∷ col 1 3 ∷ col 1 4 ∷ col 1 5 ∷ col 1 6 ∷ col 1 7 ∷ col 1 8 ∷ col 1 9 ∷ col 1 10 ∷ col 1 11 ∷ []
+
+abbrev pub books_query : Query
+books_query = ordering 2 [] books_terms (rising (col 1 2))
+
+abbrev pub all_members_text : List ℕ
+all_members_text = codes "SELECT rowid, book, uid, changed, card FROM member"
+
+abbrev pub all_members_terms : List Term
+all_members_terms = col 1 0 ∷ col 1 1 ∷ col 1 2 ∷ col 1 3 ∷ col 1 4 ∷ []
+
+abbrev pub all_imports_text : List ℕ
+all_imports_text = codes "SELECT rowid, book, ikey, added, edited, same, number FROM import_key"
+
+abbrev pub all_imports_terms : List Term
+all_imports_terms = col 1 0 ∷ col 1 1 ∷ col 1 2 ∷ col 1 3 ∷ col 1 4 ∷ col 1 5 ∷ col 1 6 ∷ []
+
+abbrev pub all_keeps_text : List ℕ
+all_keeps_text = codes "SELECT book, keep FROM keeping"
+
+abbrev pub all_keeps_terms : List Term
+all_keeps_terms = col 1 0 ∷ col 1 2 ∷ []
+
+abbrev pub meta_text : List ℕ
+meta_text = codes "SELECT name, val FROM meta"
+
+abbrev pub meta_terms : List Term
+meta_terms = col 1 1 ∷ col 1 2 ∷ []

@@ -1,7 +1,9 @@
 -- The rows of the table `book`, one for each book. This project's own.
 use Rattle.std.specs.Prelude.{◌≡◌, ℕ, ℤ, pos, Bool, false, if◌then◌else◌, List, [], ◌∷◌, map}
 use Rattle.std.specs.Prelude.{bytes_eq}
+use Rattle.std.specs.declared.cmp.Ordering.{Ordering}
 use Rattle.std.specs.Ordering.{int_eq}
+use Rattle.base_types.specs.TextMaps.{text_cmp}
 use Rattle.std.specs.List.Sorted.{IsPermutation}
 use Rattle.sqlite.specs.declared.types.Value.TheVariants.{Null, Int, Text}
 use Rattle.sqlite.specs.Order.{Row, column}
@@ -101,6 +103,13 @@ ChangesBooks = ChangesRows AreBooks HoldBooks 2
 
 abbrev pub numbers_shown : BookRow → Row
 numbers_shown b = Int b.id ∷ number_cells b.numbers
+
+abbrev pub book_shown : BookRow → Row
+book_shown b = Int b.id ∷ Text b.name ∷ number_cells b.numbers
+
+-- by the octets of the names
+abbrev pub by_name : BookRow → BookRow → Ordering
+by_name a b = text_cmp a.name b.name
 
 -- ---- what a statement makes of them
 

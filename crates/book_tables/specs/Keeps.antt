@@ -49,6 +49,10 @@ ChangesKeeps = ChangesRows AreKeeps HoldKeeps 9
 abbrev pub keep_shown : KeepRow → Row
 keep_shown k = Int k.keep ∷ []
 
+-- what is shown of any row of the table
+abbrev pub keep_listed : Row → Row
+keep_listed r = column r 0 ∷ column r 2 ∷ []
+
 -- ---- what a statement makes of them
 
 abbrev pub keeping_of : ℤ → ℤ → KeepRow

@@ -5,3 +5,4 @@ pub mod Members
 pub mod Books
 pub mod Imports
 pub mod Keeps
+pub mod Meta

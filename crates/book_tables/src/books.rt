@@ -1,9 +1,11 @@
 //! The statements over the table `book`.
-ghost use Rattle.book_tables.specs.Answers.{Finds, IfAnswered, count_value};
+ghost use Rattle.book_tables.specs.Answers.{AreInOrder, Finds, IfAnswered, count_value};
 ghost use Rattle.book_tables.specs.Books.{
   AddsBook,
   BookRow,
   ChangesBooks,
+  book_shown,
+  by_name,
   HasBooks,
   OverBooks,
   is_named,
@@ -23,7 +25,17 @@ ghost use Rattle.book_tables.specs.States.{
 ghost use Rattle.sqlite.specs.Held.{state};
 ghost use Rattle.sqlite.specs.State.{IsUnchanged};
 ghost use Rattle.sqlite_rules.specs.Lists.{Has};
-ghost use Rattle.std.specs.Prelude.{[], ◌∷◌, ◌≡◌, IfOk, OnErr, OnOk, length};
+ghost use Rattle.std.specs.List.Sorted.{IsPermutation};
+ghost use Rattle.std.specs.Prelude.{
+  [],
+  ◌∷◌,
+  ◌≡◌,
+  IfOk,
+  OnErr,
+  OnOk,
+  length,
+  map,
+};
 
 use sqlite::{Alter, Connection, Error, Row, Transaction, params};
 
@@ -174,5 +186,20 @@ pub fn renumber_book<S: Alter>(
         numbers.moved_in,
         numbers.deleted,
         numbers.moved_out,
+    )
+}
+
+/// All books in the order of the octets of their names: the id, the name and the nine numbers.
+pub fn all_books<S: Alter>(conn: &mut Connection<S>) -> Result<Vec<Row>, Error>
+    ensures ordered { OverBooks (state S.Store conn.old) (state S.Store conn.new)
+        (λ bs. IfOk result (λ rows. AreInOrder by_name book_shown bs rows.items)) }
+    ensures unchanged { OverTables (state S.Store conn.old) (state S.Store conn.new)
+        (OnOk result (IsUnchanged (state S.Store conn.old) (state S.Store conn.new))) }
+    ensures left { OnlyReads (state S.Store conn.old) (state S.Store conn.new) }
+{
+    conn.query_all(
+        "SELECT id, name, number, horizon, created, edited, imported, import_edited, moved_in, \
+         deleted, moved_out FROM book ORDER BY name",
+        params![],
     )
 }

@@ -4,6 +4,7 @@ ghost use Rattle.book_tables.specs.Imports.{
   ChangesImports,
   IsKept,
   OverImports,
+  import_cells,
   import_shown,
   is_under,
 };
@@ -17,7 +18,14 @@ ghost use Rattle.book_tables.specs.States.{
 };
 ghost use Rattle.sqlite.specs.Held.{state};
 ghost use Rattle.sqlite.specs.State.{IsUnchanged};
-ghost use Rattle.std.specs.Prelude.{◌≡◌, OnErr, OnOk};
+ghost use Rattle.std.specs.List.Sorted.{IsPermutation};
+ghost use Rattle.std.specs.Prelude.{
+  ◌≡◌,
+  IfOk,
+  OnErr,
+  OnOk,
+  map,
+};
 
 use sqlite::{Alter, Connection, Error, Row, Transaction, params};
 
@@ -68,5 +76,21 @@ pub fn insert_import<S: Alter>(
         "INSERT INTO import_key (book, ikey, added, edited, same, number) \
          VALUES (?1, ?2, ?3, ?4, ?5, ?6)",
         params![book, key, added, edited, same, number],
+    )
+}
+
+/// All rows of the table, whatever they hold: the row's id, the book, the key, the cards added,
+/// edited and the same, and the number of the last change.
+pub fn all_imports<S: Alter>(conn: &mut Connection<S>) -> Result<Vec<Row>, Error>
+    ensures lists { OverTables (state S.Store conn.old) (state S.Store conn.new)
+        (IfOk result (λ rows.
+        IsPermutation (map import_cells ((state S.Store conn.old).now.trees 7)) rows.items)) }
+    ensures unchanged { OverTables (state S.Store conn.old) (state S.Store conn.new)
+        (OnOk result (IsUnchanged (state S.Store conn.old) (state S.Store conn.new))) }
+    ensures left { OnlyReads (state S.Store conn.old) (state S.Store conn.new) }
+{
+    conn.query_all(
+        "SELECT rowid, book, ikey, added, edited, same, number FROM import_key",
+        params![],
     )
 }

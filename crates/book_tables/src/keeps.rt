@@ -5,6 +5,7 @@ ghost use Rattle.book_tables.specs.Keeps.{
   ChangesKeeps,
   OverKeeps,
   is_keep_of,
+  keep_listed,
   keep_shown,
 };
 ghost use Rattle.book_tables.specs.States.{
@@ -17,7 +18,14 @@ ghost use Rattle.book_tables.specs.States.{
 };
 ghost use Rattle.sqlite.specs.Held.{state};
 ghost use Rattle.sqlite.specs.State.{IsUnchanged};
-ghost use Rattle.std.specs.Prelude.{◌≡◌, OnErr, OnOk};
+ghost use Rattle.std.specs.List.Sorted.{IsPermutation};
+ghost use Rattle.std.specs.Prelude.{
+  ◌≡◌,
+  IfOk,
+  OnErr,
+  OnOk,
+  map,
+};
 
 use sqlite::{Alter, Connection, Error, Row, Transaction, params};
 
@@ -57,4 +65,16 @@ pub fn insert_keep<S: Alter>(
         "INSERT INTO keeping (book, keep) VALUES (?1, ?2)",
         params![book, keep],
     )
+}
+
+/// All rows of the table: the book and its keep, whatever they hold.
+pub fn all_keeps<S: Alter>(conn: &mut Connection<S>) -> Result<Vec<Row>, Error>
+    ensures lists { OverTables (state S.Store conn.old) (state S.Store conn.new)
+        (IfOk result (λ rows.
+        IsPermutation (map keep_listed ((state S.Store conn.old).now.trees 9)) rows.items)) }
+    ensures unchanged { OverTables (state S.Store conn.old) (state S.Store conn.new)
+        (OnOk result (IsUnchanged (state S.Store conn.old) (state S.Store conn.new))) }
+    ensures left { OnlyReads (state S.Store conn.old) (state S.Store conn.new) }
+{
+    conn.query_all("SELECT book, keep FROM keeping", params![])
 }

@@ -10,5 +10,6 @@ pub mod due_members;
 pub mod imports;
 pub mod keeps;
 pub mod members;
+pub mod meta;
 #[cfg(test)]
 mod tests;

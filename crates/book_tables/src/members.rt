@@ -13,6 +13,7 @@ ghost use Rattle.book_tables.specs.Members.{
   is_in,
   is_removed_after,
   is_removed_by,
+  member_cells,
   without_removed,
 };
 ghost use Rattle.book_tables.specs.States.{
@@ -25,6 +26,7 @@ ghost use Rattle.book_tables.specs.States.{
 };
 ghost use Rattle.sqlite.specs.Held.{state};
 ghost use Rattle.sqlite.specs.State.{IsUnchanged};
+ghost use Rattle.std.specs.List.Sorted.{IsPermutation};
 ghost use Rattle.std.specs.Prelude.{
   [],
   ◌∷◌,
@@ -34,6 +36,7 @@ ghost use Rattle.std.specs.Prelude.{
   OnOk,
   filter,
   length,
+  map,
   option_copied,
 };
 
@@ -172,5 +175,21 @@ pub fn forget_members<S: Alter>(
     tx.execute(
         "DELETE FROM member WHERE book = ?1 AND card IS NULL AND changed <= ?2",
         params![book, upto],
+    )
+}
+
+/// All rows of the table, whatever they hold: the row's id, the book, the UID, the number and the
+/// card.
+pub fn all_members<S: Alter>(conn: &mut Connection<S>) -> Result<Vec<Row>, Error>
+    ensures lists { OverTables (state S.Store conn.old) (state S.Store conn.new)
+        (IfOk result (λ rows.
+        IsPermutation (map member_cells ((state S.Store conn.old).now.trees 4)) rows.items)) }
+    ensures unchanged { OverTables (state S.Store conn.old) (state S.Store conn.new)
+        (OnOk result (IsUnchanged (state S.Store conn.old) (state S.Store conn.new))) }
+    ensures left { OnlyReads (state S.Store conn.old) (state S.Store conn.new) }
+{
+    conn.query_all(
+        "SELECT rowid, book, uid, changed, card FROM member",
+        params![],
     )
 }

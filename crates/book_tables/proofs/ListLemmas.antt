@@ -1,0 +1,50 @@
+-- What a reading of a whole table gives.
+use Rattle.std.proofs.Common.{◌≡◌, ℕ, true, false, List, [], ◌∷◌, map, IsPermutation, IfOk, Ok, Err, Result, refl, subst, ◌∙◌}
+use Rattle.std.specs.declared.alloc.Global.{Global}
+use Rattle.std.specs.Prelude.{Vec}
+use Rattle.sqlite.specs.declared.error.Error.{Error}
+use Rattle.sqlite.specs.declared.types.Value.TheVariants.{Text}
+use Rattle.sqlite.specs.Command.TheVariants.{Select}
+use Rattle.sqlite.specs.Listing.{understood, reads_listing}
+use Rattle.sqlite.specs.Order.{Row}
+use Rattle.sqlite.specs.Program.{overlay}
+use Rattle.sqlite.specs.Query.{output_cmp}
+use Rattle.sqlite.specs.State.{State, Shown}
+use Rattle.sqlite.specs.Term.{Term, eval_all}
+use Rattle.sqlite.specs.Tree.{Trees}
+use Rattle.sqlite.proofs.Callers.{IsPlain, command_of, reads_as}
+use Rattle.sqlite_value.proofs.OrderLemmas.{value_cmp-Text, then-Equal}
+use Rattle.book_tables.specs.Answers.{AreInOrder}
+use Rattle.book_tables.specs.Books.{BookRow, book_row, book_cells, book_shown, by_name, HoldBooks}
+use Rattle.book_tables.specs.Tables.{book_schema}
+use Rattle.book_tables.proofs.CountLemmas.{every}
+use Rattle.book_tables.proofs.OrderLemmas.{all_of}
+use Rattle.book_tables.proofs.Picks.{picked}
+use Rattle.book_tables.proofs.Queries.{picks, books_text, books_query, books_terms}
+use Rattle.book_tables.proofs.Texts.{books_is}
+
+module _ (sql : List ℕ) (tree : ℕ) (project : List Term) (names : List (List ℕ))
+    (is : (command_of (understood book_schema sql) ≡ Select (record { lets = []; body = picks tree [] project }) names) × (reads_listing book_schema sql ≡ false) × IsPlain (understood book_schema sql))
+    (over : (db : Trees) → overlay db [] tree ≡ db tree) where
+  -- each row of the table, whatever their order in it is
+  pub lists_rows : (old new : State) (r : Result (Vec Row Global) Error) → old.now.schema ≡ book_schema → IfOk r (λ rows. Shown sql [] old new rows.items)
+      → IfOk r (λ rows. IsPermutation (map (λ row. eval_all project ([] ∷ row ∷ [])) (old.now.trees tree)) rows.items)
+  lists_rows old new (Ok rows) schema h =
+      let answer = (reads_as sql [] old new book_schema schema _ is.0 is.2 is.1 rows.items h).answer in
+      subst (λ l. IsPermutation (map (λ row. eval_all project ([] ∷ row ∷ [])) l) rows.items) (every (overlay old.now.trees [] tree) ∙ over old.now.trees)
+      (picked tree [] project (overlay old.now.trees []) [] rows.items answer)
+  lists_rows old new (Err e) schema h = tt
+
+-- the books in the order of their names
+abbrev name_key : BookRow → Row
+name_key b = Text b.name ∷ []
+
+by_key : (a b : BookRow) → output_cmp books_query (name_key a, book_shown a) (name_key b, book_shown b) ≡ by_name a b
+by_key a b = then-Equal _ ∙ value_cmp-Text a.name b.name
+
+pub books_in_order : (old new : State) (bs : List BookRow) (r : Result (Vec Row Global) Error) → old.now.schema ≡ book_schema → HoldBooks (old.now.trees 2) bs
+    → IfOk r (λ rows. Shown books_text [] old new rows.items) → IfOk r (λ rows. AreInOrder by_name book_shown bs rows.items)
+books_in_order old new bs r schema has h =
+    subst (λ xs. IfOk r (λ rows. AreInOrder by_name book_shown xs rows.items)) (every bs)
+    (all_of 2 [] books_terms books_query.order [] book_cells book_row name_key book_shown (λ _. true) by_name
+    (λ _. refl) (λ _. refl) (λ _. refl) (λ _. refl) by_key books_text _ books_is (λ _. refl) old bs schema has new r h)

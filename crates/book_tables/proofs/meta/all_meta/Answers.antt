@@ -1,0 +1,16 @@
+use Rattle.std.proofs.Common.{refl}
+use Rattle.sqlite.specs.Held.{state}
+use Rattle.book_tables.proofs.Queries.{meta_text, meta_terms}
+use Rattle.book_tables.proofs.Texts.{meta_is}
+use Rattle.book_tables.proofs.ListLemmas.{lists_rows}
+use Rattle.book_tables.proofs.Lookups.{all_reads, all_unchanged}
+use Rattle.book_tables.proofs.meta.all_meta.Goals as goal
+
+pub returns-clause-lists : goal.returns-clause-lists
+returns-clause-lists g c clean has = lists_rows meta_text 0 meta_terms _ meta_is (λ _. refl) (state g.S.Store c.args.conn.now) (state g.S.Store c.query_all.new.self) c.query_all.result has (c.query_all.ensures.ok clean)
+
+pub returns-clause-left : goal.returns-clause-left
+returns-clause-left g c = all_reads meta_text _ (state g.S.Store c.args.conn.now) (state g.S.Store c.query_all.new.self) c.query_all.result meta_is.2 c.query_all.ensures.ok c.query_all.ensures.err c.query_all.ensures.mode c.query_all.ensures.survives
+
+pub returns-clause-unchanged : goal.returns-clause-unchanged
+returns-clause-unchanged g c clean has = all_unchanged meta_text _ (state g.S.Store c.args.conn.now) (state g.S.Store c.query_all.new.self) c.query_all.result meta_is.2 has (c.query_all.ensures.ok clean)
