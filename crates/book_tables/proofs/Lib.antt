@@ -15,3 +15,4 @@ pub mod OrderLemmas
 pub mod DueLemmas
 pub mod AddLemmas
 pub mod ListLemmas
+pub mod LayingLemmas

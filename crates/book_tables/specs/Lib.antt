@@ -6,3 +6,4 @@ pub mod Books
 pub mod Imports
 pub mod Keeps
 pub mod Meta
+pub mod Laying

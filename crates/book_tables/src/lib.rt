@@ -9,6 +9,7 @@ pub mod books;
 pub mod due_members;
 pub mod imports;
 pub mod keeps;
+pub mod laying;
 pub mod members;
 pub mod meta;
 #[cfg(test)]

@@ -1,29 +1,34 @@
 mod calls;
 mod statements;
 
+use crate::laying::{create_books, create_imports, create_keeps, create_members, create_meta};
 use sqlite::types::ValueRef;
-use sqlite::{Connection, MemStore, Row};
+use sqlite::{Connection, MemStore, Row, Transaction};
 use std::alloc::Global;
 use std::test::Fail;
+
+fn lay_first(tx: &mut Transaction<'_, MemStore>) -> Result<(), Fail> {
+    create_meta(tx)?;
+    create_books(tx)?;
+    create_members(tx)?;
+    Ok(())
+}
+
+fn lay_rest(tx: &mut Transaction<'_, MemStore>) -> Result<(), Fail> {
+    create_imports(tx)?;
+    create_keeps(tx)?;
+    Ok(())
+}
 
 /// A connection over memory with the declared tables.
 fn with_tables(alloc: Global) -> Result<Connection<MemStore>, Fail> {
     let mut conn = Connection::open_in_memory(alloc)?;
-    conn.execute_batch(
-        "CREATE TABLE meta (name TEXT NOT NULL PRIMARY KEY, val INTEGER NOT NULL) STRICT; \
-         CREATE TABLE book (id INTEGER PRIMARY KEY, name TEXT NOT NULL UNIQUE, \
-         number INTEGER NOT NULL, horizon INTEGER NOT NULL, created INTEGER NOT NULL, \
-         edited INTEGER NOT NULL, imported INTEGER NOT NULL, import_edited INTEGER NOT NULL, \
-         moved_in INTEGER NOT NULL, deleted INTEGER NOT NULL, moved_out INTEGER NOT NULL) STRICT; \
-         CREATE TABLE member (book INTEGER NOT NULL REFERENCES book(id), uid TEXT NOT NULL, \
-         changed INTEGER NOT NULL, card TEXT, PRIMARY KEY (book, uid), \
-         UNIQUE (book, changed)) STRICT; \
-         CREATE TABLE import_key (book INTEGER NOT NULL REFERENCES book(id), ikey TEXT NOT NULL, \
-         added INTEGER NOT NULL, edited INTEGER NOT NULL, same INTEGER NOT NULL, \
-         number INTEGER NOT NULL, PRIMARY KEY (book, ikey)) STRICT; \
-         CREATE TABLE keeping (book INTEGER PRIMARY KEY REFERENCES book(id), \
-         keep INTEGER NOT NULL) STRICT",
-    )?;
+    if conn.is_autocommit() {
+        let mut tx = conn.transaction();
+        lay_first(&mut tx)?;
+        lay_rest(&mut tx)?;
+        tx.commit()?;
+    }
     Ok(conn)
 }
 
