@@ -1,5 +1,5 @@
 -- One card into an empty book: on histories, and so on the rows of a store.
-use Rattle.std.proofs.Common.{◌≡◌, ◌≢◌, ℕ, ◌+◌, nat_lt, List, [], Option, None, Result, Ok, Err, refl, sym, ap, subst, ◌∙◌}
+use Rattle.std.proofs.Common.{◌≡◌, ◌≢◌, ℕ, ◌+◌, nat_lt, List, [], Option, None, Result, Ok, Err, refl, sym, ap, subst, arith, ◌∙◌}
 use Rattle.std.specs.Prelude.{codes, MatchResult, length, is_some}
 use Rattle.std.specs.Cmp.Lexicographic.{nat_list_cmp_total}
 use Rattle.std.specs.Option.{option_map_or}
@@ -19,7 +19,7 @@ use Rattle.book_model.specs.declared.denied.Denied.TheVariants.{Refused, Fault}
 use Rattle.book_model.specs.declared.page.Page.{Page}
 use Rattle.book_model.specs.declared.refusal.Refusal.{Refusal}
 use Rattle.book_model.specs.declared.refusal.Refusal.TheVariants.{NoSuchBook, BookFull, ChangesSpent, TooManyBooks}
-use Rattle.book_model.specs.Bounds.{Bounds}
+use Rattle.book_model.specs.Bounds.{Bounds, IsInRange, standard_keep}
 use Rattle.book_model.specs.Books.{Books}
 use Rattle.book_model.specs.Creating.{new_id, create_step}
 use Rattle.book_model.specs.Outcomes.{◌>>=◌, provided, Does, Reads, IfFault, IsOutOfMemory, no_memory, denied_card}
@@ -40,16 +40,17 @@ pub record AreStandard (limits : Bounds) : Type 0 where
   pub cards : limits.cards_max ≡ 10000
   pub changes : limits.changes_max ≡ 1000000000000
   pub books : limits.books_max ≡ 100
+  pub keep : limits.keep ≡ standard_keep
 
 abbrev name : List ℕ
 name = codes "try"
 
 -- the one book, before and after the card came
 abbrev pub with_book : Stories
-with_book = finite.insert finite.empty name (empty_story 1)
+with_book = finite.insert finite.empty name (empty_story 1 standard_keep)
 
 abbrev story_after : List Line → Story
-story_after card = record (empty_story 1) { history = one_creation card }
+story_after card = record (empty_story 1 standard_keep) { history = one_creation card }
 
 abbrev pub with_card : List Line → Stories
 with_card card = finite.insert with_book name (story_after card)
@@ -61,20 +62,35 @@ world_of limits stories = record { limits = limits; books = stories }
 
 pub created : (limits : Bounds) → AreStandard limits → create_meaning limits finite.empty name ≡ Ok (1, with_book)
 created limits s =
-    ap (λ b. new_id limits name (is_some b) (finite.len {X = Story} {R = text_cmp} finite.empty) >>= λ id. Ok (id, finite.insert finite.empty name (empty_story id))) (get-empty text_cmp name)
-    ∙ ap (λ n. (provided (nat_lt n limits.books_max) TooManyBooks >>= λ _. Ok (n + 1)) >>= λ id. Ok (id, finite.insert finite.empty name (empty_story id))) (len-empty text_cmp Story)
-    ∙ ap (λ m. (provided (nat_lt 0 m) TooManyBooks >>= λ _. Ok 1) >>= λ id. Ok (id, finite.insert finite.empty name (empty_story id))) s.books
+    ap (λ b. new_id limits name (is_some b) (finite.len {X = Story} {R = text_cmp} finite.empty) >>= λ id. Ok (id, finite.insert finite.empty name (empty_story id limits.keep))) (get-empty text_cmp name)
+    ∙ ap (λ n. (provided (nat_lt n limits.books_max) TooManyBooks >>= λ _. Ok (n + 1)) >>= λ id. Ok (id, finite.insert finite.empty name (empty_story id limits.keep))) (len-empty text_cmp Story)
+    ∙ ap (λ m. (provided (nat_lt 0 m) TooManyBooks >>= λ _. Ok 1) >>= λ id. Ok (id, finite.insert finite.empty name (empty_story id limits.keep))) s.books
+    ∙ ap (λ k. Ok (1, finite.insert finite.empty name (empty_story 1 k))) s.keep
+
+in_range : (limits : Bounds) → AreStandard limits → IsInRange limits
+in_range limits s = record {
+  page_least = omega (arith, s.page);
+  page_most = omega (arith, s.page);
+  cards_least = omega (arith, s.cards);
+  cards_most = omega (arith, s.cards);
+  changes_least = omega (arith, s.changes);
+  changes_most = omega (arith, s.changes);
+  books_least = omega (arith, s.books);
+  books_most = omega (arith, s.books);
+  keep_least = omega (arith, s.keep);
+  keep_most = omega (arith, s.keep);
+}
 
 book_found : (stories : Stories) (story : Story) → story_named (finite.insert stories name story) name ≡ Ok story
 book_found stories story = ap (λ (o : Option Story). option_map_or Ok o (Err NoSuchBook)) (get-insert nat_list_cmp_total stories name story name)
 
 module _ (limits : Bounds) (s : AreStandard limits) (card : List Line) where
   abbrev answered : Result PutAnswer Refusal → Result (PutAnswer × Stories) Refusal
-  answered r = r >>= λ answer. Ok (answer, stories_after_put with_book name (empty_story 1) card (reason_for answer))
+  answered r = r >>= λ answer. Ok (answer, stories_after_put with_book name (empty_story 1 standard_keep) card (reason_for answer))
 
   pub stored : put_meaning limits with_book name card None ≡ Ok (Created 1, with_card card)
   stored =
-      ap (λ (r : Result Story Refusal). r >>= λ story. put_answer limits (found_of story.history (uid_of card)) card None >>= λ answer. Ok (answer, stories_after_put with_book name story card (reason_for answer))) (book_found finite.empty (empty_story 1))
+      ap (λ (r : Result Story Refusal). r >>= λ story. put_answer limits (found_of story.history (uid_of card)) card None >>= λ answer. Ok (answer, stories_after_put with_book name story card (reason_for answer))) (book_found finite.empty (empty_story 1 standard_keep))
       ∙ ap (λ (o : Option Stored). answered (answer_over limits (found_of [] (uid_of card)) card o)) (get-empty text_cmp (uid_of card))
       ∙ ap (λ n. answered (provided (nat_lt n limits.cards_max) BookFull >>= λ _. next_number limits 0 >>= λ version. Ok (Created version))) (len-empty text_cmp Stored)
       ∙ ap (λ m. answered (provided (nat_lt 0 m) BookFull >>= λ _. next_number limits 0 >>= λ version. Ok (Created version))) s.cards
@@ -122,7 +138,7 @@ module _ (limits : Bounds) (s : AreStandard limits) where
       → Does result (create_step limits old name) old new → IfFault result IsOutOfMemory → Did result 1 with_book new
   book_made nothing creating result old new empty does sound =
       did result (create_step limits old name) (create_meaning limits finite.empty name) 1 with_book old new does
-      (subst (λ (books : Books). Follows (create_step limits books name) (create_meaning limits finite.empty name)) (nothing.rows_are ∙ sym empty) (creating (world_of limits finite.empty) name nothing.sound))
+      (subst (λ (books : Books). Follows (create_step limits books name) (create_meaning limits finite.empty name)) (nothing.rows_are ∙ sym empty) (creating (world_of limits finite.empty) name (in_range limits s) nothing.sound))
       (created limits s) sound
 
   pub card_put : PuttingFollows → (card : List Line) (result : Result PutAnswer Denied) (old new : Books) → AreStoriesOf old with_book

@@ -17,7 +17,7 @@ use Rattle.contacts.proofs.first_path.put_and_report.Goals.{After-create_book, I
 
 -- the store's limits are the standard ones
 standard : (c : After-create_book) → AreStandard c.new-store.result.limits
-standard c = subst AreStandard (sym c.new-store.ensures.limits) (record { page = c.standard.ensures.page; cards = c.standard.ensures.cards; changes = c.standard.ensures.changes; books = c.standard.ensures.books })
+standard c = subst AreStandard (sym c.new-store.ensures.limits) (record { page = c.standard.ensures.page; cards = c.standard.ensures.cards; changes = c.standard.ensures.changes; books = c.standard.ensures.books; keep = c.standard.ensures.keep })
 
 -- after the first call the rows are those of the one book
 with_book_made : (c : In_ok-create_book) → AreStoriesOf c.create_book.new.self.books with_book
