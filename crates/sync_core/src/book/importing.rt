@@ -248,8 +248,8 @@ impl PlainBook {
     /// Stores the cards in their order, and keeps the answer under the key. An `Err` leaves the
     /// book as it was.
     ///
-    /// Each card costs a copy of it, three look-ups of its UID and a write. What stood at the UIDs is
-    /// kept until all cards are stored, so that it can be put back.
+    /// Each card costs a copy of it, three look-ups of its UID and a write. What stood at the UIDs
+    /// is kept until all cards are stored, so that it can be put back.
     pub(crate) fn import(
         &mut self,
         alloc: Global,
