@@ -23,7 +23,7 @@ use Rattle.book_model.specs.Putting.{put_step, put_answer, reason_for}
 use Rattle.book_model.specs.Reading.{book_lines, book_line_step, get_step, tally_step}
 use Rattle.book_model.specs.Removing.{remove_step}
 use Rattle.vcard_text.specs.Cards.{uid_of}
-use Rattle.book_laws.specs.Calls.{Puts, Gets, AsksReport, DidForget, DidMove, DidPut, DidRemove, MadeBook, GaveBooks, GaveCard, GavePage, GaveTally, meaning, with_answer, with_reading}
+use Rattle.book_laws.specs.Calls.{Puts, AsksReport, DidForget, DidMove, DidPut, DidRemove, MadeBook, GaveBooks, GaveCard, GavePage, GaveTally, meaning, with_answer, with_reading}
 use Rattle.book_laws.specs.ChangeLaws.{CreatingFollows, PuttingFollows, RemovingFollows, MovingFollows, ForgettingFollows}
 use Rattle.book_laws.specs.Following.{AreStoriesOf, Follows, PagesFollow}
 use Rattle.book_laws.specs.ReadLaws.{BooksFollow, BookLinesFollow, GettingFollows, TalliesFollow, ReportsFollow}
@@ -87,7 +87,7 @@ module _ (limits : Bounds) (old new : Books) where
     kept = same;
     performed = λ world limits_are w. record {
       next = world.books;
-      performs = fault_performs world (Get book uid) (meaning world.limits world.books (Gets book uid)) fault (reply.Fault fault) refl refl;
+      performs = fault_performs world (Get book uid) fault (reply.Fault fault) refl;
       stories = same_rows world old new same w;
     };
   }
@@ -103,11 +103,11 @@ module _ (limits : Bounds) (old new : Books) where
     kept = d.1;
     performed = λ world same w. record {
       next = world.books;
-      performs = record {
+      performs = inl (record {
         meant = Ok (GaveBooks (books_meaning world.books), world.books);
         means = refl;
-        replied = inl (ap (λ (ls : List BookLine). reply.Books ls) (d.0 ∙ of_world (λ l b. book_lines b ≡ books_meaning world.books) world same w (law world.books)), refl);
-      };
+        comes = (ap (λ (ls : List BookLine). reply.Books ls) (d.0 ∙ of_world (λ l b. book_lines b ≡ books_meaning world.books) world same w (law world.books)), refl);
+      });
       stories = same_rows world old new d.1 w;
     };
   }
@@ -122,7 +122,7 @@ module _ (limits : Bounds) (old new : Books) where
         kept = d;
         performed = λ world same w. record {
           next = world.books;
-          performs = fault_performs world ListBooks (Ok (GaveBooks (books_meaning world.books), world.books)) fault (reply.Fault fault) refl refl;
+          performs = fault_performs world ListBooks fault (reply.Fault fault) refl;
           stories = same_rows world old new d w;
         };
       }

@@ -1,6 +1,7 @@
 pub mod PerformLemmas
 pub mod CallLemmas
 pub mod WholeBookLemmas
+pub mod ImportLemmas
 pub mod TextLemmas
 pub mod AskLemmas
 pub mod RunLemmas

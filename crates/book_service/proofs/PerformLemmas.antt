@@ -40,6 +40,7 @@ keeps_same (reply.Card uid version card) old new same = same
 keeps_same (reply.Put answer) old new same = tt
 keeps_same (reply.Gone number) old new same = tt
 keeps_same (reply.Moved numbers) old new same = tt
+keeps_same (reply.Imported tally) old new same = tt
 keeps_same (reply.Forgot dropped horizon) old new same = tt
 keeps_same (reply.Page page) old new same = same
 keeps_same (reply.Tally tally) old new same = same
@@ -48,26 +49,26 @@ keeps_same (reply.People expansion) old new same = same
 
 -- ---- a fault
 
--- a fault leaves the world, whatever was meant
-pub fault_performs : (world : World) (command : Command) (meant : Meaning) (fault : FaultKind) (r : Reply) → r ≡ reply.Fault fault → Means world command meant → Performs world command r world.books
-fault_performs world command meant fault r is means = record { meant = meant; means = means; replied = inr (fault, is, refl) }
+-- a fault leaves the world, whatever is meant
+pub fault_performs : (world : World) (command : Command) (fault : FaultKind) (r : Reply) → r ≡ reply.Fault fault → Performs world command r world.books
+fault_performs world command fault r is = inr (fault, is, refl)
 
 -- ---- a call that changes books
 
 -- f says the answer as a reply, and g as what a call returned
 module _ {A : Type 0} (f : A → Reply) (g : A → Returned) (command : Command) (says : (x : A) → TellsReturned command (g x) (f x)) where
-  did_keep : (old new : Books) (outcome : Result A Denied) (step : Result (A × Books) Refusal) → ((x : A) → Keeps (f x) old new) → Does outcome step old new → Keeps (reply_to f outcome) old new
+  pub did_keep : (old new : Books) (outcome : Result A Denied) (step : Result (A × Books) Refusal) → ((x : A) → Keeps (f x) old new) → Does outcome step old new → Keeps (reply_to f outcome) old new
   did_keep old new (Ok x) step answers d = answers x
   did_keep old new (Err (Refused refusal)) (Ok done) answers d = absurd d
   did_keep old new (Err (Refused refusal)) (Err wanted) answers d = d.1
   did_keep old new (Err (Fault fault)) step answers d = d
 
-  did_perform : (world : World) (old new : Books) (outcome : Result A Denied) (step : Result (A × Books) Refusal) (meant : Result (A × Stories) Refusal)
+  pub did_perform : (world : World) (old new : Books) (outcome : Result A Denied) (step : Result (A × Books) Refusal) (meant : Result (A × Stories) Refusal)
       → Means world command (with_answer g meant) → AreStoriesOf old world.books → Follows step meant → Does outcome step old new
       → IsPerformed world command (reply_to f outcome) new
   did_perform world old new (Ok x) (Ok done) (Ok meant) means w follows d = record {
     next = meant.1;
-    performs = record { meant = Ok (g meant.0, meant.1); means = means; replied = inl (subst (λ y. TellsReturned command (g y) (f x)) (d.0 ∙ follows.0) (says x), refl) };
+    performs = inl (record { meant = Ok (g meant.0, meant.1); means = means; comes = (subst (λ y. TellsReturned command (g y) (f x)) (d.0 ∙ follows.0) (says x), refl) });
     stories = subst (λ (b : Books). AreStoriesOf b meant.1) (sym d.1) follows.1;
   }
   did_perform world old new (Ok x) (Ok done) (Err other) means w follows d = absurd follows
@@ -76,12 +77,12 @@ module _ {A : Type 0} (f : A → Reply) (g : A → Returned) (command : Command)
   did_perform world old new (Err (Refused refusal)) (Err wanted) (Ok meant) means w follows d = absurd follows
   did_perform world old new (Err (Refused refusal)) (Err wanted) (Err other) means w follows d = record {
     next = world.books;
-    performs = record { meant = Err other; means = means; replied = inl (ap (λ r. reply.Refused r) (d.0 ∙ follows), refl) };
+    performs = inl (record { meant = Err other; means = means; comes = (ap (λ r. reply.Refused r) (d.0 ∙ follows), refl) });
     stories = same_rows world old new d.1 w;
   }
   did_perform world old new (Err (Fault fault)) step meant means w follows d = record {
     next = world.books;
-    performs = fault_performs world command (with_answer g meant) fault (reply.Fault fault) refl means;
+    performs = fault_performs world command fault (reply.Fault fault) refl;
     stories = same_rows world old new d w;
   }
 
@@ -122,15 +123,15 @@ module _ {T A : Type 0} (f : A → Reply) (g : A → Returned) (allows : T → A
       → Means world command (with_reading g world.books meant) → ReadFollows allows asked meant → Reads allows outcome asked old new
       → Performs world command (reply_to f outcome) world.books
   read_performs world old new (Ok x) (Ok asked) (Ok meant) means follows d =
-      record { meant = Ok (g meant, world.books); means = means; replied = inl (subst (λ y. TellsReturned command (g y) (f x)) (follows x d.0) (says x), refl) }
+      inl (record { meant = Ok (g meant, world.books); means = means; comes = (subst (λ y. TellsReturned command (g y) (f x)) (follows x d.0) (says x), refl) })
   read_performs world old new (Ok x) (Ok asked) (Err other) means follows d = absurd follows
   read_performs world old new (Ok x) (Err refusal) meant means follows d = absurd d
   read_performs world old new (Err (Refused refusal)) (Ok asked) meant means follows d = absurd d
   read_performs world old new (Err (Refused refusal)) (Err wanted) (Ok meant) means follows d = absurd follows
   read_performs world old new (Err (Refused refusal)) (Err wanted) (Err other) means follows d =
-      record { meant = Err other; means = means; replied = inl (ap (λ r. reply.Refused r) (d.0 ∙ follows), refl) }
+      inl (record { meant = Err other; means = means; comes = (ap (λ r. reply.Refused r) (d.0 ∙ follows), refl) })
   read_performs world old new (Err (Fault fault)) asked meant means follows d =
-      fault_performs world command (with_reading g world.books meant) fault (reply.Fault fault) refl means
+      fault_performs world command fault (reply.Fault fault) refl
 
   -- such a call does its command, where the command's meaning is the reading
   pub told : (limits : Bounds) (old new : Books) (outcome : Result A Denied) (asked : Result T Refusal) (meant : World → Result A Refusal)
@@ -158,11 +159,11 @@ module _ {A : Type 0} (world : World) (command : Command) (book : List ℕ) (rea
   denial named error = first_denial (named >>= λ (story : Story). Ok (story_line (book, story))) error
 
   refused_as : (r : Reply) (meant : Meaning) (refusal : Refusal) → Means world command meant → meant ≡ Err refusal → r ≡ reply.Refused refusal → Performs world command r world.books
-  refused_as r meant refusal is same said = record {
+  refused_as r meant refusal is same said = inl (record {
     meant = meant;
     means = is;
-    replied = inl (subst (λ (m : Meaning). ComesOf command world.books m r world.books) (sym same) (said, refl));
-  }
+    comes = subst (λ (m : Meaning). ComesOf command world.books m r world.books) (sym same) (said, refl);
+  })
 
   none_there : (read : Result A Refusal) (refusal : Refusal) → story_named world.books book ≡ Err refusal → meaning_with world book call read ≡ Err refusal
   none_there (Ok x) refusal none = unnamed x refusal none
@@ -175,21 +176,14 @@ module _ {A : Type 0} (world : World) (command : Command) (book : List ℕ) (rea
   by_story (Refused refusal) r (Err other) there is same =
       refused_as r (meaning_with world book call (Err refusal)) other (means (meaning_with world book call (Err refusal)) (record { read = Err refusal; read_is = is; meant_is = refl }))
       (none_there (Err refusal) other there) same
-  by_story (Fault fault) r (Ok story) there is same =
-      fault_performs world command (meaning_with world book call is.1.0) fault r same (means (meaning_with world book call is.1.0) (record { read = is.1.0; read_is = is.1.1; meant_is = refl }))
+  by_story (Fault fault) r (Ok story) there is same = fault_performs world command fault r same
   by_story (Fault fault) r (Err other) there is same =
       refused_as r (meaning_with world book call is.1.0) other (means (meaning_with world book call is.1.0) (record { read = is.1.0; read_is = is.1.1; meant_is = refl }))
       (none_there is.1.0 other there) same
-
-  some_read : (error : Denied) → IsReadAs {A = A} reads (Err error) → (read : Result A Refusal) × reads read
-  some_read (Refused refusal) is = (Err refusal, is)
-  some_read (Fault fault) is = is.1
 
   pub denied_read : (error : Denied) (r : Reply) → IsReadAs {A = A} reads (Err error) → (r ≡ first_denial (book_line_meaning world.books book) error) ⊎ IsFault r → Performs world command r world.books
   denied_read error r is d =
       ⊎_elim
       (λ same. by_story error r (story_named world.books book) refl is same)
-      (λ fault.
-      let read = some_read error is in
-      fault_performs world command (meaning_with world book call read.0) fault.fault r fault.reply_is (means (meaning_with world book call read.0) (record { read = read.0; read_is = read.1; meant_is = refl })))
+      (λ fault. fault_performs world command fault.fault r fault.reply_is)
       d

@@ -1,5 +1,5 @@
 -- What each clause of the promise says of one step.
-use Rattle.std.proofs.Common.{refl, ◌≡◌, ◌≤◌, ℕ, List, [], ◌∷◌, Option, Result, Ok, Err, slice_get, slice_set, sym, ap, ◌∙◌, subst, ⊎_elim, inr, ◌⊎◌, arith}
+use Rattle.std.proofs.Common.{refl, ◌≡◌, ◌≤◌, ℕ, List, [], ◌∷◌, Option, Result, Ok, Err, slice_get, slice_set, sym, ap, ◌∙◌, subst, ⊎_elim, inl, inr, ◌⊎◌, arith}
 use Rattle.std.specs.FinMap as finite
 use Rattle.std.proofs.lemmas.Option.{same_Some}
 use Rattle.book_model.specs.declared.answers.Moved.{Moved as Numbers}
@@ -67,8 +67,8 @@ moves_take_one_card law now next event r w s book uid to expect numbers is_move 
     let step = subst (λ (a : Reply). Step now (Do command) a next) is_moved (subst (λ (e : Event). Step now e r next) is_move s) in
     let p = step.1 in
     let meant = move_meaning now.world.limits now.world.books book to uid expect in
-    let replied =
-    subst (λ (m : Meaning). ComesOf command now.world.books m (reply.Moved numbers) step.0 ⊎ ((fault : Fault) × (reply.Moved numbers ≡ reply.Fault fault) × (step.0 ≡ now.world.books))) p.means p.replied in
+    let replied : ComesOf command now.world.books (with_answer DidMove meant) (reply.Moved numbers) step.0 ⊎ ((fault : Fault) × (reply.Moved numbers ≡ reply.Fault fault) × (step.0 ≡ now.world.books)) =
+    ⊎_elim (λ done. inl (subst (λ (m : Meaning). ComesOf command now.world.books m (reply.Moved numbers) step.0) done.means done.comes)) (λ fault. inr fault) p in
     subst (TakesOneCard now.world.books book to uid numbers) (sym (ap (λ (m : Moment). m.world.books) step.2))
     (law now.world book to uid expect numbers step.0 (moved_by book uid to expect meant numbers now.world.books step.0 replied))
 
@@ -87,6 +87,7 @@ answers_right parts whole limits books room limit (reply.Card uid version card) 
 answers_right parts whole limits books room limit (reply.Put answer) old new a right = absurd a
 answers_right parts whole limits books room limit (reply.Gone number) old new a right = absurd a
 answers_right parts whole limits books room limit (reply.Moved numbers) old new a right = absurd a
+answers_right parts whole limits books room limit (reply.Imported tally) old new a right = absurd a
 answers_right parts whole limits books room limit (reply.Forgot dropped horizon) old new a right = absurd a
 answers_right parts whole limits books room limit (reply.Tally tally) old new a right = absurd a
 answers_right parts whole limits books room limit (reply.Csv text) old new a right = absurd a

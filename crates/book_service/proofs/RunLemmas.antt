@@ -1,24 +1,28 @@
 -- A command is at most one call of a store, and forgets only where it is the command to forget.
-use Rattle.std.proofs.Common.{◌≡◌, ℕ, Bool, true, false, List, [], ◌∷◌, ◌++◌, Result, Ok, Err, refl, sym, ap, ◌∙◌, subst, ⊎_elim, inl, inr, ◌⊎◌}
+use Rattle.std.proofs.Common.{◌≡◌, ℕ, Bool, true, false, List, [], ◌∷◌, ◌++◌, Option, Some, None, Result, Ok, Err, refl, sym, ap, ◌∙◌, subst, ⊎_elim, inl, inr, ◌⊎◌}
+use Rattle.std.specs.FinMap as finite
 use Rattle.vcard_text.specs.Cards.{kind_of}
 use Rattle.vcard_text.specs.FirstFaults.{is_group}
+use Rattle.vcard_text.specs.declared.line.Line.{Line}
+use Rattle.book_model.specs.declared.answers.ImportTally.{ImportTally}
 use Rattle.book_model.specs.declared.answers.Stored.{Stored}
 use Rattle.book_model.specs.declared.refusal.Refusal.{Refusal}
-use Rattle.book_model.specs.declared.refusal.Refusal.TheVariants.{NotGroup}
+use Rattle.book_model.specs.declared.refusal.Refusal.TheVariants.{BadKey, NotGroup}
 use Rattle.book_model.specs.Bounds.{Bounds}
+use Rattle.book_model.specs.Importing.{is_legal_key}
 use Rattle.book_model.specs.Outcomes.{◌>>=◌, provided}
-use Rattle.book_laws.specs.Calls.{Call, CreatesBook, Puts, Removes, Moves, Imports, Forgets, AsksReport, AsksImport, ListsBooks, ShowsBook, Gets, ListsCards, Tallies, DidForget, meaning, with_answer, state_after, stories_after, stories_after_all}
-use Rattle.book_laws.specs.WorldChanges.{forget_meaning}
-use Rattle.book_laws.specs.WorldReads.{get_meaning}
+use Rattle.book_laws.specs.Calls.{Call, CreatesBook, Puts, Removes, Moves, Imports, Forgets, AsksReport, AsksImport, ListsBooks, ShowsBook, Gets, ListsCards, Tallies, DidImport, DidForget, meaning, with_answer, state_after, stories_after, stories_after_all}
+use Rattle.book_laws.specs.WorldChanges.{forget_meaning, import_meaning, import_meaning_under}
+use Rattle.book_laws.specs.WorldReads.{get_meaning, kept_import_meaning}
 use Rattle.book_laws.specs.Worlds.{Story, Stories, World}
 use Rattle.book_laws.specs.WorldSteps.{story_named}
 use Rattle.book_service.specs.declared.command.Command.{Command}
-use Rattle.book_service.specs.declared.command.Command.TheVariants.{CreateBook, Books as ListBooks, Get, Put, Remove, MoveCard, Report, Forget, TallyOf, Export, People}
+use Rattle.book_service.specs.declared.command.Command.TheVariants.{CreateBook, Books as ListBooks, Get, Put, Remove, MoveCard, Report, Import, Forget, TallyOf, Export, People}
 use Rattle.book_service.specs.declared.event.Event.{Event}
 use Rattle.book_service.specs.declared.event.Event.TheVariants.{Do}
 use Rattle.book_service.specs.declared.reply.Reply.{Reply}
 use Rattle.book_service.specs.declared.reply.Reply.TheVariants as reply
-use Rattle.book_service.specs.Commands.{Meaning, IsCallWith, meaning_with, Means, ComesOf, Performs}
+use Rattle.book_service.specs.Commands.{Meaning, IsCallWith, meaning_with, meaning_of_body, MeansImport, Means, ComesOf, Performs}
 
 -- the call makes a book forget
 abbrev pub forgets : Call → Bool
@@ -92,6 +96,23 @@ module _ (world : World) (meant : Meaning) (command : Command) where
       by_read (Ok x) same = by_call (call x) (keeps x) same
       by_read (Err refusal) same = by_story (story_named world.books book) refusal same
 
+-- under a kept key an import of any cards answers what is kept
+pub kept_answers : (limits : Bounds) (stories : Stories) (name key : List ℕ) (cards : List (List Line)) (kept : ImportTally) → kept_import_meaning stories name key ≡ Ok (Some kept)
+    → import_meaning limits stories name key cards ≡ Ok (kept, stories)
+kept_answers limits stories name key cards kept is = by_story (story_named stories name) is
+  where
+    by_key : (story : Story) (test : Result (Unit {0}) Refusal) → (test >>= λ legal. Ok (finite.get story.imports key)) ≡ Ok (Some kept)
+        → (test >>= λ legal. import_meaning_under limits stories name story key cards (finite.get story.imports key)) ≡ Ok (kept, stories)
+    by_key story (Ok legal) same =
+        let found : finite.get story.imports key ≡ Some kept = cc in
+        ap (import_meaning_under limits stories name story key cards) found
+    by_key story (Err refusal) same = absurd (let no : Err refusal ≡ Ok (Some kept) = same in cc)
+
+    by_story : (named : Result Story Refusal) → (named >>= λ story. provided (is_legal_key key) BadKey >>= λ legal. Ok (finite.get story.imports key)) ≡ Ok (Some kept)
+        → (named >>= λ story. provided (is_legal_key key) BadKey >>= λ legal. import_meaning_under limits stories name story key cards (finite.get story.imports key)) ≡ Ok (kept, stories)
+    by_story (Ok story) same = by_key story (provided (is_legal_key key) BadKey) same
+    by_story (Err refusal) same = absurd (let no : Err refusal ≡ Ok (Some kept) = same in cc)
+
 means_call : (world : World) (meant : Meaning) (command : Command) → Means world command meant → OneCallOrNone world command meant
 means_call world meant (CreateBook book) is = by_call world meant (CreateBook book) (CreatesBook book) refl is
 means_call world meant ListBooks is = by_call world meant ListBooks ListsBooks refl is
@@ -105,6 +126,18 @@ means_call world meant (Forget book upto) is = inl (record {
   means = is;
   own = λ name number same. let own : Forget book upto ≡ Forget name number = cc in own;
 })
+means_call world meant (Import book key body) is = by_kept (kept_import_meaning world.books book key) refl is
+  where
+    by_read : (read : Result (List (List Line)) Refusal) → meant ≡ meaning_of_body world book key read → OneCallOrNone world (Import book key body) meant
+    by_read (Ok cards) same = by_call world meant (Import book key body) (Imports book key cards) refl same
+    by_read (Err refusal) same = inr (refusal, same)
+
+    by_kept : (kept : Result (Option ImportTally) Refusal) → kept_import_meaning world.books book key ≡ kept → MeansImport world book key body kept meant → OneCallOrNone world (Import book key body) meant
+    by_kept (Err refusal) there same = inr (refusal, same)
+    by_kept (Ok (Some kept)) there same =
+        by_call world meant (Import book key body) (Imports book key []) refl
+        (same ∙ sym (ap (with_answer DidImport) (kept_answers world.limits world.books book key [] kept there)))
+    by_kept (Ok None) there imported = by_read imported.read imported.meant_is
 means_call world meant (TallyOf book) is = by_call world meant (TallyOf book) (Tallies book) refl is
 means_call world meant (Export book form) is = by_call world meant (Export book form) (ListsCards book) refl is
 means_call world meant (People book uid) is = by_card (get_meaning world.books book uid) is
@@ -147,9 +180,9 @@ module _ (world : World) (command : Command) (r : Reply) (next : Stories) (meant
 pub performs_leads : (world : World) (command : Command) (r : Reply) (next : Stories) → Performs world command r next → EventLeads world.limits world.books next (Do command) r
 performs_leads world command r next p =
     ⊎_elim
-    (λ said. ⊎_elim (one_leads world command r next p.meant said) (none_leads world command r next p.meant said) (means_call world p.meant command p.means))
+    (λ done. ⊎_elim (one_leads world command r next done.meant done.comes) (none_leads world command r next done.meant done.comes) (means_call world done.meant command done.means))
     (λ fault. leads_nowhere_by world.limits world.books next (Do command) r fault.2)
-    p.replied
+    p
 
 -- ---- one after another
 

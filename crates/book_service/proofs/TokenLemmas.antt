@@ -20,7 +20,7 @@ use Rattle.book_laws.specs.Worlds.{Stories, IsSoundWorld}
 use Rattle.sync_core.specs.TokenTextLaws.{TextsTellTokens}
 use Rattle.sync_core.specs.TokenTexts.{IsToken, token_octets}
 use Rattle.book_service.specs.declared.command.Command.{Command}
-use Rattle.book_service.specs.declared.command.Command.TheVariants.{CreateBook, Books as ListBooks, Get, Put, Remove, MoveCard, Report, Forget, TallyOf, Export, People}
+use Rattle.book_service.specs.declared.command.Command.TheVariants.{CreateBook, Books as ListBooks, Get, Put, Remove, MoveCard, Report, Import, Forget, TallyOf, Export, People}
 use Rattle.book_service.specs.declared.event.Event.{Event}
 use Rattle.book_service.specs.declared.event.Event.TheVariants.{Do, Ask}
 use Rattle.book_service.specs.declared.reply.Reply.{Reply}
@@ -81,15 +81,19 @@ said_nothing command (Err refusal) r old new p = ⊎_elim (λ yes. yes.1) (λ fa
 
 module _ (law : TextsTellTokens) (now next : Moment) where
   abbrev Says : List ℕ → List ℕ → Option ℕ → Reply → Stories → Meaning → Type 0
-  Says book text limit r books meant = ComesOf (Report book text limit) now.world.books meant r books ⊎ ((fault : Fault) × (r ≡ reply.Fault fault) × (books ≡ now.world.books))
+  Says book text limit r books meant = ComesOf (Report book text limit) now.world.books meant r books
 
   said_of : (book text : List ℕ) (limit : Option ℕ) (r : Reply) (books : Stories) (token : Option Token) → Performs now.world (Report book text limit) r books → ReadsToken text (Ok token)
       → Said (Report book text limit) (report_at now book token limit) r now.world.books books
   said_of book text limit r books token p reads =
-      let m = p.means in
+      ⊎_elim
+      (λ done.
+      let m = done.means in
       let read_is : m.read ≡ Ok token = read_once law text token m.read reads m.read_is in
-      subst (λ (read : Result (Option Token) Refusal). Says book text limit r books (meaning_with now.world book (λ from. AsksReport book from limit) read)) read_is
-      (subst (Says book text limit r books) m.meant_is p.replied)
+      inl (subst (λ (read : Result (Option Token) Refusal). Says book text limit r books (meaning_with now.world book (λ from. AsksReport book from limit) read)) read_is
+      (subst (Says book text limit r books) m.meant_is done.comes)))
+      (λ fault. inr fault)
+      p
 
   -- what the event that asked was told is the report that was meant, and no book changed
   pub told_page : (event : Event) (r : Reply) (name : List ℕ) (token : Option Token) (page : Told) → Step now event r next → AsksAfter now event name token → r ≡ reply.Page page
@@ -113,6 +117,7 @@ module _ (law : TextsTellTokens) (now next : Moment) where
   told_page (Do (Put book uid expect text)) r name token page s asks is = absurd asks
   told_page (Do (Remove book uid expect)) r name token page s asks is = absurd asks
   told_page (Do (MoveCard book uid to expect)) r name token page s asks is = absurd asks
+  told_page (Do (Import book key body)) r name token page s asks is = absurd asks
   told_page (Do (Forget book upto)) r name token page s asks is = absurd asks
   told_page (Do (TallyOf book)) r name token page s asks is = absurd asks
   told_page (Do (Export book form)) r name token page s asks is = absurd asks
@@ -139,6 +144,7 @@ module _ (law : TextsTellTokens) (now next : Moment) where
   told_refusal (Do (Put book uid expect text)) r name token refusal s asks is = absurd asks
   told_refusal (Do (Remove book uid expect)) r name token refusal s asks is = absurd asks
   told_refusal (Do (MoveCard book uid to expect)) r name token refusal s asks is = absurd asks
+  told_refusal (Do (Import book key body)) r name token refusal s asks is = absurd asks
   told_refusal (Do (Forget book upto)) r name token refusal s asks is = absurd asks
   told_refusal (Do (TallyOf book)) r name token refusal s asks is = absurd asks
   told_refusal (Do (Export book form)) r name token refusal s asks is = absurd asks
@@ -155,6 +161,7 @@ module _ (law : TextsTellTokens) (now next : Moment) where
   asking_keeps (Do (Put book uid expect text)) r name token s asks = absurd asks
   asking_keeps (Do (Remove book uid expect)) r name token s asks = absurd asks
   asking_keeps (Do (MoveCard book uid to expect)) r name token s asks = absurd asks
+  asking_keeps (Do (Import book key body)) r name token s asks = absurd asks
   asking_keeps (Do (Forget book upto)) r name token s asks = absurd asks
   asking_keeps (Do (TallyOf book)) r name token s asks = absurd asks
   asking_keeps (Do (Export book form)) r name token s asks = absurd asks

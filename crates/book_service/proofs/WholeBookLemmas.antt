@@ -39,7 +39,7 @@ use Rattle.book_service.specs.declared.command.Command.{Command}
 use Rattle.book_service.specs.declared.command.Command.TheVariants.{Export, People}
 use Rattle.book_service.specs.declared.reply.Reply.{Reply}
 use Rattle.book_service.specs.declared.reply.Reply.TheVariants as reply
-use Rattle.book_service.specs.Commands.{Meaning, Means, people_meaning, ComesOf, Performs}
+use Rattle.book_service.specs.Commands.{Meaning, ComesOf, Performs}
 use Rattle.book_service.specs.OnRows.{DoesCommand}
 use Rattle.book_service.specs.Replies.{denied_reply, reply_to}
 use Rattle.book_service.specs.WholeBooks.{lines_by_uid, book_text}
@@ -101,12 +101,12 @@ module _ (limits : Bounds) (old new : Books) where
       (λ world. refl) d
 
   -- memory ran out behind the store's answer
-  pub fails : (command : Command) (meant : World → Meaning) → ((world : World) → Means world command (meant world)) → (fault : FaultKind) → new ≡ old → DoesCommand limits old command (reply.Fault fault) new
-  fails command meant means fault same = record {
+  pub fails : (command : Command) (fault : FaultKind) → new ≡ old → DoesCommand limits old command (reply.Fault fault) new
+  fails command fault same = record {
     kept = same;
     performed = λ world limits_are w. record {
       next = world.books;
-      performs = fault_performs world command (meant world) fault (reply.Fault fault) refl (means world);
+      performs = fault_performs world command fault (reply.Fault fault) refl;
       stories = same_rows world old new same w;
     };
   }
@@ -145,11 +145,11 @@ module _ (limits : Bounds) (old new : Books) (law : CardsFollow) (book uid : Lis
   no_book : (world : World) (refusal : Refusal) (named : Result Story Refusal) → story_named world.books book ≡ named → Told (Err (Refused refusal)) (named >>= λ (story : Story). Ok (live story.history))
       → Performs world (People book uid) (reply.Refused refusal) world.books
   no_book world refusal (Ok story) there d = absurd d
-  no_book world refusal (Err other) there d = record {
+  no_book world refusal (Err other) there d = inl (record {
     meant = Err other;
     means = sym (ap (after_named world.books uid) there);
-    replied = inl (ap (λ (r : Refusal). reply.Refused r) d.0, refl);
-  }
+    comes = (ap (λ (r : Refusal). reply.Refused r) d.0, refl);
+  })
 
   pub people_not : (error : Denied) → Told (Err error) (cards_step old book) → DoesCommand limits old (People book uid) (denied_reply error) new
   people_not (Refused refusal) d = record {
@@ -160,17 +160,17 @@ module _ (limits : Bounds) (old new : Books) (law : CardsFollow) (book uid : Lis
       stories = same_rows world old new (stays (Err (Refused refusal)) d) w;
     };
   }
-  people_not (Fault fault) d = fails limits old new (People book uid) (λ world. people_meaning world book uid) (λ world. refl) fault d
+  people_not (Fault fault) d = fails limits old new (People book uid) fault d
 
   module _ (cards : LiveCards) (d : Told (Ok cards) (cards_step old book)) where
     -- the store told the cards, and this came of it
     module _ (r : Reply) (answer : Stories → Meaning) (after : (books : Stories) → after_found cards books (finite.get cards uid) ≡ answer books) (comes : (books : Stories) → ComesOf (People book uid) books (answer books) r books) where
       by_story : (world : World) (named : Result Story Refusal) → story_named world.books book ≡ named → Told (Ok cards) (named >>= λ (story : Story). Ok (live story.history)) → Performs world (People book uid) r world.books
-      by_story world (Ok story) there t = record {
+      by_story world (Ok story) there t = inl (record {
         meant = answer world.books;
         means = sym (ap (after_named world.books uid) there ∙ ap (λ (c : LiveCards). after_found c world.books (finite.get c uid)) (sym t.0) ∙ after world.books);
-        replied = inl (comes world.books);
-      }
+        comes = comes world.books;
+      })
       by_story world (Err refusal) there t = absurd t
 
       is_told : DoesCommand limits old (People book uid) r new

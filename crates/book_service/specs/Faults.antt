@@ -4,7 +4,7 @@ use Rattle.std.specs.List.{zip}
 use Rattle.book_model.specs.declared.denied.Fault.{Fault as FaultKind}
 use Rattle.book_model.specs.Outcomes.{IsOutOfMemory}
 use Rattle.book_service.specs.declared.command.Command.{Command}
-use Rattle.book_service.specs.declared.command.Command.TheVariants.{Get, Put, Export, People}
+use Rattle.book_service.specs.declared.command.Command.TheVariants.{Get, Put, Import, Export, People}
 use Rattle.book_service.specs.declared.event.Event.{Event}
 use Rattle.book_service.specs.declared.event.Event.TheVariants.{Do, Ask}
 use Rattle.book_service.specs.declared.reply.Reply.{Reply}
@@ -15,10 +15,11 @@ abbrev pub IsMemoryOr : (FaultKind → Type 0) → FaultKind → Type 0
 IsMemoryOr may fault = IsOutOfMemory fault ⊎ may fault
 
 -- The faults that may come of a command are those of the store. Where a UID is copied, a card's
--- text read, or rows or people listed, memory can run out, too.
+-- text or rows read, or rows or people listed, memory can run out, too.
 abbrev pub MayComeOf : (FaultKind → Type 0) → Command → FaultKind → Type 0
 MayComeOf may (Get book uid) fault = IsMemoryOr may fault
 MayComeOf may (Put book uid expect text) fault = IsMemoryOr may fault
+MayComeOf may (Import book key body) fault = IsMemoryOr may fault
 MayComeOf may (Export book form) fault = IsMemoryOr may fault
 MayComeOf may (People book uid) fault = IsMemoryOr may fault
 MayComeOf may command fault = may fault

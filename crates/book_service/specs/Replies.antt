@@ -2,7 +2,7 @@
 use Rattle.std.specs.Prelude.{◌≡◌, Result, Ok, Err}
 use Rattle.book_model.specs.declared.denied.Denied.{Denied}
 use Rattle.book_model.specs.declared.denied.Denied.TheVariants.{Refused, Fault}
-use Rattle.book_laws.specs.Calls.{Returned, MadeBook, DidPut, DidRemove, DidMove, DidForget, GavePage, GaveBooks, GaveCard, GaveCards, GaveTally}
+use Rattle.book_laws.specs.Calls.{Returned, MadeBook, DidPut, DidRemove, DidMove, DidImport, DidForget, GavePage, GaveBooks, GaveCard, GaveCards, GaveTally}
 use Rattle.book_service.specs.declared.command.Command.{Command}
 use Rattle.book_service.specs.declared.command.Command.TheVariants.{Get, Forget, Export, People}
 use Rattle.book_service.specs.declared.reply.Reply.{Reply}
@@ -19,6 +19,7 @@ TellsReturned (Get book uid) (GaveCard stored) r = r ≡ reply.Card uid stored.v
 TellsReturned command (DidPut answer) r = r ≡ reply.Put answer
 TellsReturned command (DidRemove number) r = r ≡ reply.Gone number
 TellsReturned command (DidMove numbers) r = r ≡ reply.Moved numbers
+TellsReturned command (DidImport tally) r = r ≡ reply.Imported tally
 TellsReturned (Forget book upto) (DidForget dropped) r = r ≡ reply.Forgot dropped upto
 TellsReturned command (GavePage page) r = r ≡ reply.Page page
 TellsReturned command (GaveTally tally) r = r ≡ reply.Tally tally
@@ -54,4 +55,5 @@ Keeps (reply.Created id) old new = Unit {0}
 Keeps (reply.Put answer) old new = Unit {0}
 Keeps (reply.Gone number) old new = Unit {0}
 Keeps (reply.Moved numbers) old new = Unit {0}
+Keeps (reply.Imported tally) old new = Unit {0}
 Keeps (reply.Forgot dropped horizon) old new = Unit {0}

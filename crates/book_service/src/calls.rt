@@ -11,6 +11,7 @@ ghost use Rattle.book_service.specs.OnRows.{DoesCommand, DeniesIn};
 ghost use Rattle.book_service.specs.Replies.{denied_reply, reply_to};
 
 use crate::command::Command;
+use crate::importing::import_body;
 use crate::reply::Reply;
 use crate::texts::{card_for, token_in};
 use crate::whole_books::{export, people};
@@ -104,6 +105,10 @@ pub(crate) fn outcome_of<S: BookStore>(
         Command::Report { book, token, limit } => {
             let page = report(store, book, token, *limit)?;
             Ok(Reply::Page(page))
+        }
+        Command::Import { book, key, body } => {
+            let tally = import_body(alloc, store, book, key, body)?;
+            Ok(Reply::Imported(tally))
         }
         Command::Forget { book, upto } => {
             let dropped = store.forget(book.as_str(), *upto)?;

@@ -56,6 +56,13 @@ pub enum Command {
         token: Text,
         limit: Option<u64>,
     },
+    /// Imports the cards that the body's rows stand for. What it answers is kept under the key, and
+    /// answered again to another import with the key, which changes nothing.
+    Import {
+        book: Text,
+        key: Text,
+        body: Items<u8>,
+    },
     /// Makes the book forget the members that were removed up to the number, which is its horizon
     /// then. Tokens whose base is below the horizon aren't taken any more (RFC 6578, section 3.2).
     Forget {
@@ -85,13 +92,16 @@ pub enum Command {
 /// `NoSuchBook`; `BadCard` where the text spells no card, with its first fault; `UidMismatch`
 /// where the card has another UID; `VersionMismatch`; `BookFull`; `ChangesSpent`. A report is
 /// refused with `NoSuchBook`; `BadToken` with `Malformed` where a text that isn't empty is no
-/// token's, then with `OtherBook`, `TooNew` or `TooOld`; `BadLimit`. An export is refused with
+/// token's, then with `OtherBook`, `TooNew` or `TooOld`; `BadLimit`. An import is refused with
+/// `NoSuchBook`; `BadKey`; and where the key isn't kept, `BadImport` with the first row of the body
+/// that stands for no card, counted from 1 behind the header, and the number of its cause;
+/// `BookFull`; `ChangesSpent`. Under a kept key the body isn't read. An export is refused with
 /// `NoSuchBook`; a question for people with `NoSuchBook`, `NoSuchCard` where no card of the UID is
 /// live, `NotGroup` where its kind isn't group.
 ///
 /// `Fault::Store` comes where the store answers it. `Fault::Memory` comes where the store answers
 /// it, and in a put or a get where there is no memory to read the card's text or to copy the UID,
-/// and in an export or a question for people where there is none for the rows or the people.
+/// in an import where there is none to read the body, and in an export or a question for people where there is none for the rows or the people.
 pub fn perform<S: BookStore>(alloc: Global, store: &mut S, command: &Command) -> Reply
     ensures premise { S.premise store.new → S.premise store.old }
     ensures limits { S.limits store.new ≡ S.limits store.old }

@@ -5,6 +5,7 @@ mod asking;
 mod calls;
 pub mod command;
 pub mod event;
+mod importing;
 pub mod laws;
 pub mod mirrored;
 pub mod page_tokens;

@@ -3,7 +3,7 @@ ghost use Rattle.std.specs.Prelude.{◌≡◌};
 ghost use Rattle.book_service.specs.Replies.{denied_reply as reply_of_denied};
 
 use card_core::Expansion;
-use sync_core::{BookLine, Denied, Fault, Moved, Page, PutAnswer, Refusal, Tally};
+use sync_core::{BookLine, Denied, Fault, ImportTally, Moved, Page, PutAnswer, Refusal, Tally};
 use vcard_text::{Card, Items, Text};
 
 /// What a command is answered. After `Refused` and `Fault` the books are as before.
@@ -23,6 +23,9 @@ pub enum Reply {
     Moved(Moved),
     /// The page of the report.
     Page(Page),
+    /// The cards were imported under the key, now or before: so many were added, edited and the
+    /// same, and this was the book's number afterwards.
+    Imported(ImportTally),
     /// So many removed members were forgotten, and the book's horizon is at this number.
     Forgot { dropped: u64, horizon: u64 },
     /// The book in numbers.

@@ -13,7 +13,7 @@ use Rattle.book_model.specs.Outcomes.{Does, Tells}
 use Rattle.book_model.specs.Reading.{get_step, tally_step}
 use Rattle.book_model.specs.Removing.{remove_step}
 use Rattle.book_service.specs.declared.command.Command.{Command}
-use Rattle.book_service.specs.declared.command.Command.TheVariants.{CreateBook, Books as ListBooks, Get, Put, Remove, MoveCard, Forget, TallyOf, Export, People}
+use Rattle.book_service.specs.declared.command.Command.TheVariants.{CreateBook, Books as ListBooks, Get, Put, Remove, MoveCard, Import, Forget, TallyOf, Export, People}
 use Rattle.book_service.specs.declared.reply.Reply.{Reply}
 use Rattle.book_service.specs.declared.reply.Reply.TheVariants as reply
 use Rattle.book_service.specs.OnRows.{DoesCommand}
@@ -152,6 +152,14 @@ returns-in_ok-numbers-in-MoveCard-clause-does g c = λ premise.
     (subst (λ (book : List ℕ). Does (Ok c.in_ok-numbers-in-MoveCard.numbers) (move_step limits old book c.in-MoveCard.to c.in-MoveCard.uid c.in-MoveCard.expect) old new) c.as_str-in-MoveCard.ensures
     (subst (λ (to : List ℕ). Does (Ok c.in_ok-numbers-in-MoveCard.numbers) (move_step limits old c.as_str-in-MoveCard.result.now to c.in-MoveCard.uid c.in-MoveCard.expect) old new) c.as_str-in-MoveCard-2.ensures
     (subst (λ (uid : List ℕ). Does (Ok c.in_ok-numbers-in-MoveCard.numbers) (move_step limits old c.as_str-in-MoveCard.result.now c.as_str-in-MoveCard-2.result.now uid c.in-MoveCard.expect) old new) c.as_str-in-MoveCard-3.ensures (c.in_ok-numbers-in-MoveCard.ensures.does premise)))))
+
+pub returns-in_ok-tally-in-Import-clause-does : goal.returns-in_ok-tally-in-Import-clause-does
+returns-in_ok-tally-in-Import-clause-does g c = λ premise.
+    let limits = g.S.BookStore.limits c.args.store.now in
+    let old = g.S.BookStore.books c.args.store.now in
+    let new = g.S.BookStore.books c.import_body.new.store in
+    done limits old new c.args.command.now (Import c.in-Import.book c.in-Import.key c.in-Import.body) (reply.Imported c.in_ok-tally-in-Import.tally) c.in-Import.is
+    (c.in_ok-tally-in-Import.ensures.does premise)
 
 pub returns-in_err-dropped-in-Forget-clause-does : goal.returns-in_err-dropped-in-Forget-clause-does
 returns-in_err-dropped-in-Forget-clause-does g c = λ premise.

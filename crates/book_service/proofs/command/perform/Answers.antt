@@ -19,6 +19,7 @@ no_fault may (reply.Card uid version card) none = tt
 no_fault may (reply.Put answer) none = tt
 no_fault may (reply.Gone number) none = tt
 no_fault may (reply.Moved numbers) none = tt
+no_fault may (reply.Imported tally) none = tt
 no_fault may (reply.Forgot dropped horizon) none = tt
 no_fault may (reply.Page page) none = tt
 no_fault may (reply.Tally tally) none = tt

@@ -1,4 +1,4 @@
-use Rattle.std.proofs.Common.{◌≡◌, ℕ, List, Result, Ok, Err, BTreeMap, String, Global, refl, sym, ap, ◌∙◌, subst}
+use Rattle.std.proofs.Common.{◌≡◌, ℕ, List, Result, Ok, Err, BTreeMap, String, Global, sym, ap, ◌∙◌, subst}
 use Rattle.std.proofs.lemmas.Result.{err_from_is_err_and}
 use Rattle.base_types.specs.TextMaps.{texts}
 use Rattle.book_model.specs.declared.answers.Stored.{Stored}
@@ -7,7 +7,6 @@ use Rattle.book_model.specs.declared.denied.Fault.TheVariants.{Memory}
 use Rattle.book_model.specs.Books.{LiveCards}
 use Rattle.book_model.specs.Outcomes.{Reads}
 use Rattle.book_model.specs.Reading.{cards_step}
-use Rattle.book_laws.specs.Calls.{ListsCards, meaning}
 use Rattle.book_service.specs.declared.command.Command.TheVariants.{Export}
 use Rattle.book_service.specs.declared.reply.Reply.TheVariants as reply
 use Rattle.book_service.specs.OnRows.{DoesCommand}
@@ -33,7 +32,7 @@ returns-in_err-text-clause-does g c = λ premise.
     let new = g.S.BookStore.books c.cards.new.self in
     let p = err_from_is_err_and c.from_residual-in_err-text.result c.from_residual-in_err-text.ensures.1 in
     subst (λ (o : Result (List ℕ) Denied). DoesCommand limits old (Export c.args.book.now c.args.form) (reply_to (λ (text : List ℕ). reply.Csv text) o) new) (sym (p.1 ∙ ap (λ (d : Denied). Err d) p.2))
-    (fails limits old new (Export c.args.book.now c.args.form) (λ world. meaning world.limits world.books (ListsCards c.args.book.now)) (λ world. refl) Memory
+    (fails limits old new (Export c.args.book.now c.args.form) Memory
     (cards_keep limits old new (λ told cards. texts cards ≡ told) (Ok c.in_ok-stored.stored) c.as_str.result.now (c.in_ok-stored.ensures.does premise)))
 
 pub returns-clause-does : goal.returns-clause-does

@@ -14,7 +14,6 @@ use Rattle.book_model.specs.Reading.{cards_step}
 use Rattle.book_service.specs.declared.command.Command.TheVariants.{People}
 use Rattle.book_service.specs.declared.reply.Reply.{Reply}
 use Rattle.book_service.specs.declared.reply.Reply.TheVariants as reply
-use Rattle.book_service.specs.Commands.{people_meaning}
 use Rattle.book_service.specs.OnRows.{DoesCommand}
 use Rattle.book_service.specs.Replies.{denied_reply, reply_to}
 use Rattle.book_service.proofs.WholeBookLemmas.{other_answer, fails, cards_keep, people_not, tells_nobody, tells_no_group, tells_people}
@@ -69,5 +68,5 @@ returns-clause-does g c = λ premise.
     let limits = g.S.BookStore.limits c.args.store.now in
     let old = g.S.BookStore.books c.args.store.now in
     let new = g.S.BookStore.books c.cards.new.self in
-    fails limits old new (People c.args.book.now c.args.uid.now) (λ world. people_meaning world c.args.book.now c.args.uid.now) (λ world. refl) Memory
+    fails limits old new (People c.args.book.now c.args.uid.now) Memory
     (cards_keep limits old new (λ told cards. texts cards ≡ told) (Ok c.in_ok-stored.stored) c.as_str.result.now (c.in_ok-stored.ensures.does premise))
