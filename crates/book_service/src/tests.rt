@@ -3,6 +3,7 @@ mod commands;
 mod devices;
 mod failing;
 mod forget_rows;
+mod import_rows;
 mod long_run;
 mod mirrors;
 mod plain;

@@ -1,7 +1,7 @@
 //! What commands are replied, each performed alone and driven with others.
 use super::command_rows::ROWS;
 use super::stores::{InMemory, Stores};
-use super::{driven, forget_rows, performed, whole_book_rows};
+use super::{driven, forget_rows, import_rows, performed, whole_book_rows};
 use std::alloc::Global;
 use std::process::Abort;
 use std::test::Fail;
@@ -181,7 +181,8 @@ fn is_replied<K: Stores>(
 
 /// All rows are replied as they say.
 fn rows_are_replied<K: Stores>(rt: &impl Abort, kind: &K, alloc: Global) -> Result<(), Fail> {
-    let later = forget_rows::ROWS.iter().chain(whole_book_rows::ROWS.iter());
+    let whole = whole_book_rows::ROWS.iter().chain(import_rows::ROWS.iter());
+    let later = forget_rows::ROWS.iter().chain(whole);
     for row in ROWS.iter().chain(later) {
         let limits = Limits::standard();
         is_replied(rt, kind, alloc, limits, row.scripts, row.wanted)?;

@@ -3,7 +3,7 @@ use crate::reply::Reply;
 use card_core::Expansion;
 use std::alloc::Global;
 use std::collections::BTreeMap;
-use sync_core::{BookLine, Entry, Page, PutAnswer, Refusal, Stored, Tally};
+use sync_core::{BookLine, Entry, ImportTally, Page, PutAnswer, Refusal, Stored, Tally};
 use vcard_text::{Card, NoMemory};
 
 /// The value of a card's FN line.
@@ -135,6 +135,9 @@ fn refusal_told(alloc: Global, refusal: &Refusal) -> Result<String, NoMemory> {
         Refusal::BadCard(fault) => {
             format!(in alloc; "refused {number} fault {}\n", fault.number())?
         }
+        Refusal::BadImport { row, cause } => {
+            format!(in alloc; "refused {number} row {row} cause {cause}\n")?
+        }
         Refusal::VersionMismatch { has } => format!(in alloc; "refused {number} has {has}\n")?,
         _ => format!(in alloc; "refused {number}\n")?,
     };
@@ -157,6 +160,15 @@ pub(super) fn told(alloc: Global, reply: &Reply) -> Result<String, NoMemory> {
         Reply::Page(page) => page_told(alloc, page),
         Reply::Forgot { dropped, horizon } => {
             Ok(format!(in alloc; "forgot {dropped} up to {horizon}\n")?)
+        }
+        Reply::Imported(tally) => {
+            let ImportTally {
+                added,
+                edited,
+                same,
+                number,
+            } = *tally;
+            Ok(format!(in alloc; "added {added} edited {edited} same {same} number {number}\n")?)
         }
         Reply::Tally(tally) => tally_told(alloc, tally),
         Reply::Csv(text) => text_told(alloc, text.as_slice()),

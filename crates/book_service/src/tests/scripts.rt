@@ -99,6 +99,46 @@ fn people(alloc: Global, words: &[&str]) -> Result<Command, NoMemory> {
     })
 }
 
+/// The octets of a body that is written as one word: `cards` or `columns` stands for the header of
+/// the form, `;` for a line's end, and `_` for a space.
+fn body(alloc: Global, word: &str) -> Result<Items<u8>, NoMemory> {
+    let mut text = String::new(alloc);
+    for line in word.split(';') {
+        match line {
+            "cards" => text.push_str("uid,vcard")?,
+            "columns" => text.push_str("uid,fn,family,given,email,tel,org,note")?,
+            _ => push_spaced(&mut text, line)?,
+        }
+        text.push_str("\n")?;
+    }
+    if word.is_empty() {
+        return Ok(Items::from_vec(Vec::new(alloc)));
+    }
+    Ok(Items::from_vec(text.into_bytes()))
+}
+
+/// The line behind the text, with a space for each `_`.
+fn push_spaced(text: &mut String, line: &str) -> Result<(), NoMemory> {
+    let mut behind_first = false;
+    for part in line.split('_') {
+        if behind_first {
+            text.push_str(" ")?;
+        }
+        text.push_str(part)?;
+        behind_first = true;
+    }
+    Ok(())
+}
+
+/// `import BOOK KEY BODY`, where a body that is left out is empty.
+fn import(alloc: Global, words: &[&str]) -> Result<Command, NoMemory> {
+    Ok(Command::Import {
+        book: text(alloc, words, 1)?,
+        key: text(alloc, words, 2)?,
+        body: body(alloc, word(words, 3))?,
+    })
+}
+
 /// `get BOOK UID`
 fn get(alloc: Global, words: &[&str]) -> Result<Command, NoMemory> {
     Ok(Command::Get {
@@ -172,6 +212,7 @@ fn command_of(alloc: Global, words: &[&str]) -> Result<Command, NoMemory> {
         "move" => move_card(alloc, words),
         "report" => report(alloc, words),
         "forget" => forget(alloc, words),
+        "import" => import(alloc, words),
         "export" => export(alloc, words),
         "people" => people(alloc, words),
         _ => plain(alloc, words),
