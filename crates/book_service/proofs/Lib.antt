@@ -10,6 +10,7 @@ pub mod EventLemmas
 pub mod DriveLemmas
 pub mod PromiseLemmas
 pub mod TokenLemmas
+pub mod OnceLemmas
 pub mod PageCountLemmas
 pub mod MirrorLemmas
 pub mod PageTokenLemmas

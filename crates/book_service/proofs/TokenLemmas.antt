@@ -186,11 +186,11 @@ step_forgets now next event r s name base forgot =
     record { upto = forgot.upto; event_is = is.0; above = forgot.above; dropped = forgot.dropped; reply_is = is.1 }
 
 -- the calls of a run, step by step
-abbrev calls_of : (now : Moment) (run : List Happening) → Run now run → List Call
+abbrev pub calls_of : (now : Moment) (run : List Happening) → Run now run → List Call
 calls_of now [] steps = []
 calls_of now (h ∷ run) steps = (step_leads now h.after h.event h.reply steps.0).calls ++ calls_of h.after run steps.1
 
-run_calls : (now : Moment) (run : List Happening) (steps : Run now run) → (end_of now run).world.books ≡ stories_after_all now.world.limits now.world.books (calls_of now run steps)
+pub run_calls : (now : Moment) (run : List Happening) (steps : Run now run) → (end_of now run).world.books ≡ stories_after_all now.world.limits now.world.books (calls_of now run steps)
 run_calls now [] steps = refl
 run_calls now (h ∷ run) steps =
     let first = step_leads now h.after h.event h.reply steps.0 in

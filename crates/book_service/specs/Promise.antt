@@ -3,6 +3,7 @@ use Rattle.book_laws.specs.Reasons.{CountsReasons}
 use Rattle.book_laws.specs.LastChanges.{IsStoredLast}
 use Rattle.std.specs.Prelude.{ℕ, ◌+◌, ◌<◌, ◌≡◌, ◌⊎◌, false, List, [], ◌∷◌, ◌++◌, length, ◌↔◌, Option, Some, Ok, slice_get}
 use Rattle.std.specs.FinMap as finite
+use Rattle.book_model.specs.declared.answers.ImportTally.{ImportTally}
 use Rattle.book_model.specs.declared.answers.Moved.{Moved as Numbers}
 use Rattle.book_model.specs.declared.answers.Stored.{Stored}
 use Rattle.book_model.specs.declared.page.Page.{Page as Told}
@@ -22,11 +23,11 @@ use Rattle.book_laws.specs.RightDevices.{IsComplete, IsRight}
 use Rattle.book_laws.specs.GoingOn.{GoesOn}
 use Rattle.book_laws.specs.Losses.{LostMoreThanKept}
 use Rattle.book_laws.specs.Worlds.{Story, IsSoundWorld, World, rows}
-use Rattle.book_service.specs.declared.command.Command.TheVariants.{MoveCard, Report, Forget}
+use Rattle.book_service.specs.declared.command.Command.TheVariants.{MoveCard, Report, Import, Forget}
 use Rattle.book_service.specs.declared.event.Event.{Event}
 use Rattle.book_service.specs.declared.event.Event.TheVariants.{Do, Ask}
 use Rattle.book_service.specs.declared.reply.Reply.{Reply}
-use Rattle.book_service.specs.declared.reply.Reply.TheVariants.{Moved, Page, Forgot, Refused}
+use Rattle.book_service.specs.declared.reply.Reply.TheVariants.{Moved, Imported, Page, Forgot, Refused}
 use Rattle.book_service.specs.PageCounts.{FewAreTruncated}
 use Rattle.book_service.specs.Runs.{Moment, Happening, AtEachStep, Run, end_of, events_of, replies_of, IsAt}
 use Rattle.book_service.specs.Texts.{ReadsToken}
@@ -131,6 +132,18 @@ TokensGrowOld = (now : Moment) (told again : Happening) (between : List Happenin
     (cause ≡ TooOld)
     × (AtSomeStep (ForgetsAbove name page.mark.base) between
     ⊎ LostMoreThanKept (end_of told.after between).world.books name page.mark.base)
+
+-- ---- the keys
+
+-- An import was answered, and whatever comes between, a later import with the key that is answered
+-- is answered the same, whatever its body is, and changes no book.
+abbrev pub KeysActOnce : Type 0
+KeysActOnce = (now : Moment) (told again : Happening) (between : List Happening)
+    (name key body other_body : List ℕ) (tally other : ImportTally) →
+    Run now (told ∷ (between ++ again ∷ [])) →
+    told.event ≡ Do (Import name key body) → told.reply ≡ Imported tally →
+    again.event ≡ Do (Import name key other_body) → again.reply ≡ Imported other →
+    (other ≡ tally) × (again.after.world.books ≡ (end_of told.after between).world.books)
 
 -- ---- the rows
 

@@ -1,6 +1,6 @@
 //! What holds over every run. Each law is a function that does nothing.
 ghost use Rattle.book_laws.specs.DeviceLaws.{DevicesStartRight};
-ghost use Rattle.book_service.specs.Promise.{Always, LeadsToWorld, InEachBook, HoldsLastStored, AddsUp, HasTrueCounts, BooksGoOn, MovesTakeOneCard, DevicesStayRight, LastPagesComplete, TokensGrowOld, RowsStayWellFormed, RunsAppend, NewStoresStart, TruncatedPagesAreFew};
+ghost use Rattle.book_service.specs.Promise.{Always, LeadsToWorld, InEachBook, HoldsLastStored, AddsUp, HasTrueCounts, BooksGoOn, MovesTakeOneCard, DevicesStayRight, LastPagesComplete, TokensGrowOld, KeysActOnce, RowsStayWellFormed, RunsAppend, NewStoresStart, TruncatedPagesAreFew};
 
 use book_laws::devices::{
     devices_start_right, devices_stay_right_among_books, devices_stay_right_over_calls,
@@ -9,7 +9,8 @@ use book_laws::devices::{
 use book_laws::following::{empty_stores_have_no_history, rows_are_of_books};
 use book_laws::histories::{changes_are_counted, live_cards_are_stored_last};
 use book_laws::runs::{
-    books_go_on, histories_stay_lawful, moves_take_one_card, rows_follow_calls, tokens_stay_good,
+    books_go_on, histories_stay_lawful, imports_act_once, moves_take_one_card, rows_follow_calls,
+    tokens_stay_good,
 };
 use book_laws::well_formed::calls_keep_books_well_formed;
 use sync_core::laws::token_texts_are_one;
@@ -41,6 +42,10 @@ pub fn runs_keep_the_promise()
     // A book refuses the token of a page that it told only as too old, and only where it was made
     // to forget since, or where more cards left it since than it keeps.
     ensures tokens { TokensGrowOld }
+
+    // A key acts once: an import with the key of an earlier one that was answered is answered the
+    // same, whatever its body is, and changes nothing.
+    ensures imports { KeysActOnce }
 {
     histories_stay_lawful();
     changes_are_counted();
@@ -52,6 +57,7 @@ pub fn runs_keep_the_promise()
     devices_stay_right_among_books();
     last_pages_complete_copies();
     tokens_stay_good();
+    imports_act_once();
     token_texts_are_one();
 }
 

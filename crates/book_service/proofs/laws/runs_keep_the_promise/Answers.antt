@@ -1,4 +1,5 @@
 use Rattle.book_service.specs.Promise.{LeadsToWorld, BooksGoOn, MovesTakeOneCard, DevicesStayRight, LastPagesComplete}
+use Rattle.book_service.proofs.OnceLemmas.{keys_act_once}
 use Rattle.book_service.proofs.PromiseLemmas.{books_add_up, books_go_on, moves_take_one_card, devices_stay_right, last_pages_complete}
 use Rattle.book_service.proofs.StepLemmas.{always, step_world}
 use Rattle.book_service.proofs.TokenLemmas.{tokens_grow_old}
@@ -35,3 +36,6 @@ returns-clause-whole c = always c.histories_stay_lawful.ensures LastPagesComplet
 
 pub returns-clause-tokens : goal.returns-clause-tokens
 returns-clause-tokens c = tokens_grow_old c.histories_stay_lawful.ensures c.token_texts_are_one.ensures c.tokens_stay_good.ensures
+
+pub returns-clause-imports : goal.returns-clause-imports
+returns-clause-imports c = keys_act_once c.imports_act_once.ensures
