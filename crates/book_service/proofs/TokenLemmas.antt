@@ -17,8 +17,8 @@ use Rattle.book_model.specs.Pages.{token_of}
 use Rattle.book_laws.specs.WorldChanges.{forget_meaning}
 use Rattle.book_laws.specs.WorldSteps.{report_meaning}
 use Rattle.book_laws.specs.Worlds.{Stories, IsSoundWorld}
-use Rattle.sync_core.specs.TokenTextLaws.{TextsTellTokens}
-use Rattle.sync_core.specs.TokenTexts.{IsToken, token_octets}
+use Rattle.book_devices.specs.TokenTextLaws.{TextsTellTokens}
+use Rattle.book_devices.specs.TokenTexts.{IsToken, token_octets}
 use Rattle.book_service.specs.declared.command.Command.{Command}
 use Rattle.book_service.specs.declared.command.Command.TheVariants.{CreateBook, Books as ListBooks, Get, Put, Remove, MoveCard, Report, Import, Forget, TallyOf, Export, People}
 use Rattle.book_service.specs.declared.event.Event.{Event}

@@ -6,7 +6,7 @@ use Rattle.book_model.specs.Bounds.{Bounds, IsInRange}
 use Rattle.book_model.specs.Books.{Books}
 use Rattle.book_model.specs.Pages.{Asked, IsReport, report_step, token_of}
 use Rattle.book_model.specs.WellFormed.{IsWellFormed}
-use Rattle.sync_core.specs.TokenTexts.{token_octets, IsToken}
+use Rattle.book_devices.specs.TokenTexts.{token_octets, IsToken}
 
 -- the text that is written of a page's token is a token's text, and so its own
 abbrev pub PageTokensHaveTexts : Type 0

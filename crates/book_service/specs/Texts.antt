@@ -12,7 +12,7 @@ use Rattle.book_model.specs.declared.refusal.Refusal.{Refusal}
 use Rattle.book_model.specs.declared.refusal.Refusal.TheVariants.{BadCard, UidMismatch, BadImport, BadToken}
 use Rattle.book_model.specs.declared.refusal.TokenCause.TheVariants.{Malformed}
 use Rattle.book_model.specs.declared.token.Token.{Token}
-use Rattle.sync_core.specs.TokenTexts.{IsToken}
+use Rattle.book_devices.specs.TokenTexts.{IsToken}
 
 -- the text is no card, and the refusal says why
 pub record IsBadCard (text : List ℕ) (refusal : Refusal) : Type 0 where

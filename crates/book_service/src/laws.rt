@@ -13,7 +13,7 @@ use book_laws::runs::{
     tokens_stay_good,
 };
 use book_laws::well_formed::calls_keep_books_well_formed;
-use sync_core::laws::token_texts_are_one;
+use book_devices::laws::token_texts_are_one;
 
 /// The promise, over every run of commands and asks from every sound world, and so from each
 /// moment of a run.

@@ -10,8 +10,6 @@ pub mod laws;
 pub mod mirrored;
 pub mod page_tokens;
 pub mod reply;
-#[cfg(test)]
-mod tests;
 mod texts;
 mod whole_books;
 

@@ -8,7 +8,7 @@ use Rattle.book_model.specs.declared.answers.PutAnswer.TheVariants.{Created, Edi
 use Rattle.book_model.specs.declared.page.Entry.{Entry}
 use Rattle.book_model.specs.declared.page.Entry.TheVariants.{Changed, Removed}
 use Rattle.book_model.specs.declared.page.Page.{Page}
-use Rattle.sync_core.specs.TokenTexts.{token_octets}
+use Rattle.book_devices.specs.TokenTexts.{token_octets}
 use Rattle.contacts.specs.declared.first_path.FirstPath.{FirstPath}
 use Rattle.contacts.specs.declared.stop.Stop.{Stop}
 use Rattle.contacts.specs.declared.stop.Stop.TheVariants.{Refused, Fault, Device}

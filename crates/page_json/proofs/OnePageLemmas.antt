@@ -9,7 +9,7 @@ use Rattle.book_model.specs.declared.page.Entry.TheVariants.{Changed, Removed}
 use Rattle.book_model.specs.declared.page.Page.{Page}
 use Rattle.book_model.specs.declared.token.Token.{Token}
 use Rattle.book_model.specs.Pages.{token_of}
-use Rattle.sync_core.specs.TokenTexts.{IsToken}
+use Rattle.book_devices.specs.TokenTexts.{IsToken}
 use Rattle.page_json.specs.PageTexts.{MemberTexts, changed, removed, PageTexts, TellEntries, TellsEntry, TellsPage}
 use Rattle.page_json.specs.PageValues.{HasShape, SayMembers, member_value}
 use Rattle.page_json.specs.PagesOfTexts.{IsJson, IsOfPage, PageOf}

@@ -7,7 +7,7 @@ use Rattle.vcard_text.specs.Cards.{uid_of}
 use Rattle.vcard_text.specs.Spelling.{Spells}
 use Rattle.book_model.specs.declared.page.Entry.{Entry}
 use Rattle.book_model.specs.declared.token.Token.{Token}
-use Rattle.sync_core.specs.TokenTexts.{IsToken}
+use Rattle.book_devices.specs.TokenTexts.{IsToken}
 use Rattle.page_json.specs.declared.fault.ReportFault.{ReportFault}
 use Rattle.page_json.specs.declared.fault.ReportFault.TheVariants.{NotJson, BadShape, BadCard, BadToken}
 use Rattle.page_json.specs.PageTexts.{MemberTexts, changed, removed, PageTexts, TellEntries}

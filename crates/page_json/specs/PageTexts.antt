@@ -6,7 +6,7 @@ use Rattle.book_model.specs.declared.page.Entry.{Entry}
 use Rattle.book_model.specs.declared.page.Entry.TheVariants.{Changed, Removed}
 use Rattle.book_model.specs.declared.page.Page.{Page}
 use Rattle.book_model.specs.Pages.{token_of}
-use Rattle.sync_core.specs.TokenTexts.{IsToken}
+use Rattle.book_devices.specs.TokenTexts.{IsToken}
 
 -- what a page says of one member: the UID, the version and the card's text, or the UID of one that
 -- is gone

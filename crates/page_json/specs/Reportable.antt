@@ -9,7 +9,7 @@ use Rattle.book_model.specs.declared.page.Entry.{Entry}
 use Rattle.book_model.specs.declared.page.Entry.TheVariants.{Changed, Removed}
 use Rattle.book_model.specs.declared.page.Page.{Page}
 use Rattle.book_model.specs.Pages.{token_of}
-use Rattle.sync_core.specs.TokenTexts.{token_octets, IsToken}
+use Rattle.book_devices.specs.TokenTexts.{token_octets, IsToken}
 use Rattle.page_json.specs.PageTexts.{MemberTexts, changed, removed, PageTexts, IsVersion}
 use Rattle.page_json.specs.PageValues.{page_value}
 

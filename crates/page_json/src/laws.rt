@@ -3,7 +3,7 @@
 ghost use Rattle.page_json.specs.ReportLaws.{FirstFaultsAreOne, PagesHaveNoFault, ReportsAreReportable, TextsTellPages, ValuesTellPages};
 
 use book_laws::well_formed::pages_fit_well_formed_books;
-use sync_core::laws::token_texts_are_one;
+use book_devices::laws::token_texts_are_one;
 use vcard_text::laws::card_is_one;
 
 /// A value is of at most one page.

@@ -15,7 +15,8 @@ use crate::member::{Member, entry_of};
 use crate::parts::{Parts, parts_of};
 use serde_json::Value;
 use std::alloc::Global;
-use sync_core::{Entry, Page, read_token};
+use book_devices::read_token;
+use book_model::{Entry, Page};
 use vcard_text::Items;
 
 /// The value that the text is JSON of.

@@ -6,7 +6,8 @@ use crate::reading::read_report;
 use std::alloc::Global;
 use std::process::Abort;
 use std::test::Fail;
-use sync_core::{Entry, token_text};
+use book_devices::token_text;
+use book_model::Entry;
 use vcard_text::write_card;
 
 /// The text of the card with this UID and name.

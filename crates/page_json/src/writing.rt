@@ -11,7 +11,8 @@ ghost use Rattle.page_json.specs.Reportable.{IsReportable, SpellsItsCard, member
 use crate::member::{STATUS_NOT_FOUND, STATUS_OK};
 use serde_json::{Value, json};
 use std::alloc::Global;
-use sync_core::{Entry, Page, token_text};
+use book_devices::token_text;
+use book_model::{Entry, Page};
 use vcard_text::{Card, NoMemory, write_card};
 
 /// The card's canonical text.

@@ -5,7 +5,7 @@ use crate::writing::write_report;
 use std::alloc::Global;
 use std::rt::HostRuntime;
 use std::test::Fail;
-use sync_core::{Entry, Mark, Page};
+use book_model::{Entry, Mark, Page};
 use vcard_text::{Items, Text, read_card};
 
 /// The body that the formats' worked example has of d's removal, 101 octets.

@@ -6,7 +6,7 @@ use crate::writing::write_report;
 use std::alloc::Global;
 use std::process::Abort;
 use std::rt::HostRuntime;
-use sync_core::Page;
+use book_model::Page;
 
 /// A card, a removal and a token.
 const BODY: &str = "{\"members\":[{\"card\":\"BEGIN:VCARD\\r\\nVERSION:4.0\\r\\nUID:a\\r\\nFN:Ann\

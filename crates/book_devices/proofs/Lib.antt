@@ -1,0 +1,2 @@
+pub mod TokenTextLemmas
+pub mod OneTokenLemmas

@@ -1,0 +1,4 @@
+pub mod TokenTexts
+pub mod TokenTextLaws
+pub mod HoldingCodes
+pub mod HoldingTests

@@ -1,0 +1,207 @@
+//! Imports into a book in memory: what they count, that they act once, and the limits.
+ghost use Rattle.std.specs.Prelude.{◌≡◌, IsTrue, bytes_eq, not};
+ghost use Rattle.std.specs.List.{list_all};
+ghost use Rattle.vcard_text.specs.Cards.{uid_of};
+ghost use Rattle.book_model.specs.ImportLaws.{HaveDistinctUids};
+
+use super::card;
+use book_model::{Denied, ImportTally, Limits, Refusal, Tally};
+use std::alloc::Global;
+use std::test::Fail;
+use sync_core::{BookStore, PlainStore};
+use vcard_text::Card;
+
+/// Three people, by UID and name.
+const THREE: [(&str, &str); 3] = [("p", "Pat Lee"), ("q", "Quin"), ("r", "Rae")];
+
+/// One of them again, one under another name, and one more.
+const THREE_MORE: [(&str, &str); 3] = [("p", "Pat Lee"), ("q", "Quinn"), ("s", "Sy")];
+
+/// The answer to the import of three cards into an empty book.
+const THREE_ADDED: ImportTally = ImportTally {
+    added: 3,
+    edited: 0,
+    same: 0,
+    number: 3,
+};
+
+/// A book to which nothing happened, in numbers.
+const NO_CHANGES: Tally = Tally {
+    number: 0,
+    horizon: 0,
+    cards: 0,
+    created: 0,
+    edited: 0,
+    imported: 0,
+    import_edited: 0,
+    moved_in: 0,
+    deleted: 0,
+    moved_out: 0,
+    remembered: 0,
+};
+
+/// Whether none of the cards has the UID.
+fn is_new(uid: &str, cards: &[Card]) -> bool
+    ensures { result ≡ list_all (λ other. not (bytes_eq uid.now (uid_of other))) cards.now }
+{
+    for card in cards {
+        if uid == card.uid() {
+            return false;
+        }
+    }
+    true
+}
+
+/// Whether no two of the cards have one UID.
+fn have_distinct_uids(cards: &[Card]) -> bool
+    ensures { IsTrue result → HaveDistinctUids cards.now }
+{
+    let mut rest = cards;
+    while let Some((card, others)) = rest.split_first() {
+        if !is_new(card.uid(), others) {
+            return false;
+        }
+        rest = others;
+    }
+    true
+}
+
+/// Imports the people into `staff` under the key.
+fn import(
+    alloc: Global,
+    store: &mut PlainStore,
+    key: &str,
+    people: &[(&str, &str)],
+) -> Result<Result<ImportTally, Denied>, Fail> {
+    let mut cards = Vec::new(alloc);
+    for (uid, name) in people {
+        cards.push(card(alloc, uid, name)?)?;
+    }
+    if !have_distinct_uids(cards.as_slice()) {
+        return Err(Fail::from("two cards have one UID"));
+    }
+    Ok(store.import("staff", key, cards.as_slice()))
+}
+
+/// A store with the limits and the empty book `staff`.
+fn store_within(alloc: Global, cards_max: u64, changes_max: u64) -> Result<PlainStore, Fail> {
+    let limits = Limits::new(100, cards_max, changes_max, 100).ok_or("no limits")?;
+    let mut store = PlainStore::new(alloc, limits);
+    store.create_book("staff")?;
+    Ok(store)
+}
+
+#[test]
+fn an_import_under_a_kept_key_acts_once(rt: HostRuntime) -> Result<(), Fail> {
+    let alloc = rt.alloc();
+    let mut store = store_within(alloc, 10_000, 1_000)?;
+    assert_eq!(rt; import(alloc, &mut store, "k1", &THREE)?, Ok(THREE_ADDED));
+    assert_eq!(rt;
+        import(alloc, &mut store, "k1", &THREE_MORE)?,
+        Ok(THREE_ADDED)
+    );
+    assert_eq!(rt; store.kept_import("staff", "k1"), Ok(Some(THREE_ADDED)));
+    let three = Tally {
+        number: 3,
+        cards: 3,
+        imported: 3,
+        ..NO_CHANGES
+    };
+    assert_eq!(rt; store.tally("staff"), Ok(three));
+    Ok(())
+}
+
+#[test]
+fn cards_are_added_edited_or_the_same(rt: HostRuntime) -> Result<(), Fail> {
+    let alloc = rt.alloc();
+    let mut store = store_within(alloc, 10_000, 1_000)?;
+    assert_eq!(rt; import(alloc, &mut store, "k1", &THREE)?, Ok(THREE_ADDED));
+    let one_each = ImportTally {
+        added: 1,
+        edited: 1,
+        same: 1,
+        number: 5,
+    };
+    assert_eq!(rt; import(alloc, &mut store, "k2", &THREE_MORE)?, Ok(one_each));
+    let four = Tally {
+        number: 5,
+        cards: 4,
+        imported: 4,
+        import_edited: 1,
+        ..NO_CHANGES
+    };
+    assert_eq!(rt; store.tally("staff"), Ok(four));
+    for (uid, name, version) in [("p", "Pat Lee", 1), ("q", "Quinn", 4), ("s", "Sy", 5)] {
+        let stored = store.get("staff", uid)?;
+        assert_eq!(rt; stored.version, version, "{uid}");
+        assert_eq!(rt; stored.card, card(alloc, uid, name)?, "{uid}");
+    }
+    Ok(())
+}
+
+#[test]
+fn an_import_of_no_cards_is_kept_and_takes_no_number(rt: HostRuntime) -> Result<(), Fail> {
+    let alloc = rt.alloc();
+    let mut store = store_within(alloc, 10_000, 1_000)?;
+    let nothing = ImportTally {
+        added: 0,
+        edited: 0,
+        same: 0,
+        number: 0,
+    };
+    assert_eq!(rt; import(alloc, &mut store, "k1", &[])?, Ok(nothing));
+    assert_eq!(rt; store.tally("staff"), Ok(NO_CHANGES));
+    assert_eq!(rt; import(alloc, &mut store, "k1", &THREE)?, Ok(nothing));
+    Ok(())
+}
+
+/// A refused import changes nothing, and its key isn't kept.
+#[test]
+fn imports_beyond_a_limit_are_refused(rt: HostRuntime) -> Result<(), Fail> {
+    let alloc = rt.alloc();
+    for (cards_max, changes_max, refusal) in [
+        (2, 2, Refusal::BookFull),
+        (2, 3, Refusal::BookFull),
+        (3, 2, Refusal::ChangesSpent),
+    ] {
+        let mut store = store_within(alloc, cards_max, changes_max)?;
+        let refused = import(alloc, &mut store, "k1", &THREE)?;
+        assert_eq!(rt; refused, Err(Denied::Refused(refusal)));
+        assert_eq!(rt; store.kept_import("staff", "k1"), Ok(None));
+        assert_eq!(rt; store.tally("staff"), Ok(NO_CHANGES));
+    }
+    Ok(())
+}
+
+/// A full book that took all its changes takes the same cards again.
+#[test]
+fn imports_up_to_the_limits_are_done(rt: HostRuntime) -> Result<(), Fail> {
+    let alloc = rt.alloc();
+    let mut store = store_within(alloc, 3, 3)?;
+    assert_eq!(rt; import(alloc, &mut store, "k1", &THREE)?, Ok(THREE_ADDED));
+    let same = ImportTally {
+        added: 0,
+        edited: 0,
+        same: 3,
+        number: 3,
+    };
+    assert_eq!(rt; import(alloc, &mut store, "k2", &THREE)?, Ok(same));
+    let full = import(alloc, &mut store, "k3", &THREE_MORE)?;
+    assert_eq!(rt; full, Err(Denied::Refused(Refusal::BookFull)));
+    let spent = import(alloc, &mut store, "k3", &[("p", "Pat")])?;
+    assert_eq!(rt; spent, Err(Denied::Refused(Refusal::ChangesSpent)));
+    Ok(())
+}
+
+#[test]
+fn imports_under_other_words_than_keys_are_refused(rt: HostRuntime) -> Result<(), Fail> {
+    let alloc = rt.alloc();
+    let mut store = store_within(alloc, 2, 2)?;
+    let refused = import(alloc, &mut store, "k/3", &THREE)?;
+    assert_eq!(rt; refused, Err(Denied::Refused(Refusal::BadKey)));
+    assert_eq!(rt;
+        store.import("clients", "k/3", &[]),
+        Err(Denied::Refused(Refusal::NoSuchBook))
+    );
+    Ok(())
+}
