@@ -7,3 +7,6 @@ pub mod ReadBackLemmas
 pub mod OneReadingLemmas
 pub mod FirstFaultLemmas
 pub mod OneFaultLemmas
+pub mod AllRowLemmas
+pub mod ColumnTextLemmas
+pub mod EitherLemmas

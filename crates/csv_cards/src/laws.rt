@@ -1,5 +1,5 @@
 //! Laws of rows. Each is a function that does nothing, whose clause holds of all cards and texts.
-ghost use Rattle.std.specs.Prelude.{◌≡◌, ℕ, List};
+ghost use Rattle.std.specs.Prelude.{◌≡◌, ◌⊎◌, ℕ, List};
 ghost use Rattle.std.specs.FinMap as finite;
 ghost use Rattle.base_types.specs.TextMaps.{text_cmp};
 ghost use Rattle.vcard_text.specs.declared.line.Line.{Line};
@@ -32,22 +32,17 @@ pub fn cards_of_rows_are_one()
     card_is_one();
 }
 
-/// A text whose rows stand for cards has no first fault.
-pub fn cards_have_no_first_fault()
-    ensures { (text : List ℕ) (cards : List (List Line)) (fault : CsvFault) → AreCards text cards
-        → IsFirstFault text fault → ⊥ }
-{
-    // A law, which does nothing: a text spells at most one card.
-    card_is_one();
-}
-
-/// A text has at most one first fault.
-pub fn first_faults_are_one()
-    ensures { (text : List ℕ) (a b : CsvFault) → IsFirstFault text a → IsFirstFault text b
+/// A text has at most one first fault, and has one exactly where its rows stand for no cards.
+pub fn first_fault_without_cards()
+    ensures one { (text : List ℕ) (a b : CsvFault) → IsFirstFault text a → IsFirstFault text b
         → a ≡ b }
+    ensures either { (text : List ℕ) → ((cards : List (List Line)) × AreCards text cards)
+        ⊎ ((fault : CsvFault) × IsFirstFault text fault) }
+    ensures not_both { (text : List ℕ) (cards : List (List Line)) (fault : CsvFault)
+        → AreCards text cards → IsFirstFault text fault → ⊥ }
 {
-    // Laws, which do nothing: a text spells at most one card, and text and lines have at most one
-    // first fault.
+    // Laws, which do nothing: a text spells at most one card, and a text and lines have a card or
+    // one first fault.
     card_is_one();
     first_fault_without_card();
     first_made_fault_is_computed();

@@ -11,7 +11,7 @@ ghost use Rattle.csv_cards.specs.declared.cause.CsvCause.TheVariants.{BadHeader,
 use crate::cause::CsvCause;
 use crate::fault::CsvFault;
 use crate::form::Form;
-use crate::laws::{cards_have_no_first_fault, cards_of_rows_are_one};
+use crate::laws::{cards_of_rows_are_one, first_fault_without_cards};
 use crate::records::{form_of, read_record, reader_of};
 use crate::row::card_of_row;
 use csv::{ByteRecord, Reader};
@@ -148,7 +148,7 @@ pub fn read_rows(alloc: Global, text: &[u8]) -> Result<Vec<Card>, CsvFault>
 {
     // Laws, which do nothing: a text has one list of cards, or a first fault.
     cards_of_rows_are_one();
-    cards_have_no_first_fault();
+    first_fault_without_cards();
 
     let mut reader = reader_of(alloc, text);
     let form = read_header(alloc, &mut reader)?;
