@@ -8,17 +8,17 @@ use std::test::Fail;
 use sync_core::Limits;
 
 /// A script on a new store with these limits: the most entries of a page, live cards of a book,
-/// changes of a book, and books.
+/// changes of a book, books, and removed members that a book remembers.
 struct LimitRow {
-    limits: [u64; 4],
+    limits: [u64; 5],
     script: &'static str,
     wanted: &'static str,
 }
 
-const LIMIT_ROWS: [LimitRow; 6] = [
+const LIMIT_ROWS: [LimitRow; 11] = [
     // A store of one book, with two cards and three changes.
     LimitRow {
-        limits: [1, 2, 3, 1],
+        limits: [1, 2, 3, 1, 10_000],
         script: "create Staff
 create staff
 create staff
@@ -47,7 +47,7 @@ b 2 Bob, 1/3/3
     },
     // A book of three changes.
     LimitRow {
-        limits: [100, 10, 3, 1],
+        limits: [100, 10, 3, 1, 10_000],
         script: "create staff
 put staff a Ann
 put staff b Bob
@@ -64,7 +64,7 @@ unchanged 2
     },
     // A book of two cards.
     LimitRow {
-        limits: [100, 2, 300, 1],
+        limits: [100, 2, 300, 1, 10_000],
         script: "create staff
 put staff a Ann
 put staff b Bob
@@ -81,7 +81,7 @@ edited 3
     },
     // A store of one book.
     LimitRow {
-        limits: [100, 2, 300, 1],
+        limits: [100, 2, 300, 1, 10_000],
         script: "create staff
 create staff
 create clients",
@@ -92,7 +92,7 @@ refused 18
     },
     // A removal takes a number too.
     LimitRow {
-        limits: [100, 10, 2, 1],
+        limits: [100, 10, 2, 1, 10_000],
         script: "create staff
 put staff a Ann
 put staff b Ann
@@ -109,7 +109,7 @@ a 1 Ann
     },
     // A move needs room in the other book, and a number in both.
     LimitRow {
-        limits: [100, 1, 3, 2],
+        limits: [100, 1, 3, 2, 10_000],
         script: "create staff
 create clients
 put staff a Ann
@@ -128,6 +128,129 @@ gone 2
 moved 2 3
 refused 13
 a 3 Ann
+",
+    },
+    // An import needs room for the cards that it adds, and one without room isn't kept.
+    LimitRow {
+        limits: [100, 2, 300, 1, 10_000],
+        script: "create staff
+put staff a Ann
+import staff k columns;b,Bob,,,,,,;c,Cy,,,,,,
+import staff k columns;a,Anna,,,,,,;b,Bob,,,,,,
+import staff k2 columns;a,Anna,,,,,,;b,Rob,,,,,,
+import staff k3 columns;c,Cy,,,,,,
+books",
+        wanted: "book 1
+created 1
+refused 12
+added 1 edited 1 same 0 number 3
+added 0 edited 1 same 1 number 4
+refused 12
+books, staff 1 4 0
+",
+    },
+    // It needs a number for each card that it adds or edits.
+    LimitRow {
+        limits: [100, 10, 3, 1, 10_000],
+        script: "create staff
+put staff a Ann
+import staff k columns;b,Bob,,,,,,;c,Cy,,,,,,;d,Dee,,,,,,
+import staff k columns;a,Ann,,,,,,;b,Bob,,,,,,;c,Cy,,,,,,
+import staff k2 columns;a,Ann,,,,,,
+import staff k3 columns;a,Anna,,,,,,
+import staff k3 columns;a,Anna,,,,,,;b,,,,,,,
+import staff k3
+books",
+        wanted: "book 1
+created 1
+refused 13
+added 2 edited 0 same 1 number 3
+added 0 edited 0 same 1 number 3
+refused 13
+refused 14 row 2 cause 4
+refused 14 row 0 cause 1
+books, staff 1 3 0
+",
+    },
+    // Where there is neither, the room for cards is told.
+    LimitRow {
+        limits: [100, 1, 1, 1, 10_000],
+        script: "create staff
+import staff k columns;a,Ann,,,,,,;b,Bob,,,,,,
+import staff k columns;a,Ann,,,,,,
+import staff k2 columns;b,Bob,,,,,,
+import staff k2 columns;a,Anna,,,,,,
+import staff k/2 columns;b,Bob,,,,,,",
+        wanted: "book 1
+refused 12
+added 1 edited 0 same 0 number 1
+refused 12
+refused 13
+refused 15
+",
+    },
+    // A book that remembers one removed member drops those before it, and its horizon rises to the
+    // last that it dropped.
+    LimitRow {
+        limits: [100, 10, 300, 1, 1],
+        script: "create desk
+put desk a Ann
+put desk b Bob
+put desk c Cy
+report desk - 1
+remove desk a
+tally desk
+remove desk b
+tally desk
+report desk 1/1/3
+report desk 1/3/3
+report desk 1/4/4
+remove desk c
+tally desk",
+        wanted: "book 1
+created 1
+created 2
+created 3
+a 1 Ann, 1/1/3 and more
+gone 4
+number 4 horizon 0 cards 2 created 3 edited 0 imported 0 import-edited 0 moved-in 0 deleted 1 moved-out 0 remembered 1
+gone 5
+number 5 horizon 4 cards 1 created 3 edited 0 imported 0 import-edited 0 moved-in 0 deleted 2 moved-out 0 remembered 1
+refused 10 cause 4
+refused 10 cause 4
+b gone, 1/5/5
+gone 6
+number 6 horizon 5 cards 0 created 3 edited 0 imported 0 import-edited 0 moved-in 0 deleted 3 moved-out 0 remembered 1
+",
+    },
+    // What moves away is removed there too. A card that comes again isn't remembered, so that
+    // nothing is dropped for it.
+    LimitRow {
+        limits: [100, 10, 300, 2, 1],
+        script: "create staff
+create clients
+put staff a Ann
+put staff b Bob
+move staff a clients
+put staff a Ann
+remove staff b
+books
+remove clients a
+move staff a clients
+books
+tally staff",
+        wanted: "book 1
+book 2
+created 1
+created 2
+moved 3 1
+created 4
+gone 5
+books, clients 2 1 0, staff 1 5 0
+gone 2
+moved 6 3
+books, clients 2 3 0, staff 1 6 5
+number 6 horizon 5 cards 0 created 3 edited 0 imported 0 import-edited 0 moved-in 0 deleted 1 moved-out 2 remembered 1
 ",
     },
 ];
@@ -193,8 +316,9 @@ fn rows_are_replied<K: Stores>(rt: &impl Abort, kind: &K, alloc: Global) -> Resu
 /// So are those with limits of their own.
 fn limit_rows_are_replied<K: Stores>(rt: &impl Abort, kind: &K, alloc: Global) -> Result<(), Fail> {
     for row in &LIMIT_ROWS {
-        let [pages, cards, changes, books] = row.limits;
+        let [pages, cards, changes, books, keep] = row.limits;
         let limits = Limits::new(pages, cards, changes, books).ok_or("no legal limits")?;
+        let limits = limits.with_keep(keep).ok_or("no legal keep")?;
         is_replied(rt, kind, alloc, limits, &[row.script], row.wanted)?;
     }
     Ok(())

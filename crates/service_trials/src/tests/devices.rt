@@ -16,8 +16,12 @@ pub(super) struct Office<S> {
 }
 
 /// Nothing happened, and nobody has heard anything.
-pub(super) fn new_office<K: Stores>(kind: &K, alloc: Global) -> Result<Office<K::Store>, Fail> {
-    let store = kind.new_store(alloc, Limits::standard())?;
+pub(super) fn new_office<K: Stores>(
+    kind: &K,
+    alloc: Global,
+    limits: Limits,
+) -> Result<Office<K::Store>, Fail> {
+    let store = kind.new_store(alloc, limits)?;
     let mut devices = Vec::new(alloc);
     for book in ["staff", "clients", "staff"] {
         devices.push(Device::new(alloc, book)?)?;
@@ -62,9 +66,10 @@ fn tell_device<S>(
     Ok(())
 }
 
-/// Scripts that happen one after another in a new office, a device, and what is replied to the last
-/// script and what the device has then.
+/// Scripts that happen one after another in a new office whose books remember so many removed
+/// members, a device, and what is replied to the last script and what the device has then.
 struct Row {
+    keep: u64,
     scripts: &'static [&'static str],
     device: usize,
     wanted: &'static str,
@@ -102,9 +107,10 @@ ask 0";
 const A_MOVE: &str = "create clients
 move staff a clients";
 
-const ROWS: [Row; 15] = [
+const ROWS: [Row; 17] = [
     // A truncated page is applied.
     Row {
+        keep: 10_000,
         scripts: &[FIVE_CHANGES],
         device: 0,
         wanted: "book 1
@@ -119,6 +125,7 @@ http://contacts.invalid/sync/1/3/5",
     },
     // A device that goes on has the book.
     Row {
+        keep: 10_000,
         scripts: &[FIVE_CHANGES, "ask 0 1"],
         device: 0,
         wanted: "a 4 Anna, 1/5/5
@@ -128,6 +135,7 @@ http://contacts.invalid/sync/1/5/5",
     },
     // A page tells of a card as it is now.
     Row {
+        keep: 10_000,
         scripts: &[
             "create staff
 put staff a Ann
@@ -156,6 +164,7 @@ http://contacts.invalid/sync/1/5/5",
     },
     // A device of an empty book has nothing but a token.
     Row {
+        keep: 10_000,
         scripts: &[
             "create staff
 ask 0",
@@ -167,6 +176,7 @@ http://contacts.invalid/sync/1/0/0",
     },
     // Changes between pages are heard.
     Row {
+        keep: 10_000,
         scripts: &[FIVE_CHANGES, TWO_MORE],
         device: 0,
         wanted: "gone 6
@@ -179,6 +189,7 @@ http://contacts.invalid/sync/1/7/7",
     },
     // Pages of one entry lead to the same.
     Row {
+        keep: 10_000,
         scripts: &[
             FIVE_CHANGES,
             "remove staff c
@@ -199,6 +210,7 @@ http://contacts.invalid/sync/1/7/7",
     },
     // A card that came and went leaves no copy.
     Row {
+        keep: 10_000,
         scripts: &[FIVE_CHANGES, TWO_MORE, DEE],
         device: 0,
         wanted: "created 8
@@ -210,6 +222,7 @@ http://contacts.invalid/sync/1/9/9",
     },
     // A moved card leaves the copy.
     Row {
+        keep: 10_000,
         scripts: &[
             FIVE_CHANGES,
             TWO_MORE,
@@ -228,6 +241,7 @@ http://contacts.invalid/sync/1/10/10",
     },
     // A moved card comes to the other copy. Nothing is heard of what is refused or changes nothing.
     Row {
+        keep: 10_000,
         scripts: &[
             FIVE_CHANGES,
             TWO_MORE,
@@ -253,6 +267,7 @@ http://contacts.invalid/sync/2/2/2",
     },
     // A new device hears of both cards at once.
     Row {
+        keep: 10_000,
         scripts: &[
             FIVE_CHANGES,
             TWO_MORE,
@@ -272,6 +287,7 @@ http://contacts.invalid/sync/2/2/2",
     },
     // A device that was long away hears all at once.
     Row {
+        keep: 10_000,
         scripts: &[CHANGES, "ask 2 1", TWO_MORE, DEE, A_MOVE, "ask 2"],
         device: 2,
         wanted: "c gone, b 7 Bob, d gone, a gone, 1/10/10
@@ -280,6 +296,7 @@ http://contacts.invalid/sync/1/10/10",
     },
     // Asks that are refused change nothing.
     Row {
+        keep: 10_000,
         scripts: &[
             FIVE_CHANGES,
             "ask 0 0
@@ -295,12 +312,14 @@ http://contacts.invalid/sync/1/3/5",
     },
     // No events have no replies.
     Row {
+        keep: 10_000,
         scripts: &[""],
         device: 0,
         wanted: "no token",
     },
     // A token whose base is forgotten is given up, and the next ask is for an initial report.
     Row {
+        keep: 10_000,
         scripts: &[
             FIVE_CHANGES,
             "remove staff c
@@ -318,6 +337,7 @@ http://contacts.invalid/sync/1/6/6",
     },
     // A token at the horizon isn't, and is told of what went after it.
     Row {
+        keep: 10_000,
         scripts: &[
             FIVE_CHANGES,
             "remove staff c
@@ -331,29 +351,62 @@ a 4 Anna, c gone, 1/6/6
 a 4 Anna
 http://contacts.invalid/sync/1/6/6",
     },
+    // One card more than the book remembers went since the device's page: its token is given up, and
+    // it hears of the whole book again.
+    Row {
+        keep: 1,
+        scripts: &[
+            FIVE_CHANGES,
+            "remove staff c
+remove staff a
+put staff d Dee
+ask 0
+ask 0",
+        ],
+        device: 0,
+        wanted: "gone 6
+gone 7
+created 8
+refused 10 cause 4
+d 8 Dee, 1/8/8
+d 8 Dee
+http://contacts.invalid/sync/1/8/8",
+    },
+    // Only as many went as the book remembers, and the device hears of it.
+    Row {
+        keep: 1,
+        scripts: &[
+            FIVE_CHANGES,
+            "remove staff c
+ask 0",
+        ],
+        device: 0,
+        wanted: "gone 6
+a 4 Anna, c gone, 1/6/6
+a 4 Anna
+http://contacts.invalid/sync/1/6/6",
+    },
 ];
 
 /// The replies to the last of the scripts, which happen one after another, and then the copy and
 /// token of the device.
-fn last_replies<K: Stores>(
-    kind: &K,
-    alloc: Global,
-    scripts: &[&str],
-    device: usize,
-) -> Result<String, Fail> {
-    let mut office = new_office(kind, alloc)?;
+fn last_replies<K: Stores>(kind: &K, alloc: Global, row: &Row) -> Result<String, Fail> {
+    let limits = Limits::standard()
+        .with_keep(row.keep)
+        .ok_or("no legal keep")?;
+    let mut office = new_office(kind, alloc, limits)?;
     let mut text = String::new(alloc);
-    for script in scripts {
+    for script in row.scripts {
         text = happens(alloc, &mut office, script)?;
     }
-    tell_device(alloc, &mut text, &office, device)?;
+    tell_device(alloc, &mut text, &office, row.device)?;
     Ok(text)
 }
 
 /// All rows are replied as they say.
 fn rows_are_replied<K: Stores>(rt: &impl Abort, kind: &K, alloc: Global) -> Result<(), Fail> {
     for row in &ROWS {
-        let replies = last_replies(kind, alloc, row.scripts, row.device)?;
+        let replies = last_replies(kind, alloc, row)?;
         assert_eq!(rt; replies.as_str(), row.wanted, "{:?}", row.scripts);
     }
     Ok(())
@@ -365,7 +418,7 @@ fn a_refused_token_is_given_up<K: Stores>(
     kind: &K,
     alloc: Global,
 ) -> Result<(), Fail> {
-    let mut office = new_office(kind, alloc)?;
+    let mut office = new_office(kind, alloc, Limits::standard())?;
     happens(alloc, &mut office, FIVE_CHANGES)?;
     office.store = kind.new_store(alloc, Limits::standard())?;
     let script = "create staff
@@ -389,7 +442,7 @@ fn a_restarted_device_hears_an_initial_report<K: Stores>(
     kind: &K,
     alloc: Global,
 ) -> Result<(), Fail> {
-    let mut office = new_office(kind, alloc)?;
+    let mut office = new_office(kind, alloc, Limits::standard())?;
     happens(alloc, &mut office, FIVE_CHANGES)?;
     performed(alloc, &mut office.store, "remove staff c")?;
     if let Some(device) = office.devices.get_mut(0) {

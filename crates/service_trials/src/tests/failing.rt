@@ -163,6 +163,7 @@ get staff a
 books
 tally staff
 forget staff 0
+import staff k columns;b,Bob,,,,,,
 export staff cards
 export staff columns
 people staff a

@@ -8,7 +8,7 @@ put staff m Mo
 put clients o Ola
 move staff m clients";
 
-pub(super) const ROWS: [Row; 4] = [
+pub(super) const ROWS: [Row; 5] = [
     // The third row has no name: nothing is kept. Then three cards come. The key again answers the
     // same, whatever the body is, and another key acts anew.
     Row {
@@ -78,6 +78,28 @@ books",
         ],
         wanted: "refused 14 row 2 cause 41
 books, staff 1 0 0
+",
+    },
+    // A row's parts are the card's lines, and are told again as they came.
+    Row {
+        scripts: &[
+            "create staff",
+            "import staff k columns;p,Pat_Lee,Lee,Pat,pat@example.test,,,
+export staff cards
+export staff columns",
+        ],
+        wanted: "added 1 edited 0 same 0 number 1
+uid,vcard
+p,\"BEGIN:VCARD
+VERSION:4.0
+UID:p
+FN:Pat Lee
+N:Lee;Pat;;;
+EMAIL:pat@example.test
+END:VCARD
+\"
+uid,fn,family,given,email,tel,org,note
+p,Pat Lee,Lee,Pat,pat@example.test,,,
 ",
     },
 ];

@@ -9,10 +9,11 @@ use super::plain::{
     BOOKS, BOOKS_MAX, CARDS_MAX, CHANGES_MAX, Copies, Kind, PAGE_MAX, PlainBook, PlainDevice,
     PlainEvent, PlainOffice, PlainToken, UIDS, made, number_of, version_of,
 };
+use super::plain_imports::{KEYS, PlainRow, write_body};
 use super::plain_replies::{
     Telling, book_word, tell_event, tell_place, tell_plain_device, uid_word,
 };
-use super::plain_whole::name_word;
+use super::plain_whole::{FIRST_GROUP, name_word};
 use super::stores::{InMemory, Stores};
 use std::alloc::Global;
 use std::process::Abort;
@@ -23,7 +24,7 @@ use vcard_text::NoMemory;
 const EVENTS: u64 = 800;
 
 /// With this one each kind of reply comes at least once.
-const SEED: u64 = 1;
+const SEED: u64 = 20;
 
 /// How many names a card may have.
 const NAMES: u64 = 12;
@@ -69,9 +70,10 @@ fn draw_upto(dice: &mut Dice, number: u64) -> u64 {
 /// Cards are put most often, so that a book takes all the changes that it may.
 fn draw_kind(dice: &mut Dice) -> Kind {
     match dice.roll(100) {
-        0..=55 => Kind::Put,
-        56..=64 => Kind::Remove,
-        65..=68 => Kind::Move,
+        0..=50 => Kind::Put,
+        51..=59 => Kind::Remove,
+        60..=63 => Kind::Move,
+        64..=68 => Kind::Import,
         69..=79 => Kind::Ask,
         80..=84 => Kind::Report,
         85..=87 => Kind::Create,
@@ -150,6 +152,15 @@ fn draw_limit(dice: &mut Dice) -> Option<u64> {
     }
 }
 
+/// A row of a UID and a name that isn't a group's, or now and then without a name.
+fn draw_row(dice: &mut Dice) -> PlainRow {
+    let name = dice.roll(FIRST_GROUP + 1);
+    PlainRow {
+        uid: dice.roll(UIDS),
+        name: if name < FIRST_GROUP { Some(name) } else { None },
+    }
+}
+
 /// The next event. What it expects depends on the books as they are.
 fn draw_event(dice: &mut Dice, books: &[PlainBook]) -> PlainEvent {
     let kind = draw_kind(dice);
@@ -175,6 +186,8 @@ fn draw_event(dice: &mut Dice, books: &[PlainBook]) -> PlainEvent {
         token: draw_token(dice, id, number),
         limit: draw_limit(dice),
         upto: draw_upto(dice, number),
+        key: dice.roll(KEYS + 1),
+        rows: [draw_row(dice), draw_row(dice)],
         device: dice.roll(DEVICE_BOOKS.len() as u64) as usize,
     }
 }
@@ -193,6 +206,7 @@ fn verb(kind: Kind) -> &'static str {
         Kind::Report => "report",
         Kind::Tally => "tally",
         Kind::Forget => "forget",
+        Kind::Import => "import",
         Kind::Export | Kind::Rows => "export",
         Kind::People => "people",
         Kind::Ask => "ask",
@@ -234,6 +248,10 @@ fn write_object(line: &mut Telling, event: &PlainEvent) {
             line.number(event.device as u64);
         }
         Kind::Create | Kind::Tally | Kind::Forget => write_word(line, book_word(event.book)),
+        Kind::Import => {
+            write_word(line, book_word(event.book));
+            write_body(line, event);
+        }
         Kind::Export | Kind::Rows => {
             write_word(line, book_word(event.book));
             line.words(match event.kind {
@@ -279,6 +297,7 @@ fn plain_book(alloc: Global) -> PlainBook {
         id: 0,
         horizon: 0,
         changes: Vec::new(alloc),
+        kept: Vec::new(alloc),
     }
 }
 
@@ -384,7 +403,7 @@ fn drive_all<S: BookStore>(alloc: Global, run: &mut LongRun<S>) -> Result<(), No
 }
 
 /// What is in each reply of a kind and in no other, or in each refusal with its cause.
-const KINDS_OF_REPLIES: [&str; 38] = [
+const KINDS_OF_REPLIES: [&str; 43] = [
     "\nbook ",
     "\nbooks, ",
     " N1\n",
@@ -398,6 +417,7 @@ const KINDS_OF_REPLIES: [&str; 38] = [
     " gone, ",
     "\nnumber ",
     "\nforgot ",
+    "\nadded 1 edited 1 same 0 ",
     ",\"BEGIN:VCARD\n",
     ",,,,,,\n",
     "\npeople ",
@@ -419,6 +439,10 @@ const KINDS_OF_REPLIES: [&str; 38] = [
     "\nrefused 11\n",
     "\nrefused 12\n",
     "\nrefused 13\n",
+    "\nrefused 14 row 1 cause 4\n",
+    "\nrefused 14 row 2 cause 4\n",
+    "\nrefused 14 row 2 cause 41\n",
+    "\nrefused 15\n",
     "\nrefused 16\n",
     "\nrefused 17\n",
     "\nrefused 18\n",

@@ -5,6 +5,7 @@
 //! that takes.
 //!
 //! Names are small numbers, so that all values but the lists are plain ones.
+use super::plain_imports::{Kept, PlainRow};
 use sync_core::Mark;
 use vcard_text::NoMemory;
 
@@ -26,6 +27,8 @@ pub(super) const BOOKS: usize = 4;
 pub(super) enum Reason {
     Creation,
     Edit,
+    Import,
+    ImportEdit,
     MoveIn,
     Deletion,
     MoveOut,
@@ -34,9 +37,9 @@ pub(super) enum Reason {
 /// A change: the card of the UID has this name now, or is gone.
 #[derive(Clone, Copy)]
 pub(super) struct Change {
-    uid: u64,
-    name: Option<u64>,
-    reason: Reason,
+    pub uid: u64,
+    pub name: Option<u64>,
+    pub reason: Reason,
 }
 
 /// The card of a UID by the change of this number, with its name, or without one where it is gone.
@@ -55,12 +58,14 @@ pub(super) struct PlainToken {
     pub padded: bool,
 }
 
-/// A book's changes, its id, which is 0 before it is made, and the number up to which it forgot.
+/// A book's changes, its id, which is 0 before it is made, the number up to which it forgot, and the
+/// imports that it answered.
 #[derive(Drop)]
 pub(super) struct PlainBook {
     pub id: u64,
     pub horizon: u64,
     pub changes: Vec<Change>,
+    pub kept: Vec<Kept>,
 }
 
 /// The place of a device's book, the entries that it was told since it last had no token, and its
@@ -118,6 +123,7 @@ pub(super) enum Kind {
     Report,
     Tally,
     Forget,
+    Import,
     Export,
     Rows,
     People,
@@ -136,6 +142,8 @@ pub(super) struct PlainEvent {
     pub token: Option<PlainToken>,
     pub limit: Option<u64>,
     pub upto: u64,
+    pub key: u64,
+    pub rows: [PlainRow; 2],
     pub device: usize,
 }
 

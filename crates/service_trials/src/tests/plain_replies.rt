@@ -4,6 +4,7 @@ use super::plain::{
     PlainEvent, PlainOffice, PlainPage, PlainToken, Reason, UIDS, answer_to, count_gone,
     count_live, count_of, create, entry_at, keep, live_of, made, number_of, page_of, refused, said,
 };
+use super::plain_imports::import;
 use super::plain_whole::{forget, name_word, tell_columns, tell_people, tell_rows};
 use std::alloc::Global;
 use std::fmt::Write;
@@ -152,7 +153,7 @@ fn tell_count(telling: &mut Telling, words: &str, changes: &[Change], reason: Re
     telling.number(count_of(changes, reason));
 }
 
-/// The book in numbers. No book imports here.
+/// The book in numbers.
 fn tell_tally(telling: &mut Telling, book: &PlainBook) {
     let changes = book.changes.as_slice();
     telling.words("number ");
@@ -163,8 +164,9 @@ fn tell_tally(telling: &mut Telling, book: &PlainBook) {
     telling.number(count_live(changes));
     tell_count(telling, " created ", changes, Reason::Creation);
     tell_count(telling, " edited ", changes, Reason::Edit);
-    let words = " imported 0 import-edited 0 moved-in ";
-    tell_count(telling, words, changes, Reason::MoveIn);
+    tell_count(telling, " imported ", changes, Reason::Import);
+    tell_count(telling, " import-edited ", changes, Reason::ImportEdit);
+    tell_count(telling, " moved-in ", changes, Reason::MoveIn);
     tell_count(telling, " deleted ", changes, Reason::Deletion);
     tell_count(telling, " moved-out ", changes, Reason::MoveOut);
     telling.words(" remembered ");
@@ -395,6 +397,7 @@ pub(super) fn tell_event(
         Kind::Create => tell_answer(telling, create(&mut office.books, event.book)),
         Kind::Books => tell_books(telling, &office.books),
         Kind::Forget => forget(telling, &mut office.books, event),
+        Kind::Import => return import(telling, &mut office.books, event),
         Kind::Get | Kind::Report | Kind::Tally | Kind::Export | Kind::Rows | Kind::People =>
             tell_asked(telling, &office.books, event),
         _ => return tell_done(telling, &mut office.books, event),

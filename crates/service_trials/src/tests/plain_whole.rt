@@ -8,7 +8,7 @@ use super::plain::{
 use super::plain_replies::{Telling, tell_answer, uid_word};
 
 /// The least name of a group.
-const FIRST_GROUP: u64 = 9;
+pub(super) const FIRST_GROUP: u64 = 9;
 
 /// How a script writes the name. Behind a group's stand its members.
 pub(super) fn name_word(name: u64) -> &'static str {

@@ -7,10 +7,11 @@ use book_service::{Event, Reply, drive, mirror};
 use std::alloc::Global;
 use std::process::Abort;
 use std::test::Fail;
-use sync_core::{BookStore, Denied};
+use sync_core::{BookStore, Denied, Limits};
 use vcard_text::NoMemory;
 
-/// Cards come to `staff`, are edited and go, and two devices hear of it page by page.
+/// Cards come to `staff`, by an import too, are edited and go, and two devices hear of it page by
+/// page.
 const SCRIPT: &str = "create staff
 put staff a Ann
 put staff b Bob
@@ -29,6 +30,9 @@ put staff d Dee
 remove staff d
 ask 0
 forget staff 6
+import staff k columns;a,Ana,,,,,,;h,Hal,,,,,,
+import staff k nonsense
+import staff k2 nonsense
 put staff g All-a-nobody
 people staff g
 export staff cards
@@ -115,8 +119,8 @@ fn does_the_same<S: BookStore>(
 
 /// Each event of the script is done alike by two offices of the kind.
 fn events_are_done_alike<K: Stores>(rt: &impl Abort, kind: &K, alloc: Global) -> Result<(), Fail> {
-    let mut office = new_office(kind, alloc)?;
-    let mut twin = new_office(kind, alloc)?;
+    let mut office = new_office(kind, alloc, Limits::standard())?;
+    let mut twin = new_office(kind, alloc, Limits::standard())?;
     let events = events_in(alloc, SCRIPT)?;
     for event in events.chunks(1) {
         does_the_same(rt, alloc, &mut office, &mut twin, event)?;
@@ -149,7 +153,7 @@ fn a_mirror_leaves_the_books<K: Stores>(
     kind: &K,
     alloc: Global,
 ) -> Result<(), Fail> {
-    let mut office = new_office(kind, alloc)?;
+    let mut office = new_office(kind, alloc, Limits::standard())?;
     let cards = performed(alloc, &mut office.store, TWO_CARDS)?;
     if cards.as_str().contains("fault") {
         return Ok(());
