@@ -1,0 +1,3 @@
+pub mod KeyedEntries
+pub mod RowLemmas
+pub mod HeldRows

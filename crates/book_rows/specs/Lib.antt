@@ -1,0 +1,5 @@
+pub mod Values
+pub mod TableRows
+pub mod TableBooks
+pub mod SoundTables
+pub mod TableLaws

@@ -1,0 +1,5 @@
+//! What the rows of the tables mean as books. Each law is a public function that does nothing: its
+//! clause is what is proved, and a caller has the clause by calling it.
+#![tactic(auto)]
+
+pub mod tables;
