@@ -1,3 +1,4 @@
 pub mod KeyedEntries
 pub mod RowLemmas
 pub mod HeldRows
+pub mod LookupLemmas

@@ -3,3 +3,5 @@ pub mod TableRows
 pub mod TableBooks
 pub mod SoundTables
 pub mod TableLaws
+pub mod ShownRows
+pub mod LookupLaws

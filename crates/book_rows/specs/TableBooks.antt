@@ -86,7 +86,7 @@ books_in trees = books_of (rows_in trees)
 -- ---- a book's line, as numbers
 
 -- what a book's row has beside the name
-pub record BookNumbers : Type 0 where
+pub record BookFigures : Type 0 where
   pub id : ℕ
   pub number : ℕ
   pub horizon : ℕ
@@ -99,7 +99,7 @@ numbers_row number horizon counts =
     (pos counts.moved_out)
 
 -- the row of a book with this name and these numbers
-abbrev pub line_row : List ℕ → BookNumbers → BookRow
+abbrev pub line_row : List ℕ → BookFigures → BookRow
 line_row name line = record {
   id = pos line.id;
   name = name;

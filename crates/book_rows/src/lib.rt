@@ -2,4 +2,5 @@
 //! clause is what is proved, and a caller has the clause by calling it.
 #![tactic(auto)]
 
+pub mod lookups;
 pub mod tables;
