@@ -5,3 +5,4 @@ pub mod SoundTables
 pub mod TableLaws
 pub mod ShownRows
 pub mod LookupLaws
+pub mod ChangeLaws

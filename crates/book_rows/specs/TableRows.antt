@@ -11,6 +11,7 @@ use Rattle.book_tables.specs.Members.{MemberRow, HoldMembers, put_in, without_re
 use Rattle.book_tables.specs.Imports.{ImportRow, HoldImports, imported}
 use Rattle.book_tables.specs.Keeps.{KeepRow, HoldKeeps, keeping_of}
 use Rattle.book_tables.specs.Meta.{meta_listed}
+use Rattle.book_tables.specs.States.{Spares}
 use Rattle.book_rows.specs.Values.{text_in, text_if_any}
 
 pub record TableRows : Type 0 where
@@ -79,6 +80,11 @@ pub record Holds (db : Database) (rows : TableRows) : Type 0 where
   pub keeps : HoldKeeps (db.trees 9) rows.keeps
 
 -- ---- what a statement makes of them
+
+-- one table was written, and no other
+pub record WritesTable (tree : ℕ) (old new : Database) : Type 0 where
+  pub schema : new.schema ≡ book_schema
+  pub spares : Spares tree old.trees new.trees
 
 -- a member is put, under this id where it is new
 abbrev pub put_rows : ℤ → ℤ → List ℕ → ℤ → Option (List ℕ) → TableRows → TableRows

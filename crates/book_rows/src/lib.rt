@@ -2,5 +2,6 @@
 //! clause is what is proved, and a caller has the clause by calling it.
 #![tactic(auto)]
 
+pub mod changes;
 pub mod lookups;
 pub mod tables;
