@@ -5,3 +5,6 @@ pub mod LookupLemmas
 pub mod MemberLemmas
 pub mod WriteLemmas
 pub mod BookLemmas
+pub mod RemovedLemmas
+pub mod OrderLemmas
+pub mod FirstLemmas

@@ -6,3 +6,4 @@ pub mod TableLaws
 pub mod ShownRows
 pub mod LookupLaws
 pub mod ChangeLaws
+pub mod ForgetLaws

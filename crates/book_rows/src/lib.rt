@@ -3,5 +3,6 @@
 #![tactic(auto)]
 
 pub mod changes;
+pub mod forgetting;
 pub mod lookups;
 pub mod tables;
