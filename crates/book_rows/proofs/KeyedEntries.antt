@@ -147,6 +147,9 @@ module _ {X : Type 0} (p : X → Bool) where
   pub find_moved : (xs ys : List X) → IsPermutation xs ys → Single p xs → find p xs ≡ find p ys
   find_moved xs ys h = (moves xs ys h).finds
 
+  pub single_moved : (xs ys : List X) → IsPermutation xs ys → Single p xs → Single p ys
+  single_moved xs ys h = (moves xs ys h).single
+
 -- ---- entries
 
 module _ {V : Type 0} where

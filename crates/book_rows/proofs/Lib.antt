@@ -8,3 +8,6 @@ pub mod BookLemmas
 pub mod RemovedLemmas
 pub mod OrderLemmas
 pub mod FirstLemmas
+pub mod ReportLemmas
+pub mod CardLemmas
+pub mod LineLemmas

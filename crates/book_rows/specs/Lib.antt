@@ -7,3 +7,4 @@ pub mod ShownRows
 pub mod LookupLaws
 pub mod ChangeLaws
 pub mod ForgetLaws
+pub mod ReadLaws

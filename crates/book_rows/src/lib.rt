@@ -5,4 +5,5 @@
 pub mod changes;
 pub mod forgetting;
 pub mod lookups;
+pub mod reading;
 pub mod tables;
