@@ -11,3 +11,4 @@ pub mod FirstLemmas
 pub mod ReportLemmas
 pub mod CardLemmas
 pub mod LineLemmas
+pub mod AddedLemmas

@@ -8,3 +8,4 @@ pub mod LookupLaws
 pub mod ChangeLaws
 pub mod ForgetLaws
 pub mod ReadLaws
+pub mod AddLaws

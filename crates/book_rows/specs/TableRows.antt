@@ -104,9 +104,10 @@ renumbered_rows id numbers rows = record rows { books = renumbered id numbers ro
 abbrev pub import_rows : ImportRow → TableRows → TableRows
 import_rows new rows = record rows { imports = new ∷ rows.imports }
 
--- an empty book is made, with its keep
-abbrev pub created_rows : ℤ → List ℕ → ℤ → TableRows → TableRows
-created_rows id name keep rows = record rows {
-  books = empty_book id name ∷ rows.books;
-  keeps = keeping_of id keep ∷ rows.keeps;
-}
+-- an empty book is made, of which nothing is kept yet
+abbrev pub new_book_rows : ℤ → List ℕ → TableRows → TableRows
+new_book_rows id name rows = record rows { books = empty_book id name ∷ rows.books }
+
+-- a book's keep is written
+abbrev pub keep_rows : ℤ → ℤ → TableRows → TableRows
+keep_rows book keep rows = record rows { keeps = keeping_of book keep ∷ rows.keeps }

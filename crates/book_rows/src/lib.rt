@@ -2,6 +2,7 @@
 //! clause is what is proved, and a caller has the clause by calling it.
 #![tactic(auto)]
 
+pub mod adding;
 pub mod changes;
 pub mod forgetting;
 pub mod lookups;
