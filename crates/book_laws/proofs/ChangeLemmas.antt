@@ -6,7 +6,7 @@ use Rattle.std.specs.FinMap.{get-empty, get-insert, get-remove}
 use Rattle.std.proofs.lemmas.Bool.{cases_Bool, cond-true}
 use Rattle.std.proofs.lemmas.Option.{same_Some}
 use Rattle.base_types.specs.TextMaps.{text_cmp}
-use Rattle.vcard_text.specs.declared.line.Line.{Line}
+use Rattle.vcard_lines.specs.declared.line.Line.{Line}
 use Rattle.vcard_text.specs.Cards.{uid_of}
 use Rattle.book_model.specs.declared.answers.Moved.{Moved}
 use Rattle.book_model.specs.declared.answers.Stored.{Stored}

@@ -5,7 +5,7 @@ use Rattle.std.specs.FinMap.{get-empty, len-insert, len-remove, len-empty}
 use Rattle.std.proofs.lemmas.Bool.{cond-true, cond-false, both_ways}
 use Rattle.std.proofs.lemmas.List.Recursion.{is_count_by}
 use Rattle.base_types.specs.TextMaps.{text_cmp}
-use Rattle.vcard_text.specs.declared.line.Line.{Line}
+use Rattle.vcard_lines.specs.declared.line.Line.{Line}
 use Rattle.book_model.specs.declared.answers.Stored.{Stored}
 use Rattle.book_model.specs.declared.change.Change.{Change}
 use Rattle.book_model.specs.declared.change.Change.TheVariants.{Stores, TakesAway}

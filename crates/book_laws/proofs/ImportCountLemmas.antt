@@ -3,7 +3,7 @@ use Rattle.std.proofs.Common.{◌≡◌, ℕ, ◌+◌, true, false, cond, List, 
 use Rattle.std.specs.FinMap as finite
 use Rattle.std.specs.FinMap.{get-insert}
 use Rattle.std.proofs.lemmas.Bool.{cond-false}
-use Rattle.vcard_text.specs.declared.line.Line.{Line}
+use Rattle.vcard_lines.specs.declared.line.Line.{Line}
 use Rattle.vcard_text.specs.Cards.{uid_of}
 use Rattle.book_model.specs.declared.answers.Stored.{Stored}
 use Rattle.book_model.specs.declared.change.StoreReason.{StoreReason}

@@ -6,7 +6,7 @@ use Rattle.std.proofs.lemmas.Bool.{cases_Bool, cond-true}
 use Rattle.std.proofs.lemmas.List.Elements.{All-nil, All-cons, All-head, All-tail}
 use Rattle.std.proofs.lemmas.Option.{same_Some}
 use Rattle.base_types.specs.TextMaps.{text_cmp}
-use Rattle.vcard_text.specs.declared.line.Line.{Line}
+use Rattle.vcard_lines.specs.declared.line.Line.{Line}
 use Rattle.book_model.specs.declared.answers.Stored.{Stored}
 use Rattle.book_model.specs.declared.change.Change.{Change}
 use Rattle.book_model.specs.declared.change.Change.TheVariants.{Stores, TakesAway}

@@ -2,7 +2,7 @@
 use Rattle.std.proofs.Common.{◌≡◌, ℕ, Bool, true, false, List, Option, Some, None, Result, Ok, Err, length, refl, ap, ◌∙◌}
 use Rattle.std.specs.Option.{option_map_or}
 use Rattle.std.specs.FinMap as finite
-use Rattle.vcard_text.specs.declared.line.Line.{Line}
+use Rattle.vcard_lines.specs.declared.line.Line.{Line}
 use Rattle.book_model.specs.declared.answers.ImportTally.{ImportTally}
 use Rattle.book_model.specs.declared.refusal.Refusal.{Refusal}
 use Rattle.book_model.specs.declared.refusal.Refusal.TheVariants.{NoSuchBook, BadKey}

@@ -1,7 +1,7 @@
 -- A put that is accepted may happen.
 use Rattle.std.proofs.Common.{◌≡◌, ℕ, ◌+◌, Bool, true, false, cond, nat_lt, Result, Ok, Some, None, Option, List, refl, ap, ◌∙◌, subst}
 use Rattle.std.proofs.lemmas.Bool.{both_ways}
-use Rattle.vcard_text.specs.declared.line.Line.{Line}
+use Rattle.vcard_lines.specs.declared.line.Line.{Line}
 use Rattle.book_model.specs.declared.change.StoreReason.{StoreReason}
 use Rattle.book_model.specs.declared.change.StoreReason.TheVariants.{Creation, Edit}
 use Rattle.book_model.specs.declared.refusal.Refusal.TheVariants.{VersionMismatch, BookFull, ChangesSpent}

@@ -8,7 +8,7 @@ use Rattle.std.proofs.lemmas.List.{length-map, nil_from_length}
 use Rattle.std.proofs.lemmas.Map.Lookups.{exact_bytes}
 use Rattle.std.proofs.lemmas.Option.{same_Some, cond_some}
 use Rattle.base_types.specs.TextMaps.{text_cmp}
-use Rattle.vcard_text.specs.declared.line.Line.{Line}
+use Rattle.vcard_lines.specs.declared.line.Line.{Line}
 use Rattle.vcard_text.specs.Cards.{uid_of}
 use Rattle.book_model.specs.declared.answers.ImportTally.{ImportTally}
 use Rattle.book_model.specs.declared.answers.Stored.{Stored}

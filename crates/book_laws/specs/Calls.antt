@@ -1,6 +1,6 @@
 -- The calls of a store, what each means on whole histories, and lists of them. This project's own.
 use Rattle.std.specs.Prelude.{ℕ, List, [], ◌∷◌, Option, Result, Ok, Err}
-use Rattle.vcard_text.specs.declared.line.Line.{Line}
+use Rattle.vcard_lines.specs.declared.line.Line.{Line}
 use Rattle.book_model.specs.declared.answers.BookLine.{BookLine}
 use Rattle.book_model.specs.declared.answers.ImportTally.{ImportTally}
 use Rattle.book_model.specs.declared.answers.Moved.{Moved}
@@ -17,7 +17,6 @@ use Rattle.book_laws.specs.Worlds.{Stories}
 use Rattle.book_laws.specs.WorldSteps.{create_meaning, put_meaning, report_meaning}
 use Rattle.book_laws.specs.WorldChanges.{remove_meaning, move_meaning, import_meaning, forget_meaning}
 use Rattle.book_laws.specs.WorldReads.{books_meaning, book_line_meaning, get_meaning, cards_meaning, kept_import_meaning, tally_meaning}
-use Rattle.vcard_text.specs.TextReading.{reading}
 
 pub data Call : Type 0 where
   -- a book of this name is made

@@ -1,7 +1,7 @@
 -- That the steps on rows follow the histories, for each call that changes a book.
 use Rattle.std.specs.Prelude.{ℕ, List, Option}
 use Rattle.std.specs.FinMap as finite
-use Rattle.vcard_text.specs.declared.line.Line.{Line}
+use Rattle.vcard_lines.specs.declared.line.Line.{Line}
 use Rattle.book_model.specs.Bounds.{IsInRange}
 use Rattle.book_model.specs.Forgetting.{forget_step}
 use Rattle.book_model.specs.Importing.{import_step}

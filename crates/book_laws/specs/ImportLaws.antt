@@ -1,7 +1,7 @@
 -- What an import counts, by what was live in a history before it. This project's own.
 use Rattle.std.specs.Prelude.{◌+◌, ◌≡◌, List, length}
 use Rattle.std.specs.FinMap as finite
-use Rattle.vcard_text.specs.declared.line.Line.{Line}
+use Rattle.vcard_lines.specs.declared.line.Line.{Line}
 use Rattle.book_model.specs.ImportLaws.{HaveDistinctUids, CountsCards}
 use Rattle.book_model.specs.Importing.{Importing}
 use Rattle.book_laws.specs.Histories.{live}

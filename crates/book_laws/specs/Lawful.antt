@@ -1,7 +1,7 @@
 -- Which histories a book can have. This project's own.
 use Rattle.std.specs.Prelude.{ℕ, ◌≡◌, ◌≢◌, List, [], ◌∷◌, Option, None, IsSome, IsSomeAnd}
 use Rattle.std.specs.FinMap as finite
-use Rattle.vcard_text.specs.declared.line.Line.{Line}
+use Rattle.vcard_lines.specs.declared.line.Line.{Line}
 use Rattle.vcard_text.specs.Cards.{uid_of}
 use Rattle.book_model.specs.declared.answers.Stored.{Stored}
 use Rattle.book_model.specs.declared.change.Change.{Change}

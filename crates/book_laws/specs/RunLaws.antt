@@ -1,7 +1,7 @@
 -- What holds over every list of calls. This project's own.
 use Rattle.std.specs.Prelude.{ℕ, ◌≡◌, List, ◌∷◌, Some, Ok}
 use Rattle.std.specs.FinMap as finite
-use Rattle.vcard_text.specs.declared.line.Line.{Line}
+use Rattle.vcard_lines.specs.declared.line.Line.{Line}
 use Rattle.book_model.specs.declared.answers.ImportTally.{ImportTally}
 use Rattle.book_model.specs.Bounds.{Bounds, IsInRange}
 use Rattle.book_laws.specs.Calls.{Call, Imports, DidImport, meaning, answer_of, answers_to, stories_after_all}

@@ -1,7 +1,7 @@
 //! What holds of all histories of books.
 ghost use Rattle.std.specs.Prelude.{◌≡◌, ◌↔◌, List, true};
 ghost use Rattle.vcard_text.specs.Cards.{IsCard, canonical_text};
-ghost use Rattle.vcard_text.specs.declared.line.Line.{Line};
+ghost use Rattle.vcard_lines.specs.declared.line.Line.{Line};
 ghost use Rattle.book_model.specs.SameCards.{same_card};
 ghost use Rattle.book_laws.specs.LiveLaws.{LiveAreStoredLast};
 ghost use Rattle.book_laws.specs.CountLaws.{EventsAreCounted, LiveAreCounted, ReasonsAreCounted};

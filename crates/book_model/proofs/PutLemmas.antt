@@ -1,7 +1,7 @@
 -- What a put and an import do over what is live, case by case.
 use Rattle.std.proofs.Common.{◌≡◌, ◌≢◌, ℕ, Result, Ok, Some, None, Option, List, Bor, sym, ap, ◌∙◌}
 use Rattle.std.proofs.lemmas.Bool.{cond-true, cond-false, false_from_ne_true}
-use Rattle.vcard_text.specs.declared.line.Line.{Line}
+use Rattle.vcard_lines.specs.declared.line.Line.{Line}
 use Rattle.book_model.specs.declared.answers.PutAnswer.{PutAnswer}
 use Rattle.book_model.specs.declared.answers.PutAnswer.TheVariants.{Edited, Unchanged}
 use Rattle.book_model.specs.declared.change.StoreReason.{StoreReason}

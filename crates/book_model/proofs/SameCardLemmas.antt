@@ -5,9 +5,9 @@ use Rattle.std.specs.Option.{option_eq}
 use Rattle.std.specs.Cmp.Lexicographic.{pointwise}
 use Rattle.std.proofs.lemmas.Bool.{and_parts}
 use Rattle.std.proofs.lemmas.Slice.Eq.{bytes_eq-Decides, slice_eq-Decides}
-use Rattle.vcard_text.specs.declared.line.Line.{Line}
-use Rattle.vcard_text.specs.declared.line.Param.{Param}
-use Rattle.vcard_text.specs.declared.line.ParamValue.{ParamValue}
+use Rattle.vcard_lines.specs.declared.line.Line.{Line}
+use Rattle.vcard_lines.specs.declared.line.Param.{Param}
+use Rattle.vcard_lines.specs.declared.line.ParamValue.{ParamValue}
 use Rattle.book_model.specs.SameCards.{same_value, same_param, same_line, same_card}
 use Rattle.book_model.proofs.BasicLemmas.{both}
 

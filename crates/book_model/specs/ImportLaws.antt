@@ -1,7 +1,7 @@
 -- What an import counts, by what was live before it. This project's own.
 use Rattle.std.specs.Prelude.{ℕ, ◌+◌, ◌≡◌, Bool, false, not, List, map, count_by, Option, Some, None, is_none}
 use Rattle.std.specs.List.{IsDistinct}
-use Rattle.vcard_text.specs.declared.line.Line.{Line}
+use Rattle.vcard_lines.specs.declared.line.Line.{Line}
 use Rattle.vcard_text.specs.Cards.{uid_of}
 use Rattle.book_model.specs.declared.answers.Stored.{Stored}
 use Rattle.book_model.specs.Books.{Book, same_name, live_at}

@@ -2,7 +2,7 @@
 -- of the other (RFC 6578, section 3.5). The tests are this project's own.
 use Rattle.std.specs.Prelude.{ℕ, not, nat_lt, List, is_some, Option, Result, Ok}
 use Rattle.std.specs.FinMap as finite
-use Rattle.vcard_text.specs.declared.line.Line.{Line}
+use Rattle.vcard_lines.specs.declared.line.Line.{Line}
 use Rattle.book_model.specs.declared.answers.Moved.{Moved}
 use Rattle.book_model.specs.declared.change.Change.TheVariants.{Stores, TakesAway}
 use Rattle.book_model.specs.declared.change.StoreReason.TheVariants.{MoveIn}

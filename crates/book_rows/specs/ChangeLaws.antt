@@ -6,7 +6,7 @@ use Rattle.std.specs.FinMap as finite
 use Rattle.sqlite.specs.Effect.{Database}
 use Rattle.sqlite_rules.specs.Lists.{Has}
 use Rattle.vcard_text.specs.Cards.{IsCard, canonical_text}
-use Rattle.vcard_text.specs.declared.line.Line.{Line as CardLine}
+use Rattle.vcard_lines.specs.declared.line.Line.{Line as CardLine}
 use Rattle.book_model.specs.declared.change.Change.{Change}
 use Rattle.book_model.specs.Changing.{card_after, with_row}
 use Rattle.book_model.specs.Counting.{counts_with}

@@ -10,7 +10,7 @@ use Rattle.base_types.specs.TextMaps.{text_cmp, texts}
 use Rattle.base_types.proofs.TextMapLemmas.{octet_entry, entries-texts}
 use Rattle.vcard_text.specs.declared.kind.Kind.{Kind}
 use Rattle.vcard_text.specs.declared.kind.Kind.TheVariants.{Individual, Group, Org, Location, Other}
-use Rattle.vcard_text.specs.declared.line.Line.{Line}
+use Rattle.vcard_lines.specs.declared.line.Line.{Line}
 use Rattle.vcard_text.specs.Cards.{kind_of}
 use Rattle.vcard_text.specs.FirstFaults.{is_group}
 use Rattle.card_core.specs.declared.expansion.Expansion.{Expansion}

@@ -1,6 +1,6 @@
 -- What each command means on books with their whole histories. This project's own.
 use Rattle.std.specs.Prelude.{ℕ, ◌≡◌, ◌⊎◌, List, Option, Some, None, Result, Ok, Err}
-use Rattle.vcard_text.specs.declared.line.Line.{Line}
+use Rattle.vcard_lines.specs.declared.line.Line.{Line}
 use Rattle.vcard_text.specs.Cards.{kind_of}
 use Rattle.vcard_text.specs.FirstFaults.{is_group}
 use Rattle.book_model.specs.declared.answers.ImportTally.{ImportTally}

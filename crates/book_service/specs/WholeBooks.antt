@@ -3,7 +3,7 @@
 use Rattle.std.specs.Prelude.{ℕ, ◌≡◌, List, map}
 use Rattle.std.specs.FinMap as finite
 use Rattle.base_types.specs.TextMaps.{text_cmp}
-use Rattle.vcard_text.specs.declared.line.Line.{Line}
+use Rattle.vcard_lines.specs.declared.line.Line.{Line}
 use Rattle.card_core.specs.declared.expansion.Expansion.{Expansion}
 use Rattle.card_core.specs.Groups.{IsExpansion}
 use Rattle.csv_cards.specs.declared.form.Form.{Form}

@@ -2,6 +2,7 @@
 ghost use Rattle.book_laws.specs.DeviceLaws.{DevicesStartRight};
 ghost use Rattle.book_service.specs.Promise.{Always, LeadsToWorld, InEachBook, HoldsLastStored, AddsUp, HasTrueCounts, BooksGoOn, MovesTakeOneCard, DevicesStayRight, LastPagesComplete, TokensGrowOld, KeysActOnce, RowsStayWellFormed, RunsAppend, NewStoresStart, TruncatedPagesAreFew};
 
+use book_devices::laws::token_texts_are_one;
 use book_laws::devices::{
     devices_start_right, devices_stay_right_among_books, devices_stay_right_over_calls,
     due_members_are_counted, last_pages_complete_copies,
@@ -13,7 +14,6 @@ use book_laws::runs::{
     tokens_stay_good,
 };
 use book_laws::well_formed::calls_keep_books_well_formed;
-use book_devices::laws::token_texts_are_one;
 
 /// The promise, over every run of commands and asks from every sound world, and so from each
 /// moment of a run.

@@ -5,7 +5,7 @@ use Rattle.std.specs.List.{Contains, list_any}
 use Rattle.std.specs.Ordering.{eq_by_cmp}
 use Rattle.std.proofs.lemmas.Bool.{or_cases, not-true, not_from_true, not_from_false, false_from_ne_true, both_ways}
 use Rattle.std.proofs.lemmas.List.{length-append}
-use Rattle.vcard_text.specs.declared.line.Line.{Line}
+use Rattle.vcard_lines.specs.declared.line.Line.{Line}
 use Rattle.base_types.specs.TextMaps.{text_cmp}
 use Rattle.card_core.specs.declared.walk.Walk.{Walk}
 use Rattle.card_core.specs.Groups.{Cards}

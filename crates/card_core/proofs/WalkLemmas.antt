@@ -5,7 +5,7 @@ use Rattle.std.specs.List.{Contains}
 use Rattle.std.proofs.lemmas.List.Elements.{Contains-append_left, Contains-push, Contains-push_cases}
 use Rattle.std.proofs.lemmas.Option.{same_Some}
 use Rattle.vcard_text.specs.declared.kind.Kind.TheVariants.{Group}
-use Rattle.vcard_text.specs.declared.line.Line.{Line}
+use Rattle.vcard_lines.specs.declared.line.Line.{Line}
 use Rattle.vcard_text.specs.Cards.{kind_of, members_of}
 use Rattle.card_core.specs.declared.walk.Walk.{Walk}
 use Rattle.card_core.specs.Groups.{Cards, HasMember, Leads, Reaches, at_once, by_way_of, IsPerson, IsMissing}

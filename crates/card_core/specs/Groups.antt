@@ -6,7 +6,7 @@ use Rattle.std.specs.List.Sorted.{IsStrictlySortedBy}
 use Rattle.std.specs.Str.{str_eq_ignore_ascii_case}
 use Rattle.std.specs.FinMap as finite
 use Rattle.vcard_text.specs.declared.kind.Kind.TheVariants.{Group}
-use Rattle.vcard_text.specs.declared.line.Line.{Line}
+use Rattle.vcard_lines.specs.declared.line.Line.{Line}
 use Rattle.base_types.specs.TextMaps.{text_cmp}
 use Rattle.vcard_text.specs.Cards.{kind_of, members_of}
 use Rattle.card_core.specs.declared.expansion.Expansion.{Expansion}

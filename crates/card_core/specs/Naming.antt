@@ -1,7 +1,7 @@
 -- The card that a member value names, beside its UID. This project's own.
 use Rattle.std.specs.Prelude.{ℕ, ◌≡◌, List, Some}
 use Rattle.std.specs.FinMap as finite
-use Rattle.vcard_text.specs.declared.line.Line.{Line}
+use Rattle.vcard_lines.specs.declared.line.Line.{Line}
 use Rattle.card_core.specs.Groups.{Cards, named_by}
 
 -- The value names the card of the UID, which has the lines.

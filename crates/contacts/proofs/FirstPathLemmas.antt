@@ -5,9 +5,9 @@ use Rattle.std.specs.Cmp.Lexicographic.{nat_list_cmp_total}
 use Rattle.std.specs.Option.{option_map_or}
 use Rattle.std.specs.FinMap as finite
 use Rattle.std.specs.FinMap.{get-empty, get-insert, len-empty}
-use Rattle.vcard_text.specs.declared.fault.CardFault.{CardFault}
-use Rattle.vcard_text.specs.declared.fault.CardFault.TheVariants.{TooLong, NotUtf8, BadChar, BadLine, NoBegin, BadVersion, NoEnd, NoName, NoUid, BadUid, Twice, MemberOutsideGroup, Memory as NoRoom}
-use Rattle.vcard_text.specs.declared.line.Line.{Line}
+use Rattle.vcard_lines.specs.declared.fault.CardFault.{CardFault}
+use Rattle.vcard_lines.specs.declared.fault.CardFault.TheVariants.{TooLong, NotUtf8, BadChar, BadLine, NoBegin, BadVersion, NoEnd, NoName, NoUid, BadUid, Twice, MemberOutsideGroup, Memory as NoRoom}
+use Rattle.vcard_lines.specs.declared.line.Line.{Line}
 use Rattle.vcard_text.specs.Cards.{uid_of}
 use Rattle.vcard_text.specs.FirstFaults.{IsFirstFault}
 use Rattle.base_types.specs.TextMaps.{text_cmp}

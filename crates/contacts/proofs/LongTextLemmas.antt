@@ -5,8 +5,8 @@ use Rattle.std.specs.Io.KnownBytes.{Appends}
 use Rattle.std.proofs.lemmas.Bool.{cases_Bool, leb-true, leb-false, lt-leb}
 use Rattle.std.proofs.lemmas.List.{take_all, length-take-le}
 use Rattle.vcard_text.specs.Bounds.{text_octets_max}
-use Rattle.vcard_text.specs.declared.fault.CardFault.{CardFault}
-use Rattle.vcard_text.specs.declared.fault.CardFault.TheVariants.{TooLong, NotUtf8}
+use Rattle.vcard_lines.specs.declared.fault.CardFault.{CardFault}
+use Rattle.vcard_lines.specs.declared.fault.CardFault.TheVariants.{TooLong, NotUtf8}
 use Rattle.vcard_text.specs.FirstFaults.{IsFirstFault, of_length, of_encoding, of_line, of_whole, of_canonical}
 use Rattle.contacts.specs.declared.first_path.FirstPath.{FirstPath}
 use Rattle.contacts.specs.declared.stop.Stop.{Stop}

@@ -1,7 +1,7 @@
 -- What comes of one card that is put into an empty book. This project's own.
 use Rattle.std.specs.Prelude.{ℕ, ◌≡◌, List, [], ◌∷◌, length}
-use Rattle.vcard_text.specs.declared.fault.CardFault.{CardFault}
-use Rattle.vcard_text.specs.declared.line.Line.{Line}
+use Rattle.vcard_lines.specs.declared.fault.CardFault.{CardFault}
+use Rattle.vcard_lines.specs.declared.line.Line.{Line}
 use Rattle.vcard_text.specs.Cards.{uid_of}
 use Rattle.vcard_text.specs.Spelling.{Spells}
 use Rattle.vcard_text.specs.FirstFaults.{IsFirstFault}

@@ -1,6 +1,6 @@
 //! One card into an empty book, and the book's initial report.
 ghost use Rattle.std.specs.Prelude.{◌≡◌, List, IfOk, IfErr};
-ghost use Rattle.vcard_text.specs.declared.line.Line.{Line};
+ghost use Rattle.vcard_lines.specs.declared.line.Line.{Line};
 ghost use Rattle.vcard_text.specs.Spelling.{Spells};
 ghost use Rattle.book_model.specs.Outcomes.{no_memory};
 ghost use Rattle.contacts.specs.FirstPaths.{IsPathOf, IsFirstPath};

@@ -1,10 +1,10 @@
 -- Causes: what a card's fault is told as, and which of those that apply is the least.
 use Rattle.std.proofs.Common.{[], Result, Ok, Err, IfErr, ◌≡◌, ◌≢◌, ◌≤◌, ◌+◌, ◌⊎◌, ◌↔◌, ℕ, List, length, Some, refl, sym, ap, subst, ◌∙◌, arith, inl, inr}
 use Rattle.csv.specs.Records.{AllText}
-use Rattle.vcard_text.specs.declared.fault.CardFault.{CardFault}
-use Rattle.vcard_text.specs.declared.fault.CardFault.TheVariants as card
-use Rattle.vcard_text.specs.declared.line.Line.{Line}
-use Rattle.vcard_text.specs.FaultNumbers.{fault_number}
+use Rattle.vcard_lines.specs.declared.fault.CardFault.{CardFault}
+use Rattle.vcard_lines.specs.declared.fault.CardFault.TheVariants as card
+use Rattle.vcard_lines.specs.declared.line.Line.{Line}
+use Rattle.vcard_lines.specs.FaultNumbers.{fault_number}
 use Rattle.csv_cards.specs.declared.form.Form.{Form}
 use Rattle.csv_cards.specs.declared.form.Form.TheVariants as form
 use Rattle.csv_cards.specs.declared.cause.CsvCause.{CsvCause}

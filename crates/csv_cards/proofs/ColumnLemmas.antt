@@ -2,11 +2,11 @@
 use Rattle.std.proofs.Common.{◌≡◌, ◌++◌, ◌∷◌, [], List, Bool, true, false, codes, refl, ap, ◌∙◌}
 use Rattle.std.specs.Bool.{if◌then◌else◌}
 use Rattle.std.proofs.lemmas.List.{map-append}
-use Rattle.vcard_text.specs.declared.line.Line.{Line}
+use Rattle.vcard_lines.specs.declared.line.Line.{Line}
 use Rattle.vcard_text.specs.Making.{upper_line, upper_lines}
 use Rattle.csv_cards.specs.Rows.{Row}
 use Rattle.csv_cards.specs.Columns.{column_lines, email_in, family_in, given_in, line_if_any, name_in, name_line_if_any, note_in, organization_in, plain_line, telephone_in, uid_in}
-use Rattle.vcard_text.specs.TextValues.{escaped}
+use Rattle.text_values.specs.TextValues.{escaped}
 
 upper_or_none : (b : Bool) (line : Line) → upper_line line ≡ line → upper_lines (if b then [] else line ∷ []) ≡ (if b then [] else line ∷ [])
 upper_or_none true line e = refl

@@ -6,9 +6,9 @@ use Rattle.std.proofs.lemmas.Bool.{and_parts, ltb-true}
 use Rattle.std.proofs.lemmas.Str.{scalars-chars, IsUtf8-nil, IsUtf8-append, IsUtf8-from_ascii}
 use Rattle.std.proofs.lemmas.Str.Ascii.{IsAscii-nil, IsAscii-cons}
 use Rattle.csv.specs.Records.{AllText}
-use Rattle.vcard_text.specs.declared.line.Line.{Line}
-use Rattle.vcard_text.specs.Grammar.{line_text}
-use Rattle.vcard_text.specs.TextValues.{Plain, Escaped, chars_of, escaped, text_char_of}
+use Rattle.vcard_lines.specs.declared.line.Line.{Line}
+use Rattle.vcard_lines.specs.Grammar.{line_text}
+use Rattle.text_values.specs.TextValues.{Plain, Escaped, chars_of, escaped, text_char_of}
 use Rattle.csv_cards.specs.Rows.{Row, field}
 use Rattle.csv_cards.specs.Columns.{begins_with_line_feed, column, column_lines, email_in, family_in, given_in, is_empty, line_if_any, name_in, name_line_if_any, name_value, note_in, organization_in, plain_line, telephone_in, uid_in, with_plain_line_ends}
 

@@ -5,7 +5,7 @@ use Rattle.std.proofs.lemmas.List.{get_or_append_left, length-append, map-append
 use Rattle.std.proofs.Math.Seq.{get_or-append_seam}
 use Rattle.csv.specs.Reading.{strip_bom}
 use Rattle.csv.specs.declared.parser.State.TheVariants as st
-use Rattle.vcard_text.specs.declared.line.Line.{Line}
+use Rattle.vcard_lines.specs.declared.line.Line.{Line}
 use Rattle.vcard_text.specs.Cards.{uid_of}
 use Rattle.vcard_text.specs.Spelling.{Spells}
 use Rattle.csv_cards.specs.declared.form.Form.{Form}

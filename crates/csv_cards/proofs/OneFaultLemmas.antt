@@ -4,8 +4,8 @@ use Rattle.std.proofs.lemmas.List.{length-append}
 use Rattle.csv.specs.Reading.{Reached, default_config, strip_bom}
 use Rattle.csv.specs.declared.parser.State.{State}
 use Rattle.csv.specs.declared.parser.State.TheVariants as st
-use Rattle.vcard_text.specs.declared.line.Line.{Line}
-use Rattle.vcard_text.specs.declared.fault.CardFault.{CardFault}
+use Rattle.vcard_lines.specs.declared.line.Line.{Line}
+use Rattle.vcard_lines.specs.declared.fault.CardFault.{CardFault}
 use Rattle.vcard_text.specs.Spelling.{Spells}
 use Rattle.csv_cards.specs.declared.form.Form.{Form}
 use Rattle.csv_cards.specs.declared.cause.CsvCause.{CsvCause}

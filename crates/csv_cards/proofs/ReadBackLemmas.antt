@@ -18,8 +18,8 @@ use Rattle.csv.specs.Reading.{AreRecords, Reached, default_config, strip_bom}
 use Rattle.csv.specs.Writing.{escaped, fields_text, is_blank}
 use Rattle.csv.specs.declared.parser.State.TheVariants as st
 use Rattle.csv.proofs.RoundTrip.{read-write}
-use Rattle.vcard_text.specs.declared.line.Line.{Line}
-use Rattle.vcard_text.specs.Grammar.{group_text, line_text, params_text}
+use Rattle.vcard_lines.specs.declared.line.Line.{Line}
+use Rattle.vcard_lines.specs.Grammar.{group_text, line_text, params_text}
 use Rattle.vcard_text.specs.Cards.{IsCard, IsProperLine, canonical_text, is_named, uid_of}
 use Rattle.vcard_text.specs.Spelling.{Spells}
 use Rattle.csv_cards.specs.declared.form.Form.TheVariants as form

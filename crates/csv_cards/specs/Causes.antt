@@ -1,8 +1,8 @@
 -- The numbers under which a row's causes are reported. This project's own.
 use Rattle.std.specs.Prelude.{ℕ, ◌+◌}
-use Rattle.vcard_text.specs.FaultNumbers.{fault_number}
-use Rattle.vcard_text.specs.declared.fault.CardFault.{CardFault}
-use Rattle.vcard_text.specs.declared.fault.CardFault.TheVariants as card
+use Rattle.vcard_lines.specs.FaultNumbers.{fault_number}
+use Rattle.vcard_lines.specs.declared.fault.CardFault.{CardFault}
+use Rattle.vcard_lines.specs.declared.fault.CardFault.TheVariants as card
 use Rattle.csv_cards.specs.declared.cause.CsvCause.{CsvCause}
 use Rattle.csv_cards.specs.declared.cause.CsvCause.TheVariants.{BadHeader, Columns, NotUtf8, EmptyName, BadCard, UidMismatch, DuplicateUid, Memory}
 

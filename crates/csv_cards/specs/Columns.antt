@@ -3,8 +3,8 @@
 use Rattle.std.specs.Prelude.{ℕ, Bool, false, ◌==◌, ◌&&◌, List, [], ◌∷◌, ◌++◌, codes, None, if◌then◌else◌, length}
 use Rattle.std.specs.Str.{chars, encode_utf8_all}
 use Rattle.base_types.specs.Octets.{line_feed, carriage_return}
-use Rattle.vcard_text.specs.declared.line.Line.{Line}
-use Rattle.vcard_text.specs.TextValues.{escaped}
+use Rattle.vcard_lines.specs.declared.line.Line.{Line}
+use Rattle.text_values.specs.TextValues.{escaped}
 use Rattle.csv_cards.specs.Rows.{Row, field}
 
 -- ---- line ends

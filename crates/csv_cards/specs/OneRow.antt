@@ -1,7 +1,7 @@
 -- What the code finds wrong with a row that has its number of fields, all of them text, before it
 -- looks at the rows before. Only the code's steps need it. This project's own.
 use Rattle.std.specs.Prelude.{◌≡◌, ◌≢◌, ◌⊎◌, []}
-use Rattle.vcard_text.specs.declared.fault.CardFault.{CardFault}
+use Rattle.vcard_lines.specs.declared.fault.CardFault.{CardFault}
 use Rattle.csv_cards.specs.declared.cause.CsvCause.{CsvCause}
 use Rattle.csv_cards.specs.declared.cause.CsvCause.TheVariants as cause
 use Rattle.csv_cards.specs.Rows.{Row}

@@ -3,10 +3,10 @@
 use Rattle.std.specs.Prelude.{ℕ, ◌≡◌, ◌≢◌, ◌≤◌, ◌⊎◌, ◌+◌, List, [], ◌∷◌, ◌++◌, length, map}
 use Rattle.std.specs.List.{AllPairs, Contains}
 use Rattle.csv.specs.Records.{AllText}
-use Rattle.vcard_text.specs.declared.line.Line.{Line}
+use Rattle.vcard_lines.specs.declared.line.Line.{Line}
 use Rattle.vcard_text.specs.Cards.{IsCard, uid_of}
 use Rattle.vcard_text.specs.Spelling.{Spells}
-use Rattle.vcard_text.specs.declared.fault.CardFault.{CardFault}
+use Rattle.vcard_lines.specs.declared.fault.CardFault.{CardFault}
 use Rattle.vcard_text.specs.FirstFaults.{IsFirstFault as IsFirstCardFault}
 use Rattle.vcard_text.specs.Making.{IsFirstMadeFault}
 use Rattle.csv_cards.specs.declared.form.Form.{Form}

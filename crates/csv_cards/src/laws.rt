@@ -2,7 +2,7 @@
 ghost use Rattle.std.specs.Prelude.{◌≡◌, ◌⊎◌, ℕ, List};
 ghost use Rattle.std.specs.FinMap as finite;
 ghost use Rattle.base_types.specs.TextMaps.{text_cmp};
-ghost use Rattle.vcard_text.specs.declared.line.Line.{Line};
+ghost use Rattle.vcard_lines.specs.declared.line.Line.{Line};
 ghost use Rattle.csv_cards.specs.Reading.{AreCards, IsFirstFault};
 ghost use Rattle.csv_cards.specs.ReadBack.{AreUnderUids};
 ghost use Rattle.csv_cards.specs.Writing.{csv_text};

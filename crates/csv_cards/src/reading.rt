@@ -1,7 +1,7 @@
 //! The cards of a CSV text.
 ghost use Rattle.std.specs.Prelude.{◌≡◌, ◌≢◌, ◌∷◌, ◌++◌, [], ℕ, List, IfOk, IfErr, OnOk, Ok, Err, MatchResult, Contains, map};
 ghost use Rattle.csv.specs.Records.{fields_of};
-ghost use Rattle.vcard_text.specs.declared.line.Line.{Line};
+ghost use Rattle.vcard_lines.specs.declared.line.Line.{Line};
 ghost use Rattle.vcard_text.specs.Cards.{uid_of};
 ghost use Rattle.csv_cards.specs.Rows.{AreRows, BeginWith, header};
 ghost use Rattle.csv_cards.specs.Reading.{AreCards, IsFirstFault, IsFirstFaultyRow, IsLeastCause, HasBadHeader, fault_at};

@@ -1,7 +1,7 @@
 //! The card that one row stands for.
 ghost use Rattle.std.specs.Prelude.{◌≡◌, ◌≢◌, ◌⊎◌, [], true, false, IfOk, IfErr, IsTrue, List, length};
 ghost use Rattle.csv.specs.Records.{AllText, fields_of};
-ghost use Rattle.vcard_text.specs.declared.line.Line.{Line};
+ghost use Rattle.vcard_lines.specs.declared.line.Line.{Line};
 ghost use Rattle.vcard_text.specs.Cards.{uid_of};
 ghost use Rattle.csv_cards.specs.Rows.{header};
 ghost use Rattle.csv_cards.specs.Columns.{name_in};

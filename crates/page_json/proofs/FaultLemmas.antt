@@ -1,7 +1,7 @@
 -- Faults: what a card's fault is told as.
 use Rattle.std.proofs.Common.{Result, Ok, Err, IfErr, ◌≡◌, ◌≢◌}
-use Rattle.vcard_text.specs.declared.fault.CardFault.{CardFault}
-use Rattle.vcard_text.specs.declared.fault.CardFault.TheVariants as card
+use Rattle.vcard_lines.specs.declared.fault.CardFault.{CardFault}
+use Rattle.vcard_lines.specs.declared.fault.CardFault.TheVariants as card
 use Rattle.page_json.specs.declared.fault.ReportFault.{ReportFault}
 use Rattle.page_json.specs.declared.fault.ReportFault.TheVariants.{BadCard, Memory}
 use Rattle.page_json.specs.FaultNumbers.{fault_of_card}

@@ -1,6 +1,6 @@
 -- A text that is of a page has no first fault, and a text has at most one.
 use Rattle.std.proofs.Common.{Result, Ok, Err, IfOk, IfErr, MatchResult, ◌≡◌, ◌≢◌, inl, inr, ℕ, List, [], ◌∷◌, ◌++◌, refl, sym, subst, ◌∙◌}
-use Rattle.vcard_text.specs.declared.line.Line.{Line}
+use Rattle.vcard_lines.specs.declared.line.Line.{Line}
 use Rattle.vcard_text.specs.Cards.{uid_of}
 use Rattle.vcard_text.specs.Spelling.{Spells}
 use Rattle.book_model.specs.declared.page.Entry.{Entry}

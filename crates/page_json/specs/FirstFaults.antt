@@ -2,7 +2,7 @@
 -- member that tells no entry; then the token. This project's own.
 use Rattle.std.specs.Prelude.{ℕ, ◌≡◌, ◌≢◌, ◌⊎◌, List, ◌∷◌, ◌++◌}
 use Rattle.serde_json.specs.Data.{Data}
-use Rattle.vcard_text.specs.declared.line.Line.{Line}
+use Rattle.vcard_lines.specs.declared.line.Line.{Line}
 use Rattle.vcard_text.specs.Cards.{uid_of}
 use Rattle.vcard_text.specs.Spelling.{Spells}
 use Rattle.book_model.specs.declared.page.Entry.{Entry}

@@ -2,8 +2,8 @@
 //! pages, values and texts.
 ghost use Rattle.page_json.specs.ReportLaws.{FirstFaultsAreOne, PagesHaveNoFault, ReportsAreReportable, TextsTellPages, ValuesTellPages};
 
-use book_laws::well_formed::pages_fit_well_formed_books;
 use book_devices::laws::token_texts_are_one;
+use book_laws::well_formed::pages_fit_well_formed_books;
 use vcard_text::laws::card_is_one;
 
 /// A value is of at most one page.

@@ -11,9 +11,9 @@ ghost use Rattle.page_json.specs.Reading.{texts_of};
 ghost use Rattle.page_json.specs.declared.fault.ReportFault.TheVariants.{Memory};
 
 use crate::fault::ReportFault;
+use book_model::Entry;
 use serde_json::Value;
 use std::alloc::Global;
-use book_model::Entry;
 use vcard_text::{Card, Text, read_card};
 
 /// The status of a member that is live (RFC 9110, section 15.3.1).

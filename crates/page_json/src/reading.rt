@@ -13,10 +13,10 @@ use crate::fault::ReportFault;
 use crate::laws::{pages_have_no_first_fault, texts_tell_pages};
 use crate::member::{Member, entry_of};
 use crate::parts::{Parts, parts_of};
-use serde_json::Value;
-use std::alloc::Global;
 use book_devices::read_token;
 use book_model::{Entry, Page};
+use serde_json::Value;
+use std::alloc::Global;
 use vcard_text::Items;
 
 /// The value that the text is JSON of.

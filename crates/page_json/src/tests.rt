@@ -3,11 +3,11 @@ mod pages;
 mod refused;
 
 use crate::reading::read_report;
+use book_devices::token_text;
+use book_model::Entry;
 use std::alloc::Global;
 use std::process::Abort;
 use std::test::Fail;
-use book_devices::token_text;
-use book_model::Entry;
 use vcard_text::write_card;
 
 /// The text of the card with this UID and name.

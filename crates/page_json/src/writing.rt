@@ -9,10 +9,10 @@ ghost use Rattle.page_json.specs.PagesOfTexts.{IsOfPage};
 ghost use Rattle.page_json.specs.Reportable.{IsReportable, SpellsItsCard, member_texts, page_texts, report_text};
 
 use crate::member::{STATUS_NOT_FOUND, STATUS_OK};
-use serde_json::{Value, json};
-use std::alloc::Global;
 use book_devices::token_text;
 use book_model::{Entry, Page};
+use serde_json::{Value, json};
+use std::alloc::Global;
 use vcard_text::{Card, NoMemory, write_card};
 
 /// The card's canonical text.

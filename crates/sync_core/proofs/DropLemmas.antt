@@ -9,7 +9,7 @@ use Rattle.std.proofs.lemmas.Bool.{both_ways}
 use Rattle.std.proofs.lemmas.List.{map-append}
 use Rattle.base_types.specs.TextMaps.{text_cmp}
 use Rattle.base_types.proofs.TextLemmas.{text_total}
-use Rattle.vcard_text.specs.declared.line.Line.{Line}
+use Rattle.vcard_lines.specs.declared.line.Line.{Line}
 use Rattle.book_model.specs.declared.row.Row.{Row}
 use Rattle.book_model.specs.Changing.{least}
 use Rattle.book_model.specs.Pages.{Member}

@@ -4,22 +4,22 @@ use Rattle.std.specs.Prelude.{not, codes}
 use Rattle.std.specs.List.{list_any, list_all}
 use Rattle.std.proofs.lemmas.Bool.{and_parts, both_ways}
 use Rattle.std.proofs.lemmas.Slice.Eq.{bytes_eq-Decides}
-use Rattle.vcard_text.specs.declared.fault.CardFault.{CardFault}
-use Rattle.vcard_text.specs.declared.fault.CardFault.TheVariants.{BadChar, BadLine, NoBegin, BadVersion, BadUid, Twice}
-use Rattle.vcard_text.specs.declared.line.Line.{Line}
+use Rattle.vcard_lines.specs.declared.fault.CardFault.{CardFault}
+use Rattle.vcard_lines.specs.declared.fault.CardFault.TheVariants.{BadChar, BadLine, NoBegin, BadVersion, BadUid, Twice}
+use Rattle.vcard_lines.specs.declared.line.Line.{Line}
 use Rattle.vcard_text.specs.declared.scan.Place.{Place}
 use Rattle.vcard_text.specs.declared.scan.Place.TheVariants.{First, Second, Body, After}
-use Rattle.vcard_text.specs.FaultNumbers.{fault_number}
-use Rattle.vcard_text.specs.Grammar.{IsOf, is_permitted, SpellsLine}
-use Rattle.vcard_text.specs.LineReading.{line_at}
+use Rattle.vcard_lines.specs.FaultNumbers.{fault_number}
+use Rattle.vcard_lines.specs.Grammar.{IsOf, is_permitted, SpellsLine}
+use Rattle.vcard_lines.specs.LineReading.{line_at}
 use Rattle.vcard_text.specs.Cards.{is_named, has_named, is_uid}
 use Rattle.vcard_text.specs.Spelling.{is_bracket, is_begin, is_version, is_end}
 use Rattle.vcard_text.specs.FirstFaults.{IsLeastFault, is_none, is_wrong_end, is_repeated, line_breaks, LineHas, of_characters, of_grammar, of_rules}
 use Rattle.vcard_text.specs.Scanning.{scan_at, fault_if, first_line_fault, second_line_fault, body_line_fault, line_fault, next_scan}
 use Rattle.vcard_text.proofs.RuleLemmas.{no_fault}
-use Rattle.vcard_text.proofs.FrontLemmas.{of_class, all_of_class}
-use Rattle.vcard_text.proofs.LineLemmas.{line_again, one_line}
-use Rattle.vcard_text.proofs.FailLemmas.{line_fails}
+use Rattle.vcard_lines.proofs.FrontLemmas.{of_class, all_of_class}
+use Rattle.vcard_lines.proofs.LineLemmas.{line_again, one_line}
+use Rattle.vcard_lines.proofs.FailLemmas.{line_fails}
 use Rattle.vcard_text.proofs.LeastLemmas.{least_of, found_or_none, least_found, none_passes, least_again, least_along}
 
 -- ---- names

@@ -7,25 +7,25 @@ use Rattle.std.specs.Str.{is_utf8}
 use Rattle.std.proofs.lemmas.Bool.{cases_Bool, leb-true, le-leb, both_ways}
 use Rattle.std.proofs.lemmas.List.{append-nil}
 use Rattle.std.proofs.lemmas.Str.{IsUtf8-from_is_utf8, is_utf8-from_IsUtf8}
-use Rattle.vcard_text.specs.declared.fault.CardFault.{CardFault}
-use Rattle.vcard_text.specs.declared.fault.CardFault.TheVariants.{TooLong, NotUtf8, NoEnd, NoName, NoUid, MemberOutsideGroup}
+use Rattle.vcard_lines.specs.declared.fault.CardFault.{CardFault}
+use Rattle.vcard_lines.specs.declared.fault.CardFault.TheVariants.{TooLong, NotUtf8, NoEnd, NoName, NoUid, MemberOutsideGroup}
 use Rattle.vcard_text.specs.declared.kind.Kind.TheVariants.{Individual}
-use Rattle.vcard_text.specs.declared.line.Line.{Line}
+use Rattle.vcard_lines.specs.declared.line.Line.{Line}
 use Rattle.vcard_text.specs.declared.scan.Place.{Place}
 use Rattle.vcard_text.specs.declared.scan.Place.TheVariants.{First, Second, Body, After}
 use Rattle.vcard_text.specs.declared.scan.Scan.{Scan}
 use Rattle.vcard_text.specs.Bounds.{text_octets_max}
-use Rattle.vcard_text.specs.Steps.{◌>>=◌}
-use Rattle.vcard_text.specs.Grammar.{SpellsLine}
-use Rattle.vcard_text.specs.LineReading.{line_at}
-use Rattle.vcard_text.specs.Unfolding.{logical_lines}
+use Rattle.vcard_lines.specs.Steps.{◌>>=◌}
+use Rattle.vcard_lines.specs.Grammar.{SpellsLine}
+use Rattle.vcard_lines.specs.LineReading.{line_at}
+use Rattle.vcard_lines.specs.Unfolding.{logical_lines}
 use Rattle.vcard_text.specs.Cards.{is_named, has_named, kind_named, kind_of, canonical_text}
 use Rattle.vcard_text.specs.Spelling.{is_end, without_mark, Spells}
 use Rattle.vcard_text.specs.FirstFaults.{IsLeastFault, line_breaks, LineHas, AreFaultless, IsOfFirstFaultyLine, is_group, whole_breaks, IsOfWhole, IsOfLines, IsFirstFault, of_length, of_encoding, of_line, of_whole, of_canonical}
 use Rattle.vcard_text.specs.Scanning.{scan_at, fault_if, line_fault, next_scan, unless, scanned, rules_fault, whole_fault, card_from, card_of_texts, within_bounds}
 use Rattle.vcard_text.specs.CardOfText.{card_of_text, fault_of, first_fault}
-use Rattle.vcard_text.proofs.BlockLemmas.{are_logical_lines, one_reading}
-use Rattle.vcard_text.proofs.LineLemmas.{line_found, line_again}
+use Rattle.vcard_lines.proofs.BlockLemmas.{are_logical_lines, one_reading}
+use Rattle.vcard_lines.proofs.LineLemmas.{line_found, line_again}
 use Rattle.vcard_text.proofs.CardLemmas.{card_found, card_again}
 use Rattle.vcard_text.proofs.TextLemmas.{of_short_text, of_no_utf8, of_long_text, spells_without_fault}
 use Rattle.vcard_text.proofs.LeastLemmas.{least_of, found_or_none, least_found, least_again, one_least}

@@ -2,9 +2,9 @@
 use Rattle.std.proofs.Common.{◌≡◌, ◌⊎◌, ℕ, ◌≤◌, Bool, true, false, cond, ◌==◌, ◌&&◌, nat_le, List, [], ◌∷◌, find, Option, Some, None, inl, inr, ⊎_elim, refl, sym, ap, subst, ◌∙◌, arith}
 use Rattle.std.specs.List.{AllByRecursion, list_all}
 use Rattle.std.proofs.lemmas.Bool.{and_parts, leb-true, both_ways}
-use Rattle.vcard_text.specs.declared.fault.CardFault.{CardFault}
-use Rattle.vcard_text.specs.declared.fault.CardFault.TheVariants.{TooLong, NotUtf8, BadChar, BadLine, NoBegin, BadVersion, NoEnd, NoName, NoUid, BadUid, Twice, MemberOutsideGroup, Memory}
-use Rattle.vcard_text.specs.FaultNumbers.{fault_number}
+use Rattle.vcard_lines.specs.declared.fault.CardFault.{CardFault}
+use Rattle.vcard_lines.specs.declared.fault.CardFault.TheVariants.{TooLong, NotUtf8, BadChar, BadLine, NoBegin, BadVersion, NoEnd, NoName, NoUid, BadUid, Twice, MemberOutsideGroup, Memory}
+use Rattle.vcard_lines.specs.FaultNumbers.{fault_number}
 use Rattle.vcard_text.specs.FirstFaults.{IsLeastFault}
 
 abbrev pub in_order : List CardFault

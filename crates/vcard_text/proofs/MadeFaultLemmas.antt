@@ -4,21 +4,22 @@ use Rattle.std.specs.Prelude.{not}
 use Rattle.std.specs.List.{list_all}
 use Rattle.std.proofs.lemmas.Bool.{both_ways}
 use Rattle.std.proofs.lemmas.List.{append-nil}
-use Rattle.vcard_text.specs.declared.fault.CardFault.{CardFault}
-use Rattle.vcard_text.specs.declared.fault.CardFault.TheVariants.{TooLong, NotUtf8, BadChar, BadLine, NoBegin, BadVersion, NoEnd, NoName, NoUid, BadUid, Twice, MemberOutsideGroup, Memory}
-use Rattle.vcard_text.specs.declared.line.Line.{Line}
+use Rattle.vcard_lines.specs.declared.fault.CardFault.{CardFault}
+use Rattle.vcard_lines.specs.declared.fault.CardFault.TheVariants.{TooLong, NotUtf8, BadChar, BadLine, NoBegin, BadVersion, NoEnd, NoName, NoUid, BadUid, Twice, MemberOutsideGroup, Memory}
+use Rattle.vcard_lines.specs.declared.line.Line.{Line}
 use Rattle.vcard_text.specs.Bounds.{text_octets_max}
-use Rattle.vcard_text.specs.Steps.{◌>>=◌}
-use Rattle.vcard_text.specs.Grammar.{is_permitted, line_text}
+use Rattle.vcard_lines.specs.Steps.{◌>>=◌}
+use Rattle.vcard_lines.specs.Grammar.{is_permitted, line_text}
 use Rattle.vcard_text.specs.Cards.{canonical_text}
 use Rattle.vcard_text.specs.FirstFaults.{IsLeastFault, lines_break}
 use Rattle.vcard_text.specs.Making.{upper_lines, made_line_breaks, MadeLineHas, of_characters, of_parts, of_rules, AreMadeFaultless, IsOfFirstFaultyMade, IsFirstMadeFault, of_line, of_whole, of_canonical}
-use Rattle.vcard_text.specs.MakingSteps.{has_legal_parts, made_line_fault, made_behind, card_made_of, first_made_fault}
+use Rattle.vcard_text.specs.MakingSteps.{made_line_fault, made_behind, card_made_of, first_made_fault}
 use Rattle.vcard_text.specs.Scanning.{fault_if, unless, body_line_fault, rules_fault, within_bounds}
 use Rattle.vcard_text.specs.CardOfText.{fault_of}
-use Rattle.vcard_text.proofs.FrontLemmas.{of_class, all_of_class}
+use Rattle.vcard_lines.proofs.FrontLemmas.{of_class, all_of_class}
 use Rattle.vcard_text.proofs.LeastLemmas.{least_of, found_or_none, least_found, none_passes, least_again, least_along}
-use Rattle.vcard_text.proofs.MakingLemmas.{legal_from_test, legal_to_test}
+use Rattle.vcard_lines.specs.LegalParts.{has_legal_parts}
+use Rattle.vcard_lines.proofs.LegalPartLemmas.{legal_from_test, legal_to_test}
 use Rattle.vcard_text.proofs.FirstFaultLemmas.{false_unless, some_fault, bounds_fail, longer}
 
 -- ---- one line

@@ -3,12 +3,12 @@
 -- `first_fault_is_computed`. This project's own.
 use Rattle.std.specs.Prelude.{ℕ, nat_le, List, length, Option, Some, None, Result, Ok, Err, if◌then◌else◌}
 use Rattle.std.specs.Str.{is_utf8}
-use Rattle.vcard_text.specs.declared.fault.CardFault.{CardFault}
-use Rattle.vcard_text.specs.declared.fault.CardFault.TheVariants.{TooLong, NotUtf8}
-use Rattle.vcard_text.specs.declared.line.Line.{Line}
+use Rattle.vcard_lines.specs.declared.fault.CardFault.{CardFault}
+use Rattle.vcard_lines.specs.declared.fault.CardFault.TheVariants.{TooLong, NotUtf8}
+use Rattle.vcard_lines.specs.declared.line.Line.{Line}
 use Rattle.vcard_text.specs.Bounds.{text_octets_max}
-use Rattle.vcard_text.specs.Steps.{◌>>=◌}
-use Rattle.vcard_text.specs.Unfolding.{logical_lines}
+use Rattle.vcard_lines.specs.Steps.{◌>>=◌}
+use Rattle.vcard_lines.specs.Unfolding.{logical_lines}
 use Rattle.vcard_text.specs.Spelling.{without_mark}
 use Rattle.vcard_text.specs.Scanning.{card_of_texts, within_bounds}
 

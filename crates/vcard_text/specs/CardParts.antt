@@ -3,7 +3,7 @@
 use Rattle.std.specs.Prelude.{ℕ, ◌≡◌, List, [], slice_get}
 use Rattle.std.specs.Option.{option_map_or}
 use Rattle.vcard_text.specs.declared.kind.Kind.{Kind}
-use Rattle.vcard_text.specs.declared.line.Line.{Line}
+use Rattle.vcard_lines.specs.declared.line.Line.{Line}
 use Rattle.vcard_text.specs.Cards.{uid_of, kind_of, IsCard}
 
 -- the value of the line at the place

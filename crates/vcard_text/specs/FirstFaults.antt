@@ -3,15 +3,15 @@
 use Rattle.std.specs.Prelude.{ℕ, ◌≡◌, ◌<◌, ◌≤◌, Bool, true, false, ◌||◌, ◌&&◌, not, List, [], ◌∷◌, ◌++◌, length, codes}
 use Rattle.std.specs.List.{list_any}
 use Rattle.std.specs.Str.{IsUtf8}
-use Rattle.vcard_text.specs.declared.fault.CardFault.{CardFault}
-use Rattle.vcard_text.specs.declared.fault.CardFault.TheVariants.{TooLong, NotUtf8, BadChar, BadLine, NoBegin, BadVersion, NoEnd, NoName, NoUid, BadUid, Twice, MemberOutsideGroup}
+use Rattle.vcard_lines.specs.declared.fault.CardFault.{CardFault}
+use Rattle.vcard_lines.specs.declared.fault.CardFault.TheVariants.{TooLong, NotUtf8, BadChar, BadLine, NoBegin, BadVersion, NoEnd, NoName, NoUid, BadUid, Twice, MemberOutsideGroup}
 use Rattle.vcard_text.specs.declared.kind.Kind.{Kind}
 use Rattle.vcard_text.specs.declared.kind.Kind.TheVariants.{Individual, Group, Org, Location, Other}
-use Rattle.vcard_text.specs.declared.line.Line.{Line}
+use Rattle.vcard_lines.specs.declared.line.Line.{Line}
 use Rattle.vcard_text.specs.Bounds.{text_octets_max}
-use Rattle.vcard_text.specs.FaultNumbers.{fault_number}
-use Rattle.vcard_text.specs.Grammar.{IsOf, is_permitted, SpellsLine}
-use Rattle.vcard_text.specs.LogicalLines.{AreLogicalLines}
+use Rattle.vcard_lines.specs.FaultNumbers.{fault_number}
+use Rattle.vcard_lines.specs.Grammar.{IsOf, is_permitted, SpellsLine}
+use Rattle.vcard_lines.specs.LogicalLines.{AreLogicalLines}
 use Rattle.vcard_text.specs.Cards.{is_named, has_named, is_uid, kind_of, canonical_text}
 use Rattle.vcard_text.specs.Spelling.{is_begin, is_version, is_end, without_mark, SpellCard}
 

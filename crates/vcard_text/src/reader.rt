@@ -1,38 +1,21 @@
 //! The reader of a card.
-ghost use Rattle.std.specs.Prelude.{◌≡◌, ◌≢◌, ◌∷◌, ◌++◌, ◌≤◌, List, ℕ, IsTrue, IfOk, IfErr, OnOk, Some, Ok, Err, drop, string_bytes};
-ghost use Rattle.vcard_text.specs.Steps.{Gives};
-ghost use Rattle.vcard_text.specs.LogicalLines.{continues};
-ghost use Rattle.vcard_text.specs.Unfolding.{before, line_so_far, unfolded_from, logical_lines};
+ghost use Rattle.std.specs.Prelude.{◌≡◌, ◌≢◌, ◌∷◌, List, ℕ, IfOk, IfErr, OnOk, Ok, Err, string_bytes};
+ghost use Rattle.vcard_lines.specs.Steps.{Gives};
+ghost use Rattle.vcard_lines.specs.Unfolding.{before, line_so_far, unfolded_from, logical_lines};
 ghost use Rattle.vcard_text.specs.Spelling.{without_mark, Spells};
 ghost use Rattle.vcard_text.specs.FirstFaults.{IsFirstFault};
 ghost use Rattle.vcard_text.specs.Scanning.{card_from, card_of_texts, within_bounds};
 ghost use Rattle.vcard_text.specs.CardOfText.{card_of_text};
-ghost use Rattle.vcard_text.specs.declared.fault.CardFault.TheVariants.{Memory};
-ghost use Rattle.vcard_text.specs.declared.line.Line.{Line};
+ghost use Rattle.vcard_lines.specs.declared.fault.CardFault.TheVariants.{Memory};
+ghost use Rattle.vcard_lines.specs.declared.line.Line.{Line};
 
 use crate::bounds::TEXT_OCTETS_MAX;
 use crate::card::Card;
-use crate::fault::CardFault;
-use crate::line::Line;
 use crate::scan::Scan;
 use crate::writer::canonical_len;
-use base_types::{Items, NoMemory};
+use base_types::Items;
 use std::alloc::Global;
-
-/// Whether a physical line continues the one before it.
-fn continues(piece: &str) -> bool
-    ensures { result ≡ continues piece.now }
-{
-    matches!(piece.as_bytes().first(), Some(b' ' | b'\t'))
-}
-
-/// A physical line without the space or the tab that it begins with.
-fn without_first(piece: &str) -> &str
-    requires { IsTrue (continues piece.now) }
-    ensures { result.now ≡ drop 1 piece.now }
-{
-    &piece[1..]
-}
+use vcard_lines::{CardFault, Line, continues, join, line_so_far};
 
 /// Reads a logical line, unless it is empty.
 fn take_line(alloc: Global, scan: &mut Scan, line: &str) -> Result<(), CardFault>
@@ -45,30 +28,6 @@ fn take_line(alloc: Global, scan: &mut Scan, line: &str) -> Result<(), CardFault
         return Ok(());
     }
     scan.take(alloc, line)
-}
-
-/// The logical line so far: its one physical line, or what was joined of several.
-fn line_so_far<'a>(first: &'a str, joined: &'a String) -> &'a str
-    ensures { result.now ≡ line_so_far first.now (string_bytes joined.now) }
-{
-    if joined.is_empty() {
-        first
-    } else {
-        joined.as_str()
-    }
-}
-
-/// Joins a physical line to the logical line that it continues.
-fn join(first: &str, joined: &mut String, piece: &str) -> Result<(), NoMemory>
-    requires { IsTrue (continues piece.now) }
-    ensures { OnOk result (line_so_far first.now (string_bytes joined.new)
-        ≡ line_so_far first.now (string_bytes joined.old) ++ drop 1 piece.now) }
-{
-    if joined.is_empty() {
-        joined.push_str(first)?;
-    }
-    joined.push_str(without_first(piece))?;
-    Ok(())
 }
 
 /// Reads a physical line: it goes on with the logical line so far, or ends it and begins the next.

@@ -2,10 +2,10 @@
 use super::{card_text, is_read_as, json_card};
 use crate::reading::read_report;
 use crate::writing::write_report;
+use book_model::{Entry, Mark, Page};
 use std::alloc::Global;
 use std::rt::HostRuntime;
 use std::test::Fail;
-use book_model::{Entry, Mark, Page};
 use vcard_text::{Items, Text, read_card};
 
 /// The body that the formats' worked example has of d's removal, 101 octets.

@@ -3,10 +3,10 @@
 use crate::fault::ReportFault;
 use crate::reading::read_report;
 use crate::writing::write_report;
+use book_model::Page;
 use std::alloc::Global;
 use std::process::Abort;
 use std::rt::HostRuntime;
-use book_model::Page;
 
 /// A card, a removal and a token.
 const BODY: &str = "{\"members\":[{\"card\":\"BEGIN:VCARD\\r\\nVERSION:4.0\\r\\nUID:a\\r\\nFN:Ann\

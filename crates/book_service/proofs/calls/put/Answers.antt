@@ -1,5 +1,5 @@
 use Rattle.std.proofs.Common.{List, ℕ, Ok, Err, subst}
-use Rattle.vcard_text.specs.declared.line.Line.{Line}
+use Rattle.vcard_lines.specs.declared.line.Line.{Line}
 use Rattle.book_model.specs.Outcomes.{Does}
 use Rattle.book_model.specs.Putting.{put_step}
 use Rattle.book_service.specs.OnRows.{DeniesIn}

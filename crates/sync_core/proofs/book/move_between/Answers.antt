@@ -1,6 +1,6 @@
 use Rattle.std.proofs.Common.{◌≡◌, IsSome, List, ◌∙◌, subst}
 use Rattle.std.specs.FinMap as finite
-use Rattle.vcard_text.specs.declared.line.Line.{Line}
+use Rattle.vcard_lines.specs.declared.line.Line.{Line}
 use Rattle.book_model.specs.Changing.{with_change}
 use Rattle.book_model.specs.declared.change.Change.TheVariants.{Stores}
 use Rattle.book_model.specs.declared.change.StoreReason.TheVariants.{MoveIn}

@@ -1,6 +1,6 @@
 use Rattle.std.proofs.Common.{◌≡◌, List, ℕ, Option, length, codes, slice_get, [], add-one, sym, ap, ◌∙◌, arith}
 use Rattle.std.specs.Option.{option_map_or}
-use Rattle.vcard_text.specs.declared.line.Line.{Line}
+use Rattle.vcard_lines.specs.declared.line.Line.{Line}
 use Rattle.vcard_text.specs.Cards.{is_named}
 use Rattle.vcard_text.proofs.PlaceLemmas.{found_there, found_nowhere, none_more}
 use Rattle.vcard_text.proofs.card.uid_place.Goals as goal

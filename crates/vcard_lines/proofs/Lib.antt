@@ -1,0 +1,14 @@
+pub mod StepLemmas
+pub mod FrontLemmas
+pub mod Readers
+pub mod PartLemmas
+pub mod LineLemmas
+pub mod FoldingLemmas
+pub mod FoldingLoopLemmas
+pub mod CountLemmas
+pub mod UnfoldingLemmas
+pub mod BlockLemmas
+pub mod ReadBackLemmas
+pub mod LineTextLemmas
+pub mod LegalPartLemmas
+pub mod FailLemmas

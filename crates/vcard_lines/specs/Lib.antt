@@ -1,0 +1,10 @@
+pub mod FaultNumbers
+pub mod Grammar
+pub mod LegalParts
+pub mod LogicalLines
+pub mod FoldingSteps
+pub mod Folding
+pub mod FoldingLoop
+pub mod Steps
+pub mod LineReading
+pub mod Unfolding

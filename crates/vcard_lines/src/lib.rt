@@ -1,0 +1,25 @@
+//! The lines of a vCard 4.0 text (RFC 6350, sections 3.2 and 3.3): physical lines that are joined
+//! to logical ones, the property lines that these spell, and how a property line is written and
+//! folded.
+#![tactic(auto)]
+
+mod bounds;
+mod fault;
+mod folded_count;
+mod folding;
+mod joining;
+pub mod laws;
+mod legal_parts;
+mod line;
+mod line_reader;
+mod line_writer;
+
+pub use bounds::COUNT_MAX;
+pub use fault::CardFault;
+pub use folded_count::{folded_len, folded_line_len};
+pub use folding::write_folded;
+pub use joining::{continues, join, line_so_far};
+pub use legal_parts::has_legal_parts;
+pub use line::{Line, Param, ParamValue};
+pub use line_reader::{is_permitted_text, read_line};
+pub use line_writer::write_line;

@@ -1,9 +1,0 @@
-use Rattle.std.proofs.Common.{◌∷◌, take, flat_map}
-use Rattle.base_types.specs.Octets.{comma}
-use Rattle.vcard_text.specs.Grammar.{value_text}
-use Rattle.vcard_text.specs.FoldingLoop.{CountsLine}
-use Rattle.vcard_text.proofs.folded_len.count_values.Given as goal
-
--- the values so far are counted, each behind a comma
-abbrev pub invariant-loop-value : goal.invariant-loop-value
-invariant-loop-value l = CountsLine l.initial.count l.count (flat_map (λ v. comma ∷ value_text v) (take l.value-index l.others))

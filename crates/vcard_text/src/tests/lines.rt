@@ -1,0 +1,100 @@
+//! Lines that are read, written, folded and joined again.
+use base_types::{Items, Part, Text};
+use std::test::Fail;
+use vcard_lines::{
+    CardFault, Line, Param, continues, folded_len, folded_line_len, has_legal_parts,
+    is_permitted_text, join, line_so_far, read_line, write_folded, write_line,
+};
+
+/// A logical line of 97 octets, and its folding.
+const LONG: (&str, &str) = (
+    "item1.NOTE;LANGUAGE=de;TYPE=\"a,b\":Straße, Platz und Allee, und noch viel mehr Worte bis zum \
+     Ende",
+    "item1.NOTE;LANGUAGE=de;TYPE=\"a,b\":Straße, Platz und Allee, und noch viel m\r\n ehr Worte bis \
+     zum Ende\r\n",
+);
+
+#[test]
+fn numbers_faults(rt: HostRuntime) {
+    let faults = [
+        (CardFault::TooLong, 1),
+        (CardFault::NotUtf8, 2),
+        (CardFault::BadChar, 3),
+        (CardFault::BadLine, 4),
+        (CardFault::NoBegin, 5),
+        (CardFault::BadVersion, 6),
+        (CardFault::NoEnd, 7),
+        (CardFault::NoName, 8),
+        (CardFault::NoUid, 9),
+        (CardFault::BadUid, 10),
+        (CardFault::Twice, 11),
+        (CardFault::MemberOutsideGroup, 12),
+        (CardFault::Memory, 13),
+    ];
+    for (fault, number) in faults {
+        assert_eq!(rt; fault.number(), number);
+    }
+}
+
+#[test]
+fn reads_and_writes_lines(rt: HostRuntime) -> Result<(), Fail> {
+    let line = read_line(rt.alloc(), "item1.Tel;TYPE=a,\"b;\";PREF=1:+1;2")?;
+    assert_eq!(rt; line.name.as_str(), "TEL");
+    assert_eq!(rt; line.value.as_str(), "+1;2");
+    let mut text = String::from_str(rt.alloc(), "before")?;
+    write_line(&mut text, &line)?;
+    assert_eq!(rt; text.as_str(), "item1.TEL;TYPE=a,\"b;\";PREF=1:+1;2");
+    assert_eq!(rt; folded_line_len(&line), text.len() + 2);
+    assert_eq!(rt; line.try_copy()?.is_same(&line), true);
+    for (text, fault) in [
+        ("TEL", CardFault::BadLine),
+        (".TEL:1", CardFault::BadLine),
+        ("TEL;TYPE:1", CardFault::BadLine),
+        ("TEL:\u{7F}", CardFault::BadChar),
+        ("T\u{1}L", CardFault::BadChar),
+    ] {
+        assert_eq!(rt; read_line(rt.alloc(), text).err(), Some(fault), "{text}");
+    }
+    Ok(())
+}
+
+#[test]
+fn judges_parts(rt: HostRuntime) -> Result<(), Fail> {
+    let mut line = read_line(rt.alloc(), "TEL:1")?;
+    assert_eq!(rt; has_legal_parts(&line), true);
+    line.params.push(Param {
+        name: Text::copy_of(rt.alloc(), "TYPE")?,
+        values: Items::new(rt.alloc()),
+    })?;
+    assert_eq!(rt; has_legal_parts(&line), false);
+    let nameless = Line {
+        group: None,
+        name: Text::copy_of(rt.alloc(), "")?,
+        params: Items::new(rt.alloc()),
+        value: Text::copy_of(rt.alloc(), "1")?,
+    };
+    assert_eq!(rt; has_legal_parts(&nameless), false);
+    assert_eq!(rt; is_permitted_text("a\tb"), true);
+    assert_eq!(rt; is_permitted_text("a\nb"), false);
+    Ok(())
+}
+
+#[test]
+fn folds_and_joins(rt: HostRuntime) -> Result<(), Fail> {
+    let (line, folded) = LONG;
+    let mut text = String::new(rt.alloc());
+    write_folded(&mut text, line)?;
+    assert_eq!(rt; text.as_str(), folded);
+    assert_eq!(rt; folded_len(line), folded.len());
+    let mut joined = String::new(rt.alloc());
+    let mut pieces = text.lines();
+    let first = pieces.next().ok_or("no line")?;
+    assert_eq!(rt; first.len(), 75);
+    for piece in pieces {
+        if continues(piece) {
+            join(first, &mut joined, piece)?;
+        }
+    }
+    assert_eq!(rt; line_so_far(first, &joined), line);
+    Ok(())
+}
