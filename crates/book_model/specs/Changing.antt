@@ -1,10 +1,11 @@
--- What a change does to a book's rows. That a book remembers only so many removed members by itself,
--- and then takes no token that needs an older one (RFC 6578, section 3.2), is this project's own.
+-- What a change does to a book's rows. That a book remembers only so many removed members by
+-- itself, and then takes no token that needs an older one (RFC 6578, section 3.2), is this
+-- project's own.
 use Rattle.std.specs.Prelude.{ℕ, ◌+◌, nat_le, min, List, [], ◌∷◌, map, filter, Option, Some, None, if◌then◌else◌}
 use Rattle.std.specs.Option.{option_map_or}
 use Rattle.std.specs.FinMap as finite
 use Rattle.base_types.specs.TextMaps.{text_cmp}
-use Rattle.vcard_text.specs.declared.line.Line.{Line}
+use Rattle.vcard_lines.specs.declared.line.Line.{Line}
 use Rattle.book_model.specs.declared.change.Change.{Change}
 use Rattle.book_model.specs.declared.change.Change.TheVariants.{Stores, TakesAway}
 use Rattle.book_model.specs.declared.row.Row.{Row}

@@ -44,7 +44,7 @@ fn cards_of(alloc: Global, shape: &str) -> Result<BTreeMap<String, Card>, Fail> 
 /// The texts, each behind a space.
 fn joined(alloc: Global, items: &Items<Text>) -> Result<String, Fail> {
     let mut text = String::new(alloc);
-    for item in items.as_slice() {
+    for item in items {
         text.push_str(" ")?;
         text.push_str(item.as_str())?;
     }

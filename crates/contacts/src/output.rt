@@ -29,14 +29,12 @@ fn write_entry(out: &mut Vec<u8>, entry: &Entry) -> Result<(), NoMemory>
     match entry {
         Entry::Changed { uid, version, card } => {
             let text = write_card(alloc, card)?;
-            let uid = uid.as_str();
             let octets = text.len();
             let line = format!(in alloc; "card {uid} version {version} octets {octets}\n")?;
             out.extend_from_slice(line.as_bytes())?;
             out.extend_from_slice(text.as_slice())?;
         }
         Entry::Removed { uid } => {
-            let uid = uid.as_str();
             let line = format!(in alloc; "removed {uid}\n")?;
             out.extend_from_slice(line.as_bytes())?;
         }

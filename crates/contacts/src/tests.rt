@@ -17,7 +17,8 @@ const KEPT_ANN: &str = "BEGIN:VCARD\r\nVERSION:4.0\r\nUID:a\r\nFN:Ann\r\nEND:VCA
 /// What is printed of Ann's card.
 fn printed_ann(alloc: Global) -> Result<String, Fail> {
     Ok(format!(in alloc;
-        "put created 1\ncard a version 1 octets 52\n{KEPT_ANN}token http://contacts.invalid/sync/1/1/1\ntruncated no\n"
+        "put created 1\ncard a version 1 octets 52\n{KEPT_ANN}\
+         token http://contacts.invalid/sync/1/1/1\ntruncated no\n"
     )?)
 }
 

@@ -1,8 +1,8 @@
--- The numbers and the words of the faults of a page's text, and what a card's fault is told as there.
--- This project's own.
+-- The numbers and the words of the faults of a page's text, and what a card's fault is told as
+-- there. This project's own.
 use Rattle.std.specs.Prelude.{ℕ, List, codes}
-use Rattle.vcard_text.specs.declared.fault.CardFault.{CardFault}
-use Rattle.vcard_text.specs.declared.fault.CardFault.TheVariants as card
+use Rattle.vcard_lines.specs.declared.fault.CardFault.{CardFault}
+use Rattle.vcard_lines.specs.declared.fault.CardFault.TheVariants as card
 use Rattle.page_json.specs.declared.fault.ReportFault.{ReportFault}
 use Rattle.page_json.specs.declared.fault.ReportFault.TheVariants.{NotJson, BadShape, BadCard, BadToken, Memory}
 

@@ -154,8 +154,8 @@ fn tells_an_empty_value(rt: HostRuntime) -> Result<(), Fail> {
     let group = card_of(rt.alloc(), "g", "group", "MEMBER:\r\nMEMBER:\r\n")?;
     cards.insert(String::from_str(rt.alloc(), "g")?, group)?;
     let expansion = expand(rt.alloc(), &cards, "g")?;
-    assert_eq!(rt; expansion.people.as_slice().len(), 0);
-    assert_eq!(rt; expansion.missing.as_slice().len(), 1);
+    assert_eq!(rt; expansion.people.len(), 0);
+    assert_eq!(rt; expansion.missing.len(), 1);
     Ok(())
 }
 

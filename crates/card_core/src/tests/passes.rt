@@ -15,7 +15,8 @@ const SHAPES: [&str; 8] = [
     "a group a; b group a; c group b z; d group c; z location",
     "a group x1 n1; b group a x2 n2; c group b x3; x1 individual; x2 individual; x3 individual",
     "a group urn:uuid:b; b group urn:uuid:c; c group urn:uuid:urn:uuid:d; d group x; x individual",
-    "a group c; b group c; c group n; urn:uuid:c group x; d group URN:UUID:c urn:uuid:c; x individual",
+    "a group c; b group c; c group n; urn:uuid:c group x; d group URN:UUID:c urn:uuid:c; \
+     x individual",
     "é group ü urn:uuid:ü; ü group é ö; ö individual; urn:uuid:ü individual; o group é",
     "a group b b b; b group c c; c group d e; d group n; e group n d; f group e f",
 ];

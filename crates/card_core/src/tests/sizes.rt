@@ -39,11 +39,11 @@ fn follows_a_long_chain(rt: HostRuntime) -> Result<(), Fail> {
     insert(rt.alloc(), &mut cards, MANY, "individual", "")?;
 
     let expansion = expand(rt.alloc(), &cards, "m00000")?;
-    assert_eq!(rt; expansion.people.as_slice().len(), 1);
-    for person in expansion.people.as_slice() {
+    assert_eq!(rt; expansion.people.len(), 1);
+    for person in &expansion.people {
         assert_eq!(rt; person.as_str(), "m10000");
     }
-    assert_eq!(rt; expansion.missing.as_slice().len(), 1);
+    assert_eq!(rt; expansion.missing.len(), 1);
     Ok(())
 }
 
@@ -69,13 +69,13 @@ fn lists_many_members(rt: HostRuntime) -> Result<(), Fail> {
     }
 
     let expansion = expand(rt.alloc(), &cards, "g")?;
-    assert_eq!(rt; expansion.people.as_slice().len(), 9_000);
+    assert_eq!(rt; expansion.people.len(), 9_000);
     let mut number = 0;
-    for person in expansion.people.as_slice() {
+    for person in &expansion.people {
         assert_eq!(rt; person.as_str(), uid_of(rt.alloc(), number)?.as_str());
         number = number.saturating_add(1);
     }
-    assert_eq!(rt; expansion.missing.as_slice().len(), 1_000);
+    assert_eq!(rt; expansion.missing.len(), 1_000);
     Ok(())
 }
 
@@ -100,7 +100,7 @@ fn names_one_large_card_often(rt: HostRuntime) -> Result<(), Fail> {
     )?;
 
     let expansion = expand(alloc, &cards, "g")?;
-    assert_eq!(rt; expansion.people.as_slice().len(), 1);
-    assert_eq!(rt; expansion.missing.as_slice().len(), 0);
+    assert_eq!(rt; expansion.people.len(), 1);
+    assert_eq!(rt; expansion.missing.len(), 0);
     Ok(())
 }

@@ -22,8 +22,8 @@ fn creates_and_reports_the_card(rt: HostRuntime) -> Result<(), Fail> {
     assert_eq!(rt; path.page.book, 1);
     assert_eq!(rt; path.page.mark, Mark { at: 1, base: 1 });
     assert!(rt; !path.page.truncated);
-    assert_eq!(rt; path.page.entries.as_slice().len(), 1);
-    for entry in path.page.entries.as_slice() {
+    assert_eq!(rt; path.page.entries.len(), 1);
+    for entry in &path.page.entries {
         let Entry::Changed { uid, version, card } = entry else {
             return Err(Fail::from("a member was removed"));
         };
@@ -73,7 +73,8 @@ fn prints_the_longest_card(rt: HostRuntime) -> Result<(), Fail> {
     let (done, written) = tried(rt.alloc(), text.as_bytes());
     assert_eq!(rt; done, Ok(()));
     let wanted = format!(in rt.alloc();
-        "put created 1\ncard a version 1 octets 262144\n{text}token http://contacts.invalid/sync/1/1/1\ntruncated no\n"
+        "put created 1\ncard a version 1 octets 262144\n{text}\
+         token http://contacts.invalid/sync/1/1/1\ntruncated no\n"
     )?;
     assert!(rt; written.as_slice() == wanted.as_bytes());
     Ok(())

@@ -31,7 +31,7 @@ pub(super) fn is_stopped(
     let Err(stop) = done else {
         return Err(Fail::from("it was done"));
     };
-    assert!(rt; written.as_slice().is_empty());
+    assert!(rt; written.is_empty());
     is_said(rt, alloc, stop, line, status)
 }
 
