@@ -1,0 +1,56 @@
+//! The table of routes.
+ghost use Rattle.std.specs.Prelude.{◌≡◌};
+ghost use Rattle.http_routes.specs.Routes.{allow_of, path_of};
+
+/// What a path is about.
+#[derive(Clone, Copy, Debug, PartialEq, Eq)]
+pub enum Route {
+    Books,
+    Book,
+    Tally,
+    Sync,
+    Import,
+    Export,
+    Forget,
+    Card,
+    Move,
+    People,
+}
+
+impl Route {
+    /// The paths that are taken: each name in braces stands for one part that isn't empty.
+    pub fn path(self) -> &'static str
+        ensures { result.now ≡ path_of self }
+    {
+        match self {
+            Route::Books => "/books",
+            Route::Book => "/books/{book}",
+            Route::Tally => "/books/{book}/tally",
+            Route::Sync => "/books/{book}/sync",
+            Route::Import => "/books/{book}/import",
+            Route::Export => "/books/{book}/export",
+            Route::Forget => "/books/{book}/forget",
+            Route::Card => "/books/{book}/cards/{uid}",
+            Route::Move => "/books/{book}/cards/{uid}/move",
+            Route::People => "/books/{book}/cards/{uid}/people",
+        }
+    }
+
+    /// The methods that the route takes, as an Allow field has them (RFC 9110, section 10.2.1).
+    pub fn allow(self) -> &'static str
+        ensures { result.now ≡ allow_of self }
+    {
+        match self {
+            Route::Books => "GET",
+            Route::Book => "PUT",
+            Route::Tally => "GET",
+            Route::Sync => "GET",
+            Route::Import => "POST",
+            Route::Export => "GET",
+            Route::Forget => "POST",
+            Route::Card => "GET, PUT, DELETE",
+            Route::Move => "POST",
+            Route::People => "GET",
+        }
+    }
+}
