@@ -1,0 +1,5 @@
+pub mod Messages
+pub mod Objects
+pub mod ReplyValues
+pub mod Statuses
+pub mod Replies

@@ -1,0 +1,73 @@
+-- The octets that are sent for each reply of the service, and for each fault of a request. This
+-- project's own.
+use Rattle.std.specs.Prelude.{ℕ, Bool, true, List, codes, Option, None}
+use Rattle.serde_json.specs.Data.{Data}
+use Rattle.serde_json.specs.Written.{compact_text}
+use Rattle.book_model.specs.RefusalNumbers.{fault_number, fault_text}
+use Rattle.book_service.specs.declared.reply.Reply.{Reply}
+use Rattle.book_service.specs.declared.reply.Reply.TheVariants as reply
+use Rattle.http_requests.specs.HeadFaults as head
+use Rattle.http_requests.specs.declared.head_fault.HeadFault.{HeadFault}
+use Rattle.http_routes.specs.RouteFaults as route
+use Rattle.http_routes.specs.declared.fault.RouteFault.{RouteFault}
+use Rattle.page_json.specs.PageValues.{page_value}
+use Rattle.page_json.specs.Reportable.{page_texts}
+use Rattle.http_replies.specs.Messages.{Message, message_octets}
+use Rattle.http_replies.specs.ReplyValues.{created_value, put_value, gone_value, moved_value, imported_value, forgot_value, books_value, card_value, tally_value, people_value, fault_value, refusal_value}
+use Rattle.http_replies.specs.Statuses.{reply_status}
+
+-- the body of a reply: JSON (RFC 8259), or rows of CSV (RFC 4180)
+pub data Body : Type 0 where
+  json : Data → Body
+  csv : List ℕ → Body
+
+abbrev pub media_type : Body → List ℕ
+media_type (json value) = codes "application/json"
+media_type (csv rows) = codes "text/csv"
+
+-- JSON stands with no space in it
+abbrev pub body_octets : Body → List ℕ
+body_octets (json value) = compact_text value
+body_octets (csv rows) = rows
+
+abbrev pub reply_body : Reply → Body
+reply_body (reply.Created id) = json (created_value id)
+reply_body (reply.Books lines) = json (books_value lines)
+reply_body (reply.Card uid version card) = json (card_value uid version card)
+reply_body (reply.Put answer) = json (put_value answer)
+reply_body (reply.Gone number) = json (gone_value number)
+reply_body (reply.Moved numbers) = json (moved_value numbers)
+reply_body (reply.Page page) = json (page_value (page_texts page))
+reply_body (reply.Imported tally) = json (imported_value tally)
+reply_body (reply.Forgot dropped horizon) = json (forgot_value dropped horizon)
+reply_body (reply.Tally tally) = json (tally_value tally)
+reply_body (reply.Csv rows) = csv rows
+reply_body (reply.People reached) = json (people_value reached)
+reply_body (reply.Refused refusal) = json (refusal_value refusal)
+reply_body (reply.Fault fault) = json (fault_value (fault_text fault) (fault_number fault))
+
+-- what is told with this status, these methods and this body
+abbrev pub message_of : ℕ → Option (List ℕ) → Body → Message
+message_of status allow body = record {
+  status = status;
+  media_type = media_type body;
+  allow = allow;
+  body = body_octets body;
+}
+
+-- what is sent for a reply of the service, before the connection is closed or goes on
+abbrev pub reply_octets : Reply → Bool → List ℕ
+reply_octets told close =
+    message_octets (message_of (reply_status told) None (reply_body told)) close
+
+-- what is sent for a head's fault, which closes the connection
+abbrev pub head_fault_octets : HeadFault → List ℕ
+head_fault_octets fault =
+    message_octets (message_of (head.fault_status fault) None
+    (json (fault_value (head.fault_text fault) (head.fault_number fault)))) true
+
+-- what is sent where a request is no route's
+abbrev pub route_fault_octets : RouteFault → Bool → List ℕ
+route_fault_octets fault close =
+    message_octets (message_of (route.fault_status fault) (route.fault_allow fault)
+    (json (fault_value (route.fault_text fault) (route.fault_number fault)))) close

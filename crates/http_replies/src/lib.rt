@@ -1,0 +1,14 @@
+//! The octets of replies over HTTP (RFC 9110, RFC 9112), with their bodies in JSON (RFC 8259).
+#![tactic(auto)]
+
+mod bodies;
+mod lists;
+mod message;
+mod refusals;
+pub mod replies;
+mod statuses;
+#[cfg(test)]
+mod tests;
+mod values;
+
+pub use replies::{head_fault_bytes, reply_bytes, route_fault_bytes};

@@ -1,0 +1,102 @@
+//! A reply's head and body, one behind the other.
+ghost use Rattle.std.specs.Prelude.{◌≡◌, ◌++◌, IfOk, OnOk, decimal, length, option_map, string_bytes};
+ghost use Rattle.http_replies.specs.Messages.{allow_line, connection_option, field, head_octets, line, message_octets, phrase_of, status_line, told};
+
+use base_types::NoMemory;
+use http::StatusCode;
+use std::alloc::Global;
+
+/// What is told, before it is written.
+#[derive(Drop)]
+pub(crate) struct Message {
+    pub(crate) status: StatusCode,
+    pub(crate) media_type: &'static str,
+    pub(crate) allow: Option<&'static str>,
+    pub(crate) body: Vec<u8>,
+}
+
+/// The phrase of a status, and none where it has none (RFC 9110, section 15).
+fn phrase_of(status: StatusCode) -> &'static str
+    ensures { result.now ≡ phrase_of status }
+{
+    status.canonical_reason().unwrap_or("")
+}
+
+/// Puts the status line behind what stands there (RFC 9112, section 4).
+fn push_status(head: &mut String, status: StatusCode) -> Result<(), NoMemory>
+    ensures { OnOk result (string_bytes head.new
+        ≡ string_bytes head.old ++ line (status_line status)) }
+{
+    head.push_str("HTTP/1.1 ")?;
+    head.push_str(status.as_str())?;
+    head.push_str(" ")?;
+    head.push_str(phrase_of(status))?;
+    head.push_str("\r\n")?;
+    Ok(())
+}
+
+/// Puts a field behind what stands there (RFC 9112, section 5).
+fn push_field(head: &mut String, name: &str, value: &str) -> Result<(), NoMemory>
+    ensures { OnOk result (string_bytes head.new
+        ≡ string_bytes head.old ++ line (field name.now value.now)) }
+{
+    head.push_str(name)?;
+    head.push_str(": ")?;
+    head.push_str(value)?;
+    head.push_str("\r\n")?;
+    Ok(())
+}
+
+/// Puts the methods behind what stands there, where there are some (RFC 9110, section 10.2.1).
+fn push_allow(head: &mut String, allow: Option<&str>) -> Result<(), NoMemory>
+    ensures { OnOk result (string_bytes head.new ≡ string_bytes head.old
+        ++ allow_line (option_map (λ methods. methods.now) allow.entry)) }
+{
+    match allow {
+        Some(methods) => push_field(head, "Allow", methods),
+        None => Ok(()),
+    }
+}
+
+/// The word for what becomes of the connection (RFC 9110, section 7.6.1).
+fn connection_option(close: bool) -> &'static str
+    ensures { result.now ≡ connection_option close }
+{
+    if close { "close" } else { "keep-alive" }
+}
+
+/// How many octets a body has, in decimal.
+fn length_text(alloc: Global, body: &[u8]) -> Result<String, NoMemory>
+    ensures { IfOk result (λ text. string_bytes text ≡ decimal (length body.now)) }
+{
+    let length = body.len();
+    Ok(format!(in alloc; "{length}")?)
+}
+
+/// The lines of the head, with the empty one that ends it.
+fn head_of(alloc: Global, message: &Message, close: bool) -> Result<String, NoMemory>
+    ensures { IfOk result (λ head. string_bytes head ≡ head_octets (told message.now) close) }
+{
+    let length = length_text(alloc, message.body.as_slice())?;
+    let mut head = String::new(alloc);
+    push_status(&mut head, message.status)?;
+    push_field(&mut head, "Content-Type", message.media_type)?;
+    push_allow(&mut head, message.allow)?;
+    push_field(&mut head, "Content-Length", length.as_str())?;
+    push_field(&mut head, "Connection", connection_option(close))?;
+    head.push_str("\r\n")?;
+    Ok(head)
+}
+
+/// The octets of the whole reply.
+pub(crate) fn message_octets(
+    alloc: Global,
+    message: &Message,
+    close: bool,
+) -> Result<Vec<u8>, NoMemory>
+    ensures { IfOk result (λ octets. octets.items ≡ message_octets (told message.now) close) }
+{
+    let mut octets = head_of(alloc, message, close)?.into_bytes();
+    octets.extend_from_slice(message.body.as_slice())?;
+    Ok(octets)
+}

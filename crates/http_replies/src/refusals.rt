@@ -1,0 +1,53 @@
+//! Refusals and faults as JSON values.
+ghost use Rattle.std.specs.Prelude.{◌≡◌, IfOk};
+ghost use Rattle.serde_json.specs.View.{view};
+ghost use Rattle.http_replies.specs.ReplyValues.{caused_value, fault_value, having_value, refusal_value, row_value};
+
+use book_model::Refusal;
+use serde_json::{Value, json};
+use std::alloc::Global;
+use vcard_text::NoMemory;
+
+pub(crate) fn fault_value(alloc: Global, text: &str, number: u8) -> Result<Value, NoMemory>
+    ensures { IfOk result (λ value. view value ≡ fault_value text.now number) }
+{
+    let number = u64::from(number);
+    Ok(json!(in alloc; {"fault": text, "number": number})?)
+}
+
+/// A refusal with its cause.
+fn caused_value(alloc: Global, cause: u8, text: &str, number: u8) -> Result<Value, NoMemory>
+    ensures { IfOk result (λ value. view value ≡ caused_value cause text.now number) }
+{
+    let (cause, number) = (u64::from(cause), u64::from(number));
+    Ok(json!(in alloc; {"cause": cause, "fault": text, "number": number})?)
+}
+
+/// A refusal with the version that is there.
+fn having_value(alloc: Global, has: u64, text: &str, number: u8) -> Result<Value, NoMemory>
+    ensures { IfOk result (λ value. view value ≡ having_value has text.now number) }
+{
+    let number = u64::from(number);
+    Ok(json!(in alloc; {"fault": text, "has": has, "number": number})?)
+}
+
+/// A refusal with its cause and the row of a body.
+fn row_value(alloc: Global, row: u64, cause: u8, text: &str, number: u8) -> Result<Value, NoMemory>
+    ensures { IfOk result (λ value. view value ≡ row_value row cause text.now number) }
+{
+    let (cause, number) = (u64::from(cause), u64::from(number));
+    Ok(json!(in alloc; {"cause": cause, "fault": text, "number": number, "row": row})?)
+}
+
+pub(crate) fn refusal_value(alloc: Global, refusal: Refusal) -> Result<Value, NoMemory>
+    ensures { IfOk result (λ value. view value ≡ refusal_value refusal) }
+{
+    let (text, number) = (refusal.text(), refusal.number());
+    match refusal {
+        Refusal::BadCard(fault) => caused_value(alloc, fault.number(), text, number),
+        Refusal::BadToken(cause) => caused_value(alloc, cause.number(), text, number),
+        Refusal::VersionMismatch { has } => having_value(alloc, has, text, number),
+        Refusal::BadImport { row, cause } => row_value(alloc, row, cause, text, number),
+        _ => fault_value(alloc, text, number),
+    }
+}

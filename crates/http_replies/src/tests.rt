@@ -1,0 +1,26 @@
+mod answers;
+mod faults;
+
+use std::alloc::Global;
+use std::process::Abort;
+use std::str;
+use std::test::Fail;
+
+/// A whole reply in JSON, with the line of Allow where there is one.
+fn whole(
+    alloc: Global,
+    status: &str,
+    allow: &str,
+    length: u64,
+    connection: &str,
+    body: &str,
+) -> Result<String, Fail> {
+    let kind = "Content-Type: application/json\r\n";
+    let size = format!(in alloc; "Content-Length: {length}\r\n")?;
+    let end = format!(in alloc; "Connection: {connection}\r\n\r\n")?;
+    Ok(format!(in alloc; "HTTP/1.1 {status}\r\n{kind}{allow}{size}{end}{body}")?)
+}
+
+fn is_written(rt: &impl Abort, octets: &[u8], wanted: &str) {
+    assert_eq!(rt; str::from_utf8(octets), Ok(wanted));
+}

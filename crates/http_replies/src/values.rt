@@ -1,0 +1,133 @@
+//! Replies as JSON values, the names of each object in the order of their octets.
+ghost use Rattle.std.specs.Prelude.{◌≡◌, IfOk, string_bytes};
+ghost use Rattle.serde_json.specs.View.{view};
+ghost use Rattle.vcard_text.specs.Cards.{canonical_text};
+ghost use Rattle.http_replies.specs.ReplyValues.{books_value, card_value, created_value, forgot_value, gone_value, imported_value, moved_value, people_value, put_object, put_value, tally_value};
+
+use crate::lists::{book_values, numbers_value, text_values};
+use book_model::{BookLine, ImportTally, Moved, PutAnswer, Tally};
+use card_core::Expansion;
+use serde_json::{Value, json};
+use std::alloc::Global;
+use vcard_text::{Card, Items, NoMemory, Text, write_card};
+
+pub(crate) fn created_value(alloc: Global, id: u64) -> Result<Value, NoMemory>
+    ensures { IfOk result (λ value. view value ≡ created_value id) }
+{
+    Ok(json!(in alloc; {"id": id})?)
+}
+
+fn put_object(alloc: Global, what: &str, version: u64) -> Result<Value, NoMemory>
+    ensures { IfOk result (λ value. view value ≡ put_object what.now version) }
+{
+    Ok(json!(in alloc; {"put": what, "version": version})?)
+}
+
+pub(crate) fn put_value(alloc: Global, answer: PutAnswer) -> Result<Value, NoMemory>
+    ensures { IfOk result (λ value. view value ≡ put_value answer) }
+{
+    match answer {
+        PutAnswer::Created { version } => put_object(alloc, "created", version),
+        PutAnswer::Edited { version } => put_object(alloc, "edited", version),
+        PutAnswer::Unchanged { version } => put_object(alloc, "unchanged", version),
+    }
+}
+
+pub(crate) fn gone_value(alloc: Global, number: u64) -> Result<Value, NoMemory>
+    ensures { IfOk result (λ value. view value ≡ gone_value number) }
+{
+    Ok(json!(in alloc; {"number": number})?)
+}
+
+pub(crate) fn moved_value(alloc: Global, moved: Moved) -> Result<Value, NoMemory>
+    ensures { IfOk result (λ value. view value ≡ moved_value moved) }
+{
+    let Moved { from, version } = moved;
+    Ok(json!(in alloc; {"from": from, "version": version})?)
+}
+
+pub(crate) fn imported_value(alloc: Global, tally: ImportTally) -> Result<Value, NoMemory>
+    ensures { IfOk result (λ value. view value ≡ imported_value tally) }
+{
+    let ImportTally {
+        added,
+        edited,
+        same,
+        number,
+    } = tally;
+    Ok(json!(in alloc; {"edited": edited, "new": added, "number": number, "same": same})?)
+}
+
+pub(crate) fn forgot_value(alloc: Global, dropped: u64, horizon: u64) -> Result<Value, NoMemory>
+    ensures { IfOk result (λ value. view value ≡ forgot_value dropped horizon) }
+{
+    Ok(json!(in alloc; {"dropped": dropped, "horizon": horizon})?)
+}
+
+pub(crate) fn books_value(alloc: Global, books: &Items<BookLine>) -> Result<Value, NoMemory>
+    ensures { IfOk result (λ value. view value ≡ books_value books.now) }
+{
+    let books = book_values(alloc, books.as_slice())?;
+    Ok(json!(in alloc; {"books": books})?)
+}
+
+/// The card's canonical text.
+fn card_text(alloc: Global, card: &Card) -> Result<String, NoMemory>
+    ensures { IfOk result (λ text. string_bytes text ≡ canonical_text card.now) }
+{
+    let text = write_card(alloc, card)?;
+    Ok(String::from_utf8(text).unwrap())
+}
+
+pub(crate) fn card_value(
+    alloc: Global,
+    uid: Text,
+    version: u64,
+    card: &Card,
+) -> Result<Value, NoMemory>
+    ensures { IfOk result (λ value. view value ≡ card_value uid version card.now) }
+{
+    let text = card_text(alloc, card)?;
+    let uid = uid.into_string();
+    Ok(json!(in alloc; {"card": text, "uid": uid, "version": version})?)
+}
+
+pub(crate) fn tally_value(alloc: Global, tally: Tally) -> Result<Value, NoMemory>
+    ensures { IfOk result (λ value. view value ≡ tally_value tally) }
+{
+    let Tally {
+        number,
+        horizon,
+        cards,
+        created,
+        edited,
+        imported,
+        import_edited,
+        moved_in,
+        deleted,
+        moved_out,
+        remembered,
+    } = tally;
+    let rows = [
+        ("cards", cards),
+        ("created", created),
+        ("deleted", deleted),
+        ("edited", edited),
+        ("horizon", horizon),
+        ("import_edited", import_edited),
+        ("imported", imported),
+        ("moved_in", moved_in),
+        ("moved_out", moved_out),
+        ("number", number),
+        ("remembered", remembered),
+    ];
+    numbers_value(alloc, &rows)
+}
+
+pub(crate) fn people_value(alloc: Global, reached: &Expansion) -> Result<Value, NoMemory>
+    ensures { IfOk result (λ value. view value ≡ people_value reached.now) }
+{
+    let missing = text_values(alloc, reached.missing.as_slice())?;
+    let people = text_values(alloc, reached.people.as_slice())?;
+    Ok(json!(in alloc; {"missing": missing, "people": people})?)
+}
