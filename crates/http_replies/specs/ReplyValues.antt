@@ -3,9 +3,9 @@
 use Rattle.std.specs.Prelude.{ℕ, List, [], ◌∷◌, codes, map}
 use Rattle.serde_json.specs.Data.{Data, string, array}
 use Rattle.serde_json.specs.View.{items_of}
-use Rattle.vcard_text.specs.declared.line.Line.{Line}
+use Rattle.vcard_lines.specs.declared.line.Line.{Line}
 use Rattle.vcard_text.specs.Cards.{canonical_text}
-use Rattle.vcard_text.specs.FaultNumbers.{fault_number as card_fault_number}
+use Rattle.vcard_lines.specs.FaultNumbers.{fault_number as card_fault_number}
 use Rattle.book_model.specs.RefusalNumbers.{refusal_number, refusal_text, token_cause_number}
 use Rattle.book_model.specs.declared.answers.BookLine.{BookLine}
 use Rattle.book_model.specs.declared.answers.ImportTally.{ImportTally}
