@@ -15,4 +15,6 @@ pub mod OrderLemmas
 pub mod DueLemmas
 pub mod AddLemmas
 pub mod ListLemmas
+pub mod MetaLemmas
 pub mod LayingLemmas
+pub mod LaidLemmas

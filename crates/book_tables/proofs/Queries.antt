@@ -1,7 +1,7 @@
 -- The texts, and what they are compiled to.
 use Rattle.std.specs.Prelude.{ℕ, pos, negsuc, List, [], ◌∷◌, codes, false, Some, None}
 use Rattle.sqlite.specs.Collation.TheVariants.{Binary}
-use Rattle.sqlite.specs.declared.types.Value.TheVariants.{Null, Int}
+use Rattle.sqlite.specs.declared.types.Value.TheVariants.{Null, Int, Text}
 use Rattle.sqlite.specs.Command.{Command}
 use Rattle.sqlite.specs.Command.TheVariants.{Insert, InsertOr}
 use Rattle.sqlite.specs.Source.TheVariants.{Values}
@@ -182,6 +182,16 @@ add_keep_terms = col 0 0 ∷ lit Null ∷ col 0 1 ∷ []
 
 abbrev pub add_keep_command : Command
 add_keep_command = Insert 4 (Values add_keep_terms 3)
+
+-- the number of the schema
+abbrev pub add_schema_text : List ℕ
+add_schema_text = codes "INSERT INTO meta (name, val) VALUES ('schema', ?1)"
+
+abbrev pub add_schema_terms : List Term
+add_schema_terms = lit Null ∷ lit (Text (codes "schema")) ∷ col 0 0 ∷ []
+
+abbrev pub add_schema_command : Command
+add_schema_command = Insert 0 (Values add_schema_terms 3)
 
 -- ---- whole tables
 

@@ -90,6 +90,10 @@ pub on_ok_map : {X E : Type 0} {P Q : Type 0} (r : Result X E) → (P → Q) →
 on_ok_map (Ok x) f h = f h
 on_ok_map (Err e) f h = tt
 
+pub on_ok_both : {X E : Type 0} {P Q R : Type 0} (r : Result X E) → (P → Q → R) → OnOk r P → OnOk r Q → OnOk r R
+on_ok_both (Ok x) f h k = f h k
+on_ok_both (Err e) f h k = tt
+
 pub written_by : {X E : Type 0} (tree : ℕ) (old new : State) (r : Result X E) → OnOk r ((new.now.schema ≡ book_schema) × Spares tree old.now.trees new.now.trees) → OnOk r (IsTrue new.in_transaction) → OnOk r (WritesOnly tree old new)
 written_by tree old new (Ok x) h inside = record { schema = h.0; spares = h.1; inside = inside }
 written_by tree old new (Err e) h inside = tt

@@ -8,7 +8,7 @@ use Rattle.sqlite_resolve.specs.declared.compiled.Compiled.{Compiled}
 use Rattle.sqlite_resolve.specs.declared.error.CompileError.{CompileError}
 use Rattle.sqlite_schema.specs.declared.command.Returning.{Returning}
 use Rattle.book_tables.specs.Tables.{book_schema}
-use Rattle.book_tables.proofs.Queries.{put_text, put_command, put_shows, find_text, find_query, due_text, due_query, book_text, book_query, forget_text, forget_query, count_text, count_query, update_text, update_query, update_shows, number_names, books_count_text, books_count_query, import_text, import_query, keep_text, keep_query, removed_text, removed_query, members_text, members_query, add_import_text, add_import_command, add_book_text, add_book_command, add_keep_text, add_keep_command, picks, books_text, books_query, all_members_text, all_members_terms, all_imports_text, all_imports_terms, all_keeps_text, all_keeps_terms, meta_text, meta_terms}
+use Rattle.book_tables.proofs.Queries.{put_text, put_command, put_shows, find_text, find_query, due_text, due_query, book_text, book_query, forget_text, forget_query, count_text, count_query, update_text, update_query, update_shows, number_names, books_count_text, books_count_query, import_text, import_query, keep_text, keep_query, removed_text, removed_query, members_text, members_query, add_import_text, add_import_command, add_book_text, add_book_command, add_keep_text, add_schema_text, add_schema_command, add_keep_command, picks, books_text, books_query, all_members_text, all_members_terms, all_imports_text, all_imports_terms, all_keeps_text, all_keeps_terms, meta_text, meta_terms}
 
 abbrev pub returning_of : Result Compiled CompileError → Option Returning
 returning_of (Ok c) = c.returning
@@ -85,6 +85,10 @@ add_book_is = (refl, (refl, refl))
 pub add_keep_is : (command_of (understood book_schema add_keep_text) ≡ add_keep_command) × IsPlain (understood book_schema add_keep_text)
 unfolding understood everything
 add_keep_is = (refl, (refl, refl))
+
+pub add_schema_is : (command_of (understood book_schema add_schema_text) ≡ add_schema_command) × IsPlain (understood book_schema add_schema_text)
+unfolding understood everything
+add_schema_is = (refl, (refl, refl))
 
 pub books_is : (command_of (understood book_schema books_text) ≡ Select (record { lets = []; body = books_query }) (codes "id" ∷ codes "name" ∷ codes "number" ∷ codes "horizon" ∷ codes "created" ∷ codes "edited" ∷ codes "imported" ∷ codes "import_edited" ∷ codes "moved_in" ∷ codes "deleted" ∷ codes "moved_out" ∷ [])) × (reads_listing book_schema books_text ≡ false) × IsPlain (understood book_schema books_text)
 unfolding understood everything

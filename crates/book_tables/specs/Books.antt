@@ -1,5 +1,5 @@
 -- The rows of the table `book`, one for each book. This project's own.
-use Rattle.std.specs.Prelude.{◌≡◌, ℕ, ℤ, pos, Bool, false, if◌then◌else◌, List, [], ◌∷◌, map}
+use Rattle.std.specs.Prelude.{◌≡◌, ◌+◌, ℕ, ℤ, pos, Bool, false, if◌then◌else◌, List, [], ◌∷◌, map}
 use Rattle.std.specs.Prelude.{bytes_eq}
 use Rattle.std.specs.declared.cmp.Ordering.{Ordering}
 use Rattle.std.specs.Ordering.{int_eq}
@@ -67,11 +67,16 @@ number_cells n =
 abbrev pub book_row : BookRow → Row
 book_row b = Int b.id ∷ Null ∷ Text b.name ∷ number_cells b.numbers
 
+-- the numbers of a row, from the column on where they begin
+abbrev pub cells_from : ℕ → Row → Row
+cells_from first r =
+    column r first ∷ column r (first + 1) ∷ column r (first + 2) ∷ column r (first + 3)
+    ∷ column r (first + 4) ∷ column r (first + 5) ∷ column r (first + 6)
+    ∷ column r (first + 7) ∷ column r (first + 8) ∷ []
+
 -- the columns of a row that are read, where a short one has nulls
 abbrev pub book_cells : Row → Row
-book_cells r =
-    column r 0 ∷ Null ∷ column r 2 ∷ column r 3 ∷ column r 4 ∷ column r 5 ∷ column r 6
-    ∷ column r 7 ∷ column r 8 ∷ column r 9 ∷ column r 10 ∷ column r 11 ∷ []
+book_cells r = column r 0 ∷ Null ∷ column r 2 ∷ cells_from 3 r
 
 -- the rows are those of the books, whatever their order in the table is
 abbrev pub HoldBooks : List Row → List BookRow → Type 0
@@ -106,6 +111,10 @@ numbers_shown b = Int b.id ∷ number_cells b.numbers
 
 abbrev pub book_shown : BookRow → Row
 book_shown b = Int b.id ∷ Text b.name ∷ number_cells b.numbers
+
+-- what is shown of any row of the table
+abbrev pub book_listed : Row → Row
+book_listed r = column r 0 ∷ column r 2 ∷ cells_from 3 r
 
 -- by the octets of the names
 abbrev pub by_name : BookRow → BookRow → Ordering

@@ -1,8 +1,9 @@
 -- The tables as they are laid, one after another. This project's own.
-use Rattle.std.specs.Prelude.{◌≡◌, ℕ, List, [], ◌∷◌, take}
+use Rattle.std.specs.Prelude.{◌≡◌, ℕ, List, [], ◌∷◌, take, IsTrue}
 use Rattle.std.specs.List.{AllByRecursion}
 use Rattle.sqlite.specs.Effect.{Database}
 use Rattle.sqlite.specs.Schema.{Schema}
+use Rattle.sqlite.specs.State.{State, HasCleanDisk, KeepsCommit, Survives}
 use Rattle.sqlite.specs.Table.{Table}
 use Rattle.sqlite_schema.specs.declared.schema.Index.{Index}
 use Rattle.book_tables.specs.Tables.{meta, book, member, import_key, key_indexes}
@@ -31,3 +32,21 @@ pub record IsMade (before after : Schema) (tree : ℕ) (old new : Database) : Ty
   pub schema : new.schema ≡ after
   pub empty : new.trees tree ≡ []
   pub others : AllByRecursion (λ t. new.trees t.tree ≡ old.trees t.tree) before.tables
+
+-- the first three tables are made, and are empty
+pub record AreFirstLaid (db : Database) : Type 0 where
+  pub schema : db.schema ≡ with_members
+  pub meta_rows : db.trees 0 ≡ []
+  pub books : db.trees 2 ≡ []
+  pub members : db.trees 4 ≡ []
+
+-- What some statements inside a transaction leave, whether they succeed or not, over any tables:
+-- they commit nothing, and a crash leaves what it could leave before.
+pub record StaysUncommitted (old new : State) : Type 0 where
+  pub kept : HasCleanDisk new → IsTrue old.in_transaction → KeepsCommit old new
+  pub survives : Survives old new (λ _. ⊥)
+
+-- after them this holds of the database, and the transaction goes on
+pub record LeavesInside (new : State) (Holds : Database → Type 0) : Type 0 where
+  pub holds : Holds new.now
+  pub inside : IsTrue new.in_transaction

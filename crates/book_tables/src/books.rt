@@ -4,6 +4,7 @@ ghost use Rattle.book_tables.specs.Books.{
   AddsBook,
   BookRow,
   ChangesBooks,
+  book_listed,
   book_shown,
   by_name,
   HasBooks,
@@ -189,10 +190,14 @@ pub fn renumber_book<S: Alter>(
     )
 }
 
-/// All books in the order of the octets of their names: the id, the name and the nine numbers.
+/// All books in the order of the octets of their names: the id, the name and the nine numbers. The
+/// rows are all of the table, whatever they hold.
 pub fn all_books<S: Alter>(conn: &mut Connection<S>) -> Result<Vec<Row>, Error>
     ensures ordered { OverBooks (state S.Store conn.old) (state S.Store conn.new)
         (λ bs. IfOk result (λ rows. AreInOrder by_name book_shown bs rows.items)) }
+    ensures lists { OverTables (state S.Store conn.old) (state S.Store conn.new)
+        (IfOk result (λ rows.
+        IsPermutation (map book_listed ((state S.Store conn.old).now.trees 2)) rows.items)) }
     ensures unchanged { OverTables (state S.Store conn.old) (state S.Store conn.new)
         (OnOk result (IsUnchanged (state S.Store conn.old) (state S.Store conn.new))) }
     ensures left { OnlyReads (state S.Store conn.old) (state S.Store conn.new) }

@@ -1,18 +1,23 @@
 //! The statements that lay the tables, one after another, each inside a transaction.
 ghost use Rattle.book_tables.specs.Laying.{
+  AreFirstLaid,
   IsMade,
+  LeavesInside,
+  StaysUncommitted,
   no_schema,
   with_books,
   with_imports,
   with_members,
   with_meta,
 };
+ghost use Rattle.book_tables.specs.Meta.{IsLaid, schema_number};
 ghost use Rattle.book_tables.specs.States.{Inside, IsUndone};
 ghost use Rattle.book_tables.specs.Tables.{book_schema};
 ghost use Rattle.sqlite.specs.Held.{state};
 ghost use Rattle.sqlite.specs.State.{KeepsCommit, Survives};
 ghost use Rattle.std.specs.Prelude.{◌≡◌, IsTrue, OnErr, OnOk};
 
+use crate::meta::{SCHEMA, insert_schema};
 use sqlite::{Alter, Error, Transaction, params};
 
 /// Makes the table `meta`, over a connection with no table.
@@ -137,4 +142,49 @@ pub fn create_keeps<S: Alter>(tx: &mut Transaction<'_, S>) -> Result<usize, Erro
          NULL) STRICT",
         params![],
     )
+}
+
+fn lay_first<S: Alter>(tx: &mut Transaction<'_, S>) -> Result<usize, Error>
+    ensures same_reference { tx.new.conn.ghost_name ≡ tx.old.conn.ghost_name }
+    ensures lays { Inside (state S.Store tx.old.conn.now) (state S.Store tx.new.conn.now)
+        ((state S.Store tx.old.conn.now).now.schema ≡ no_schema → OnOk result
+        (LeavesInside (state S.Store tx.new.conn.now) AreFirstLaid)) }
+    ensures inside { Inside (state S.Store tx.old.conn.now) (state S.Store tx.new.conn.now)
+        (OnOk result (IsTrue (state S.Store tx.new.conn.now).in_transaction)) }
+    ensures left { StaysUncommitted (state S.Store tx.old.conn.now)
+        (state S.Store tx.new.conn.now) }
+{
+    create_meta(tx)?;
+    create_books(tx)?;
+    create_members(tx)
+}
+
+fn lay_rest<S: Alter>(tx: &mut Transaction<'_, S>) -> Result<usize, Error>
+    ensures same_reference { tx.new.conn.ghost_name ≡ tx.old.conn.ghost_name }
+    ensures lays { Inside (state S.Store tx.old.conn.now) (state S.Store tx.new.conn.now)
+        (AreFirstLaid (state S.Store tx.old.conn.now).now → OnOk result
+        (LeavesInside (state S.Store tx.new.conn.now) (IsLaid schema_number))) }
+    ensures left { StaysUncommitted (state S.Store tx.old.conn.now)
+        (state S.Store tx.new.conn.now) }
+{
+    create_imports(tx)?;
+    create_keeps(tx)?;
+    insert_schema(tx, SCHEMA)
+}
+
+/// Lays the five tables of the second schema over a connection with no table, and writes the
+/// number of the schema. They are empty but for that.
+///
+/// Where it fails, the tables may be there in part, and nothing is committed.
+pub fn lay_tables<S: Alter>(tx: &mut Transaction<'_, S>) -> Result<(), Error>
+    ensures same_reference { tx.new.conn.ghost_name ≡ tx.old.conn.ghost_name }
+    ensures lays { Inside (state S.Store tx.old.conn.now) (state S.Store tx.new.conn.now)
+        ((state S.Store tx.old.conn.now).now.schema ≡ no_schema → OnOk result
+        (LeavesInside (state S.Store tx.new.conn.now) (IsLaid schema_number))) }
+    ensures left { StaysUncommitted (state S.Store tx.old.conn.now)
+        (state S.Store tx.new.conn.now) }
+{
+    lay_first(tx)?;
+    lay_rest(tx)?;
+    Ok(())
 }

@@ -1,32 +1,17 @@
 mod calls;
 mod statements;
 
-use crate::laying::{create_books, create_imports, create_keeps, create_members, create_meta};
 use sqlite::types::ValueRef;
-use sqlite::{Connection, MemStore, Row, Transaction};
+use sqlite::{Connection, MemStore, Row};
 use std::alloc::Global;
 use std::test::Fail;
-
-fn lay_first(tx: &mut Transaction<'_, MemStore>) -> Result<(), Fail> {
-    create_meta(tx)?;
-    create_books(tx)?;
-    create_members(tx)?;
-    Ok(())
-}
-
-fn lay_rest(tx: &mut Transaction<'_, MemStore>) -> Result<(), Fail> {
-    create_imports(tx)?;
-    create_keeps(tx)?;
-    Ok(())
-}
 
 /// A connection over memory with the declared tables.
 fn with_tables(alloc: Global) -> Result<Connection<MemStore>, Fail> {
     let mut conn = Connection::open_in_memory(alloc)?;
     if conn.is_autocommit() {
         let mut tx = conn.transaction();
-        lay_first(&mut tx)?;
-        lay_rest(&mut tx)?;
+        calls::lay(&mut tx)?;
         tx.commit()?;
     }
     Ok(conn)

@@ -6,9 +6,11 @@ use crate::books::{BookNumbers, count_books, find_book, insert_book, renumber_bo
 use crate::due_members::first_due;
 use crate::imports::{find_import, insert_import};
 use crate::keeps::{find_keep, insert_keep};
+use crate::laying::lay_tables;
 use crate::members::{
     count_removed, find_member, first_removed, forget_members, members_of, put_member,
 };
+use crate::meta::all_meta;
 use sqlite::{Connection, Error, MemStore, Row, Transaction};
 use std::alloc::Global;
 use std::test::Fail;
@@ -81,6 +83,15 @@ pub(super) fn due(
 ) -> Result<String, Fail> {
     let rows = first_due(alloc, conn, 1, at, base, most)?;
     told_all(alloc, rows.as_slice())
+}
+
+pub(super) fn schema(alloc: Global, conn: &mut Memory) -> Result<String, Fail> {
+    let rows = all_meta(conn)?;
+    told_all(alloc, rows.as_slice())
+}
+
+pub(super) fn lay(tx: &mut Transaction<'_, MemStore>) -> Result<(), Fail> {
+    Ok(lay_tables(tx)?)
 }
 
 pub(super) fn add_book(

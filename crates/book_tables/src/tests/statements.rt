@@ -76,6 +76,7 @@ fn finds_rows(rt: HostRuntime) -> Result<(), Fail> {
 fn counts_and_lists_rows(rt: HostRuntime) -> Result<(), Fail> {
     let alloc = rt.alloc();
     let mut conn = filled(&rt, alloc)?;
+    is(&rt, calls::schema(alloc, &mut conn), "schema|2 ")?;
     is(&rt, calls::books(alloc, &mut conn), "2")?;
     is(&rt, calls::removed(alloc, &mut conn, 1, 0), "2")?;
     is(&rt, calls::removed(alloc, &mut conn, 1, 2), "1")?;

@@ -1,7 +1,7 @@
 use Rattle.sqlite.specs.Held.{state}
 use Rattle.book_tables.proofs.Queries.{books_text}
 use Rattle.book_tables.proofs.Texts.{books_is}
-use Rattle.book_tables.proofs.ListLemmas.{books_in_order}
+use Rattle.book_tables.proofs.ListLemmas.{books_in_order, books_listed}
 use Rattle.book_tables.proofs.Lookups.{all_reads, all_unchanged}
 use Rattle.book_tables.proofs.books.all_books.Goals as goal
 
@@ -13,3 +13,6 @@ returns-clause-left g c = all_reads books_text _ (state g.S.Store c.args.conn.no
 
 pub returns-clause-unchanged : goal.returns-clause-unchanged
 returns-clause-unchanged g c clean has = all_unchanged books_text _ (state g.S.Store c.args.conn.now) (state g.S.Store c.query_all.new.self) c.query_all.result books_is.2 has (c.query_all.ensures.ok clean)
+
+pub returns-clause-lists : goal.returns-clause-lists
+returns-clause-lists g c clean has = books_listed (state g.S.Store c.args.conn.now) (state g.S.Store c.query_all.new.self) c.query_all.result has (c.query_all.ensures.ok clean)
