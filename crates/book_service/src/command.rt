@@ -101,7 +101,8 @@ pub enum Command {
 ///
 /// `Fault::Store` comes where the store answers it. `Fault::Memory` comes where the store answers
 /// it, and in a put or a get where there is no memory to read the card's text or to copy the UID,
-/// in an import where there is none to read the body, and in an export or a question for people where there is none for the rows or the people.
+/// in an import where there is none to read the body, and in an export or a question for people
+/// where there is none for the rows or the people.
 pub fn perform<S: BookStore>(alloc: Global, store: &mut S, command: &Command) -> Reply
     ensures premise { S.premise store.new → S.premise store.old }
     ensures limits { S.limits store.new ≡ S.limits store.old }

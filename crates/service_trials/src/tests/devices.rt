@@ -351,8 +351,8 @@ a 4 Anna, c gone, 1/6/6
 a 4 Anna
 http://contacts.invalid/sync/1/6/6",
     },
-    // One card more than the book remembers went since the device's page: its token is given up, and
-    // it hears of the whole book again.
+    // One card more than the book remembers went since the device's page: its token is given up,
+    // and it hears of the whole book again.
     Row {
         keep: 1,
         scripts: &[

@@ -15,7 +15,7 @@ const CARDS: u64 = 10_000;
 /// The row of columns of a card with a comma and quotes in its parts.
 fn row_of(alloc: Global, card: u64) -> Result<String, NoMemory> {
     Ok(format!(in alloc;
-        "u{card},Name {card},\"Lee, {card}\",Pat,u{card}@example.test,,Office,\"so \"\"said\"\" {card}\"\n"
+        "u{card},Name {card},\"Lee, {card}\",Pat,u{card}@example.test,,Office,\"so \"\"said\"\"\"\n"
     )?)
 }
 
@@ -67,8 +67,8 @@ fn are_same(a: &[u8], b: &[u8]) -> bool {
 
 const ALL_NEW: &str = "added 10000 edited 0 same 0 number 10000\n";
 
-/// The rows of the book in the form are imported into an empty one. Then its cards are the same, and
-/// so are its rows, octet for octet.
+/// The rows of the book in the form are imported into an empty one. Then its cards are the same,
+/// and so are its rows, octet for octet.
 fn comes_again(
     rt: &impl Abort,
     alloc: Global,

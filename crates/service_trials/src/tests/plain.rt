@@ -58,8 +58,8 @@ pub(super) struct PlainToken {
     pub padded: bool,
 }
 
-/// A book's changes, its id, which is 0 before it is made, the number up to which it forgot, and the
-/// imports that it answered.
+/// A book's changes, its id, which is 0 before it is made, the number up to which it forgot, and
+/// the imports that it answered.
 #[derive(Drop)]
 pub(super) struct PlainBook {
     pub id: u64,
