@@ -1,5 +1,5 @@
 -- A text's rows stand for cards, or it has a first fault.
-use Rattle.std.proofs.Common.{◌≡◌, ◌≢◌, ◌⊎◌, ◌==◌, ◌+◌, ◌∷◌, ◌++◌, [], ℕ, zero, suc, Bool, true, false, List, Result, Ok, Err, Decides, Contains, bytes_eq, length, map, drop, refl, sym, ap, subst, ◌∙◌, arith, inl, inr, append_assoc}
+use Rattle.std.proofs.Common.{◌≡◌, ◌≢◌, ◌⊎◌, ◌==◌, ◌+◌, ◌∷◌, ◌++◌, [], ℕ, zero, suc, Bool, true, false, List, Decides, Contains, bytes_eq, length, map, drop, refl, sym, ap, subst, ◌∙◌, arith, inl, inr, append_assoc}
 use Rattle.std.specs.Str.{is_utf8}
 use Rattle.std.proofs.lemmas.Bool.{cases_Bool}
 use Rattle.std.proofs.lemmas.List.{append-nil}
@@ -9,11 +9,9 @@ use Rattle.csv.specs.Records.{AllText}
 use Rattle.vcard_lines.specs.declared.fault.CardFault.{CardFault}
 use Rattle.vcard_lines.specs.declared.line.Line.{Line}
 use Rattle.vcard_text.specs.Cards.{IsCard, uid_of}
-use Rattle.vcard_text.specs.CardOfText.{fault_of}
 use Rattle.vcard_text.specs.FirstFaults.{IsFirstFault as IsFirstCardFault}
-use Rattle.vcard_text.specs.MakingSteps.{card_made_of}
+use Rattle.vcard_text.specs.Making.{IsFirstMadeFault, upper_lines}
 use Rattle.vcard_text.specs.Spelling.{Spells}
-use Rattle.vcard_text.proofs.MakingLemmas.{lines_made, made_is_card, card_is_made}
 use Rattle.csv_cards.specs.declared.form.Form.{Form}
 use Rattle.csv_cards.specs.declared.form.Form.TheVariants as form
 use Rattle.csv_cards.specs.declared.cause.CsvCause.{CsvCause}
@@ -74,24 +72,6 @@ among_or_not (u ∷ us) uid = both (same_or_not u uid) (among_or_not us uid)
     both (inr there) (inl (i, small, e)) = inl (suc i, omega (arith, small), e)
     both (inr there) (inr none) = inr (neither there none)
 
--- ---- columns
-
--- the lines of columns make a card, or have a first fault
-card_or_made_fault : FaultsAreOne → (row : Row) → AllText row → IsCard (column_lines row) ⊎ ((fault : CardFault) × MislistsCard row fault)
-card_or_made_fault one row all = by (card_made_of (column_lines row)) refl
-  where
-    made_card : (made : List Line) → card_made_of (column_lines row) ≡ Ok made → IsCard (column_lines row)
-    made_card made e =
-        let same : made ≡ column_lines row = lines_made (column_lines row) made e ∙ upper_columns row in
-        subst IsCard same (made_is_card (column_lines row) made e (subst AreUtf8 (sym same) (columns_utf8 row all)))
-
-    no_card : (fault : CardFault) → card_made_of (column_lines row) ≡ Err fault → IsCard (column_lines row) → ⊥
-    no_card fault e card = cc (sym (card_is_made (column_lines row) (subst IsCard (sym (upper_columns row)) card)) ∙ e)
-
-    by : (r : Result (List Line) CardFault) → card_made_of (column_lines row) ≡ r → IsCard (column_lines row) ⊎ ((fault : CardFault) × MislistsCard row fault)
-    by (Ok made) e = inl (made_card made e)
-    by (Err fault) e = inr (fault, record { none = no_card fault e; first = (one.made (column_lines row) fault).1 (ap fault_of e) })
-
 -- ---- one row
 
 -- a row stands for a card, or has a least cause, whatever cards stand before it
@@ -106,6 +86,8 @@ pub record CardsOrFaults : Type 0 where
   pub one_card : (text : List ℕ) (a b : List Line) → Spells text a → Spells text b → a ≡ b
   pub either : (text : List ℕ) → ((lines : List Line) × Spells text lines) ⊎ ((fault : CardFault) × IsFirstCardFault text fault)
   pub not_both : (text : List ℕ) (lines : List Line) (fault : CardFault) → Spells text lines → IsFirstCardFault text fault → ⊥
+  pub made_either : (lines : List Line) → AreUtf8 (upper_lines lines) → IsCard (upper_lines lines) ⊎ ((fault : CardFault) × IsFirstMadeFault lines fault)
+  pub made_not_both : (lines : List Line) (fault : CardFault) → IsCard (upper_lines lines) → IsFirstMadeFault lines fault → ⊥
   pub one_fault : FaultsAreOne
 
 -- the rows stand for cards, or one of them is the first that fails
@@ -148,8 +130,16 @@ module _ (laws : CardsOrFaults) where
       by (inl (card, spells)) = by_uid card spells (same_or_not (field row 0) []) (same_or_not (field row 0) (uid_of card))
       by (inr (fault, first)) = inr (cause.BadCard fault, λ earlier. text_least earlier row many text laws.one_fault (cause.BadCard fault) (inl (fault, refl, record { none = λ card spells. laws.not_both (field row 1) card fault spells first; first = first })))
 
+  -- the lines of columns make a card, or have a first fault
+  card_or_made_fault : (row : Row) → AllText row → IsCard (column_lines row) ⊎ ((fault : CardFault) × MislistsCard row fault)
+  card_or_made_fault row all = by (laws.made_either (column_lines row) (subst AreUtf8 (sym (upper_columns row)) (columns_utf8 row all)))
+    where
+      by : IsCard (upper_lines (column_lines row)) ⊎ ((fault : CardFault) × IsFirstMadeFault (column_lines row) fault) → IsCard (column_lines row) ⊎ ((fault : CardFault) × MislistsCard row fault)
+      by (inl card) = inl (subst IsCard (upper_columns row) card)
+      by (inr (fault, first)) = inr (fault, record { none = λ card. laws.made_not_both (column_lines row) fault (subst IsCard (sym (upper_columns row)) card) first; first = first })
+
   columns_row : (row : Row) → length row ≡ length (header form.Columns) → AllText row → Stands form.Columns row ⊎ Fails form.Columns row
-  columns_row row many text = by (same_or_not (name_in row) []) (card_or_made_fault laws.one_fault row text)
+  columns_row row many text = by (same_or_not (name_in row) []) (card_or_made_fault row text)
     where
       by : (name_in row ≡ []) ⊎ (name_in row ≢ []) → IsCard (column_lines row) ⊎ ((fault : CardFault) × MislistsCard row fault) → Stands form.Columns row ⊎ Fails form.Columns row
       by (inl nameless) made = inr (cause.EmptyName, λ earlier. columns_cause_least earlier row many text laws.one_fault cause.EmptyName (inl (refl, nameless)))

@@ -11,6 +11,7 @@ ghost use Rattle.csv_cards.specs.declared.fault.CsvFault.{CsvFault};
 
 use vcard_text::laws::{
     canonical_text_spells, card_is_one, first_fault_without_card, first_made_fault_is_computed,
+    first_made_fault_without_card,
 };
 
 /// What form `Cards` writes of any cards is read as these cards, in the order of the octets of
@@ -46,4 +47,5 @@ pub fn first_fault_without_cards()
     card_is_one();
     first_fault_without_card();
     first_made_fault_is_computed();
+    first_made_fault_without_card();
 }

@@ -1,7 +1,7 @@
 -- The first fault that making a card finds is the first fault of the lines, and there is no other.
-use Rattle.std.proofs.Common.{◌≡◌, ◌⊎◌, ◌↔◌, Bool, true, false, cond, ◌||◌, nat_le, List, [], ◌∷◌, ◌++◌, length, Option, Some, None, Result, Ok, Err, inl, inr, ⊎_elim, refl, sym, ap, subst, ◌∙◌, append_assoc}
+use Rattle.std.proofs.Common.{◌≡◌, ◌⊎◌, ◌↔◌, Bool, true, false, cond, ◌||◌, nat_le, List, [], ◌∷◌, ◌++◌, length, IsUtf8, Option, Some, None, Result, Ok, Err, inl, inr, ⊎_elim, refl, sym, ap, subst, ◌∙◌, append_assoc}
 use Rattle.std.specs.Prelude.{not}
-use Rattle.std.specs.List.{list_all}
+use Rattle.std.specs.List.{AllByRecursion, list_all}
 use Rattle.std.proofs.lemmas.Bool.{both_ways}
 use Rattle.std.proofs.lemmas.List.{append-nil}
 use Rattle.vcard_lines.specs.declared.fault.CardFault.{CardFault}
@@ -10,7 +10,7 @@ use Rattle.vcard_lines.specs.declared.line.Line.{Line}
 use Rattle.vcard_text.specs.Bounds.{text_octets_max}
 use Rattle.vcard_lines.specs.Steps.{◌>>=◌}
 use Rattle.vcard_lines.specs.Grammar.{is_permitted, line_text}
-use Rattle.vcard_text.specs.Cards.{canonical_text}
+use Rattle.vcard_text.specs.Cards.{IsCard, canonical_text}
 use Rattle.vcard_text.specs.FirstFaults.{IsLeastFault, lines_break}
 use Rattle.vcard_text.specs.Making.{upper_lines, made_line_breaks, MadeLineHas, of_characters, of_parts, of_rules, AreMadeFaultless, IsOfFirstFaultyMade, IsFirstMadeFault, of_line, of_whole, of_canonical}
 use Rattle.vcard_text.specs.MakingSteps.{made_line_fault, made_behind, card_made_of, first_made_fault}
@@ -20,6 +20,7 @@ use Rattle.vcard_lines.proofs.FrontLemmas.{of_class, all_of_class}
 use Rattle.vcard_text.proofs.LeastLemmas.{least_of, found_or_none, least_found, none_passes, least_again, least_along}
 use Rattle.vcard_lines.specs.LegalParts.{has_legal_parts}
 use Rattle.vcard_lines.proofs.LegalPartLemmas.{legal_from_test, legal_to_test}
+use Rattle.vcard_text.proofs.MakingLemmas.{card_is_made, lines_made, made_is_card}
 use Rattle.vcard_text.proofs.FirstFaultLemmas.{false_unless, some_fault, bounds_fail, longer}
 
 -- ---- one line
@@ -267,3 +268,16 @@ first_made_fault_is_computed lines fault = (made_computed_from lines fault, made
 
 pub fault_of_none_made : (lines : List Line) (fault : CardFault) → card_made_of lines ≡ Err fault → IsFirstMadeFault lines fault
 fault_of_none_made lines fault e = made_fault_from_computed lines fault (ap fault_of e)
+
+-- lines that are text make a card, or have a first fault, and not both
+pub made_card_or_fault : (lines : List Line) → AllByRecursion (λ line. IsUtf8 (line_text line)) (upper_lines lines) → IsCard (upper_lines lines) ⊎ ((fault : CardFault) × IsFirstMadeFault lines fault)
+made_card_or_fault lines texts = by (card_made_of lines) refl
+  where
+    by : (r : Result (List Line) CardFault) → card_made_of lines ≡ r → IsCard (upper_lines lines) ⊎ ((fault : CardFault) × IsFirstMadeFault lines fault)
+    by (Ok made) e =
+        let same = lines_made lines made e in
+        inl (subst IsCard same (made_is_card lines made e (subst (AllByRecursion (λ line. IsUtf8 (line_text line))) (sym same) texts)))
+    by (Err fault) e = inr (fault, fault_of_none_made lines fault e)
+
+pub made_not_both : (lines : List Line) (fault : CardFault) → IsCard (upper_lines lines) → IsFirstMadeFault lines fault → ⊥
+made_not_both lines fault card first = absurd (let no : Some fault ≡ None = sym (made_computed_from lines fault first) ∙ ap fault_of (card_is_made lines card) in cc)

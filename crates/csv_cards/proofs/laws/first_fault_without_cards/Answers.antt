@@ -15,6 +15,8 @@ returns-clause-either c =
       one_card = c.card_is_one.ensures;
       either = c.first_fault_without_card.ensures.either;
       not_both = c.first_fault_without_card.ensures.not_both;
+      made_either = c.first_made_fault_without_card.ensures.either;
+      made_not_both = c.first_made_fault_without_card.ensures.not_both;
       one_fault = record { text = c.first_fault_without_card.ensures.one; made = c.first_made_fault_is_computed.ensures };
     } in
     cards_or_fault laws
