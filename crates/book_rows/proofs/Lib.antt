@@ -12,3 +12,4 @@ pub mod ReportLemmas
 pub mod CardLemmas
 pub mod LineLemmas
 pub mod AddedLemmas
+pub mod OpenLemmas

@@ -1,4 +1,5 @@
--- What changes of rows of `member`, and a book's new numbers, make of the books. This project's own.
+-- What changes of rows of `member`, and a book's new numbers, make of the books. This project's
+-- own.
 use Rattle.std.specs.Prelude.{◌≡◌, ◌+◌, ℕ, ℤ, pos, false, List, Option}
 use Rattle.std.specs.Option.{option_map}
 use Rattle.std.specs.Ordering.{int_eq}

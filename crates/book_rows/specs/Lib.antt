@@ -9,3 +9,4 @@ pub mod ChangeLaws
 pub mod ForgetLaws
 pub mod ReadLaws
 pub mod AddLaws
+pub mod OpenLaws

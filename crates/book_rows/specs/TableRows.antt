@@ -1,6 +1,5 @@
 -- The rows of all tables, as values. This project's own.
-use Rattle.std.specs.Prelude.{◌≡◌, ℕ, ℤ, pos, List, [], ◌∷◌, map, codes, Option}
-use Rattle.sqlite.specs.declared.types.Value.TheVariants.{Int, Text}
+use Rattle.std.specs.Prelude.{◌≡◌, ℕ, ℤ, List, [], ◌∷◌, map, Option}
 use Rattle.sqlite.specs.Effect.{Database}
 use Rattle.sqlite.specs.Order.{Row, column}
 use Rattle.sqlite.specs.Tree.{Trees}
@@ -10,7 +9,7 @@ use Rattle.book_tables.specs.Books.{BookRow, numbers, HoldBooks, renumbered, Num
 use Rattle.book_tables.specs.Members.{MemberRow, HoldMembers, put_in, without_removed}
 use Rattle.book_tables.specs.Imports.{ImportRow, HoldImports, imported}
 use Rattle.book_tables.specs.Keeps.{KeepRow, HoldKeeps, keeping_of}
-use Rattle.book_tables.specs.Meta.{meta_listed}
+use Rattle.book_tables.specs.Meta.{meta_listed, schema_row, schema_number}
 use Rattle.book_tables.specs.States.{Spares}
 use Rattle.book_rows.specs.Values.{text_in, text_if_any}
 
@@ -61,19 +60,11 @@ rows_in trees = record {
 
 -- ---- what the tables hold
 
--- the number of the schema that is declared
-abbrev pub schema_number : ℤ
-schema_number = pos 2
-
--- the one row of `meta`
-abbrev pub schema_row : Row
-schema_row = Text (codes "schema") ∷ Int schema_number ∷ []
-
 -- The tables are declared, say the number of their schema, and hold these rows, whatever their
 -- order in a table is.
 pub record Holds (db : Database) (rows : TableRows) : Type 0 where
   pub schema : db.schema ≡ book_schema
-  pub meta : map meta_listed (db.trees 0) ≡ schema_row ∷ []
+  pub meta : map meta_listed (db.trees 0) ≡ schema_row schema_number ∷ []
   pub books : HoldBooks (db.trees 2) rows.books
   pub members : HoldMembers (db.trees 4) rows.members
   pub imports : HoldImports (db.trees 7) rows.imports

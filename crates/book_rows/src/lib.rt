@@ -6,5 +6,6 @@ pub mod adding;
 pub mod changes;
 pub mod forgetting;
 pub mod lookups;
+pub mod opening;
 pub mod reading;
 pub mod tables;
