@@ -1,4 +1,4 @@
-//! What rows that are added make of the books: a new book with its keep, and an import that is kept.
+//! What rows that are added make of the books: a new book with its keep, and a kept import.
 ghost use Rattle.book_rows.specs.AddLaws.{BooksAreAdded, KeepsAreAdded, NewBooksAreEmpty, ImportsAreAdded, ImportsAreKept};
 
 /// A row of a name that was free and a keep of it are an empty book under the name, and all other
