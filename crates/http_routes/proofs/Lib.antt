@@ -1,0 +1,2 @@
+pub mod SeekLemmas
+pub mod RouterLemmas
