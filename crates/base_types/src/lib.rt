@@ -5,8 +5,6 @@
 mod items;
 mod memory;
 mod part;
-#[cfg(test)]
-mod tests;
 mod text;
 mod text_map;
 

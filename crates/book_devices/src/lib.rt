@@ -4,8 +4,6 @@
 
 mod device;
 pub mod laws;
-#[cfg(test)]
-mod tests;
 mod token;
 
 pub use device::Device;

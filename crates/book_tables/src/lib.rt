@@ -12,5 +12,3 @@ pub mod keeps;
 pub mod laying;
 pub mod members;
 pub mod meta;
-#[cfg(test)]
-mod tests;

@@ -7,8 +7,6 @@ mod groups;
 pub mod laws;
 mod lookup;
 mod naming;
-#[cfg(test)]
-mod tests;
 mod text_set;
 mod walk;
 

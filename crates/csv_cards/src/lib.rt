@@ -11,8 +11,6 @@ mod order;
 mod reading;
 mod records;
 mod row;
-#[cfg(test)]
-mod tests;
 mod writing;
 
 pub use cause::CsvCause;

@@ -7,8 +7,6 @@ mod message;
 mod refusals;
 pub mod replies;
 mod statuses;
-#[cfg(test)]
-mod tests;
 mod values;
 
 pub use replies::{head_fault_bytes, reply_bytes, route_fault_bytes};

@@ -10,8 +10,6 @@ pub mod head_state;
 pub mod laws;
 mod progress;
 pub mod session;
-#[cfg(test)]
-mod tests;
 
 pub use handler::Handler;
 pub use head::{FoundHead, Head, read_head};

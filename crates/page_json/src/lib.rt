@@ -6,8 +6,6 @@ pub mod laws;
 mod member;
 mod parts;
 pub mod reading;
-#[cfg(test)]
-mod tests;
 pub mod writing;
 
 pub use fault::ReportFault;

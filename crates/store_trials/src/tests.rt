@@ -1,8 +1,10 @@
 mod calls;
+mod devices;
 mod imports;
 mod keeping;
 mod limits;
 mod numbers;
+mod tokens;
 
 use book_model::{Entry, Mark, Page, Token};
 use std::alloc::Global;

@@ -1,0 +1,4 @@
+mod cards;
+mod groups;
+mod rows;
+mod texts;

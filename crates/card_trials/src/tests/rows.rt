@@ -1,0 +1,36 @@
+mod faults;
+mod rows;
+
+use csv_cards::read_rows;
+use std::alloc::Global;
+use std::process::Abort;
+use std::test::Fail;
+
+/// What a text is read as: the lines of each card, between bars, or the row and the number of its
+/// fault.
+fn told(alloc: Global, text: &[u8]) -> Result<String, Fail> {
+    let cards = match read_rows(alloc, text) {
+        Ok(cards) => cards,
+        Err(fault) => {
+            let cause = fault.cause.number();
+            let row = fault.row;
+            return Ok(format!(in alloc; "row {row} cause {cause}")?);
+        }
+    };
+    let mut told = String::new(alloc);
+    for card in cards {
+        for line in card.lines() {
+            let name = &line.name;
+            let value = &line.value;
+            told.push_str(format!(in alloc; "{name}:{value}|")?.as_str())?;
+        }
+        told.push_str("\n")?;
+    }
+    Ok(told)
+}
+
+fn is_read_as(rt: &impl Abort, alloc: Global, text: &[u8], wanted: &str) -> Result<(), Fail> {
+    let told = told(alloc, text)?;
+    assert_eq!(rt; told.as_str(), wanted);
+    Ok(())
+}

@@ -1,0 +1,6 @@
+//! The parts of HTTP, tried: requests out of octets in any pieces, pages in JSON, and the whole reply
+//! to each command and each fault.
+#![tactic(auto)]
+
+#[cfg(test)]
+mod tests;

@@ -1,0 +1,102 @@
+//! Pages that are written and read.
+use super::{card_text, is_read_as, json_card};
+use book_model::{Entry, Mark, Page};
+use page_json::{read_report, write_report};
+use std::alloc::Global;
+use std::rt::HostRuntime;
+use std::test::Fail;
+use vcard_text::{Items, Text, read_card};
+
+/// The body that the formats' worked example has of d's removal, 101 octets.
+const GONE: &str = "{\"members\":[{\"status\":404,\"uid\":\"d\"}],\
+    \"token\":\"http://contacts.invalid/sync/1/9/9\",\"truncated\":false}";
+
+fn removed(alloc: Global, uid: &str) -> Result<Entry, Fail> {
+    Ok(Entry::Removed {
+        uid: Text::copy_of(alloc, uid)?,
+    })
+}
+
+fn changed(alloc: Global, uid: &str, version: u64, text: &str) -> Result<Entry, Fail> {
+    Ok(Entry::Changed {
+        uid: Text::copy_of(alloc, uid)?,
+        version,
+        card: read_card(alloc, text.as_bytes())?,
+    })
+}
+
+fn page_of(book: u64, entries: Vec<Entry>, at: u64, base: u64, truncated: bool) -> Page {
+    Page {
+        book,
+        entries: Items::from_vec(entries),
+        mark: Mark { at, base },
+        truncated,
+    }
+}
+
+#[test]
+fn a_removal_is_written_and_read(rt: HostRuntime) -> Result<(), Fail> {
+    let alloc = rt.alloc();
+    let page = page_of(1, vec![in alloc; removed(alloc, "d")?]?, 9, 9, false);
+    let text = write_report(alloc, &page)?;
+    assert_eq!(rt; text.len(), 101);
+    assert!(rt; text.as_slice() == GONE.as_bytes());
+    let told = "d removed, http://contacts.invalid/sync/1/9/9, truncated false";
+    is_read_as(&rt, alloc, GONE, told)?;
+    assert!(rt; read_report(alloc, GONE.as_bytes())? == page);
+    Ok(())
+}
+
+/// The line ends of a card's text are `\r\n` in JSON, and names stand in the order of their octets.
+#[test]
+fn a_card_is_written_and_read(rt: HostRuntime) -> Result<(), Fail> {
+    let alloc = rt.alloc();
+    let anna = changed(alloc, "a", 4, card_text(alloc, "a", "Anna")?.as_str())?;
+    let page = page_of(1, vec![in alloc; anna]?, 4, 5, true);
+    let card = json_card(alloc, "a", "Anna")?;
+    let member = format!(in alloc;
+        "{{\"card\":\"{card}\",\"status\":200,\"uid\":\"a\",\"version\":4}}"
+    )?;
+    let token = "\"token\":\"http://contacts.invalid/sync/1/4/5\"";
+    let wanted = format!(in alloc; "{{\"members\":[{member}],{token},\"truncated\":true}}")?;
+    let text = write_report(alloc, &page)?;
+    assert!(rt; text.as_slice() == wanted.as_bytes());
+    let told = "a version 4 octets 53, http://contacts.invalid/sync/1/4/5, truncated true";
+    is_read_as(&rt, alloc, wanted.as_str(), told)?;
+    assert!(rt; read_report(alloc, text.as_slice())? == page);
+    Ok(())
+}
+
+/// Folded lines, characters outside ASCII, and signs that JSON escapes.
+#[test]
+fn long_cards_are_written_and_read(rt: HostRuntime) -> Result<(), Fail> {
+    let alloc = rt.alloc();
+    let uid = "urn:uuid:8d3f0c52 \"\\\u{1F4C7}";
+    let note = "NOTE:Answers in the language of the letter\\; \
+        \u{65E5}\u{672C}\u{8A9E}\u{306F}\t\u{4E00}\u{9031}\u{9593}\u{524D}\u{307E}\u{3067}.\r\n";
+    let text = format!(in alloc;
+        "BEGIN:VCARD\r\nVERSION:4.0\r\nUID:{uid}\r\n\
+        FN:Zo\u{EB} \u{C5}ngstr\u{F6}m\r\n{note}END:VCARD\r\n"
+    )?;
+    let entries = vec![in alloc;
+        changed(alloc, uid, 9_999_999_999_999, text.as_str())?,
+        removed(alloc, uid)?,
+    ]?;
+    let page = page_of(100, entries, 0, 1_000_000_000_000, true);
+    let text = write_report(alloc, &page)?;
+    assert!(rt; read_report(alloc, text.as_slice())? == page);
+    Ok(())
+}
+
+/// Any order, white space between, and a name twice, whose last value counts.
+#[test]
+fn other_texts_of_a_page_are_read(rt: HostRuntime) -> Result<(), Fail> {
+    let alloc = rt.alloc();
+    let told = "d removed, http://contacts.invalid/sync/1/9/9, truncated false";
+    let token = "\"token\" : \"http:\\/\\/contacts.invalid/sync/1/9/9\"";
+    let text = format!(in alloc;
+        "{{ \"truncated\":true, {token},\n\"truncated\":false,\
+        \"members\":[{{\"uid\":\"d\",\"status\":404}}]}}"
+    )?;
+    is_read_as(&rt, alloc, text.as_str(), told)
+}

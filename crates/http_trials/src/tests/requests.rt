@@ -1,0 +1,267 @@
+ghost use Rattle.std.specs.Prelude.{◌<◌};
+
+use base_types::NoMemory;
+use http_requests::laws::{cuts_make_no_difference, pieces_are_fed_as_one, streams_can_be_cut};
+use http_requests::{Handler, Head, HeadFault, Session};
+use std::alloc::Global;
+use std::process::Abort;
+use std::test::Fail;
+
+/// Replies to each request with its method, its target, whether it closes, and its body; and to a
+/// fault with its text.
+#[derive(Drop)]
+struct Echo {
+    handled: u64,
+}
+
+impl Handler for Echo {
+    ghost use Rattle.std.specs.Prelude.{⊤};
+    ghost use Rattle.http_requests.specs.HeadFaults.{fault_text};
+
+    ghost does = { λ _ _ _ _ _. ⊤ };
+
+    ghost fault_reply = { fault_text };
+
+    fn handle(&mut self, alloc: Global, head: &Head, body: &[u8]) -> Result<Vec<u8>, NoMemory> {
+        self.handled = self.handled.wrapping_add(1);
+        reply_of(alloc, head, body)
+    }
+
+    fn refuse(&self, alloc: Global, fault: HeadFault) -> Result<Vec<u8>, NoMemory> {
+        let mut reply = Vec::new(alloc);
+        reply.extend_from_slice(fault.text().as_bytes())?;
+        Ok(reply)
+    }
+}
+
+fn reply_of(alloc: Global, head: &Head, body: &[u8]) -> Result<Vec<u8>, NoMemory> {
+    let mut reply = Vec::new(alloc);
+    reply.extend_from_slice(head.method.as_str().as_bytes())?;
+    reply.extend_from_slice(b" ")?;
+    reply.extend_from_slice(head.target.as_str().as_bytes())?;
+    if head.close {
+        reply.extend_from_slice(b" close ")?;
+    } else {
+        reply.extend_from_slice(b" open ")?;
+    }
+    reply.extend_from_slice(body)?;
+    reply.extend_from_slice(b";")?;
+    Ok(reply)
+}
+
+/// What was replied to all, and whether the session is closed behind it.
+fn in_pieces(alloc: Global, text: &[u8], size: usize) -> Result<(Vec<u8>, bool), NoMemory>
+    requires { 0 < size }
+{
+    let mut session = Session::new(alloc);
+    let mut handler = Echo { handled: 0 };
+    let mut replies = Vec::new(alloc);
+    for piece in text.chunks(size) {
+        let more = session.feed(alloc, &mut handler, piece)?;
+        replies.extend_from_slice(&more)?;
+    }
+    Ok((replies, session.closed()))
+}
+
+/// The same in two pieces.
+fn in_two(alloc: Global, front: &[u8], rest: &[u8]) -> Result<(Vec<u8>, bool), NoMemory> {
+    let mut session = Session::new(alloc);
+    let mut handler = Echo { handled: 0 };
+    let mut replies = session.feed(alloc, &mut handler, front)?;
+    let more = session.feed(alloc, &mut handler, rest)?;
+    replies.extend_from_slice(&more)?;
+    Ok((replies, session.closed()))
+}
+
+/// Whole, octet by octet, and cut once behind each octet, a text is replied to as is wanted.
+fn replies(
+    rt: &impl Abort,
+    alloc: Global,
+    text: &[u8],
+    wanted: &[u8],
+    closed: bool,
+) -> Result<(), Fail> {
+    let (whole, whole_closed) = in_two(alloc, text, b"")?;
+    assert!(rt; whole.as_slice() == wanted);
+    assert!(rt; whole_closed == closed);
+    let (octets, octets_closed) = in_pieces(alloc, text, 1)?;
+    assert!(rt; octets.as_slice() == wanted);
+    assert!(rt; octets_closed == closed);
+    for cut in 0..text.len() {
+        let (out, out_closed) = in_two(alloc, &text[..cut], &text[cut..])?;
+        assert!(rt; out.as_slice() == wanted, "cut at {cut}");
+        assert!(rt; out_closed == closed);
+    }
+    Ok(())
+}
+
+#[test]
+fn requests_are_cut_anywhere(rt: HostRuntime) -> Result<(), Fail> {
+    streams_can_be_cut();
+    cuts_make_no_difference::<Echo>();
+    pieces_are_fed_as_one::<Echo>();
+    replies(
+        &rt,
+        rt.alloc(),
+        b"\nPUT /a HTTP/1.1\r\nHost:\ncontent-length:5\r\n\r\nab\n\ncGET /b HTTP/1.1\nhost:\n\nGE",
+        b"PUT /a open ab\n\nc;GET /b open ;",
+        false,
+    )
+}
+
+#[test]
+fn nothing_follows_a_closing_request(rt: HostRuntime) -> Result<(), Fail> {
+    replies(
+        &rt,
+        rt.alloc(),
+        b"GET /b HTTP/1.1\r\nHost:\r\n\r\nGET /b HTTP/1.0\r\n\r\nGET /c HTTP/1.1\r\nHost:\r\n\r\n",
+        b"GET /b open ;GET /b close ;",
+        true,
+    )?;
+    replies(
+        &rt,
+        rt.alloc(),
+        b"GET / HTTP/1.1\r\nHost: x\r\nConnection: upgrade , CLOSE\r\n\r\nGET / HTTP/1.1\r\n\r\n",
+        b"GET / close ;",
+        true,
+    )
+}
+
+#[test]
+fn heads_have_faults(rt: HostRuntime) -> Result<(), Fail> {
+    for (text, wanted) in [
+        ("GET / HTTP/9.1\r\nHost: x\r\n\r\n", "bad-head"),
+        ("GET / HTTP/1.1\r\n\r\n", "bad-host"),
+        ("GET / HTTP/1.1\r\nHost: x\r\nHost: x\r\n\r\n", "bad-host"),
+        (
+            "PUT / HTTP/1.1\r\nHost: x\r\nTransfer-Encoding: chunked\r\nContent-Length: 5\r\n\r\n",
+            "transfer-encoding",
+        ),
+        (
+            "PUT / HTTP/1.1\r\nHost: x\r\nContent-Length: +5\r\n\r\n",
+            "bad-length",
+        ),
+        (
+            "PUT / HTTP/1.1\r\nHost: x\r\nContent-Length: 5\r\nContent-Length: 5\r\n\r\n",
+            "bad-length",
+        ),
+        (
+            "PUT / HTTP/1.1\r\nHost: x\r\nContent-Length: 0000000000000005\r\n\r\n",
+            "bad-length",
+        ),
+        (
+            "PUT / HTTP/1.1\r\nHost: x\r\nContent-Length: 8388609\r\n\r\n",
+            "body-too-large",
+        ),
+    ] {
+        replies(&rt, rt.alloc(), text.as_bytes(), wanted.as_bytes(), true)?;
+    }
+    Ok(())
+}
+
+#[test]
+fn bodies_are_waited_for(rt: HostRuntime) -> Result<(), Fail> {
+    for text in [
+        "PUT / HTTP/1.1\r\nHost: x\r\nContent-Length: 8388608\r\n\r\n",
+        "PUT / HTTP/1.1\r\nHost: x\r\nContent-Length: 000000000000005\r\n\r\nabcd",
+    ] {
+        replies(&rt, rt.alloc(), text.as_bytes(), b"", false)?;
+    }
+    Ok(())
+}
+
+#[test]
+fn faults_are_numbered(rt: HostRuntime) -> Result<(), Fail> {
+    for (fault, number, status) in [
+        (HeadFault::BadHead, 21u8, 400u16),
+        (HeadFault::HeadTooLarge, 22, 431),
+        (HeadFault::BadHost, 23, 400),
+        (HeadFault::TransferEncoding, 24, 501),
+        (HeadFault::BadLength, 25, 400),
+        (HeadFault::BodyTooLarge, 26, 413),
+    ] {
+        assert!(rt; fault.number() == number);
+        assert!(rt; fault.status() == status);
+    }
+    Ok(())
+}
+
+/// A head of so many fields.
+fn head_of_fields(alloc: Global, count: usize) -> Result<Vec<u8>, NoMemory> {
+    let mut text = Vec::new(alloc);
+    text.extend_from_slice(b"GET / HTTP/1.1\r\n")?;
+    for i in 0..count {
+        if i == 0 {
+            text.extend_from_slice(b"Host: x\r\n")?;
+        } else {
+            text.extend_from_slice(b"A: b\r\n")?;
+        }
+    }
+    text.extend_from_slice(b"\r\n")?;
+    Ok(text)
+}
+
+#[test]
+fn fields_are_bounded(rt: HostRuntime) -> Result<(), Fail> {
+    let (most, most_closed) = in_pieces(rt.alloc(), &head_of_fields(rt.alloc(), 64)?, 1)?;
+    assert!(rt; most.as_slice() == b"GET / open ;".as_slice());
+    assert!(rt; !most_closed);
+    let (more, more_closed) = in_pieces(rt.alloc(), &head_of_fields(rt.alloc(), 65)?, 1)?;
+    assert!(rt; more.as_slice() == b"bad-head".as_slice());
+    assert!(rt; more_closed);
+    Ok(())
+}
+
+/// The front, and then one octet so many times.
+fn filled(alloc: Global, front: &[u8], octet: u8, count: usize) -> Result<Vec<u8>, NoMemory> {
+    let mut text = Vec::new(alloc);
+    text.extend_from_slice(front)?;
+    for _ in 0..count {
+        text.push(octet)?;
+    }
+    Ok(text)
+}
+
+/// Octet by octet, a text is replied to with so many octets.
+fn counts(
+    rt: &impl Abort,
+    alloc: Global,
+    text: &[u8],
+    wanted: usize,
+    closed: bool,
+) -> Result<(), Fail> {
+    let (out, out_closed) = in_pieces(alloc, text, 1)?;
+    assert!(rt; out.len() == wanted);
+    assert!(rt; out_closed == closed);
+    Ok(())
+}
+
+#[test]
+fn heads_are_bounded(rt: HostRuntime) -> Result<(), Fail> {
+    let too_large = HeadFault::HeadTooLarge.text().len();
+    let beginning = filled(rt.alloc(), b"GET /", b'a', 16_379)?;
+    counts(&rt, rt.alloc(), &beginning, too_large, true)?;
+    let blank = filled(rt.alloc(), b"", b'\n', 16_384)?;
+    counts(&rt, rt.alloc(), &blank, too_large, true)?;
+    let shorter = filled(rt.alloc(), b"GET /", b'a', 16_378)?;
+    counts(&rt, rt.alloc(), &shorter, 0, false)
+}
+
+#[test]
+fn the_longest_head_is_read(rt: HostRuntime) -> Result<(), Fail> {
+    let mut longest = filled(rt.alloc(), b"GET /", b'a', 16_368)?;
+    longest.extend_from_slice(b" HTTP/1.0\n\n")?;
+    counts(&rt, rt.alloc(), &longest, 16_381, true)
+}
+
+#[test]
+fn bodies_come_in_pieces(rt: HostRuntime) -> Result<(), Fail> {
+    let head = b"PUT / HTTP/1.0\r\nContent-Length: 100000\r\n\r\n";
+    let text = filled(rt.alloc(), head, b'a', 100_000)?;
+    for size in [1usize, 1500, 200_000] {
+        let (out, closed) = in_pieces(rt.alloc(), &text, size)?;
+        assert!(rt; out.len() == 100_013, "at {size}");
+        assert!(rt; closed);
+    }
+    Ok(())
+}
