@@ -44,14 +44,14 @@ first-in_book b part rest small none =
     ∙ first-slash b part rest after_book small none longest
 
 -- the words that may stand behind the part that names a book
-abbrev route_in_book : List ℕ → Option Route
+abbrev pub route_in_book : List ℕ → Option Route
 route_in_book rest = option_map (λ found. found.value) (first in_book rest)
 
-tally_in_book : route_in_book (codes "/tally") ≡ Some route.Tally
+pub tally_in_book : route_in_book (codes "/tally") ≡ Some route.Tally
 unfolding matchit_on_literals router_rows
 tally_in_book = refl
 
-sync_in_book : route_in_book (codes "/sync") ≡ Some route.Sync
+pub sync_in_book : route_in_book (codes "/sync") ≡ Some route.Sync
 unfolding matchit_on_literals router_rows
 sync_in_book = refl
 
@@ -59,15 +59,15 @@ pub tally-is : (b : ℕ) (part : List ℕ) → b < 256 → has_slash (b ∷ part
 tally-is b part small none =
     ap (λ found. option_map (λ row. row.value) found) (first-in_book b part (codes "tally") small none) ∙ tally_in_book
 
-export_in_book : route_in_book (codes "/export") ≡ Some route.Export
+pub export_in_book : route_in_book (codes "/export") ≡ Some route.Export
 unfolding matchit_on_literals router_rows
 export_in_book = refl
 
-import_in_book : route_in_book (codes "/import") ≡ Some route.Import
+pub import_in_book : route_in_book (codes "/import") ≡ Some route.Import
 unfolding matchit_on_literals router_rows
 import_in_book = refl
 
-forget_in_book : route_in_book (codes "/forget") ≡ Some route.Forget
+pub forget_in_book : route_in_book (codes "/forget") ≡ Some route.Forget
 unfolding matchit_on_literals router_rows
 forget_in_book = refl
 

@@ -15,7 +15,8 @@ use Rattle.http_routes.specs.declared.fault.RouteFault.{RouteFault}
 use Rattle.http_routes.specs.declared.fault.RouteFault.TheVariants.{NoRoute, BadMethod, BadPath, BadQuery}
 
 infixl 10 ◌>>=◌
-abbrev pub ◌>>=◌ : {A B : Type 0} → Result A RouteFault → (A → Result B RouteFault) → Result B RouteFault
+abbrev pub ◌>>=◌
+    : {A B : Type 0} → Result A RouteFault → (A → Result B RouteFault) → Result B RouteFault
 (Ok x) >>= f = f x
 (Err fault) >>= f = Err fault
 
@@ -77,6 +78,12 @@ command_of ask.Export book uid body pairs = do
   Ok (command.Export book form)
 command_of ask.People book uid body pairs = Ok (command.People book uid)
 
+-- the same with a query whose names have to be in order
+abbrev pub command_with : Ask → List ℕ → List ℕ → List ℕ → List ℕ → Result Command RouteFault
+command_with ask book uid body query = do
+  named ← provided (has_names_of ask (pairs_of query)) BadQuery
+  command_of ask book uid body (pairs_of query)
+
 -- what a request with this method, target and body asks for
 unfoldable pub asked : List ℕ → List ℕ → List ℕ → Result Command RouteFault
 asked method target body = do
@@ -84,5 +91,4 @@ asked method target body = do
   wanted ← found_or (ask_of route method) (BadMethod route)
   book ← text_in (book_part (path_in target))
   uid ← text_in (uid_part (path_in target))
-  named ← provided (has_names_of wanted (pairs_of (query_in target))) BadQuery
-  command_of wanted book uid body (pairs_of (query_in target))
+  command_with wanted book uid body (query_in target)

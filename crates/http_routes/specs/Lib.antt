@@ -6,3 +6,4 @@ pub mod Queries
 pub mod Commands
 pub mod WorkedPaths
 pub mod RouterRows
+pub mod Outcomes

@@ -1,0 +1,98 @@
+-- What a whole request asks for, step by step.
+use Rattle.std.proofs.Common.{◌≡◌, ◌+◌, ◌∙◌, ℕ, Bool, true, false, cond, Bor, IsUtf8, List, [], Option, Some, None, Result, Ok, Err, drop, get_or, length, map, take, refl, ap, arith, subst, sym}
+use Rattle.std.specs.Str.{is_utf8}
+use Rattle.std.proofs.lemmas.List.{drop_all, take_all}
+use Rattle.std.proofs.lemmas.Str.{IsUtf8-from_is_utf8, is_utf8-from_IsUtf8}
+use Rattle.percent_encoding.specs.Percent.{percent_decode}
+use Rattle.book_service.specs.declared.command.Command.{Command}
+use Rattle.http_routes.proofs.OutcomeLemmas.{failed, went_on}
+use Rattle.http_routes.specs.Asks.{ask_of}
+use Rattle.http_routes.specs.Commands.{◌>>=◌, asked, command_with, path_in, path_len, query_in, text_in}
+use Rattle.http_routes.specs.Outcomes.{Gives}
+use Rattle.http_routes.specs.Paths.{book_part, parts_of, route_of, uid_part}
+use Rattle.http_routes.specs.declared.ask.Ask.{Ask}
+use Rattle.http_routes.specs.declared.fault.RouteFault.{RouteFault}
+use Rattle.http_routes.specs.declared.fault.RouteFault.TheVariants.{NoRoute, BadMethod, BadPath}
+use Rattle.http_routes.specs.declared.no_command.NoCommand.{NoCommand}
+use Rattle.http_routes.specs.declared.route.Route.{Route}
+
+-- a part whose octets are a text
+pub text_is : (part : List ℕ) → IsUtf8 (percent_decode part) → text_in part ≡ Ok (percent_decode part)
+text_is part is =
+    ap (λ v. cond v (Ok (percent_decode part)) (Err BadPath)) (is_utf8-from_IsUtf8 (percent_decode part) is)
+
+pub text_is_none : (part : List ℕ) → (IsUtf8 (percent_decode part) → ⊥) → text_in part ≡ Err BadPath
+text_is_none part none =
+    by (is_utf8 (percent_decode part)) (λ is. none (IsUtf8-from_is_utf8 (percent_decode part) is))
+  where
+    by : (v : Bool) → (v ≡ true → ⊥) → cond {A = Result (List ℕ) RouteFault} v (Ok (percent_decode part)) (Err BadPath) ≡ Err BadPath
+    by true never = absurd (never refl)
+    by false never = refl
+
+-- a target with no question mark is all path
+pub path_whole : (target : List ℕ) → path_len target ≡ length target → target ≡ path_in target
+path_whole target all =
+    sym (ap (λ n. take n target) all ∙ take_all (length target) target (omega arith))
+
+pub query_none : (target : List ℕ) → path_len target ≡ length target → [] ≡ query_in target
+query_none target all =
+    sym (ap (λ n. drop (n + 1) target) all ∙ drop_all (length target + 1) target (omega arith))
+
+-- a part of the path as the code sees it
+pub part-is : (place : ℕ) (part : List ℕ) (seen items : List (Bor (List ℕ))) (path target : List ℕ) → part ≡ get_or (map (λ one. one.now) seen) place [] → seen ≡ items → map (λ one. one.now) items ≡ parts_of path → path ≡ path_in target → part ≡ get_or (parts_of (path_in target)) place []
+part-is place part seen items path target at same parts cut =
+    at
+    ∙ ap (λ xs. get_or (map (λ one. one.now) xs) place []) same
+    ∙ ap (λ xs. get_or xs place []) (parts ∙ ap parts_of cut)
+
+-- and the route
+pub route-is : (found other : Option Route) (seen items : List (Bor (List ℕ))) (path target : List ℕ) → (map (λ one. one.now) seen ≡ parts_of path → found ≡ route_of path) → seen ≡ items → map (λ one. one.now) items ≡ parts_of path → path ≡ path_in target → found ≡ other → route_of (path_in target) ≡ other
+route-is found other seen items path target finds same parts cut is =
+    let at : found ≡ route_of path = finds (ap (map (λ one. one.now)) same ∙ parts) in
+    ap route_of (sym cut) ∙ sym at ∙ is
+
+module _ (method target body : List ℕ) where
+  pub asked-no_route : route_of (path_in target) ≡ None → asked method target body ≡ Err NoRoute
+  unfolding asked
+  asked-no_route none = rw none refl
+
+  pub asked-no_method : (route : Route) → route_of (path_in target) ≡ Some route → ask_of route method ≡ None → asked method target body ≡ Err (BadMethod route)
+  unfolding asked
+  asked-no_method route is none = rw (is, none) refl
+
+  -- what is left once the route has the method
+  abbrev pub with_texts : Ask → Result Command RouteFault
+  with_texts ask =
+      text_in (book_part (path_in target))
+      >>= (λ book. text_in (uid_part (path_in target)) >>= (λ uid. command_with ask book uid body (query_in target)))
+
+  asked-is : (route : Route) (ask : Ask) → route_of (path_in target) ≡ Some route → ask_of route method ≡ Some ask → asked method target body ≡ with_texts ask
+  unfolding asked
+  asked-is route ask is wanted = rw (is, wanted) refl
+
+  pub asked-goes : (route : Route) (ask : Ask) (result : Result Command NoCommand) → route_of (path_in target) ≡ Some route → ask_of route method ≡ Some ask → Gives (with_texts ask) result → Gives (asked method target body) result
+  asked-goes route ask result is wanted given =
+      subst (λ all. Gives all result) (sym (asked-is route ask is wanted)) given
+
+  -- the book's part is no text
+  pub book_failed : (ask : Ask) (part : List ℕ) (e : NoCommand) (result : Result Command NoCommand) → part ≡ book_part (path_in target) → Gives (text_in part) (Err e) → result ≡ Err e → Gives (with_texts ask) result
+  book_failed ask part e result at given same =
+      failed (text_in (book_part (path_in target))) (λ book. text_in (uid_part (path_in target)) >>= (λ uid. command_with ask book uid body (query_in target))) e result
+      (subst (λ p. Gives (text_in p) (Err e)) at given)
+      same
+
+  -- the card's part is none
+  pub uid_failed : (ask : Ask) (first part book : List ℕ) (e : NoCommand) (result : Result Command NoCommand) → first ≡ book_part (path_in target) → text_in first ≡ Ok book → part ≡ uid_part (path_in target) → Gives (text_in part) (Err e) → result ≡ Err e → Gives (with_texts ask) result
+  uid_failed ask first part book e result at read at_uid given same =
+      went_on (text_in (book_part (path_in target))) (λ one. text_in (uid_part (path_in target)) >>= (λ uid. command_with ask one uid body (query_in target))) book result
+      (ap text_in (sym at) ∙ read)
+      (failed (text_in (uid_part (path_in target))) (λ uid. command_with ask book uid body (query_in target)) e result (subst (λ p. Gives (text_in p) (Err e)) at_uid given) same)
+
+  -- both are texts, and the query was read
+  pub texts_read : (ask : Ask) (first part book uid query : List ℕ) (result : Result Command NoCommand) → first ≡ book_part (path_in target) → text_in first ≡ Ok book → part ≡ uid_part (path_in target) → text_in part ≡ Ok uid → query ≡ query_in target → Gives (command_with ask book uid body query) result → Gives (with_texts ask) result
+  texts_read ask first part book uid query result at read at_uid read_uid at_query given =
+      went_on (text_in (book_part (path_in target))) (λ one. text_in (uid_part (path_in target)) >>= (λ other. command_with ask one other body (query_in target))) book result
+      (ap text_in (sym at) ∙ read)
+      (went_on (text_in (uid_part (path_in target))) (λ other. command_with ask book other body (query_in target)) uid result
+      (ap text_in (sym at_uid) ∙ read_uid)
+      (subst (λ q. Gives (command_with ask book uid body q) result) at_query given))
