@@ -1,5 +1,6 @@
 -- The table of routes: the path of each and the methods that it takes. This project's own.
-use Rattle.std.specs.Prelude.{ℕ, List, [], ◌∷◌, ◌++◌, codes}
+use Rattle.std.specs.Prelude.{ℕ, List, [], ◌∷◌, ◌++◌, codes, map}
+use Rattle.http_routes.specs.Asks.{asks_of}
 use Rattle.http_routes.specs.declared.route.Route.{Route}
 use Rattle.http_routes.specs.declared.route.Route.TheVariants.{Books, Book, Tally, Sync, Import, Export, Forget, Card, Move, People}
 
@@ -16,17 +17,9 @@ path_of Card = codes "/books/{book}/cards/{uid}"
 path_of Move = codes "/books/{book}/cards/{uid}/move"
 path_of People = codes "/books/{book}/cards/{uid}/people"
 
+-- the methods that ask for something of it
 abbrev pub methods_of : Route → List (List ℕ)
-methods_of Books = codes "GET" ∷ []
-methods_of Book = codes "PUT" ∷ []
-methods_of Tally = codes "GET" ∷ []
-methods_of Sync = codes "GET" ∷ []
-methods_of Import = codes "POST" ∷ []
-methods_of Export = codes "GET" ∷ []
-methods_of Forget = codes "POST" ∷ []
-methods_of Card = codes "GET" ∷ codes "PUT" ∷ codes "DELETE" ∷ []
-methods_of Move = codes "POST" ∷ []
-methods_of People = codes "GET" ∷ []
+methods_of route = map (λ each. each.0) (asks_of route)
 
 -- the words with a comma and a space between them
 abbrev pub comma_list : List (List ℕ) → List ℕ
