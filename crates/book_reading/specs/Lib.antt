@@ -1,3 +1,4 @@
 pub mod Faults
 pub mod Shown
 pub mod Answers
+pub mod Steps

@@ -1,11 +1,12 @@
-//! What rows say of books, and look-ups by a key. What is read is tested where it is read: a row
-//! that says no book, member or answer is a fault of the store.
+//! What the tables tell of books. A row is tested where it is read: one that says no book, member
+//! or answer is a fault of the store. Nothing here changes a row.
 #![tactic(auto)]
 
 pub mod faults;
 pub mod figures;
 pub mod lookups;
 pub mod shown;
+pub mod telling;
 pub mod values;
 
 pub use figures::Figures;
