@@ -1,4 +1,5 @@
 pub mod Faults
 pub mod Shown
 pub mod Answers
+pub mod Lists
 pub mod Steps

@@ -4,9 +4,11 @@
 
 pub mod faults;
 pub mod figures;
+mod listing;
 pub mod lookups;
 pub mod shown;
 pub mod telling;
+pub mod telling_all;
 pub mod values;
 
 pub use figures::Figures;
