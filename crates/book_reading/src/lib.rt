@@ -6,6 +6,7 @@ pub mod faults;
 pub mod figures;
 mod listing;
 pub mod lookups;
+pub mod paging;
 pub mod shown;
 pub mod telling;
 pub mod telling_all;
