@@ -13,3 +13,6 @@ pub mod telling_all;
 pub mod values;
 
 pub use figures::Figures;
+
+#[cfg(test)]
+mod tests;

@@ -1,0 +1,114 @@
+//! Each call with no clause: a test that makes many of the calls carries none of their clauses
+//! along.
+use super::Memory;
+use crate::paging::page_of_book;
+use crate::telling::{kept_of_book, line_of_book, stored_of_book, tally_of_book};
+use crate::telling_all::{cards_of_book, lines_of_books};
+use book_model::{BookLine, Denied, ImportTally, Limits, Page, Stored, Tally, Token};
+use book_tables::books::{BookNumbers, insert_book, renumber_book};
+use book_tables::imports::insert_import;
+use book_tables::laying::lay_tables;
+use book_tables::members::put_member;
+use sqlite::{MemStore, Transaction};
+use std::alloc::Global;
+use std::collections::BTreeMap;
+use std::test::Fail;
+
+pub(super) fn line(alloc: Global, conn: &mut Memory, name: &str) -> Result<BookLine, Denied> {
+    line_of_book(alloc, conn, name)
+}
+
+pub(super) fn get(
+    alloc: Global,
+    conn: &mut Memory,
+    name: &str,
+    uid: &str,
+) -> Result<Stored, Denied> {
+    stored_of_book(alloc, conn, name, uid)
+}
+
+pub(super) fn kept(
+    conn: &mut Memory,
+    name: &str,
+    key: &str,
+) -> Result<Option<ImportTally>, Denied> {
+    kept_of_book(conn, name, key)
+}
+
+pub(super) fn tally(conn: &mut Memory, name: &str) -> Result<Tally, Denied> {
+    tally_of_book(conn, name)
+}
+
+pub(super) fn lines(alloc: Global, conn: &mut Memory) -> Result<Vec<BookLine>, Denied> {
+    lines_of_books(alloc, conn)
+}
+
+pub(super) fn cards(
+    alloc: Global,
+    conn: &mut Memory,
+    name: &str,
+) -> Result<BTreeMap<String, Stored>, Denied> {
+    cards_of_book(alloc, conn, name)
+}
+
+pub(super) fn page(
+    alloc: Global,
+    conn: &mut Memory,
+    name: &str,
+    token: Option<Token>,
+    limit: Option<u64>,
+) -> Result<Page, Denied> {
+    page_of_book(alloc, conn, Limits::standard(), name, token, limit)
+}
+
+pub(super) fn lay(tx: &mut Transaction<'_, MemStore>) -> Result<(), Fail> {
+    Ok(lay_tables(tx)?)
+}
+
+/// A book with so many creations, imports and deletions.
+pub(super) fn add_book(
+    tx: &mut Transaction<'_, MemStore>,
+    id: i64,
+    name: &str,
+    number: i64,
+    created: i64,
+    imported: i64,
+    deleted: i64,
+) -> Result<(), Fail> {
+    let numbers = BookNumbers {
+        number,
+        horizon: 0,
+        created,
+        edited: 0,
+        imported,
+        import_edited: 0,
+        moved_in: 0,
+        deleted,
+        moved_out: 0,
+    };
+    insert_book(tx, id, name)?;
+    renumber_book(tx, id, numbers)?;
+    Ok(())
+}
+
+pub(super) fn put(
+    tx: &mut Transaction<'_, MemStore>,
+    book: i64,
+    uid: &str,
+    changed: i64,
+    card: Option<&str>,
+) -> Result<(), Fail> {
+    put_member(tx, book, uid, changed, card)?;
+    Ok(())
+}
+
+/// An import that added one card by the change with the number.
+pub(super) fn add_import(
+    tx: &mut Transaction<'_, MemStore>,
+    book: i64,
+    key: &str,
+    number: i64,
+) -> Result<(), Fail> {
+    insert_import(tx, book, key, 1, 0, 0, number)?;
+    Ok(())
+}

@@ -1,0 +1,62 @@
+//! Rows that can't be read.
+use super::{ANN, Memory, calls, two_books};
+use book_model::{Denied, Fault};
+use sqlite::{MemStore, Transaction};
+use std::alloc::Global;
+use std::process::Abort;
+use std::test::Fail;
+
+const FAULT: Denied = Denied::Fault(Fault::Store);
+
+/// The book `desk` has a text that is a card's but isn't canonical, and keeps an import under `k`
+/// whose number is below zero; the counts of `shelf` aren't as many as its number.
+fn spoil(tx: &mut Transaction<'_, MemStore>) -> Result<(), Fail> {
+    calls::add_book(tx, 3, "desk", 2, 2, 0, 0)?;
+    calls::put(tx, 3, "a", 1, Some(ANN))?;
+    calls::put(
+        tx,
+        3,
+        "b",
+        2,
+        Some("BEGIN:VCARD\nVERSION:4.0\nUID:b\nFN:Bob\nEND:VCARD\n"),
+    )?;
+    calls::add_import(tx, 3, "k", -1)?;
+    calls::add_book(tx, 4, "shelf", 2, 1, 0, 0)
+}
+
+fn spoiled(alloc: Global) -> Result<Memory, Fail> {
+    let mut conn = two_books(alloc)?;
+    if conn.is_autocommit() {
+        let mut tx = conn.transaction();
+        spoil(&mut tx)?;
+        tx.commit()?;
+    }
+    Ok(conn)
+}
+
+fn faults_are_told(rt: &impl Abort, alloc: Global, conn: &mut Memory) -> Result<(), Fail> {
+    assert_eq!(rt; calls::get(alloc, conn, "desk", "b"), Err(FAULT));
+    assert_eq!(rt; calls::cards(alloc, conn, "desk").err(), Some(FAULT));
+    assert_eq!(rt; calls::page(alloc, conn, "desk", None, None), Err(FAULT));
+    assert_eq!(rt; calls::kept(conn, "desk", "k"), Err(FAULT));
+    assert_eq!(rt; calls::line(alloc, conn, "shelf"), Err(FAULT));
+    Ok(())
+}
+
+/// What these calls read can be read, whatever stands beside it.
+fn others_are_told(rt: &impl Abort, alloc: Global, conn: &mut Memory) -> Result<(), Fail> {
+    let ann = calls::get(alloc, conn, "desk", "a")?;
+    assert_eq!(rt; ann.version, 1);
+    let page = calls::page(alloc, conn, "desk", None, Some(1)).err();
+    assert_eq!(rt; page, None);
+    assert_eq!(rt; calls::kept(conn, "desk", "j"), Ok(None));
+    Ok(())
+}
+
+#[test]
+fn a_row_that_cannot_be_read_is_the_stores_fault(rt: HostRuntime) -> Result<(), Fail> {
+    let alloc = rt.alloc();
+    let mut conn = spoiled(alloc)?;
+    faults_are_told(&rt, alloc, &mut conn)?;
+    others_are_told(&rt, alloc, &mut conn)
+}
