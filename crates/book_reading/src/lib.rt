@@ -13,6 +13,3 @@ pub mod telling_all;
 pub mod values;
 
 pub use figures::Figures;
-
-#[cfg(test)]
-mod tests;

@@ -1,4 +1,5 @@
-//! What requests over HTTP ask of the service: the table of its routes.
+//! What requests over HTTP ask of the service: the command of each, or its first fault, by one table
+//! of routes.
 #![tactic(auto)]
 
 pub mod ask;
@@ -11,8 +12,6 @@ mod query;
 pub mod request;
 pub mod route;
 mod router;
-#[cfg(test)]
-mod tests;
 
 pub use ask::Ask;
 pub use fault::RouteFault;

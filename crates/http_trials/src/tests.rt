@@ -1,3 +1,4 @@
 mod pages;
 mod replies;
 mod requests;
+mod routes;

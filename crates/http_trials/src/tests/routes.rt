@@ -1,9 +1,7 @@
-use crate::fault::RouteFault;
-use crate::no_command::NoCommand;
-use crate::read_request;
 use base_types::Items;
 use book_service::Command;
 use csv_cards::Form;
+use http_routes::{NoCommand, RouteFault, read_request};
 use std::alloc::Global;
 use std::test::Fail;
 

@@ -1,10 +1,10 @@
 //! Each call with no clause: a test that makes many of the calls carries none of their clauses
 //! along.
 use super::Memory;
-use crate::paging::page_of_book;
-use crate::telling::{kept_of_book, line_of_book, stored_of_book, tally_of_book};
-use crate::telling_all::{cards_of_book, lines_of_books};
 use book_model::{BookLine, Denied, ImportTally, Limits, Page, Stored, Tally, Token};
+use book_reading::paging::page_of_book;
+use book_reading::telling::{kept_of_book, line_of_book, stored_of_book, tally_of_book};
+use book_reading::telling_all::{cards_of_book, lines_of_books};
 use book_tables::books::{BookNumbers, insert_book, renumber_book};
 use book_tables::imports::insert_import;
 use book_tables::laying::lay_tables;
