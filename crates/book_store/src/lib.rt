@@ -1,9 +1,14 @@
 //! Books in the tables of a database.
 #![tactic(auto)]
 
+mod columns;
+mod forgetting;
 mod laying;
 pub mod open_fault;
+mod planning;
 pub mod sql_store;
+#[cfg(test)]
+mod tests;
 
 pub use open_fault::OpenFault;
 pub use sql_store::SqlStore;

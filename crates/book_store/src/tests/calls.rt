@@ -1,0 +1,94 @@
+//! Each call with no clause, and what its answer tells: a test that makes many carries none of
+//! their clauses along.
+
+use super::told_all;
+use crate::forgetting::forget_in_book;
+use book_model::{Denied, Fault, Refusal};
+use book_tables::books::{BookNumbers, find_book, insert_book, renumber_book};
+use book_tables::laying::lay_tables;
+use book_tables::members::{members_of, put_member};
+use sqlite::types::ValueRef;
+use sqlite::{Connection, MemStore, Row, Transaction};
+use std::alloc::Global;
+use std::test::Fail;
+
+/// Lays the tables, and writes two books.
+pub(super) fn fill(tx: &mut Transaction<'_, MemStore>) -> Result<(), Fail> {
+    lay_tables(tx)?;
+    insert_book(tx, 1, "friends")?;
+    insert_book(tx, 2, "work")?;
+    put_member(tx, 1, "a", 1, Some("A"))?;
+    put_member(tx, 1, "b", 2, None)?;
+    put_member(tx, 1, "c", 3, Some("C"))?;
+    put_member(tx, 1, "d", 4, None)?;
+    put_member(tx, 2, "a", 1, None)?;
+    number(tx, 1, 4)?;
+    number(tx, 2, 1)
+}
+
+fn number(tx: &mut Transaction<'_, MemStore>, id: i64, number: i64) -> Result<(), Fail> {
+    let numbers = BookNumbers {
+        number,
+        horizon: 0,
+        created: number,
+        edited: 0,
+        imported: 0,
+        import_edited: 0,
+        moved_in: 0,
+        deleted: 0,
+        moved_out: 0,
+    };
+    renumber_book(tx, id, numbers)?;
+    Ok(())
+}
+
+pub(super) fn told(alloc: Global, row: &Row) -> Result<String, Fail> {
+    let mut told = String::new(alloc);
+    for at in 0..row.column_count() {
+        told.push_str("|")?;
+        match row.get_ref(at)? {
+            ValueRef::Null => told.push_str("-")?,
+            ValueRef::Int(number) => told.push_str(format!(in alloc; "{number}")?.as_str())?,
+            ValueRef::Text(_) => told.push_str(row.get::<String>(at)?.as_str())?,
+            _ => told.push_str("?")?,
+        }
+    }
+    Ok(told)
+}
+
+pub(super) fn book(
+    alloc: Global,
+    conn: &mut Connection<MemStore>,
+    name: &str,
+) -> Result<String, Fail> {
+    let row = find_book(conn, name)?;
+    told(alloc, &row)
+}
+
+pub(super) fn members(
+    alloc: Global,
+    conn: &mut Connection<MemStore>,
+    book: i64,
+) -> Result<String, Fail> {
+    let rows = members_of(conn, book)?;
+    told_all(alloc, rows.as_slice())
+}
+
+/// The number that was answered, or what was refused.
+pub(super) fn forget(
+    alloc: Global,
+    conn: &mut Connection<MemStore>,
+    name: &str,
+    upto: u64,
+) -> Result<String, Fail> {
+    if !conn.is_autocommit() {
+        return Ok(String::from_str(alloc, "inside")?);
+    }
+    match forget_in_book(conn, name, upto) {
+        Ok(dropped) => Ok(format!(in alloc; "{dropped}")?),
+        Err(Denied::Refused(Refusal::NoSuchBook)) => Ok(String::from_str(alloc, "no book")?),
+        Err(Denied::Refused(Refusal::BadForget)) => Ok(String::from_str(alloc, "bad")?),
+        Err(Denied::Fault(Fault::Memory)) => Ok(String::from_str(alloc, "memory")?),
+        Err(_) => Ok(String::from_str(alloc, "fault")?),
+    }
+}

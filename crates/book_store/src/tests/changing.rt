@@ -1,0 +1,48 @@
+use super::{calls, with_books};
+use std::process::Abort;
+use std::test::Fail;
+
+fn is(rt: &impl Abort, told: Result<String, Fail>, wanted: &str) -> Result<(), Fail> {
+    let told = told?;
+    assert_eq!(rt; told.as_str(), wanted);
+    Ok(())
+}
+
+#[test]
+fn forgets_removed_members(rt: HostRuntime) -> Result<(), Fail> {
+    let alloc = rt.alloc();
+    let mut conn = with_books(&rt, alloc)?;
+    is(&rt, calls::forget(alloc, &mut conn, "friends", 3), "1")?;
+    is(
+        &rt,
+        calls::members(alloc, &mut conn, 1),
+        "|a|1|A |c|3|C |d|4|- ",
+    )?;
+    is(&rt, calls::members(alloc, &mut conn, 2), "|a|1|- ")?;
+    is(
+        &rt,
+        calls::book(alloc, &mut conn, "friends"),
+        "|1|4|3|4|0|0|0|0|0|0",
+    )?;
+    is(
+        &rt,
+        calls::book(alloc, &mut conn, "work"),
+        "|2|1|0|1|0|0|0|0|0|0",
+    )
+}
+
+#[test]
+fn refuses_to_forget(rt: HostRuntime) -> Result<(), Fail> {
+    let alloc = rt.alloc();
+    let mut conn = with_books(&rt, alloc)?;
+    is(&rt, calls::forget(alloc, &mut conn, "none", 3), "no book")?;
+    is(&rt, calls::forget(alloc, &mut conn, "friends", 5), "bad")?;
+    is(&rt, calls::forget(alloc, &mut conn, "friends", 4), "2")?;
+    is(&rt, calls::forget(alloc, &mut conn, "friends", 3), "bad")?;
+    is(&rt, calls::members(alloc, &mut conn, 1), "|a|1|A |c|3|C ")?;
+    is(
+        &rt,
+        calls::book(alloc, &mut conn, "friends"),
+        "|1|4|4|4|0|0|0|0|0|0",
+    )
+}
