@@ -1,3 +1,4 @@
 pub mod ChangeLemmas
 pub mod CallLemmas
 pub mod ForgetLemmas
+pub mod PutLemmas
