@@ -7,6 +7,7 @@ ghost use Rattle.book_reading.specs.Faults.{IsFault};
 ghost use Rattle.book_rows.specs.ChangeLaws.{IsTextOf, figures_after};
 ghost use Rattle.book_rows.specs.TableBooks.{BookFigures, book_of, books_of, line_row, numbers_row};
 ghost use Rattle.book_rows.specs.TableRows.{TableRows};
+ghost use Rattle.book_rows.specs.Values.{text_card};
 ghost use Rattle.book_store.specs.Changing.{AreColumns, ChangesLine, HasLine, HoldsBooks, IsDone, TreesHold};
 ghost use Rattle.book_tables.specs.Books.{numbers_of};
 ghost use Rattle.book_tables.specs.Laying.{LeavesInside};
@@ -24,6 +25,7 @@ use book_tables::books::{BookNumbers, renumber_book};
 use book_tables::members::put_member;
 use sqlite::{Alter, Connection, Error, Transaction};
 use std::alloc::Global;
+use vcard_text::laws::card_is_computed;
 use vcard_text::{Card, write_card};
 
 /// Puts the member with the UID of the book with the id, and renumbers the book.
@@ -87,4 +89,65 @@ fn commit_put<S: Alter>(
     put_row(&mut tx, id, uid, changed, card, numbers)?;
     tx.commit()?;
     Ok(())
+}
+
+/// The card's canonical text.
+fn text_of(alloc: Global, card: &Card) -> Result<String, Denied>
+    ensures canonical { IfOk result (λ text. string_bytes text ≡ canonical_text card.now) }
+    ensures card { IfOk result (λ text. text_card (string_bytes text) ≡ card.now) }
+    ensures fault { IfErr result IsFault }
+{
+    card_is_computed();
+    match String::from_utf8(write_card(alloc, card)?) {
+        Ok(text) => Ok(text),
+        Err(_) => Err(Denied::Fault(Fault::Store)),
+    }
+}
+
+/// The numbers of the book after the change, as its columns keep them.
+fn columns_after(figures: Figures, change: &Change) -> Result<BookNumbers, Denied>
+    requires { figures.number < 2 ^ 63 }
+    ensures numbers { IfOk result (λ columns. numbers_of columns
+        ≡ numbers_row (figures.number + 1) figures.horizon (counts_with change.now figures.counts)) }
+    ensures fault { IfErr result IsFault }
+{
+    let mut counts = figures.counts();
+    counts.add(change);
+    columns_of(figures.number() + 1, figures.horizon(), counts)
+}
+
+/// Writes the card as the next change of the book with the figures.
+pub(crate) fn write_put<S: Alter>(
+    alloc: Global,
+    conn: &mut Connection<S>,
+    figures: Figures,
+    card: &Card,
+    why: StoreReason,
+) -> Result<(), Denied>
+    requires settled { conn.old.in_transaction ≡ false }
+    requires room { figures.number < 2 ^ 63 }
+    ensures done { (rows : TableRows) (name : List ℕ) → HasCleanDisk (state S.Store conn.new)
+        → HasLine (state S.Store conn.old).now rows name figures
+        → IsDone (state S.Store conn.old) (state S.Store conn.new) result (λ _ db. HoldsBooks db
+        (finite.insert (books_of rows) name
+        (with_row (book_of rows (line_row name figures)) (uid_of card.now) (Stores card.now why)))) }
+    ensures fault { IfErr result IsFault }
+    ensures settled { conn.new.in_transaction ≡ false }
+    ensures survives { Survives (state S.Store conn.old) (state S.Store conn.new) (λ _. ⊤) }
+    ensures crash { (rows : TableRows) (name : List ℕ)
+        → HasLine (state S.Store conn.old).now rows name figures
+        → Survives (state S.Store conn.old) (state S.Store conn.new) (TreesHold
+        (finite.insert (books_of rows) name
+        (with_row (book_of rows (line_row name figures)) (uid_of card.now) (Stores card.now why)))) }
+{
+    let _settled = conn.is_autocommit();
+    let text = text_of(alloc, card)?;
+    let change = Change::Stores(card.try_copy()?, why);
+    let numbers = columns_after(figures, &change)?;
+    let id = column_of(figures.id())?;
+    let changed = column_of(figures.number() + 1)?;
+    match commit_put(conn, id, card.uid(), changed, Some(text.as_str()), numbers) {
+        Ok(()) => Ok(()),
+        Err(error) => Err(fault_of(error)),
+    }
 }
