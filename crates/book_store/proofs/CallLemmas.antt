@@ -116,13 +116,13 @@ reads_changes step old new r settled left does = record {
 
 -- a call that looked a book up, and then wrote
 module _ {A : Type 0} (H : TableRows → A → Database → Type 0) (step : Books → Result (A × Books) Refusal) (old mid new : State) (name : List ℕ) (figures : BookFigures) (r : Result A Denied)
-    (same : OverTables old mid (IsUnchanged old mid)) (left : OnlyReads old mid) (named : OverSound old mid (λ rows. IsNamed rows name (Ok figures))) (survives : Survives mid new (λ _. ⊤)) where
+    (same : OverTables old mid (IsUnchanged old mid)) (left : OnlyReads old mid) (Q : TableRows → Type 0) (found : OverSound old mid Q) (is_named : (rows : TableRows) → Q rows → IsBookNamed rows name figures) (survives : Survives mid new (λ _. ⊤)) where
   pub written_changes : new.in_transaction ≡ false → (HasCleanDisk mid → IsTrue old.is_open) → ((rows : TableRows) → HasCleanDisk new → HasLine mid.now rows name figures → IsDone mid new r (H rows))
       → ((rows : TableRows) (a : A) → H rows a new.now → IsSound new.now)
-      → ((rows : TableRows) → IsBookNamed rows name figures → IsDone old new r (H rows) → IsTrue new.is_open → Does r (step (books_of rows)) (stored_books old) (stored_books new)) → Changes old new r step
+      → ((rows : TableRows) → Q rows → IsDone old new r (H rows) → IsTrue new.is_open → Does r (step (books_of rows)) (stored_books old) (stored_books new)) → Changes old new r step
   written_changes settled opened done sound does =
       let early = λ (order : IsInOrder new). clean_before _ mid new survives order.0 in
-      let whole = λ (order : IsInOrder new) (was : Stands old). done_then (H was.sound.rows) old mid new r (same (early order) was.sound.holds.schema).0.now_is (done was.sound.rows order.0 (line_found old mid new name figures same named survives order.0 was)) in
+      let whole = λ (order : IsInOrder new) (was : Stands old). done_then (H was.sound.rows) old mid new r (same (early order) was.sound.holds.schema).0.now_is (done was.sound.rows order.0 (line_found old mid new name figures same (λ rows clean holds sound. is_named rows (found rows clean holds sound)) survives order.0 was)) in
       record {
         settled = settled;
         was_in_order = λ order. (clean_before _ old mid left.survives (early order), opened (early order));
@@ -130,19 +130,19 @@ module _ {A : Type 0} (H : TableRows → A → Database → Type 0) (step : Book
         does = λ order was.
             let held : stored_books old ≡ books_of was.sound.rows = books_held old.now was.sound.rows was.sound.holds was.sound.sound in
             subst (λ (books : Books). Does r (step books) (stored_books old) (stored_books new)) (sym held)
-            (does was.sound.rows (named was.sound.rows (early order) was.sound.holds was.sound.sound) (whole order was) order.1);
+            (does was.sound.rows (found was.sound.rows (early order) was.sound.holds was.sound.sound) (whole order was) order.1);
       }
 
   -- and a crash
   pub written_commits : (P : TableRows → Trees → Type 0) → ((rows : TableRows) → HasLine mid.now rows name figures → Survives mid new (P rows))
-      → ((rows : TableRows) → IsBookNamed rows name figures → (db : Trees) → P rows db → HoldAfter (step (books_of rows)) db) → CommitsOnce old new step
+      → ((rows : TableRows) → Q rows → (db : Trees) → P rows db → HoldAfter (step (books_of rows)) db) → CommitsOnce old new step
   written_commits P crash holds was =
       let rows = was.sound.rows in
       let held : stored_books old ≡ books_of rows = books_held old.now rows was.sound.holds was.sound.sound in
       survives_if old new (HoldAfter (step (stored_books old))) (survives_then old mid new _ _ (λ _. ⊤) (λ _ db none. tt) (λ _ db none. tt) left.survives survives)
       (λ clean. survives_then old mid new _ _ (HoldAfter (step (stored_books old))) (λ _ db none. absurd (none was.sound.holds.schema))
-      (λ _ db made. subst (λ (books : Books). HoldAfter (step books) db) (sym held) (holds rows (named rows (clean_before _ mid new survives clean) was.sound.holds was.sound.sound) db made))
-      left.survives (crash rows (line_found old mid new name figures same named survives clean was)))
+      (λ _ db made. subst (λ (books : Books). HoldAfter (step books) db) (sym held) (holds rows (found rows (clean_before _ mid new survives clean) was.sound.holds was.sound.sound) db made))
+      left.survives (crash rows (line_found old mid new name figures same (λ rows clean holds sound. is_named rows (found rows clean holds sound)) survives clean was)))
 
 pub named_hold : {A : Type 0} (rows : TableRows) (name : List ℕ) (figures : BookFigures) (f : Book → Result (A × Books) Refusal) (db : Trees) → IsBookNamed rows name figures
     → HoldAfter (f (book_of rows (line_row name figures))) db → HoldAfter (book_named (books_of rows) name >>= f) db

@@ -2,3 +2,4 @@ pub mod ChangeLemmas
 pub mod CallLemmas
 pub mod ForgetLemmas
 pub mod PutLemmas
+pub mod PlanLemmas

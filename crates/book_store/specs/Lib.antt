@@ -1,3 +1,4 @@
 pub mod Opening
 pub mod StoreViews
 pub mod Changing
+pub mod Planning

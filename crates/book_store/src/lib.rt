@@ -6,6 +6,7 @@ mod forgetting;
 mod laying;
 pub mod open_fault;
 mod planning;
+mod put_call;
 mod putting;
 pub mod sql_store;
 #[cfg(test)]

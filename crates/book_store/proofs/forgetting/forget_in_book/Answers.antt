@@ -1,10 +1,11 @@
-use Rattle.std.proofs.Common.{rules, ◌≡◌, true, false, Err, sym, subst}
+use Rattle.std.proofs.Common.{rules, ◌≡◌, true, false, Ok, Err, sym, subst}
 use Rattle.sqlite.specs.Held.{state}
 use Rattle.book_model.specs.declared.denied.Denied.TheVariants.{Refused}
 use Rattle.book_model.specs.declared.refusal.Refusal.TheVariants.{BadForget}
 use Rattle.book_model.specs.Books.{Books}
 use Rattle.book_model.specs.Forgetting.{book_after_forget, forget_step, may_forget}
 use Rattle.std.specs.FinMap as finite
+use Rattle.book_reading.specs.Answers.{IsNamed}
 use Rattle.book_rows.specs.TableBooks.{book_of, books_of, line_row}
 use Rattle.book_store.specs.Changing.{Changes, TreesHold}
 use Rattle.book_store.specs.StoreViews.{stored_books}
@@ -41,7 +42,7 @@ returns-clause-changes g c =
     let figures = c.in_ok-figures.figures in
     let may : may_forget figures.horizon figures.number c.args.upto ≡ true = search rules in
     written_changes (Forgot name figures c.args.upto) (λ (books : Books). forget_step books name c.args.upto) old mid new name figures c.write_forget.result
-    c.in_ok-figures.ensures.unchanged c.figures_to_change.ensures.left c.in_ok-figures.ensures.named c.write_forget.ensures.survives
+    c.in_ok-figures.ensures.unchanged c.figures_to_change.ensures.left (λ rows. IsNamed rows name (Ok figures)) c.in_ok-figures.ensures.named (λ rows h. h) c.write_forget.ensures.survives
     c.write_forget.ensures.settled c.in_ok-figures.ensures.open (λ rows clean line. c.write_forget.ensures.done rows name clean line) (λ rows a h. h.1.sound)
     (λ rows named done up. named_does rows name figures (forget_of (books_of rows) name c.args.upto) c.write_forget.result (stored_books old) (stored_books new) named (forget_does rows name figures c.args.upto old new c.write_forget.result may c.write_forget.ensures.fault done up))
 
@@ -54,6 +55,6 @@ returns-clause-crash g c =
     let figures = c.in_ok-figures.figures in
     let may : may_forget figures.horizon figures.number c.args.upto ≡ true = search rules in
     written_commits (Forgot name figures c.args.upto) (λ (books : Books). forget_step books name c.args.upto) old mid new name figures c.write_forget.result
-    c.in_ok-figures.ensures.unchanged c.figures_to_change.ensures.left c.in_ok-figures.ensures.named c.write_forget.ensures.survives
+    c.in_ok-figures.ensures.unchanged c.figures_to_change.ensures.left (λ rows. IsNamed rows name (Ok figures)) c.in_ok-figures.ensures.named (λ rows h. h) c.write_forget.ensures.survives
     (λ rows. TreesHold (finite.insert (books_of rows) name (book_after_forget (book_of rows (line_row name figures)) c.args.upto))) (λ rows line. c.write_forget.ensures.crash rows name line)
     (λ rows named db made. named_hold rows name figures (forget_of (books_of rows) name c.args.upto) db named (forget_holds rows name figures c.args.upto db may made))
