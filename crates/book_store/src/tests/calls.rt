@@ -3,14 +3,16 @@
 
 use super::told_all;
 use crate::forgetting::forget_in_book;
-use book_model::{Denied, Fault, Refusal};
+use crate::put_call::put_in_book;
+use book_model::{Denied, Fault, Limits, PutAnswer, Refusal};
 use book_tables::books::{BookNumbers, find_book, insert_book, renumber_book};
 use book_tables::laying::lay_tables;
-use book_tables::members::{members_of, put_member};
+use book_tables::members::{find_member, members_of, put_member};
 use sqlite::types::ValueRef;
 use sqlite::{Connection, MemStore, Row, Transaction};
 use std::alloc::Global;
 use std::test::Fail;
+use vcard_text::{Card, read_card};
 
 /// Lays the tables, and writes two books.
 pub(super) fn fill(tx: &mut Transaction<'_, MemStore>) -> Result<(), Fail> {
@@ -91,4 +93,47 @@ pub(super) fn forget(
         Err(Denied::Fault(Fault::Memory)) => Ok(String::from_str(alloc, "memory")?),
         Err(_) => Ok(String::from_str(alloc, "fault")?),
     }
+}
+
+/// A card with the UID `n` and the name.
+fn card(alloc: Global, name: &str) -> Result<Card, Fail> {
+    let text = format!(in alloc;
+        "BEGIN:VCARD\r\nVERSION:4.0\r\nUID:n\r\nFN:{name}\r\nEND:VCARD\r\n"
+    )?;
+    match read_card(alloc, text.as_bytes()) {
+        Ok(card) => Ok(card),
+        Err(_) => Err(Fail::new("no card")),
+    }
+}
+
+/// The answer to a put of a card with the name, or what was refused.
+pub(super) fn put(
+    alloc: Global,
+    conn: &mut Connection<MemStore>,
+    name: &str,
+    expect: Option<u64>,
+) -> Result<String, Fail> {
+    let card = card(alloc, name)?;
+    if !conn.is_autocommit() {
+        return Ok(String::from_str(alloc, "inside")?);
+    }
+    match put_in_book(alloc, conn, Limits::standard(), "friends", &card, expect) {
+        Ok(PutAnswer::Created { version }) => Ok(format!(in alloc; "created {version}")?),
+        Ok(PutAnswer::Edited { version }) => Ok(format!(in alloc; "edited {version}")?),
+        Ok(PutAnswer::Unchanged { version }) => Ok(format!(in alloc; "same {version}")?),
+        Err(Denied::Refused(Refusal::VersionMismatch { has })) => {
+            Ok(format!(in alloc; "has {has}")?)
+        }
+        Err(_) => Ok(String::from_str(alloc, "fault")?),
+    }
+}
+
+pub(super) fn has_member(
+    conn: &mut Connection<MemStore>,
+    uid: &str,
+    changed: i64,
+    card: &str,
+) -> Result<bool, Fail> {
+    let row = find_member(conn, 1, uid)?;
+    Ok(row.get::<i64>(0)? == changed && row.get::<String>(1)?.as_str() == card)
 }

@@ -46,3 +46,30 @@ fn refuses_to_forget(rt: HostRuntime) -> Result<(), Fail> {
         "|1|4|4|4|0|0|0|0|0|0",
     )
 }
+
+#[test]
+fn puts_a_card(rt: HostRuntime) -> Result<(), Fail> {
+    let alloc = rt.alloc();
+    let mut conn = with_books(&rt, alloc)?;
+    is(&rt, calls::put(alloc, &mut conn, "Ann", Some(3)), "has 0")?;
+    is(
+        &rt,
+        calls::put(alloc, &mut conn, "Ann", Some(0)),
+        "created 5",
+    )?;
+    is(&rt, calls::put(alloc, &mut conn, "Ann", None), "same 5")?;
+    is(&rt, calls::put(alloc, &mut conn, "Bea", Some(4)), "has 5")?;
+    is(
+        &rt,
+        calls::put(alloc, &mut conn, "Bea", Some(5)),
+        "edited 6",
+    )?;
+    let card = "BEGIN:VCARD\r\nVERSION:4.0\r\nUID:n\r\nFN:Bea\r\nEND:VCARD\r\n";
+    let has_it = calls::has_member(&mut conn, "n", 6, card)?;
+    assert!(rt; has_it);
+    is(
+        &rt,
+        calls::book(alloc, &mut conn, "friends"),
+        "|1|6|0|5|1|0|0|0|0|0",
+    )
+}

@@ -40,11 +40,11 @@ returns-in_default-clause-changes g c =
     let none : reason_for answer ≡ None = search rules in
     reads_changes step old new (Ok answer) c.requires c.plan_put.ensures.left
     (λ rows clean holds sound same.
-      let planned = c.in_ok-figures.ensures.planned rows clean holds sound in
-      let held : stored_books old ≡ books_of rows = books_held old.now rows holds sound in
-      subst (λ (b : Books). Does (Ok answer) (step (books_of rows)) b (stored_books new)) (sym held)
-      (named_does rows c.args.name.now figures (put_of c.args.limits (books_of rows) c.args.name.now c.args.card.now c.args.expect) (Ok answer) (books_of rows) (stored_books new) planned.0
-      (same_put c.args.limits (books_of rows) c.args.name.now c.args.card.now c.args.expect (book_of rows (line_row c.args.name.now figures)) answer (stored_books new) planned.1 none (same ∙ held))))
+    let planned = c.in_ok-figures.ensures.planned rows clean holds sound in
+    let held : stored_books old ≡ books_of rows = books_held old.now rows holds sound in
+    subst (λ (b : Books). Does (Ok answer) (step (books_of rows)) b (stored_books new)) (sym held)
+    (named_does rows c.args.name.now figures (put_of c.args.limits (books_of rows) c.args.name.now c.args.card.now c.args.expect) (Ok answer) (books_of rows) (stored_books new) planned.0
+    (same_put c.args.limits (books_of rows) c.args.name.now c.args.card.now c.args.expect (book_of rows (line_row c.args.name.now figures)) answer (stored_books new) planned.1 none (same ∙ held))))
 
 pub returns-in_err-write_put-clause-changes : goal.returns-in_err-write_put-clause-changes
 returns-in_err-write_put-clause-changes g c =
@@ -83,7 +83,7 @@ returns-clause-changes g c =
     c.in_ok-figures.ensures.unchanged c.plan_put.ensures.left planned c.in_ok-figures.ensures.planned (λ rows h. h.0) c.write_put.ensures.survives
     c.write_put.ensures.settled c.in_ok-figures.ensures.open (λ rows clean line. c.in_ok-write_put.ensures.done rows name clean line) (λ rows a h. h.sound)
     (λ rows h done up. named_does rows name figures (put_of c.args.limits (books_of rows) name c.args.card.now c.args.expect) (Ok answer) (stored_books old) (stored_books new) h.0
-      (stored_put rows name figures c.args.limits c.args.card.now c.args.expect answer c.in-Some.reason h.1 some new (stored_books old) done.0))
+    (stored_put rows name figures c.args.limits c.args.card.now c.args.expect answer c.in-Some.reason h.1 some new (stored_books old) done.0))
 
 pub returns-in_err-write_put-clause-crash : goal.returns-in_err-write_put-clause-crash
 returns-in_err-write_put-clause-crash g c =
@@ -102,7 +102,7 @@ returns-in_err-write_put-clause-crash g c =
     c.in_ok-figures.ensures.unchanged c.plan_put.ensures.left planned c.in_ok-figures.ensures.planned (λ rows h. h.0) c.write_put.ensures.survives
     (λ rows. TreesHold (put rows)) (λ rows line. c.write_put.ensures.crash rows name line)
     (λ rows h db held. named_hold rows name figures (put_of c.args.limits (books_of rows) name c.args.card.now c.args.expect) db h.0
-      (put_holds rows name figures c.args.limits c.args.card.now c.args.expect answer c.in-Some.reason h.1 some db held))
+    (put_holds rows name figures c.args.limits c.args.card.now c.args.expect answer c.in-Some.reason h.1 some db held))
 
 pub returns-clause-crash : goal.returns-clause-crash
 returns-clause-crash g c =
@@ -121,4 +121,4 @@ returns-clause-crash g c =
     c.in_ok-figures.ensures.unchanged c.plan_put.ensures.left planned c.in_ok-figures.ensures.planned (λ rows h. h.0) c.write_put.ensures.survives
     (λ rows. TreesHold (put rows)) (λ rows line. c.write_put.ensures.crash rows name line)
     (λ rows h db held. named_hold rows name figures (put_of c.args.limits (books_of rows) name c.args.card.now c.args.expect) db h.0
-      (put_holds rows name figures c.args.limits c.args.card.now c.args.expect answer c.in-Some.reason h.1 some db held))
+    (put_holds rows name figures c.args.limits c.args.card.now c.args.expect answer c.in-Some.reason h.1 some db held))
