@@ -1,0 +1,107 @@
+-- Rows that stand for well-formed books pass the tests.
+use Rattle.std.proofs.Common.{◌≡◌, inl, inr, ◌≤◌, ◌||◌, ℕ, ℤ, Bool, true, false, ◌&&◌, List, [], ◌∷◌, filter, find, length, bytes_eq, int_eq, Option, Some, None, IfSome, refl, sym, ap, ap₂, subst, ◌∙◌, ◌+◌, true≢false}
+use Rattle.std.specs.List.{AllByRecursion, list_any}
+use Rattle.std.specs.Option.{option_map}
+use Rattle.sqlite_rules.specs.Lists.{Has}
+use Rattle.vcard_text.specs.Cards.{uid_of}
+use Rattle.book_model.specs.Bounds.{Bounds}
+use Rattle.book_model.specs.Counting.{arrivals, departures}
+use Rattle.book_model.specs.WellFormed.{IsWellFormedBook, IsWellFormedRow, IsWellFormedImport}
+use Rattle.book_tables.specs.Books.{BookRow, has_id}
+use Rattle.book_tables.specs.Imports.{ImportRow}
+use Rattle.book_tables.specs.Members.{MemberRow, is_at}
+use Rattle.book_rows.specs.SoundTables.{AreSound, AreReadable, AreWellFormed, IsReadableBook}
+use Rattle.book_rows.specs.TableBooks.{row_of, tally_of, counts_of, keep_in_book, book_of}
+use Rattle.book_rows.specs.TableRows.{TableRows}
+use Rattle.book_rows.specs.Values.{natural, text_card}
+use Rattle.book_rows.proofs.KeyedEntries.{all_has, found_has, both_true, text_itself}
+use Rattle.book_rows.proofs.RowLemmas.{same_int, int_itself}
+use Rattle.book_check.specs.CheckedRows.{AreChecked, IsCheckedBook, IsCheckedMember, IsCheckedImport, OfBook, is_written_by}
+use Rattle.book_check.proofs.GetLemmas.{give_book, len_books, give_member, give_import, live_count_is}
+use Rattle.book_check.proofs.ListLemmas.{all_from_has, ascending_on}
+use Rattle.book_check.proofs.WellLemmas.{remembered_is}
+
+-- the book that is listed
+listed_book : (bs : List BookRow) (id : ℤ) → list_any (has_id id) bs ≡ true → (b : BookRow) × Has bs b × (id ≡ b.id)
+listed_book [] id h = absurd (true≢false (sym h))
+listed_book (b ∷ bs) id h = step (has_id id b) refl h (listed_book bs id)
+  where
+    step : (t : Bool) → has_id id b ≡ t → list_any (has_id id) (b ∷ bs) ≡ true → (list_any (has_id id) bs ≡ true → (c : BookRow) × Has bs c × (id ≡ c.id)) → (c : BookRow) × Has (b ∷ bs) c × (id ≡ c.id)
+    step true e h more = (b, inl refl, sym (same_int b.id id e))
+    step false e h more = let it = more (rw e at h) in (it.0, inr it.1, it.2)
+
+-- what is said of each book that has the id is said of the one that is found by it
+of_found : (bs : List BookRow) (id : ℤ) (P : BookRow → Type 0) → ((b : BookRow) → Has bs b → id ≡ b.id → P b) → OfBook bs id P
+of_found bs id P h = go (find (has_id id) bs) refl
+  where
+    go : (o : Option BookRow) → find (has_id id) bs ≡ o → IfSome o P
+    go None e = tt
+    go (Some b) e = let it = found_has (has_id id) bs b e in h b it.0 (sym (same_int b.id id it.1))
+
+member_checked : (rows : TableRows) (b : BookRow) (m : MemberRow) → IsWellFormedRow (book_of rows b) m.uid (row_of m) → IsCheckedMember m b
+member_checked rows b m w = record {
+  first = w.first;
+  known = w.known;
+  own_card = own m.card refl;
+  remembered = λ e. w.remembered (ap (option_map text_card) e);
+}
+  where
+    own : (text : Option (List ℕ)) → m.card ≡ text → IfSome text (λ t. uid_of (text_card t) ≡ m.uid)
+    own None e = tt
+    own (Some t) e = w.own_card (text_card t) (ap (option_map text_card) e)
+
+module _ (limits : Bounds) (rows : TableRows) (well : AreWellFormed limits rows) where
+  book_is : (b : BookRow) → Has rows.books b → IsWellFormedBook limits (book_of rows b)
+  book_is b there = well.books.each b.name (book_of rows b) (give_book rows b well.sound there)
+
+  checked_book : (b : BookRow) → Has rows.books b → IsCheckedBook limits rows b
+  checked_book b there =
+      let got = give_book rows b well.sound there in
+      let is = book_is b there in
+      let horizon = (all_has IsReadableBook rows.books b well.readable.books there).numbers.horizon in
+      record {
+        legal = well.books.legal_names b.name (book_of rows b) got;
+        numbered = record {
+          first = well.books.first_id b.name (book_of rows b) got;
+          last = subst (λ n. natural b.id ≤ n) (len_books rows well.sound) (well.books.last_id b.name (book_of rows b) got);
+        };
+        bounds = record { counted_once = is.counted_once; within_limit = is.within_limit; horizon_known = is.horizon_known };
+        members = record {
+          keep_least = is.keep_least;
+          within_keep = subst (λ n. n ≤ keep_in_book b.id rows.keeps) (remembered_is rows b well.sound horizon) is.within_keep;
+          cards_counted = ap (λ n. n + departures (counts_of b.numbers)) (sym (live_count_is rows b well.sound)) ∙ is.cards_counted;
+        };
+      }
+
+  checked_member : (m : MemberRow) → Has rows.members m → OfBook rows.books m.book (IsCheckedMember m)
+  checked_member m has = of_found rows.books m.book (IsCheckedMember m) (λ b there is.
+      member_checked rows b m ((book_is b there).rows m.uid (row_of m) (give_member rows b m well.sound has is)))
+
+  checked_import : (i : ImportRow) → Has rows.imports i → OfBook rows.books i.book (IsCheckedImport i)
+  checked_import i has = of_found rows.books i.book (IsCheckedImport i) (λ b there is.
+      let w = (book_is b there).imports i.key (tally_of i) (give_import rows b i well.sound has is) in
+      record { legal = w.legal; known = w.known })
+
+  -- two members that the key keeps apart were written by two changes
+  changes_apart : (a b : MemberRow) → Has rows.members a → Has rows.members b → is_at a.book a.uid b ≡ false → is_written_by a.book a.changed b ≡ false
+  changes_apart a b has also away = go (is_written_by a.book a.changed b) refl
+    where
+      go : (t : Bool) → is_written_by a.book a.changed b ≡ t → t ≡ false
+      go false e = refl
+      go true e =
+          let at = both_true (int_eq b.book a.book) (int_eq b.changed a.changed) e in
+          let book : b.book ≡ a.book = same_int b.book a.book at.0 in
+          let changed : b.changed ≡ a.changed = same_int b.changed a.changed at.1 in
+          let listed = listed_book rows.books a.book (all_has (λ (m : MemberRow). list_any (has_id m.book) rows.books ≡ true) rows.members a well.sound.listed_members has) in
+          let same = (book_is listed.0 listed.1).rows_apart a.uid b.uid (row_of a) (row_of b) (give_member rows listed.0 a well.sound has listed.2) (give_member rows listed.0 b well.sound also (book ∙ listed.2)) (ap natural (sym changed)) in
+          absurd (true≢false (sym (ap₂ (λ s t. s && t) at.0 (ap (λ k. bytes_eq k a.uid) (sym same) ∙ text_itself a.uid)) ∙ away))
+
+  pub rows_checked : AreChecked limits rows
+  rows_checked = record {
+    few = subst (λ n. n ≤ limits.books_max) (len_books rows well.sound) well.books.within_limit;
+    books = all_from_has (IsCheckedBook limits rows) rows.books checked_book;
+    members = all_from_has (λ (m : MemberRow). OfBook rows.books m.book (IsCheckedMember m)) rows.members checked_member;
+    apart = ascending_on (λ (a b : MemberRow). (int_eq a.id b.id ≡ false) × (is_at a.book a.uid b ≡ false)) (λ (a b : MemberRow). is_written_by a.book a.changed b ≡ false) rows.members
+        (λ a b h k r. changes_apart a b h k r.1) well.sound.members;
+    imports = all_from_has (λ (i : ImportRow). OfBook rows.books i.book (IsCheckedImport i)) rows.imports checked_import;
+  }

@@ -1,0 +1,4 @@
+pub mod ListLemmas
+pub mod GetLemmas
+pub mod WellLemmas
+pub mod CheckedLemmas
