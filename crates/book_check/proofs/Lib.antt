@@ -2,3 +2,4 @@ pub mod ListLemmas
 pub mod GetLemmas
 pub mod WellLemmas
 pub mod CheckedLemmas
+pub mod DistinctLemmas

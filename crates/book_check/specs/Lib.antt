@@ -1,1 +1,2 @@
 pub mod CheckedRows
+pub mod ReadRows

@@ -1,4 +1,7 @@
 //! Whether stored tables hold well-formed books: what is tested of their rows, one by one.
 #![tactic(auto)]
 
+mod cells;
+mod distinct;
 pub mod laws;
+pub mod members;
