@@ -1,9 +1,16 @@
 -- Lists with no two equal keys, by how many keys a set of them has.
-use Rattle.std.proofs.Common.{◌≡◌, ◌↔◌, ℕ, Bool, true, false, BTreeSet, Ordering, List, [], ◌∷◌, map, length, IsTrue, nat_eq, sym, ap, ◌∙◌, eq-eqb, arith}
+use Rattle.std.proofs.Common.{◌≡◌, ◌↔◌, ℕ, Bool, true, false, BTreeSet, Ordering, List, [], ◌∷◌, map, length, IsTrue, nat_eq, ℤ, int_eq, ◌&&◌, bytes_eq, refl, subst, sym, ap, ◌∙◌, eq-eqb, arith}
 use Rattle.std.specs.BTreeSet.{IsFromIterResult, btree_set_len}
 use Rattle.std.specs.Cmp.{IsTotalOrder}
 use Rattle.std.specs.List.{AllByRecursion, IsDistinct}
-use Rattle.std.specs.Ordering.{eq_by_cmp}
+use Rattle.std.specs.Ordering.{eq_by_cmp, int_cmp, is_eq, ordering_then}
+use Rattle.std.specs.Ordering.{nat_cmp}
+use Rattle.std.specs.Cmp.Lexicographic.{slice_cmp}
+use Rattle.std.proofs.lemmas.Map.Text.{is_eq-slice_cmp}
+use Rattle.book_rows.proofs.KeyedEntries.{text_turned}
+use Rattle.book_rows.proofs.RowLemmas.{int_turned}
+use Rattle.std.proofs.lemmas.Int.{ints}
+use Rattle.std.proofs.Common.{Less, Equal, Greater}
 use Rattle.std.proofs.lemmas.Cmp.{eq_by_cmp_equiv}
 use Rattle.std.proofs.lemmas.Map.Made.{IsDistinct-from_count, distinct_count-from_IsDistinct}
 use Rattle.std.proofs.lemmas.Map.Views.{btree_set_len-from_list}
@@ -37,3 +44,43 @@ module _ {X K : Type 0} (e : K → K → Bool) (key : X → K) (R : X → X → 
   unfolding IsDistinct
   keys_from_apart [] h = tt
   keys_from_apart (x ∷ xs) h = (to_keys x xs h.0, keys_from_apart xs h.1)
+
+-- ---- keys of rows
+
+module _ {K : Type 0} (e : K → K → Bool) where
+  pub ascending_from_distinct : (ks : List K) → IsDistinct e ks → IsAscending (λ a b. e a b ≡ false) ks
+  unfolding IsDistinct
+  ascending_from_distinct [] h = tt
+  ascending_from_distinct (k ∷ ks) h = (h.0, ascending_from_distinct ks h.1)
+
+  pub distinct_from_ascending : (ks : List K) → IsAscending (λ a b. e a b ≡ false) ks → IsDistinct e ks
+  unfolding IsDistinct
+  distinct_from_ascending [] h = tt
+  distinct_from_ascending (k ∷ ks) h = (h.0, distinct_from_ascending ks h.1)
+
+-- keys of rows, read by v, are distinct exactly where no two rows have one
+pub own_keys : {X K J : Type 0} (e : K → K → Bool) (f : J → J → Bool) (v : K → J) (key : X → J) (R : X → X → Bool) → ((x y : K) → e x y ≡ f (v x) (v y)) → ((a b : X) → R a b ≡ f (key a) (key b))
+    → (ks : List K) (xs : List X) → map v ks ≡ map key xs → (told : Bool) → (IsTrue told ↔ IsDistinct e ks) → IsTrue told ↔ IsAscending (λ a b. R a b ≡ false) xs
+own_keys e f v key R alike is ks xs same told h =
+    (λ t. apart_from_keys f key R is xs (subst (IsDistinct f) same (keys_from_apart f v e alike ks (ascending_from_distinct e ks (h.0 t)))),
+      λ a. h.1 (distinct_from_ascending e ks (apart_from_keys f v e alike ks (subst (IsDistinct f) (sym same) (keys_from_apart f key R is xs a)))))
+
+-- ---- how keys are compared
+
+pub ints_alike : (a b : ℤ) → eq_by_cmp int_cmp a b ≡ int_eq a b
+ints_alike a b = grind (arith, ints)
+
+pub both_alike : (o p : Ordering) (s t : Bool) → is_eq o ≡ s → is_eq p ≡ t → is_eq (ordering_then o p) ≡ (s && t)
+both_alike Less p s t h k = ap (λ b. b && t) h
+both_alike Equal p s t h k = k ∙ ap (λ b. b && t) h
+both_alike Greater p s t h k = ap (λ b. b && t) h
+
+pub texts_alike : (a b : List ℕ) → is_eq (slice_cmp nat_cmp a b) ≡ bytes_eq b a
+texts_alike a b = is_eq-slice_cmp a b ∙ text_turned a b
+
+pub map_same : {X : Type 0} (xs : List X) → map (λ x. x) xs ≡ xs
+map_same [] = refl
+map_same (x ∷ xs) = ap (λ l. x ∷ l) (map_same xs)
+
+pub turned_ints : (a b : ℤ) → eq_by_cmp int_cmp a b ≡ int_eq b a
+turned_ints a b = ints_alike a b ∙ int_turned a b

@@ -1,5 +1,5 @@
 -- The rows of whole tables, as the statements show them, read column by column. This project's own.
-use Rattle.std.specs.Prelude.{◌≡◌, ℕ, List, map}
+use Rattle.std.specs.Prelude.{◌≡◌, ℕ, ℤ, List, map}
 use Rattle.std.specs.List.{AllByRecursion}
 use Rattle.sqlite.specs.Order.{Row, column}
 use Rattle.sqlite_rules.specs.Edit.{id_in}
@@ -50,3 +50,19 @@ pub record IsOwnCard (text uid : List ℕ) : Type 0 where
 pub record IsGoodMember (m : MemberRow) (b : BookRow) : Type 0 where
   pub readable : IsReadableMember m
   pub checked : IsCheckedMember m b
+
+-- ---- keys of rows
+
+-- the number and the text in the column, and 0 and an empty text where there is none
+abbrev pub number_in : ℕ → Row → ℤ
+number_in at r = id_in (column r at)
+
+abbrev pub text_of : ℕ → Row → List ℕ
+text_of at r = text_in (column r at)
+
+-- the book of the row and what the column has
+abbrev pub book_and_number : ℕ → Row → ℤ × ℤ
+book_and_number at r = (number_in 1 r, number_in at r)
+
+abbrev pub book_and_text : ℕ → Row → ℤ × List ℕ
+book_and_text at r = (number_in 1 r, text_of at r)

@@ -3,5 +3,6 @@
 
 mod cells;
 mod distinct;
+pub mod keys;
 pub mod laws;
 pub mod members;
