@@ -54,7 +54,7 @@ module _ (limits : Bounds) (rows : TableRows) (well : AreWellFormed limits rows)
   book_is : (b : BookRow) → Has rows.books b → IsWellFormedBook limits (book_of rows b)
   book_is b there = well.books.each b.name (book_of rows b) (give_book rows b well.sound there)
 
-  checked_book : (b : BookRow) → Has rows.books b → IsCheckedBook limits rows b
+  checked_book : (b : BookRow) → Has rows.books b → IsCheckedBook limits (length rows.books) rows.members rows.keeps b
   checked_book b there =
       let got = give_book rows b well.sound there in
       let is = book_is b there in
@@ -66,7 +66,7 @@ module _ (limits : Bounds) (rows : TableRows) (well : AreWellFormed limits rows)
           last = subst (λ n. natural b.id ≤ n) (len_books rows well.sound) (well.books.last_id b.name (book_of rows b) got);
         };
         bounds = record { counted_once = is.counted_once; within_limit = is.within_limit; horizon_known = is.horizon_known };
-        members = record {
+        agrees = record {
           keep_least = is.keep_least;
           within_keep = subst (λ n. n ≤ keep_in_book b.id rows.keeps) (remembered_is rows b well.sound horizon) is.within_keep;
           cards_counted = ap (λ n. n + departures (counts_of b.numbers)) (sym (live_count_is rows b well.sound)) ∙ is.cards_counted;
@@ -99,7 +99,7 @@ module _ (limits : Bounds) (rows : TableRows) (well : AreWellFormed limits rows)
   pub rows_checked : AreChecked limits rows
   rows_checked = record {
     few = subst (λ n. n ≤ limits.books_max) (len_books rows well.sound) well.books.within_limit;
-    books = all_from_has (IsCheckedBook limits rows) rows.books checked_book;
+    books = all_from_has (IsCheckedBook limits (length rows.books) rows.members rows.keeps) rows.books checked_book;
     members = all_from_has (λ (m : MemberRow). OfBook rows.books m.book (IsCheckedMember m)) rows.members checked_member;
     apart = ascending_on (λ (a b : MemberRow). (int_eq a.id b.id ≡ false) × (is_at a.book a.uid b ≡ false)) (λ (a b : MemberRow). is_written_by a.book a.changed b ≡ false) rows.members
         (λ a b h k r. changes_apart a b h k r.1) well.sound.members;

@@ -3,3 +3,4 @@ pub mod GetLemmas
 pub mod WellLemmas
 pub mod CheckedLemmas
 pub mod DistinctLemmas
+pub mod NameLemmas

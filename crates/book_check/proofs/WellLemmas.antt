@@ -70,8 +70,8 @@ module _ (limits : Bounds) (rows : TableRows) (sound : AreSound rows) (readable 
   checked_import b i there has is =
       of_book rows b i.book (IsCheckedImport i) sound there is (all_has (λ (n : ImportRow). OfBook rows.books n.book (IsCheckedImport n)) rows.imports i c.imports has)
 
-  checked_book : (b : BookRow) → Has rows.books b → IsCheckedBook limits rows b
-  checked_book b there = all_has (IsCheckedBook limits rows) rows.books b c.books there
+  checked_book : (b : BookRow) → Has rows.books b → IsCheckedBook limits (length rows.books) rows.members rows.keeps b
+  checked_book b there = all_has (IsCheckedBook limits (length rows.books) rows.members rows.keeps) rows.books b c.books there
 
   readable_book : (b : BookRow) → Has rows.books b → IsReadableBook b
   readable_book b there = all_has IsReadableBook rows.books b readable.books there
@@ -119,9 +119,9 @@ module _ (limits : Bounds) (rows : TableRows) (sound : AreSound rows) (readable 
         counted_once = is.bounds.counted_once;
         within_limit = is.bounds.within_limit;
         horizon_known = is.bounds.horizon_known;
-        keep_least = is.members.keep_least;
-        within_keep = subst (λ n. n ≤ keep_in_book b.id rows.keeps) (sym (remembered_is rows b sound (readable_book b there).numbers.horizon)) is.members.within_keep;
-        cards_counted = ap (λ n. n + departures (counts_of b.numbers)) (live_count_is rows b sound) ∙ is.members.cards_counted;
+        keep_least = is.agrees.keep_least;
+        within_keep = subst (λ n. n ≤ keep_in_book b.id rows.keeps) (sym (remembered_is rows b sound (readable_book b there).numbers.horizon)) is.agrees.within_keep;
+        cards_counted = ap (λ n. n + departures (counts_of b.numbers)) (live_count_is rows b sound) ∙ is.agrees.cards_counted;
         rows = member_rows b there;
         rows_apart = rows_apart b;
         imports = import_rows b there;

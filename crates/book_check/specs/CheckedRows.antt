@@ -10,6 +10,7 @@ use Rattle.book_model.specs.Counting.{total, arrivals, departures}
 use Rattle.book_model.specs.Importing.{is_legal_key}
 use Rattle.book_tables.specs.Books.{BookRow, has_id}
 use Rattle.book_tables.specs.Imports.{ImportRow}
+use Rattle.book_tables.specs.Keeps.{KeepRow}
 use Rattle.book_tables.specs.Members.{MemberRow, is_in, is_removed_after}
 use Rattle.book_rows.specs.SoundTables.{AreSound, AreReadable, AreWellFormed}
 use Rattle.book_rows.specs.TableBooks.{counts_of, keep_in_book}
@@ -35,18 +36,25 @@ pub record AreInBounds (limits : Bounds) (b : BookRow) : Type 0 where
 
 -- The book keeps some removed members and remembers no more, and its live members are those that
 -- came in, less those that went.
-pub record AgreesWithMembers (rows : TableRows) (b : BookRow) : Type 0 where
-  pub keep_least : 1 ≤ keep_in_book b.id rows.keeps
-  pub within_keep : length (filter (is_removed_after b.id b.numbers.horizon) rows.members)
-      ≤ keep_in_book b.id rows.keeps
-  pub cards_counted : length (filter (is_live_in b.id) rows.members)
-      + departures (counts_of b.numbers) ≡ arrivals (counts_of b.numbers)
+pub record AgreesWithMembers (members : List MemberRow) (keeps : List KeepRow) (b : BookRow)
+    : Type 0 where
+  pub keep_least : 1 ≤ keep_in_book b.id keeps
+  pub within_keep : length (filter (is_removed_after b.id b.numbers.horizon) members)
+      ≤ keep_in_book b.id keeps
+  pub cards_counted : length (filter (is_live_in b.id) members) + departures (counts_of b.numbers)
+      ≡ arrivals (counts_of b.numbers)
 
-pub record IsCheckedBook (limits : Bounds) (rows : TableRows) (b : BookRow) : Type 0 where
+-- the book of so many, with these members and keeps of all books
+pub record IsCheckedBook (limits : Bounds) (books : ℕ) (members : List MemberRow)
+    (keeps : List KeepRow) (b : BookRow) : Type 0 where
   pub legal : is_legal_name b.name ≡ true
-  pub numbered : IsNumbered (length rows.books) (natural b.id)
+  pub numbered : IsNumbered books (natural b.id)
   pub bounds : AreInBounds limits b
-  pub members : AgreesWithMembers rows b
+  pub agrees : AgreesWithMembers members keeps b
+
+abbrev pub AreCheckedBooks : Bounds → List MemberRow → List KeepRow → List BookRow → Type 0
+AreCheckedBooks limits members keeps books =
+    AllByRecursion (IsCheckedBook limits (length books) members keeps) books
 
 -- ---- a member and an import of a book
 
@@ -80,7 +88,7 @@ AreApart = IsAscending (λ a b. is_written_by a.book a.changed b ≡ false)
 -- Sound rows that can be read pass each test that is made row by row.
 pub record AreChecked (limits : Bounds) (rows : TableRows) : Type 0 where
   pub few : length rows.books ≤ limits.books_max
-  pub books : AllByRecursion (IsCheckedBook limits rows) rows.books
+  pub books : AreCheckedBooks limits rows.members rows.keeps rows.books
   pub members : AllByRecursion (λ m. OfBook rows.books m.book (IsCheckedMember m)) rows.members
   pub apart : AreApart rows.members
   pub imports : AllByRecursion (λ i. OfBook rows.books i.book (IsCheckedImport i)) rows.imports

@@ -1,17 +1,19 @@
 -- The rows of whole tables, as the statements show them, read column by column. This project's own.
-use Rattle.std.specs.Prelude.{◌≡◌, ℕ, ℤ, List, map}
+use Rattle.std.specs.Prelude.{◌≡◌, ℕ, ℤ, pos, List, find, map}
+use Rattle.sqlite.specs.declared.types.Value.TheVariants.{Int, Text}
+use Rattle.sqlite.specs.Values.{or_null}
+use Rattle.std.specs.Option.{IsSomeAnd}
 use Rattle.std.specs.List.{AllByRecursion}
 use Rattle.sqlite.specs.Order.{Row, column}
 use Rattle.sqlite_rules.specs.Edit.{id_in}
 use Rattle.vcard_text.specs.Cards.{uid_of}
-use Rattle.book_tables.specs.Books.{BookRow, numbers, book_shown}
-use Rattle.book_tables.specs.Imports.{import_row}
+use Rattle.book_tables.specs.Books.{BookRow, numbers, has_id}
+use Rattle.book_tables.specs.Imports.{ImportRow}
 use Rattle.book_tables.specs.Keeps.{KeepRow, keeping_of}
-use Rattle.book_tables.specs.Members.{MemberRow, member_row}
-use Rattle.book_rows.specs.OpenLaws.{keep_pair}
-use Rattle.book_rows.specs.SoundTables.{IsReadableMember, IsReadableImport}
+use Rattle.book_tables.specs.Members.{MemberRow}
+use Rattle.book_rows.specs.SoundTables.{IsReadableMember}
 use Rattle.book_rows.specs.TableRows.{TableRows, member_in, import_in}
-use Rattle.book_rows.specs.Values.{IsCanonical, text_in, text_card}
+use Rattle.book_rows.specs.Values.{IsCanonical, natural, text_in, text_if_any, text_card}
 use Rattle.book_check.specs.CheckedRows.{IsCheckedMember, IsCheckedImport}
 
 -- ---- what a row says
@@ -39,7 +41,66 @@ rows_told books members imports keeps = record {
   keeps = map keep_told keeps;
 }
 
--- ---- one card, member or import
+-- ---- a column
+
+-- the number and the text in the column, and 0 and an empty text where there is none
+abbrev pub number_in : ℕ → Row → ℤ
+number_in at r = id_in (column r at)
+
+abbrev pub text_of : ℕ → Row → List ℕ
+text_of at r = text_in (column r at)
+
+-- the column has a number, one that isn't below zero, a text, and a text or a null
+abbrev pub HasNumber : ℕ → Row → Type 0
+HasNumber at r = column r at ≡ Int (number_in at r)
+
+abbrev pub HasNatural : ℕ → Row → Type 0
+HasNatural at r = column r at ≡ Int (pos (natural (number_in at r)))
+
+abbrev pub HasText : ℕ → Row → Type 0
+HasText at r = column r at ≡ Text (text_of at r)
+
+abbrev pub HasTextIfAny : ℕ → Row → Type 0
+HasTextIfAny at r = column r at ≡ or_null Text (text_if_any (column r at))
+
+-- ---- rows that show something
+
+-- a book, with numbers that aren't below zero
+pub record ShowsABook (r : Row) : Type 0 where
+  pub id : HasNatural 0 r
+  pub name : HasText 1 r
+  pub number : HasNatural 2 r
+  pub horizon : HasNatural 3 r
+  pub created : HasNatural 4 r
+  pub edited : HasNatural 5 r
+  pub imported : HasNatural 6 r
+  pub import_edited : HasNatural 7 r
+  pub moved_in : HasNatural 8 r
+  pub deleted : HasNatural 9 r
+  pub moved_out : HasNatural 10 r
+
+pub record ShowsAMember (r : Row) : Type 0 where
+  pub id : HasNumber 0 r
+  pub book : HasNumber 1 r
+  pub uid : HasText 2 r
+  pub changed : HasNatural 3 r
+  pub card : HasTextIfAny 4 r
+
+-- an import, with an answer whose numbers aren't below zero
+pub record ShowsAnImport (r : Row) : Type 0 where
+  pub id : HasNumber 0 r
+  pub book : HasNumber 1 r
+  pub key : HasText 2 r
+  pub added : HasNatural 3 r
+  pub edited : HasNatural 4 r
+  pub same : HasNatural 5 r
+  pub number : HasNatural 6 r
+
+pub record ShowsAKeep (r : Row) : Type 0 where
+  pub book : HasNumber 0 r
+  pub keep : HasNatural 1 r
+
+-- ---- a card and a member
 
 -- the text is the canonical text of a card that has the UID
 pub record IsOwnCard (text uid : List ℕ) : Type 0 where
@@ -51,14 +112,19 @@ pub record IsGoodMember (m : MemberRow) (b : BookRow) : Type 0 where
   pub readable : IsReadableMember m
   pub checked : IsCheckedMember m b
 
+-- there is a book with the id, and this holds of it
+abbrev pub HasBook : List BookRow → ℤ → (BookRow → Type 0) → Type 0
+HasBook books id Then = IsSomeAnd (find (has_id id) books) Then
+
+-- each member is of one of the books, which may have it
+abbrev pub AreGoodMembers : List BookRow → List MemberRow → Type 0
+AreGoodMembers books = AllByRecursion (λ m. HasBook books m.book (IsGoodMember m))
+
+-- each import is of one of the books, which may keep it
+abbrev pub AreGoodImports : List BookRow → List ImportRow → Type 0
+AreGoodImports books = AllByRecursion (λ i. HasBook books i.book (IsCheckedImport i))
+
 -- ---- keys of rows
-
--- the number and the text in the column, and 0 and an empty text where there is none
-abbrev pub number_in : ℕ → Row → ℤ
-number_in at r = id_in (column r at)
-
-abbrev pub text_of : ℕ → Row → List ℕ
-text_of at r = text_in (column r at)
 
 -- the book of the row and what the column has
 abbrev pub book_and_number : ℕ → Row → ℤ × ℤ

@@ -4,7 +4,8 @@ ghost use Rattle.sqlite.specs.Order.{column};
 ghost use Rattle.sqlite_rules.specs.Edit.{id_in};
 ghost use Rattle.sqlite_value.specs.Value.{owned};
 ghost use Rattle.std.specs.Option.{option_map};
-ghost use Rattle.std.specs.Prelude.{◌≡◌};
+ghost use Rattle.book_check.specs.ReadRows.{HasNatural, HasNumber, HasText, HasTextIfAny};
+ghost use Rattle.std.specs.Prelude.{◌≡◌, ◌↔◌, IsTrue};
 
 use sqlite::Row;
 use sqlite::types::ValueRef;
@@ -57,4 +58,35 @@ pub(crate) fn text_if_any_at(row: &Row, at: usize) -> Option<&[u8]>
         ValueRef::Text(text) => Some(text),
         _ => None,
     }
+}
+
+/// Whether the column has a number.
+pub(crate) fn has_number(row: &Row, at: usize) -> bool
+    ensures { IsTrue result ↔ HasNumber at row.now }
+{
+    matches!(value_at(row, at), ValueRef::Int(_))
+}
+
+/// Whether the column has a number that isn't below zero.
+pub(crate) fn has_natural(row: &Row, at: usize) -> bool
+    ensures { IsTrue result ↔ HasNatural at row.now }
+{
+    match value_at(row, at) {
+        ValueRef::Int(number) => number >= 0,
+        _ => false,
+    }
+}
+
+/// Whether the column has a text.
+pub(crate) fn has_text(row: &Row, at: usize) -> bool
+    ensures { IsTrue result ↔ HasText at row.now }
+{
+    matches!(value_at(row, at), ValueRef::Text(_))
+}
+
+/// Whether the column has a text or a null.
+pub(crate) fn has_text_if_any(row: &Row, at: usize) -> bool
+    ensures { IsTrue result ↔ HasTextIfAny at row.now }
+{
+    matches!(value_at(row, at), ValueRef::Text(_) | ValueRef::Null)
 }

@@ -1,0 +1,11 @@
+use Rattle.std.proofs.Common.{◌≡◌, ◌≤◌, filter, length, map, take}
+use Rattle.book_rows.specs.TableRows.{member_in}
+use Rattle.book_check.specs.CheckedRows.{is_live_in}
+use Rattle.book_check.proofs.books.count_live.Given as goal
+
+-- those so far are counted
+abbrev pub invariant-loop-member : goal.invariant-loop-member
+invariant-loop-member l = record {
+  so_far : l.count ≡ length (filter (is_live_in l.id) (map member_in (take l.member-index l.members)));
+  fits : l.count ≤ l.member-index;
+}

@@ -1,0 +1,26 @@
+//! Whether octets are a name of a book, or a key of an import.
+ghost use Rattle.book_model.specs.BookNames.{is_legal_name};
+ghost use Rattle.book_model.specs.Importing.{is_legal_key};
+ghost use Rattle.std.specs.Prelude.{◌≡◌};
+
+use book_model::decisions::{is_book_name, is_import_key};
+
+/// Whether a book may have the octets as its name.
+pub fn is_name(octets: &[u8]) -> bool
+    ensures { result ≡ is_legal_name octets.now }
+{
+    match str::from_utf8(octets) {
+        Ok(name) => is_book_name(name),
+        Err(_) => false,
+    }
+}
+
+/// Whether an import may have the octets as its key.
+pub fn is_key(octets: &[u8]) -> bool
+    ensures { result ≡ is_legal_key octets.now }
+{
+    match str::from_utf8(octets) {
+        Ok(key) => is_import_key(key),
+        Err(_) => false,
+    }
+}
