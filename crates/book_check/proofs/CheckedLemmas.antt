@@ -1,5 +1,5 @@
 -- Rows that stand for well-formed books pass the tests.
-use Rattle.std.proofs.Common.{◌≡◌, inl, inr, ◌≤◌, ◌||◌, ℕ, ℤ, Bool, true, false, ◌&&◌, List, [], ◌∷◌, filter, find, length, bytes_eq, int_eq, Option, Some, None, IfSome, refl, sym, ap, ap₂, subst, ◌∙◌, ◌+◌, true≢false}
+use Rattle.std.proofs.Common.{◌≡◌, inl, inr, ◌≤◌, ◌||◌, ℕ, ℤ, Bool, true, false, ◌&&◌, List, [], ◌∷◌, filter, find, length, bytes_eq, int_eq, Option, Some, None, IfSome, IsTrue, ◌↔◌, is_some, refl, sym, ap, ap₂, subst, ◌∙◌, ◌+◌, true≢false}
 use Rattle.std.specs.List.{AllByRecursion, list_any}
 use Rattle.std.specs.Option.{option_map}
 use Rattle.sqlite_rules.specs.Lists.{Has}
@@ -10,7 +10,7 @@ use Rattle.book_model.specs.WellFormed.{IsWellFormedBook, IsWellFormedRow, IsWel
 use Rattle.book_tables.specs.Books.{BookRow, has_id}
 use Rattle.book_tables.specs.Imports.{ImportRow}
 use Rattle.book_tables.specs.Members.{MemberRow, is_at}
-use Rattle.book_rows.specs.SoundTables.{AreSound, AreReadable, AreWellFormed, IsReadableBook}
+use Rattle.book_rows.specs.SoundTables.{AreSound, IsListed, AreReadable, AreWellFormed, IsReadableBook}
 use Rattle.book_rows.specs.TableBooks.{row_of, tally_of, counts_of, keep_in_book, book_of}
 use Rattle.book_rows.specs.TableRows.{TableRows}
 use Rattle.book_rows.specs.Values.{natural, text_card}
@@ -105,3 +105,22 @@ module _ (limits : Bounds) (rows : TableRows) (well : AreWellFormed limits rows)
         (λ a b h k r. changes_apart a b h k r.1) well.sound.members;
     imports = all_from_has (λ (i : ImportRow). OfBook rows.books i.book (IsCheckedImport i)) rows.imports checked_import;
   }
+
+-- ---- books that are listed
+
+pub any_found : (p : BookRow → Bool) (bs : List BookRow) → is_some (find p bs) ≡ list_any p bs
+any_found p [] = refl
+any_found p (b ∷ bs) = step (p b) refl (any_found p bs)
+  where
+    step : (t : Bool) → p b ≡ t → is_some (find p bs) ≡ list_any p bs → is_some (find p (b ∷ bs)) ≡ list_any p (b ∷ bs)
+    step true e more = rw e refl
+    step false e more = rw e more
+
+some_mapped : {X Y : Type 0} (f : X → Y) (o : Option X) → is_some (option_map f o) ≡ is_some o
+some_mapped f None = refl
+some_mapped f (Some x) = refl
+
+pub listed_is : {X : Type 0} (f : X → BookRow) (o : Option X) (bs : List BookRow) (id : ℤ) (told : Bool) → told ≡ is_some o → option_map f o ≡ find (has_id id) bs → IsTrue told ↔ IsListed bs id
+listed_is f o bs id told is found =
+    let e : told ≡ list_any (has_id id) bs = is ∙ sym (some_mapped f o) ∙ ap (λ r. is_some r) found ∙ any_found (has_id id) bs in
+    (λ t. sym e ∙ t, λ h. e ∙ h)

@@ -1,5 +1,5 @@
 -- Lists with no two equal keys, by how many keys a set of them has.
-use Rattle.std.proofs.Common.{◌≡◌, ◌↔◌, ℕ, Bool, true, false, BTreeSet, Ordering, List, [], ◌∷◌, map, length, IsTrue, nat_eq, ℤ, int_eq, ◌&&◌, bytes_eq, refl, subst, sym, ap, ◌∙◌, eq-eqb, arith}
+use Rattle.std.proofs.Common.{◌≡◌, ◌↔◌, ℕ, Bool, true, false, BTreeSet, Ordering, List, [], ◌∷◌, map, length, IsTrue, nat_eq, ℤ, int_eq, ◌&&◌, bytes_eq, refl, subst, sym, ap, ap₂, ◌∙◌, eq-eqb, arith}
 use Rattle.std.specs.BTreeSet.{IsFromIterResult, btree_set_len}
 use Rattle.std.specs.Cmp.{IsTotalOrder}
 use Rattle.std.specs.List.{AllByRecursion, IsDistinct}
@@ -7,7 +7,8 @@ use Rattle.std.specs.Ordering.{eq_by_cmp, int_cmp, is_eq, ordering_then}
 use Rattle.std.specs.Ordering.{nat_cmp}
 use Rattle.std.specs.Cmp.Lexicographic.{slice_cmp}
 use Rattle.std.proofs.lemmas.Map.Text.{is_eq-slice_cmp}
-use Rattle.book_rows.proofs.KeyedEntries.{text_turned}
+use Rattle.book_rows.proofs.KeyedEntries.{both_true, text_turned}
+use Rattle.sqlite_trees.proofs.ListLemmas.{all_both, ascending-map, ascending_from_map, ascending_weaker}
 use Rattle.book_rows.proofs.RowLemmas.{int_turned}
 use Rattle.std.proofs.lemmas.Int.{ints}
 use Rattle.std.proofs.Common.{Less, Equal, Greater}
@@ -84,3 +85,19 @@ map_same (x ∷ xs) = ap (λ l. x ∷ l) (map_same xs)
 
 pub turned_ints : (a b : ℤ) → eq_by_cmp int_cmp a b ≡ int_eq b a
 turned_ints a b = ints_alike a b ∙ int_turned a b
+
+-- ---- two keys of each row
+
+ascending_both : {X : Type 0} (P Q : X → X → Type 0) (xs : List X) → IsAscending P xs → IsAscending Q xs → IsAscending (λ a b. P a b × Q a b) xs
+ascending_both P Q [] h k = tt
+ascending_both P Q (x ∷ xs) h k = (all_both (P x) (Q x) (λ y. P x y × Q x y) (λ y p q. (p, q)) xs h.0 k.0, ascending_both P Q xs h.1 k.1)
+
+pub mapped_keys : {X Y : Type 0} (P : Y → Y → Type 0) (f : X → Y) (xs : List X) → (told : Bool) → (IsTrue told ↔ IsAscending (λ a b. P (f a) (f b)) xs) → IsTrue told ↔ IsAscending P (map f xs)
+mapped_keys P f xs told h = (λ t. ascending-map P f xs (h.0 t), λ a. h.1 (ascending_from_map P f xs a))
+
+pub two_keys : {X Y : Type 0} (P Q : Y → Y → Type 0) (f : X → Y) (xs : List X) → (s t : Bool) → (IsTrue s ↔ IsAscending (λ a b. P (f a) (f b)) xs) → (IsTrue t ↔ IsAscending (λ a b. Q (f a) (f b)) xs)
+    → IsTrue (s && t) ↔ IsAscending (λ a b. P a b × Q a b) (map f xs)
+two_keys P Q f xs s t h k =
+    (λ both. let parts = both_true s t both in ascending-map (λ a b. P a b × Q a b) f xs (ascending_both (λ a b. P (f a) (f b)) (λ a b. Q (f a) (f b)) xs (h.0 parts.0) (k.0 parts.1)),
+      λ a. let back = ascending_from_map (λ a b. P a b × Q a b) f xs a in
+      ap₂ (λ x y. x && y) (h.1 (ascending_weaker (λ a b. P (f a) (f b) × Q (f a) (f b)) (λ a b. P (f a) (f b)) (λ a b r. r.0) xs back)) (k.1 (ascending_weaker (λ a b. P (f a) (f b) × Q (f a) (f b)) (λ a b. Q (f a) (f b)) (λ a b r. r.1) xs back)))

@@ -4,3 +4,4 @@ pub mod WellLemmas
 pub mod CheckedLemmas
 pub mod DistinctLemmas
 pub mod NameLemmas
+pub mod StoredLemmas

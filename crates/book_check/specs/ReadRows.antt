@@ -1,5 +1,5 @@
 -- The rows of whole tables, as the statements show them, read column by column. This project's own.
-use Rattle.std.specs.Prelude.{◌≡◌, ℕ, ℤ, pos, List, find, map}
+use Rattle.std.specs.Prelude.{◌≡◌, ◌≤◌, ℕ, ℤ, pos, List, find, length, map}
 use Rattle.sqlite.specs.declared.types.Value.TheVariants.{Int, Text}
 use Rattle.sqlite.specs.Values.{or_null}
 use Rattle.std.specs.Option.{IsSomeAnd}
@@ -7,14 +7,15 @@ use Rattle.std.specs.List.{AllByRecursion}
 use Rattle.sqlite.specs.Order.{Row, column}
 use Rattle.sqlite_rules.specs.Edit.{id_in}
 use Rattle.vcard_text.specs.Cards.{uid_of}
-use Rattle.book_tables.specs.Books.{BookRow, numbers, has_id}
-use Rattle.book_tables.specs.Imports.{ImportRow}
-use Rattle.book_tables.specs.Keeps.{KeepRow, keeping_of}
-use Rattle.book_tables.specs.Members.{MemberRow}
-use Rattle.book_rows.specs.SoundTables.{IsReadableMember}
+use Rattle.book_model.specs.Bounds.{Bounds}
+use Rattle.book_tables.specs.Books.{BookRow, AreBooks, numbers, has_id}
+use Rattle.book_tables.specs.Imports.{ImportRow, AreImports}
+use Rattle.book_tables.specs.Keeps.{KeepRow, AreKeeps, keeping_of}
+use Rattle.book_tables.specs.Members.{MemberRow, AreMembers}
+use Rattle.book_rows.specs.SoundTables.{AreWellFormed, IsListed, IsReadableMember}
 use Rattle.book_rows.specs.TableRows.{TableRows, member_in, import_in}
 use Rattle.book_rows.specs.Values.{IsCanonical, natural, text_in, text_if_any, text_card}
-use Rattle.book_check.specs.CheckedRows.{IsCheckedMember, IsCheckedImport}
+use Rattle.book_check.specs.CheckedRows.{AreApart, AreCheckedBooks, IsCheckedMember, IsCheckedImport}
 
 -- ---- what a row says
 
@@ -132,3 +133,33 @@ book_and_number at r = (number_in 1 r, number_in at r)
 
 abbrev pub book_and_text : ℕ → Row → ℤ × List ℕ
 book_and_text at r = (number_in 1 r, text_of at r)
+
+-- ---- whole tables
+
+-- each row of the four tables shows what its table keeps
+pub record ShowRows (books members imports keeps : List Row) : Type 0 where
+  pub each_book : AllByRecursion ShowsABook books
+  pub each_member : AllByRecursion ShowsAMember members
+  pub each_import : AllByRecursion ShowsAnImport imports
+  pub each_keep : AllByRecursion ShowsAKeep keeps
+
+-- each row has keys of its own, and no change of a book wrote two members
+pub record HaveKeys (rows : TableRows) : Type 0 where
+  pub books : AreBooks rows.books
+  pub members : AreMembers rows.members
+  pub apart : AreApart rows.members
+  pub imports : AreImports rows.imports
+  pub keeps : AreKeeps rows.keeps
+
+-- each row passes its tests
+pub record AreGoodRows (limits : Bounds) (rows : TableRows) : Type 0 where
+  pub few : length rows.books ≤ limits.books_max
+  pub books : AreCheckedBooks limits rows.members rows.keeps rows.books
+  pub members : AreGoodMembers rows.books rows.members
+  pub imports : AreGoodImports rows.books rows.imports
+  pub keeps : AllByRecursion (λ k. IsListed rows.books k.book) rows.keeps
+
+-- the rows of the four tables show something, and what they show stands for well-formed books
+pub record AreWellStored (limits : Bounds) (books members imports keeps : List Row) : Type 0 where
+  pub shown : ShowRows books members imports keeps
+  pub well_formed : AreWellFormed limits (rows_told books members imports keeps)

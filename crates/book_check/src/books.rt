@@ -13,6 +13,7 @@ ghost use Rattle.book_rows.specs.TableRows.{member_in};
 ghost use Rattle.book_tables.specs.Books.{has_id};
 ghost use Rattle.book_tables.specs.Members.{is_removed_after};
 ghost use Rattle.std.specs.Option.{option_map};
+ghost use Rattle.std.specs.List.{AllByRecursion};
 ghost use Rattle.std.specs.Prelude.{◌≡◌, ◌+◌, ◌↔◌, IsTrue, filter, find, length, map};
 
 use crate::cells::{has_natural, has_number, has_text, natural_at, number_at, text_at, text_if_any_at};
@@ -169,7 +170,7 @@ fn is_good_book(
 /// numbers and with its members and its keep.
 ///
 /// The members are gone through for each book: at most 100 times, since a store has no more books.
-pub fn are_good_books(limits: Limits, books: &[Row], members: &[Row], keeps: &[Row]) -> bool
+pub(crate) fn are_good_books(limits: Limits, books: &[Row], members: &[Row], keeps: &[Row]) -> bool
     ensures { IsTrue result ↔ AreCheckedBooks limits (map member_in members.now)
         (map keep_told keeps.now) (map book_told books.now) }
 {
@@ -182,7 +183,7 @@ pub fn are_good_books(limits: Limits, books: &[Row], members: &[Row], keeps: &[R
 }
 
 /// Whether the row shows a book: its id, a name, and nine numbers, none of which is below zero.
-pub fn shows_a_book(row: &Row) -> bool
+fn shows_a_book(row: &Row) -> bool
     ensures { IsTrue result ↔ ShowsABook row.now }
 {
     let is_keyed = has_natural(row, 0) && has_text(row, 1);
@@ -194,8 +195,32 @@ pub fn shows_a_book(row: &Row) -> bool
 }
 
 /// Whether the row shows a keep: its book's id, and a number that isn't below zero.
-pub fn shows_a_keep(row: &Row) -> bool
+fn shows_a_keep(row: &Row) -> bool
     ensures { IsTrue result ↔ ShowsAKeep row.now }
 {
     has_number(row, 0) && has_natural(row, 1)
+}
+
+/// Whether each row shows a book.
+pub(crate) fn show_books(rows: &[Row]) -> bool
+    ensures { IsTrue result ↔ AllByRecursion ShowsABook rows.now }
+{
+    for row in rows {
+        if !shows_a_book(row) {
+            return false;
+        }
+    }
+    true
+}
+
+/// Whether each row shows a keep.
+pub(crate) fn show_keeps(rows: &[Row]) -> bool
+    ensures { IsTrue result ↔ AllByRecursion ShowsAKeep rows.now }
+{
+    for row in rows {
+        if !shows_a_keep(row) {
+            return false;
+        }
+    }
+    true
 }

@@ -2,6 +2,7 @@
 ghost use Rattle.book_check.specs.CheckedRows.{IsCheckedImport};
 ghost use Rattle.book_check.specs.ReadRows.{AreGoodImports, HasBook, ShowsAnImport, book_told};
 ghost use Rattle.book_rows.specs.TableRows.{import_in};
+ghost use Rattle.std.specs.List.{AllByRecursion};
 ghost use Rattle.std.specs.Prelude.{◌↔◌, IsTrue, map};
 
 use crate::books::book_with_id;
@@ -28,7 +29,7 @@ fn is_of_a_book(import: &Row, books: &[Row]) -> bool
 }
 
 /// Whether each row is of an import that its book among these may keep.
-pub fn are_good_imports(imports: &[Row], books: &[Row]) -> bool
+pub(crate) fn are_good_imports(imports: &[Row], books: &[Row]) -> bool
     ensures { IsTrue result
         ↔ AreGoodImports (map book_told books.now) (map import_in imports.now) }
 {
@@ -42,10 +43,22 @@ pub fn are_good_imports(imports: &[Row], books: &[Row]) -> bool
 
 /// Whether the row shows an import: its id, its book's, a key, and four numbers that aren't below
 /// zero.
-pub fn shows_an_import(row: &Row) -> bool
+fn shows_an_import(row: &Row) -> bool
     ensures { IsTrue result ↔ ShowsAnImport row.now }
 {
     let is_keyed = has_number(row, 0) && has_number(row, 1) && has_text(row, 2);
     let has_cards = has_natural(row, 3) && has_natural(row, 4) && has_natural(row, 5);
     is_keyed && has_cards && has_natural(row, 6)
+}
+
+/// Whether each row shows an import.
+pub(crate) fn show_imports(rows: &[Row]) -> bool
+    ensures { IsTrue result ↔ AllByRecursion ShowsAnImport rows.now }
+{
+    for row in rows {
+        if !shows_an_import(row) {
+            return false;
+        }
+    }
+    true
 }

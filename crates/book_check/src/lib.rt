@@ -1,11 +1,12 @@
 //! Whether stored tables hold well-formed books: what is tested of their rows, one by one.
 #![tactic(auto)]
 
-pub mod books;
+mod books;
 mod cells;
 mod distinct;
-pub mod imports;
-pub mod keys;
+mod imports;
+mod keys;
 pub mod laws;
-pub mod members;
+mod members;
 mod names;
+pub mod tables;

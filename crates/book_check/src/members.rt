@@ -1,6 +1,7 @@
 //! The rows of members.
 ghost use Rattle.book_check.specs.ReadRows.{AreGoodMembers, HasBook, IsGoodMember, IsOwnCard, ShowsAMember, book_told};
 ghost use Rattle.book_rows.specs.TableRows.{member_in};
+ghost use Rattle.std.specs.List.{AllByRecursion};
 ghost use Rattle.std.specs.Prelude.{◌↔◌, IfOk, IsTrue, map};
 
 use crate::books::book_with_id;
@@ -53,7 +54,7 @@ fn is_of_a_book(alloc: Global, member: &Row, books: &[Row]) -> Result<bool, NoMe
 
 /// Whether each row is of a member that can be read, and that its book among these may have. Each
 /// card is read once.
-pub fn are_good_members(alloc: Global, members: &[Row], books: &[Row]) -> Result<bool, NoMemory>
+pub(crate) fn are_good_members(alloc: Global, members: &[Row], books: &[Row]) -> Result<bool, NoMemory>
     ensures { IfOk result (λ yes. IsTrue yes
         ↔ AreGoodMembers (map book_told books.now) (map member_in members.now)) }
 {
@@ -67,9 +68,21 @@ pub fn are_good_members(alloc: Global, members: &[Row], books: &[Row]) -> Result
 
 /// Whether the row shows a member: its id, its book's, a UID, a number that isn't below zero, and a
 /// text or a null.
-pub fn shows_a_member(row: &Row) -> bool
+fn shows_a_member(row: &Row) -> bool
     ensures { IsTrue result ↔ ShowsAMember row.now }
 {
     let is_keyed = has_number(row, 0) && has_number(row, 1) && has_text(row, 2);
     is_keyed && has_natural(row, 3) && has_text_if_any(row, 4)
+}
+
+/// Whether each row shows a member.
+pub(crate) fn show_members(rows: &[Row]) -> bool
+    ensures { IsTrue result ↔ AllByRecursion ShowsAMember rows.now }
+{
+    for row in rows {
+        if !shows_a_member(row) {
+            return false;
+        }
+    }
+    true
 }

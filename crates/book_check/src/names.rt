@@ -6,7 +6,7 @@ ghost use Rattle.std.specs.Prelude.{◌≡◌};
 use book_model::decisions::{is_book_name, is_import_key};
 
 /// Whether a book may have the octets as its name.
-pub fn is_name(octets: &[u8]) -> bool
+pub(crate) fn is_name(octets: &[u8]) -> bool
     ensures { result ≡ is_legal_name octets.now }
 {
     match str::from_utf8(octets) {
@@ -16,7 +16,7 @@ pub fn is_name(octets: &[u8]) -> bool
 }
 
 /// Whether an import may have the octets as its key.
-pub fn is_key(octets: &[u8]) -> bool
+pub(crate) fn is_key(octets: &[u8]) -> bool
     ensures { result ≡ is_legal_key octets.now }
 {
     match str::from_utf8(octets) {
