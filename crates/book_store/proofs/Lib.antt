@@ -3,3 +3,5 @@ pub mod CallLemmas
 pub mod ForgetLemmas
 pub mod PutLemmas
 pub mod PlanLemmas
+pub mod LayLemmas
+pub mod StoreLemmas

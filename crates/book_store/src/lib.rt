@@ -1,4 +1,5 @@
-//! Books in the tables of a database.
+//! Books in the tables of a database: so far what opens a new store over them, and two of the calls
+//! that change a book.
 #![tactic(auto)]
 
 mod columns;

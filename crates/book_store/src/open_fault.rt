@@ -1,5 +1,5 @@
 //! Why a store can't be opened.
-ghost use Rattle.book_store.specs.Opening.{open_error, open_fault_number};
+ghost use Rattle.book_store.specs.Opening.{IsErrorFault, open_error, open_fault_number};
 ghost use Rattle.std.specs.Prelude.{◌≡◌};
 
 use sqlite::{Error, ErrorCode};
@@ -17,7 +17,7 @@ pub enum OpenFault {
     Damaged,
     /// Tables are there already, where new ones were to be laid.
     NotEmpty,
-    /// A growth was refused.
+    /// Memory ran out.
     Memory,
 }
 
@@ -39,7 +39,8 @@ impl OpenFault {
 
 /// An error of the database: `Memory` where it is want of memory, and else `Store`.
 pub(crate) fn open_fault_of(error: Error) -> OpenFault
-    ensures { result ≡ open_error error }
+    ensures value { result ≡ open_error error }
+    ensures kind { IsErrorFault result }
 {
     match error {
         Error::SqliteFailure(ErrorCode::OutOfMemory) => OpenFault::Memory,
