@@ -1,0 +1,10 @@
+//! The service over HTTP (RFC 9110, RFC 9112): requests in octets, and replies in octets.
+#![tactic(auto)]
+
+pub mod answering;
+pub mod service;
+#[cfg(test)]
+mod tests;
+
+pub use answering::answer;
+pub use service::Service;
