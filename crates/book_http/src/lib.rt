@@ -3,8 +3,6 @@
 
 pub mod answering;
 pub mod service;
-#[cfg(test)]
-mod tests;
 
 pub use answering::answer;
 pub use service::Service;

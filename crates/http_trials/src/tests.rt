@@ -2,3 +2,4 @@ mod pages;
 mod replies;
 mod requests;
 mod routes;
+mod sessions;
