@@ -1,8 +1,7 @@
 -- What calls that change the tables leave of a store.
-use Rattle.std.proofs.Common.{◌≡◌, inl, inr, false, IsTrue, List, ℕ, Result, Ok, Err, Some, None, IfErr, refl, sym, ap, subst, ◌∙◌}
+use Rattle.std.proofs.Common.{◌≡◌, false, IsTrue, List, ℕ, Result, Ok, Err, sym, ap, subst, ◌∙◌}
 use Rattle.std.specs.Prelude.{⊤}
 use Rattle.std.specs.Option.{option_map_or}
-use Rattle.std.specs.FinMap as finite
 use Rattle.sqlite.specs.Effect.{Database}
 use Rattle.sqlite.specs.State.{State, HasCleanDisk, IsUnchanged, Survives}
 use Rattle.sqlite.specs.Tree.{Trees}
@@ -15,7 +14,6 @@ use Rattle.book_model.specs.Books.{Book, Books, book_named}
 use Rattle.book_model.specs.Bounds.{Bounds}
 use Rattle.book_model.specs.Outcomes.{Does, ◌>>=◌}
 use Rattle.book_tables.specs.States.{OnlyReads, OverTables}
-use Rattle.book_tables.specs.Tables.{book_schema}
 use Rattle.book_tables.proofs.LaidLemmas.{clean_before}
 use Rattle.book_rows.specs.LookupLaws.{IsBookNamed}
 use Rattle.book_rows.specs.SoundTables.{AreSound, IsSound}
@@ -24,7 +22,7 @@ use Rattle.book_rows.specs.TableRows.{TableRows, Holds}
 use Rattle.book_rows.proofs.HeldRows.{books_held}
 use Rattle.book_reading.specs.Answers.{IsNamed, OverSound}
 use Rattle.book_reading.specs.Faults.{IsFault}
-use Rattle.book_store.specs.Changing.{Changes, CommitsOnce, HasLine, HoldAfter, HoldsBooks, IsDone, TreesHold}
+use Rattle.book_store.specs.Changing.{Changes, CommitsOnce, HasLine, HoldAfter, IsDone}
 use Rattle.book_store.specs.StoreViews.{IsInOrder, IsStore, Stands, stored_books}
 
 -- ---- the step of a book

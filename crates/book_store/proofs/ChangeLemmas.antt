@@ -1,16 +1,13 @@
 -- What transactions leave, for any writes.
-use Rattle.std.proofs.Common.{◌≡◌, ◌⊎◌, inl, inr, false, IsTrue, true≢false, [], List, ℕ, ℤ, pos, Result, Ok, Err, OnOk, IfErr, IfOk, to_z, of_z, w64, refl, sym, ap, subst, ◌∙◌}
-use Rattle.std.specs.FinMap as finite
+use Rattle.std.proofs.Common.{◌≡◌, ◌⊎◌, inl, inr, false, IsTrue, true≢false, [], List, ℕ, Result, Ok, Err, IfErr, IfOk, sym, subst, ◌∙◌}
 use Rattle.sqlite.specs.declared.error.Error.{Error}
 use Rattle.sqlite.specs.Effect.{Database}
-use Rattle.sqlite.specs.State.{State, HasCleanDisk, IsNotRun, IsRolledBack, IsUnchanged, KeepsCommit, KeepsCounts, Shows, Survives}
+use Rattle.sqlite.specs.State.{State, HasCleanDisk, IsNotRun, IsRolledBack, IsUnchanged, KeepsCommit, Shows, Survives}
 use Rattle.sqlite.specs.Steps.{FailsToCommit}
-use Rattle.sqlite.specs.Tree.{Trees}
 use Rattle.sqlite.proofs.StateLemmas.{survives_weaker}
 use Rattle.book_tables.specs.Laying.{LeavesInside}
 use Rattle.book_tables.specs.States.{OnlyReads}
 use Rattle.book_tables.proofs.Lookups.{leaves_as, left_open}
-use Rattle.book_store.specs.Changing.{IsDone}
 
 -- ---- a statement that was prepared
 

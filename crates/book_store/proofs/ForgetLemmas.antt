@@ -1,5 +1,5 @@
 -- What forgetting members of a book writes.
-use Rattle.std.proofs.Common.{◌≡◌, ℕ, pos, true, false, IsTrue, List, Result, Ok, Err, IfErr, refl, sym, ap, subst, ◌∙◌}
+use Rattle.std.proofs.Common.{◌≡◌, ℕ, pos, true, false, IsTrue, List, Result, Ok, Err, IfErr, refl, ap, ◌∙◌}
 use Rattle.std.specs.FinMap as finite
 use Rattle.sqlite.specs.Effect.{Database}
 use Rattle.sqlite.specs.Effect.{Database}
@@ -11,7 +11,7 @@ use Rattle.book_model.specs.declared.refusal.Refusal.TheVariants.{BadForget}
 use Rattle.book_model.specs.Books.{Book, Books}
 use Rattle.book_model.specs.Forgetting.{book_after_forget, dropped_rows, may_forget}
 use Rattle.book_model.specs.Outcomes.{Does, ◌>>=◌, provided}
-use Rattle.book_tables.specs.Books.{HasBooks, HoldBooks, renumbered}
+use Rattle.book_tables.specs.Books.{HasBooks, renumbered}
 use Rattle.book_tables.specs.Laying.{LeavesInside}
 use Rattle.book_tables.specs.Members.{HasMembers, without_removed}
 use Rattle.book_tables.specs.States.{Spares, WritesOnly}

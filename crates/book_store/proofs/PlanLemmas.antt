@@ -1,7 +1,6 @@
 -- What a put comes to, against the step of the books.
-use Rattle.std.proofs.Common.{◌≡◌, ℕ, IsTrue, List, Option, Some, None, Result, Ok, Err, IfErr, refl, sym, ap, subst, ◌∙◌}
+use Rattle.std.proofs.Common.{◌≡◌, ℕ, List, Option, Some, None, Result, Ok, Err, refl, sym, ap, subst, ◌∙◌}
 use Rattle.std.specs.FinMap as finite
-use Rattle.sqlite.specs.Effect.{Database}
 use Rattle.sqlite.specs.State.{State}
 use Rattle.sqlite.specs.Tree.{Trees}
 use Rattle.vcard_lines.specs.declared.line.Line.{Line}
@@ -13,20 +12,17 @@ use Rattle.book_model.specs.declared.change.StoreReason.{StoreReason}
 use Rattle.book_model.specs.declared.denied.Denied.{Denied}
 use Rattle.book_model.specs.declared.denied.Denied.TheVariants.{Refused, Fault}
 use Rattle.book_model.specs.declared.refusal.Refusal.{Refusal}
-use Rattle.book_model.specs.Books.{Book, Books, book_named}
+use Rattle.book_model.specs.Books.{Book, Books}
 use Rattle.book_model.specs.Bounds.{Bounds}
 use Rattle.book_model.specs.Changing.{with_row}
 use Rattle.book_model.specs.Outcomes.{Does, ◌>>=◌}
 use Rattle.book_model.specs.Putting.{Found, books_after_put, put_answer, reason_for}
-use Rattle.book_rows.specs.LookupLaws.{IsBookNamed}
-use Rattle.book_rows.specs.TableBooks.{BookFigures, line_row, book_of, books_of, books_in}
+use Rattle.book_rows.specs.TableBooks.{BookFigures, line_row, book_of, books_of}
 use Rattle.book_rows.specs.TableRows.{TableRows}
 use Rattle.book_reading.specs.Answers.{Answers, IsTold}
-use Rattle.book_reading.specs.Faults.{IsFault}
-use Rattle.book_store.specs.Changing.{HoldAfter, HoldsBooks, IsDone, TreesHold}
+use Rattle.book_store.specs.Changing.{HoldAfter, HoldsBooks, TreesHold}
 use Rattle.book_store.specs.Planning.{put_in}
 use Rattle.book_store.specs.StoreViews.{stored_books}
-use Rattle.book_store.proofs.CallLemmas.{fault_does}
 
 -- ---- what was found
 

@@ -1,5 +1,5 @@
 -- What a member that is put writes.
-use Rattle.std.proofs.Common.{◌≡◌, ◌+◌, ℕ, pos, List, Option, sym, ap, subst, ◌∙◌}
+use Rattle.std.proofs.Common.{◌+◌, ℕ, pos, List, Option, ap, ◌∙◌}
 use Rattle.std.specs.FinMap as finite
 use Rattle.sqlite.specs.State.{State}
 use Rattle.book_model.specs.declared.change.Change.{Change}

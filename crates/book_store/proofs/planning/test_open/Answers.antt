@@ -1,4 +1,3 @@
-use Rattle.std.proofs.Common.{◌≡◌, string_bytes}
 use Rattle.sqlite.specs.Held.{state}
 use Rattle.book_store.proofs.ChangeLemmas.{prepare_reads}
 use Rattle.book_store.proofs.planning.test_open.Goals as goal

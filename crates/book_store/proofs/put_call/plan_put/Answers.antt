@@ -1,10 +1,8 @@
-use Rattle.std.proofs.Common.{rules, ◌≡◌, Ok, Err, sym, subst}
+use Rattle.std.proofs.Common.{rules, ◌≡◌, Err, sym, subst}
 use Rattle.sqlite.specs.Held.{state}
 use Rattle.sqlite.specs.State.{HasCleanDisk}
 use Rattle.book_tables.proofs.LaidLemmas.{clean_before}
 use Rattle.book_tables.proofs.Lookups.{reads_then}
-use Rattle.book_rows.specs.TableBooks.{book_of, line_row}
-use Rattle.book_rows.specs.TableRows.{TableRows}
 use Rattle.book_reading.specs.Answers.{IsTold}
 use Rattle.book_reading.proofs.ReadLemmas.{over_then, told_then}
 use Rattle.book_store.specs.Planning.{IsPutPlanned, put_in}

@@ -2,7 +2,6 @@ use Rattle.std.proofs.Common.{rules, ◌≡◌, Some, None, Ok, Err, sym, ap, su
 use Rattle.std.specs.FinMap as finite
 use Rattle.sqlite.specs.Effect.{Database}
 use Rattle.sqlite.specs.Held.{state}
-use Rattle.sqlite.specs.Tree.{Trees}
 use Rattle.vcard_text.specs.Cards.{uid_of}
 use Rattle.book_model.specs.declared.answers.PutAnswer.{PutAnswer}
 use Rattle.book_model.specs.declared.change.Change.TheVariants.{Stores}

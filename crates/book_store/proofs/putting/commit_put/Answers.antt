@@ -10,8 +10,8 @@ use Rattle.book_model.specs.Changing.{with_row}
 use Rattle.book_tables.proofs.LaidLemmas.{clean_before}
 use Rattle.book_rows.specs.ChangeLaws.{figures_after}
 use Rattle.book_rows.specs.TableBooks.{book_of, books_of, line_row}
-use Rattle.book_store.specs.Changing.{AreColumns, HasLine, TreesHold, HoldsBooks, IsDone}
-use Rattle.book_store.proofs.ChangeLemmas.{committed_done, failed_done, rolled_done}
+use Rattle.book_store.specs.Changing.{AreColumns, HasLine, HoldsBooks, IsDone}
+use Rattle.book_store.proofs.ChangeLemmas.{committed_done, failed_done}
 use Rattle.book_store.proofs.putting.commit_put.Goals as goal
 
 pub returns-in_err-commit-clause-done : goal.returns-in_err-commit-clause-done
