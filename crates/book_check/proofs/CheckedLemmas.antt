@@ -1,21 +1,21 @@
 -- Rows that stand for well-formed books pass the tests.
-use Rattle.std.proofs.Common.{◌≡◌, inl, inr, ◌≤◌, ◌||◌, ℕ, ℤ, Bool, true, false, ◌&&◌, List, [], ◌∷◌, filter, find, length, bytes_eq, int_eq, Option, Some, None, IfSome, IsTrue, ◌↔◌, is_some, refl, sym, ap, ap₂, subst, ◌∙◌, ◌+◌, true≢false}
-use Rattle.std.specs.List.{AllByRecursion, list_any}
+use Rattle.std.proofs.Common.{◌≡◌, inl, inr, ◌≤◌, ℕ, ℤ, Bool, true, false, ◌&&◌, List, [], ◌∷◌, find, length, bytes_eq, int_eq, Option, Some, None, IfSome, IsTrue, ◌↔◌, is_some, refl, sym, ap, ap₂, subst, ◌∙◌, ◌+◌, true≢false}
+use Rattle.std.specs.List.{list_any}
 use Rattle.std.specs.Option.{option_map}
 use Rattle.sqlite_rules.specs.Lists.{Has}
 use Rattle.vcard_text.specs.Cards.{uid_of}
 use Rattle.book_model.specs.Bounds.{Bounds}
-use Rattle.book_model.specs.Counting.{arrivals, departures}
-use Rattle.book_model.specs.WellFormed.{IsWellFormedBook, IsWellFormedRow, IsWellFormedImport}
+use Rattle.book_model.specs.Counting.{departures}
+use Rattle.book_model.specs.WellFormed.{IsWellFormedBook, IsWellFormedRow}
 use Rattle.book_tables.specs.Books.{BookRow, has_id}
 use Rattle.book_tables.specs.Imports.{ImportRow}
 use Rattle.book_tables.specs.Members.{MemberRow, is_at}
-use Rattle.book_rows.specs.SoundTables.{AreSound, IsListed, AreReadable, AreWellFormed, IsReadableBook}
+use Rattle.book_rows.specs.SoundTables.{IsListed, AreWellFormed, IsReadableBook}
 use Rattle.book_rows.specs.TableBooks.{row_of, tally_of, counts_of, keep_in_book, book_of}
 use Rattle.book_rows.specs.TableRows.{TableRows}
 use Rattle.book_rows.specs.Values.{natural, text_card}
 use Rattle.book_rows.proofs.KeyedEntries.{all_has, found_has, both_true, text_itself}
-use Rattle.book_rows.proofs.RowLemmas.{same_int, int_itself}
+use Rattle.book_rows.proofs.RowLemmas.{same_int}
 use Rattle.book_check.specs.CheckedRows.{AreChecked, IsCheckedBook, IsCheckedMember, IsCheckedImport, OfBook, is_written_by}
 use Rattle.book_check.proofs.GetLemmas.{give_book, len_books, give_member, give_import, live_count_is}
 use Rattle.book_check.proofs.ListLemmas.{all_from_has, ascending_on}

@@ -62,9 +62,10 @@ module _ {K : Type 0} (e : K → K → Bool) where
 -- keys of rows, read by v, are distinct exactly where no two rows have one
 pub own_keys : {X K J : Type 0} (e : K → K → Bool) (f : J → J → Bool) (v : K → J) (key : X → J) (R : X → X → Bool) → ((x y : K) → e x y ≡ f (v x) (v y)) → ((a b : X) → R a b ≡ f (key a) (key b))
     → (ks : List K) (xs : List X) → map v ks ≡ map key xs → (told : Bool) → (IsTrue told ↔ IsDistinct e ks) → IsTrue told ↔ IsAscending (λ a b. R a b ≡ false) xs
-own_keys e f v key R alike is ks xs same told h =
-    (λ t. apart_from_keys f key R is xs (subst (IsDistinct f) same (keys_from_apart f v e alike ks (ascending_from_distinct e ks (h.0 t)))),
-      λ a. h.1 (distinct_from_ascending e ks (apart_from_keys f v e alike ks (subst (IsDistinct f) (sym same) (keys_from_apart f key R is xs a)))))
+own_keys e f v key R alike is ks xs same told h = (
+  λ t. apart_from_keys f key R is xs (subst (IsDistinct f) same (keys_from_apart f v e alike ks (ascending_from_distinct e ks (h.0 t)))),
+  λ a. h.1 (distinct_from_ascending e ks (apart_from_keys f v e alike ks (subst (IsDistinct f) (sym same) (keys_from_apart f key R is xs a)))),
+)
 
 -- ---- how keys are compared
 
@@ -97,7 +98,8 @@ mapped_keys P f xs told h = (λ t. ascending-map P f xs (h.0 t), λ a. h.1 (asce
 
 pub two_keys : {X Y : Type 0} (P Q : Y → Y → Type 0) (f : X → Y) (xs : List X) → (s t : Bool) → (IsTrue s ↔ IsAscending (λ a b. P (f a) (f b)) xs) → (IsTrue t ↔ IsAscending (λ a b. Q (f a) (f b)) xs)
     → IsTrue (s && t) ↔ IsAscending (λ a b. P a b × Q a b) (map f xs)
-two_keys P Q f xs s t h k =
-    (λ both. let parts = both_true s t both in ascending-map (λ a b. P a b × Q a b) f xs (ascending_both (λ a b. P (f a) (f b)) (λ a b. Q (f a) (f b)) xs (h.0 parts.0) (k.0 parts.1)),
-      λ a. let back = ascending_from_map (λ a b. P a b × Q a b) f xs a in
-      ap₂ (λ x y. x && y) (h.1 (ascending_weaker (λ a b. P (f a) (f b) × Q (f a) (f b)) (λ a b. P (f a) (f b)) (λ a b r. r.0) xs back)) (k.1 (ascending_weaker (λ a b. P (f a) (f b) × Q (f a) (f b)) (λ a b. Q (f a) (f b)) (λ a b r. r.1) xs back)))
+two_keys P Q f xs s t h k = (
+  λ both. let parts = both_true s t both in ascending-map (λ a b. P a b × Q a b) f xs (ascending_both (λ a b. P (f a) (f b)) (λ a b. Q (f a) (f b)) xs (h.0 parts.0) (k.0 parts.1)),
+  λ a. let back = ascending_from_map (λ a b. P a b × Q a b) f xs a in
+      ap₂ (λ x y. x && y) (h.1 (ascending_weaker (λ a b. P (f a) (f b) × Q (f a) (f b)) (λ a b. P (f a) (f b)) (λ a b r. r.0) xs back)) (k.1 (ascending_weaker (λ a b. P (f a) (f b) × Q (f a) (f b)) (λ a b. Q (f a) (f b)) (λ a b r. r.1) xs back)),
+)

@@ -17,13 +17,13 @@ use Rattle.book_model.specs.Reading.{live_cards, live_entry}
 use Rattle.book_model.proofs.LiveCardLemmas.{find_live}
 use Rattle.book_tables.specs.Books.{BookRow, AreBooks, is_named, has_id}
 use Rattle.book_tables.specs.Imports.{ImportRow, is_under}
-use Rattle.book_tables.specs.Members.{MemberRow, AreMembers, is_in, is_at}
+use Rattle.book_tables.specs.Members.{MemberRow, is_in, is_at}
 use Rattle.book_rows.specs.SoundTables.{AreSound}
 use Rattle.book_rows.specs.TableBooks.{row_of, tally_of, members_in, imports_in, named, book_of, books_of}
 use Rattle.book_rows.specs.TableRows.{TableRows}
 use Rattle.book_rows.specs.Values.{natural, text_card}
 use Rattle.book_rows.proofs.BookLemmas.{book_at}
-use Rattle.book_rows.proofs.KeyedEntries.{Single, Once, map_of, here, get_is, entries_are, find_single, found_has, both_true, all_has, text_itself}
+use Rattle.book_rows.proofs.KeyedEntries.{Single, Once, map_of, here, get_is, entries_are, find_single, found_has, both_true, text_itself}
 use Rattle.book_rows.proofs.RowLemmas.{once_members, single_member, single_import, uid_of_row, get-members_in, get-imports_in, get-books_of, once_books, books_map, each_book, name_of, every, same_int, int_itself}
 use Rattle.sqlite_trees.proofs.ListLemmas.{ascending_weaker, all_weaker}
 use Rattle.book_check.specs.CheckedRows.{is_live_in}

@@ -1,5 +1,5 @@
 -- Names and keys are of octets below 128, and so are text.
-use Rattle.std.proofs.Common.{◌≡◌, ℕ, Bool, true, false, ◌&&◌, nat_lt, nat_le, length, List, [], ◌∷◌, refl, sym, ◌∙◌, true≢false, arith}
+use Rattle.std.proofs.Common.{◌≡◌, ℕ, Bool, true, false, ◌&&◌, nat_lt, nat_le, length, List, [], ◌∷◌, refl, sym, true≢false, arith}
 use Rattle.std.specs.List.{list_all}
 use Rattle.std.specs.Str.{IsUtf8}
 use Rattle.vcard_lines.proofs.FrontLemmas.{ascii_utf8}

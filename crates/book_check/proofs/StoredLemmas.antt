@@ -1,24 +1,18 @@
 -- The tests of all rows, put together.
-use Rattle.std.proofs.Common.{◌≡◌, ◌↔◌, ℕ, ℤ, pos, List, [], ◌∷◌, map, find, Option, Some, None, IfSome, IsTrue, Bool, is_some, true, false, true≢false, refl, ap, sym, ◌∙◌}
-use Rattle.std.specs.List.{AllByRecursion}
+use Rattle.std.proofs.Common.{◌≡◌, ◌↔◌, ℕ, ℤ, List, find, Option, Some, None, IfSome, IsTrue, Bool, is_some, true, false, true≢false, refl, ap, sym, ◌∙◌}
 use Rattle.std.specs.Option.{IsSomeAnd}
 use Rattle.sqlite.specs.Order.{Row}
-use Rattle.sqlite.specs.declared.types.Value.TheVariants.{Int}
 use Rattle.sqlite_rules.specs.Edit.{id_in}
-use Rattle.sqlite_rules.specs.Lists.{Has}
 use Rattle.sqlite_trees.proofs.ListLemmas.{all_both, all_weaker, all-map}
 use Rattle.book_model.specs.Bounds.{Bounds}
 use Rattle.book_tables.specs.Books.{BookRow, has_id}
 use Rattle.book_tables.specs.Imports.{ImportRow}
-use Rattle.book_tables.specs.Keeps.{KeepRow}
 use Rattle.book_tables.specs.Members.{MemberRow}
-use Rattle.book_rows.specs.SoundTables.{AreSound, AreReadable, AreWellFormed, IsListed, IsReadableBook, IsReadableMember, IsReadableImport, IsReadableKeep}
+use Rattle.book_rows.specs.SoundTables.{AreSound, AreReadable, IsListed, IsReadableBook, IsReadableMember, IsReadableImport, IsReadableKeep}
 use Rattle.book_rows.specs.TableRows.{TableRows, import_in}
-use Rattle.book_rows.specs.Values.{IsNatural, natural}
-use Rattle.book_rows.proofs.KeyedEntries.{found_has}
-use Rattle.book_rows.proofs.RowLemmas.{same_int}
+use Rattle.book_rows.specs.Values.{IsNatural}
 use Rattle.book_check.specs.CheckedRows.{AreChecked, IsCheckedMember, IsCheckedImport, OfBook}
-use Rattle.book_check.specs.ReadRows.{ShowsABook, ShowsAnImport, ShowsAKeep, ShowRows, HaveKeys, AreGoodRows, AreWellStored, HasBook, HasNatural, IsGoodMember, number_in, book_told, keep_told, rows_told}
+use Rattle.book_check.specs.ReadRows.{ShowsABook, ShowsAnImport, ShowRows, HaveKeys, AreGoodRows, AreWellStored, HasBook, HasNatural, IsGoodMember, number_in, book_told, keep_told, rows_told}
 use Rattle.book_check.proofs.CheckedLemmas.{rows_checked, any_found}
 use Rattle.book_check.proofs.WellLemmas.{rows_well}
 

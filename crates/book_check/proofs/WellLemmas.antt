@@ -1,5 +1,5 @@
 -- Rows that pass the tests stand for well-formed books.
-use Rattle.std.proofs.Common.{◌≡◌, inl, inr, ◌⊎◌, ◌≤◌, ℕ, ℤ, pos, Bool, true, false, ◌&&◌, List, filter, find, length, int_eq, Option, Some, None, IfSome, refl, sym, ap, ap₂, subst, ◌∙◌, ◌+◌, true≢false}
+use Rattle.std.proofs.Common.{◌≡◌, inl, inr, ◌⊎◌, ◌≤◌, ℕ, ℤ, pos, true, false, ◌&&◌, List, filter, length, int_eq, Option, Some, None, IfSome, refl, sym, ap, ap₂, subst, ◌∙◌, ◌+◌, true≢false}
 use Rattle.std.specs.Option.{option_map}
 use Rattle.std.specs.FinMap as finite
 use Rattle.sqlite_rules.specs.Lists.{Has}
@@ -10,15 +10,15 @@ use Rattle.book_model.specs.declared.row.Row.{Row as Kept}
 use Rattle.book_model.specs.BookNames.{is_legal_name}
 use Rattle.book_model.specs.Bounds.{Bounds}
 use Rattle.book_model.specs.Books.{Book}
-use Rattle.book_model.specs.Counting.{arrivals, departures}
+use Rattle.book_model.specs.Counting.{departures}
 use Rattle.book_model.specs.Importing.{is_legal_key}
 use Rattle.book_model.specs.Reading.{remembered_in}
 use Rattle.book_model.specs.WellFormed.{IsWellFormed, IsWellFormedBook, IsWellFormedRow, IsWellFormedImport}
-use Rattle.book_tables.specs.Books.{BookRow, has_id}
+use Rattle.book_tables.specs.Books.{BookRow}
 use Rattle.book_tables.specs.Imports.{ImportRow}
 use Rattle.book_tables.specs.Members.{MemberRow, is_removed_after}
 use Rattle.book_rows.specs.SoundTables.{AreSound, AreReadable, AreWellFormed, IsReadableBook, IsReadableMember}
-use Rattle.book_rows.specs.TableBooks.{row_of, tally_of, counts_of, keep_in_book, members_in, imports_in, book_of, books_of}
+use Rattle.book_rows.specs.TableBooks.{row_of, counts_of, keep_in_book, members_in, imports_in, book_of, books_of}
 use Rattle.book_rows.specs.TableRows.{TableRows}
 use Rattle.book_rows.specs.Values.{IsNatural, natural, text_card}
 use Rattle.book_rows.proofs.BookLemmas.{same_row}
@@ -26,7 +26,7 @@ use Rattle.book_rows.proofs.KeyedEntries.{all_has}
 use Rattle.book_rows.proofs.RemovedLemmas.{removed_count}
 use Rattle.book_rows.proofs.RowLemmas.{int_itself}
 use Rattle.book_check.specs.CheckedRows.{AreChecked, IsCheckedBook, IsCheckedMember, IsCheckedImport, OfBook, is_written_by}
-use Rattle.book_check.proofs.GetLemmas.{IsBookOf, IsMemberOf, IsImportOf, got_book, len_books, found_by_id, got_member, got_import, live_count_is}
+use Rattle.book_check.proofs.GetLemmas.{got_book, len_books, found_by_id, got_member, got_import, live_count_is}
 use Rattle.book_check.proofs.ListLemmas.{alike_or_apart}
 
 pub same_natural : (y z : ℤ) → IsNatural y → IsNatural z → natural y ≡ natural z → y ≡ z

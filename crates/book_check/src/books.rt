@@ -16,7 +16,9 @@ ghost use Rattle.std.specs.Option.{option_map};
 ghost use Rattle.std.specs.List.{AllByRecursion};
 ghost use Rattle.std.specs.Prelude.{◌≡◌, ◌+◌, ◌↔◌, IsTrue, filter, find, length, map};
 
-use crate::cells::{has_natural, has_number, has_text, natural_at, number_at, text_at, text_if_any_at};
+use crate::cells::{
+    has_natural, has_number, has_text, natural_at, number_at, text_at, text_if_any_at,
+};
 use crate::names::is_name;
 use book_model::{Counts, Limits};
 use sqlite::Row;
@@ -148,13 +150,7 @@ fn agrees_with_members(book: &Row, members: &[Row], keeps: &[Row]) -> bool
 
 /// Whether the book, of so many, has a legal name and an id of 1 to that number, and is right in its
 /// numbers and with its members and its keep.
-fn is_good_book(
-    limits: Limits,
-    books: usize,
-    members: &[Row],
-    keeps: &[Row],
-    book: &Row,
-) -> bool
+fn is_good_book(limits: Limits, books: usize, members: &[Row], keeps: &[Row], book: &Row) -> bool
     ensures { IsTrue result ↔ IsCheckedBook limits books (map member_in members.now)
         (map keep_told keeps.now) (book_told book.now) }
 {

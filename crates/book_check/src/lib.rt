@@ -10,3 +10,5 @@ pub mod laws;
 mod members;
 mod names;
 pub mod tables;
+#[cfg(test)]
+mod tests;

@@ -54,7 +54,11 @@ fn is_of_a_book(alloc: Global, member: &Row, books: &[Row]) -> Result<bool, NoMe
 
 /// Whether each row is of a member that can be read, and that its book among these may have. Each
 /// card is read once.
-pub(crate) fn are_good_members(alloc: Global, members: &[Row], books: &[Row]) -> Result<bool, NoMemory>
+pub(crate) fn are_good_members(
+    alloc: Global,
+    members: &[Row],
+    books: &[Row],
+) -> Result<bool, NoMemory>
     ensures { IfOk result (λ yes. IsTrue yes
         ↔ AreGoodMembers (map book_told books.now) (map member_in members.now)) }
 {

@@ -1,4 +1,4 @@
-use Rattle.std.proofs.Common.{◌≡◌, false, int_eq}
+use Rattle.std.proofs.Common.{◌≡◌, false}
 use Rattle.std.proofs.lemmas.Result.{IfOk-weaker}
 use Rattle.book_tables.specs.Members.{MemberRow}
 use Rattle.book_rows.specs.TableRows.{member_in}

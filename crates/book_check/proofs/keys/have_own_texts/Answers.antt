@@ -1,13 +1,12 @@
-use Rattle.std.proofs.Common.{◌≡◌, ◌∙◌, ◌&&◌, Bor, List, ℕ, ℤ, int_eq, bytes_eq, refl}
+use Rattle.std.proofs.Common.{Bor, List, ℕ, bytes_eq, refl}
 use Rattle.std.proofs.lemmas.Result.{IfOk-weaker}
-use Rattle.std.specs.Ordering.{eq_by_cmp, int_cmp, is_eq, nat_cmp, ordering_then}
+use Rattle.std.specs.Ordering.{eq_by_cmp, nat_cmp}
 use Rattle.std.specs.Cmp.Lexicographic.{slice_cmp}
-use Rattle.sqlite.specs.Order.{Row}
-use Rattle.book_check.specs.ReadRows.{number_in, text_of, book_and_number, book_and_text}
-use Rattle.book_check.proofs.DistinctLemmas.{own_keys, ints_alike, turned_ints, texts_alike, both_alike, map_same}
+use Rattle.book_check.specs.ReadRows.{text_of}
+use Rattle.book_check.proofs.DistinctLemmas.{own_keys, texts_alike}
 use Rattle.book_check.proofs.keys.have_own_texts.Goals as goal
 
 pub returns : goal.returns
 returns c =
     IfOk-weaker c.are_distinct.result _ _ (λ told h. own_keys (eq_by_cmp (λ (x y : Bor (List ℕ)). slice_cmp nat_cmp x.now y.now)) (λ s t. bytes_eq t s) (λ k. k.now) (text_of c.args.at) (λ a b. bytes_eq (text_of c.args.at b) (text_of c.args.at a))
-        (λ x y. texts_alike x.now y.now) (λ a b. refl) c.in_ok-texts_of.field-0.items c.args.rows.now c.in_ok-texts_of.ensures told h) c.are_distinct.ensures
+    (λ x y. texts_alike x.now y.now) (λ a b. refl) c.in_ok-texts_of.field-0.items c.args.rows.now c.in_ok-texts_of.ensures told h) c.are_distinct.ensures

@@ -1,4 +1,4 @@
-use Rattle.std.proofs.Common.{rules, ◌≡◌, find, is_some, map}
+use Rattle.std.proofs.Common.{rules, ◌≡◌, find, map}
 use Rattle.std.specs.Option.{option_map}
 use Rattle.book_tables.specs.Books.{has_id}
 use Rattle.book_check.specs.ReadRows.{book_told, number_in}

@@ -1,0 +1,139 @@
+use crate::tables::are_well_stored;
+use book_model::Limits;
+use book_tables::books::all_books;
+use book_tables::imports::all_imports;
+use book_tables::keeps::all_keeps;
+use book_tables::laying::lay_tables;
+use book_tables::members::all_members;
+use sqlite::{Connection, MemStore, Transaction, params};
+use std::alloc::Global;
+use std::process::Abort;
+use std::test::Fail;
+
+type Memory = Connection<MemStore>;
+
+const ANNA: &str = "BEGIN:VCARD\r\nVERSION:4.0\r\nUID:a\r\nFN:Anna\r\nEND:VCARD\r\n";
+
+const BOB: &str = "BEGIN:VCARD\r\nVERSION:4.0\r\nUID:b\r\nFN:Bob\r\nEND:VCARD\r\n";
+
+/// A call without its clauses.
+fn run(conn: &mut Memory, statements: &str) -> Result<(), Fail> {
+    Ok(conn.execute_batch(statements)?)
+}
+
+fn put(conn: &mut Memory, uid: &str, changed: i64, card: &str) -> Result<(), Fail> {
+    conn.execute(
+        "INSERT INTO member (book, uid, changed, card) VALUES (1, ?1, ?2, ?3)",
+        params![uid, changed, card],
+    )?;
+    Ok(())
+}
+
+fn lay(tx: &mut Transaction<'_, MemStore>) -> Result<(), Fail> {
+    Ok(lay_tables(tx)?)
+}
+
+/// The book `staff` with nine changes, of which two left live cards and two are removals that are
+/// remembered; and the book `desk`, which is empty.
+fn filled(rt: &impl Abort, alloc: Global) -> Result<Memory, Fail> {
+    let mut conn = Connection::open_in_memory(alloc)?;
+    let is_autocommit = conn.is_autocommit();
+    assert!(rt; is_autocommit);
+    let mut tx = conn.transaction();
+    lay(&mut tx)?;
+    tx.commit()?;
+    run(
+        &mut conn,
+        "INSERT INTO book VALUES (1, 'staff', 9, 0, 5, 1, 0, 0, 0, 3, 0); \
+         INSERT INTO book VALUES (2, 'desk', 0, 0, 0, 0, 0, 0, 0, 0, 0); \
+         INSERT INTO keeping VALUES (1, 10000); INSERT INTO keeping VALUES (2, 1); \
+         INSERT INTO member VALUES (1, 'c', 6, NULL); \
+         INSERT INTO member VALUES (1, 'd', 9, NULL); \
+         INSERT INTO import_key VALUES (1, 'k1', 1, 0, 0, 9)",
+    )?;
+    put(&mut conn, "a", 4, ANNA)?;
+    put(&mut conn, "b", 7, BOB)?;
+    Ok(conn)
+}
+
+fn is_well(alloc: Global, conn: &mut Memory, limits: Limits) -> Result<bool, Fail> {
+    let books = all_books(conn)?;
+    let members = all_members(conn)?;
+    let imports = all_imports(conn)?;
+    let keeps = all_keeps(conn)?;
+    Ok(are_well_stored(alloc, limits, &books, &members, &imports, &keeps)?)
+}
+
+/// What is found after the statements.
+fn after(rt: &impl Abort, alloc: Global, statements: &str) -> Result<bool, Fail> {
+    let mut conn = filled(rt, alloc)?;
+    run(&mut conn, statements)?;
+    is_well(alloc, &mut conn, Limits::standard())
+}
+
+#[test]
+fn takes_well_formed_books(rt: HostRuntime) -> Result<(), Fail> {
+    let alloc = rt.alloc();
+    let mut conn = filled(&rt, alloc)?;
+    let unharmed = is_well(alloc, &mut conn, Limits::standard())?;
+    assert!(&rt; unharmed);
+    let statements = [
+        "UPDATE book SET horizon = 5 WHERE id = 1",
+        "UPDATE keeping SET keep = 2 WHERE book = 1",
+        "UPDATE member SET changed = 8 WHERE uid = 'b'",
+        "DELETE FROM member WHERE uid = 'c'",
+        "DELETE FROM import_key",
+    ];
+    for change in statements {
+        let is_well = after(&rt, alloc, change)?;
+        assert!(&rt; is_well);
+    }
+    Ok(())
+}
+
+#[test]
+fn finds_each_damage(rt: HostRuntime) -> Result<(), Fail> {
+    let alloc = rt.alloc();
+    let statements = [
+        "UPDATE book SET number = 10 WHERE id = 1",
+        "UPDATE book SET created = 4, edited = 2 WHERE id = 1",
+        "UPDATE book SET edited = -1, imported = 1, moved_out = 1 WHERE id = 1",
+        "UPDATE book SET horizon = 10 WHERE id = 1",
+        "UPDATE book SET horizon = 6 WHERE id = 1",
+        "UPDATE book SET horizon = -1 WHERE id = 1",
+        "UPDATE book SET name = 'Staff' WHERE id = 1",
+        "DELETE FROM keeping WHERE book = 2; UPDATE book SET id = 3 WHERE id = 2; \
+         INSERT INTO keeping VALUES (3, 1)",
+        "UPDATE member SET changed = 0 WHERE uid = 'a'",
+        "UPDATE member SET changed = 10 WHERE uid = 'a'",
+        "UPDATE member SET card = 'x' WHERE uid = 'a'",
+        "UPDATE member SET card = replace(card, 'UID:a', 'uid:a') WHERE uid = 'a'",
+        "UPDATE member SET uid = 'z' WHERE uid = 'a'",
+        "UPDATE member SET card = NULL WHERE uid = 'a'",
+        "UPDATE import_key SET number = 10",
+        "UPDATE import_key SET added = -1",
+        "UPDATE import_key SET ikey = 'k 1'",
+        "DELETE FROM keeping WHERE book = 2",
+        "UPDATE keeping SET keep = 0 WHERE book = 2",
+        "UPDATE keeping SET keep = 1 WHERE book = 1",
+    ];
+    for damage in statements {
+        let is_well = after(&rt, alloc, damage)?;
+        assert!(&rt; !is_well);
+    }
+    Ok(())
+}
+
+#[test]
+fn keeps_to_the_limits(rt: HostRuntime) -> Result<(), Fail> {
+    let alloc = rt.alloc();
+    let mut conn = filled(&rt, alloc)?;
+    for limits in [Limits::new(1, 1, 9, 1), Limits::new(1, 1, 8, 2)] {
+        let Some(limits) = limits else {
+            return Err(Fail::new("limits"));
+        };
+        let is_well = is_well(alloc, &mut conn, limits)?;
+        assert!(&rt; !is_well);
+    }
+    Ok(())
+}
