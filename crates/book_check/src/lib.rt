@@ -10,5 +10,3 @@ pub mod laws;
 mod members;
 mod names;
 pub mod tables;
-#[cfg(test)]
-mod tests;

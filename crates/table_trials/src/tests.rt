@@ -1,2 +1,3 @@
+mod checking;
 mod reading;
 mod tables;

@@ -1,4 +1,4 @@
-use crate::tables::are_well_stored;
+use book_check::tables::are_well_stored;
 use book_model::Limits;
 use book_tables::books::all_books;
 use book_tables::imports::all_imports;
