@@ -7,7 +7,10 @@ use book_service::mirror;
 use std::alloc::Global;
 use std::collections::BTreeMap;
 use std::test::Fail;
-use sync_core::{BookLine, BookStore, Denied, Device, Fault, ImportTally, Limits, Moved, Page, PlainStore, PutAnswer, Stored, Tally, Token};
+use sync_core::{
+    BookLine, BookStore, Denied, Device, Fault, ImportTally, Limits, Moved, Page, PlainStore,
+    PutAnswer, Stored, Tally, Token,
+};
 use vcard_text::Card;
 
 /// A store in memory, and the fault that it is to answer, if any.

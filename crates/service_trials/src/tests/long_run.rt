@@ -5,9 +5,14 @@
 //! a plain walk over lists of changes, written apart from them, comes to the same.
 use super::devices::device_told;
 use super::driven;
-use super::plain::{BOOKS, BOOKS_MAX, CARDS_MAX, CHANGES_MAX, Copies, Kind, PAGE_MAX, PlainBook, PlainDevice, PlainEvent, PlainOffice, PlainToken, UIDS, made, number_of, version_of};
+use super::plain::{
+    BOOKS, BOOKS_MAX, CARDS_MAX, CHANGES_MAX, Copies, Kind, PAGE_MAX, PlainBook, PlainDevice,
+    PlainEvent, PlainOffice, PlainToken, UIDS, made, number_of, version_of,
+};
 use super::plain_imports::{KEYS, PlainRow, write_body};
-use super::plain_replies::{Telling, book_word, tell_event, tell_place, tell_plain_device, uid_word};
+use super::plain_replies::{
+    Telling, book_word, tell_event, tell_place, tell_plain_device, uid_word,
+};
 use super::plain_whole::{FIRST_GROUP, name_word};
 use super::stores::{InMemory, Stores};
 use std::alloc::Global;

@@ -1,6 +1,9 @@
 //! What the second computation replies to imports of columns. A body has two rows, so that each
 //! card is alone with its UID wherever no row is faulty.
-use super::plain::{Answer, CARDS_MAX, CHANGES_MAX, Change, PlainBook, PlainEvent, Reason, count_live, live_of, number_of, refused, said};
+use super::plain::{
+    Answer, CARDS_MAX, CHANGES_MAX, Change, PlainBook, PlainEvent, Reason, count_live, live_of,
+    number_of, refused, said,
+};
 use super::plain_replies::{Telling, tell_answer, uid_word};
 use super::plain_whole::name_word;
 use vcard_text::NoMemory;

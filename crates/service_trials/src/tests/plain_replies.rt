@@ -1,5 +1,9 @@
 //! What the second computation replies to events, told as the store's replies are.
-use super::plain::{Answer, Asked, BOOKS, Change, Copies, Kind, Member, PAGE_MAX, PlainBook, PlainDevice, PlainEvent, PlainOffice, PlainPage, PlainToken, Reason, UIDS, answer_to, count_gone, count_live, count_of, create, entry_at, keep, live_of, made, number_of, page_of, refused, said};
+use super::plain::{
+    Answer, Asked, BOOKS, Change, Copies, Kind, Member, PAGE_MAX, PlainBook, PlainDevice,
+    PlainEvent, PlainOffice, PlainPage, PlainToken, Reason, UIDS, answer_to, count_gone,
+    count_live, count_of, create, entry_at, keep, live_of, made, number_of, page_of, refused, said,
+};
 use super::plain_imports::import;
 use super::plain_whole::{forget, name_word, tell_columns, tell_people, tell_rows};
 use std::alloc::Global;

@@ -2,7 +2,9 @@
 //!
 //! A card's name says what it is: those from a number on are names of groups, each with two
 //! members.
-use super::plain::{Change, Member, PlainBook, PlainEvent, UIDS, count_gone, live_of, number_of, refused};
+use super::plain::{
+    Change, Member, PlainBook, PlainEvent, UIDS, count_gone, live_of, number_of, refused,
+};
 use super::plain_replies::{Telling, tell_answer, uid_word};
 
 /// The least name of a group.
