@@ -2,7 +2,7 @@
 ghost use Rattle.book_model.specs.Counting.{total};
 ghost use Rattle.book_rows.specs.ShownRows.{ShowsBook, ShowsCounts};
 ghost use Rattle.book_reading.specs.Faults.{IsFault};
-ghost use Rattle.std.specs.Prelude.{◌≡◌, IfErr, IfOk, IfSome};
+ghost use Rattle.std.specs.Prelude.{◌≡◌, ◌≤◌, IfErr, IfOk, IfSome};
 
 use crate::values::number_in;
 use book_model::{Counts, Denied, Fault};
@@ -54,7 +54,8 @@ impl Figures {
 
     /// The number up to which removed members are forgotten, at most the book's number.
     pub fn horizon(&self) -> u64
-        ensures { result ≡ self.now.horizon }
+        ensures value { result ≡ self.now.horizon }
+        ensures most { result ≤ self.now.number }
     {
         self.horizon
     }
