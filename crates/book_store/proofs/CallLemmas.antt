@@ -20,7 +20,7 @@ use Rattle.book_rows.specs.SoundTables.{AreSound, IsSound}
 use Rattle.book_rows.specs.TableBooks.{BookFigures, line_row, book_of, books_of, books_in}
 use Rattle.book_rows.specs.TableRows.{TableRows, Holds}
 use Rattle.book_rows.proofs.HeldRows.{books_held}
-use Rattle.book_reading.specs.Answers.{IsNamed, OverSound}
+use Rattle.book_reading.specs.Answers.{Answers, IsNamed, IsTold, OverSound}
 use Rattle.book_reading.specs.Faults.{IsFault}
 use Rattle.book_store.specs.Changing.{Changes, CommitsOnce, HasLine, HoldAfter, IsDone}
 use Rattle.book_store.specs.StoreViews.{IsInOrder, IsStore, Stands, stored_books}
@@ -39,6 +39,13 @@ pub unnamed_does : {A : Type 0} (rows : TableRows) (name : List ℕ) (f : Book �
 unnamed_does rows name f (Refused refusal) old new is same =
     subst (λ found. Does (Err (Refused refusal)) (option_map_or Ok found (Err NoSuchBook) >>= f) old new) (sym is.1.book) (is.0, same)
 unnamed_does rows name f (Fault fault) old new is same = same
+
+-- what the books answer was denied: it was refused, or there is a fault
+pub denied_does : {T A : Type 0} (due : Result T Refusal) (f : T → A × Books) (denied : Denied) (old new : Books) → Answers {T = T} {A = T} IsTold (Err denied) due → new ≡ old
+    → Does (Err denied) (due >>= λ answer. Ok (f answer)) old new
+denied_does (Ok asked) f (Refused refusal) old new told same = absurd told
+denied_does (Err wanted) f (Refused refusal) old new told same = (told, same)
+denied_does due f (Fault fault) old new told same = same
 
 -- a fault leaves the books
 pub fault_does : {A : Type 0} (step : Result (A × Books) Refusal) (denied : Denied) (old new : Books) → IsFault denied → new ≡ old → Does (Err denied) step old new
@@ -69,17 +76,11 @@ survives_if a b P all some = record {
   crash = λ clean. (some clean).crash clean;
 }
 
--- a book was looked up, and then its tables were written
-module _ (old mid new : State) (name : List ℕ) (figures : BookFigures) (same : OverTables old mid (IsUnchanged old mid)) where
-  pub line_found : OverSound old mid (λ rows. IsNamed rows name (Ok figures)) → Survives mid new (λ _. ⊤) → HasCleanDisk new → (was : Stands old) → HasLine mid.now was.sound.rows name figures
-  line_found named survives clean was =
-      let early = clean_before _ mid new survives clean in
-      let kept = same early was.sound.holds.schema in
-      record {
-        holds = subst (λ (d : Database). Holds d was.sound.rows) (sym kept.0.now_is) was.sound.holds;
-        sound = was.sound.sound;
-        there = (named was.sound.rows early was.sound.holds was.sound.sound).there;
-      }
+-- rows that were held before a call that read are held after it
+pub holds_still : (old mid new : State) → OverTables old mid (IsUnchanged old mid) → Survives mid new (λ _. ⊤) → HasCleanDisk new → (was : Stands old) → Holds mid.now was.sound.rows
+holds_still old mid new same survives clean was =
+    let kept = same (clean_before _ mid new survives clean) was.sound.holds.schema in
+    subst (λ (d : Database). Holds d was.sound.rows) (sym kept.0.now_is) was.sound.holds
 
 -- what was done, of the whole
 pub done_then : {A E : Type 0} (H : A → Database → Type 0) (old mid new : State) (r : Result A E) → mid.now ≡ old.now → IsDone mid new r H → IsDone old new r H
@@ -112,15 +113,17 @@ reads_changes step old new r settled left does = record {
       (does was.sound.rows order.0 was.sound.holds was.sound.sound (ap (λ (d : Database). books_in d.trees) (read_stands old new left order was).0));
 }
 
--- a call that looked a book up, and then wrote
-module _ {A : Type 0} (H : TableRows → A → Database → Type 0) (step : Books → Result (A × Books) Refusal) (old mid new : State) (name : List ℕ) (figures : BookFigures) (r : Result A Denied)
-    (same : OverTables old mid (IsUnchanged old mid)) (left : OnlyReads old mid) (Q : TableRows → Type 0) (found : OverSound old mid Q) (is_named : (rows : TableRows) → Q rows → IsBookNamed rows name figures) (survives : Survives mid new (λ _. ⊤)) where
-  pub written_changes : new.in_transaction ≡ false → (HasCleanDisk mid → IsTrue old.is_open) → ((rows : TableRows) → HasCleanDisk new → HasLine mid.now rows name figures → IsDone mid new r (H rows))
+-- a call that read, and then wrote
+module _ {A : Type 0} (H : TableRows → A → Database → Type 0) (step : Books → Result (A × Books) Refusal) (old mid new : State) (r : Result A Denied)
+    (same : OverTables old mid (IsUnchanged old mid)) (left : OnlyReads old mid) (Q : TableRows → Type 0) (found : OverSound old mid Q) (survives : Survives mid new (λ _. ⊤)) where
+  pub wrote_changes : new.in_transaction ≡ false → (HasCleanDisk mid → IsTrue old.is_open) → ((rows : TableRows) → HasCleanDisk new → Holds mid.now rows → AreSound rows → Q rows → IsDone mid new r (H rows))
       → ((rows : TableRows) (a : A) → H rows a new.now → IsSound new.now)
       → ((rows : TableRows) → Q rows → IsDone old new r (H rows) → IsTrue new.is_open → Does r (step (books_of rows)) (stored_books old) (stored_books new)) → Changes old new r step
-  written_changes settled opened done sound does =
+  wrote_changes settled opened done sound does =
       let early = λ (order : IsInOrder new). clean_before _ mid new survives order.0 in
-      let whole = λ (order : IsInOrder new) (was : Stands old). done_then (H was.sound.rows) old mid new r (same (early order) was.sound.holds.schema).0.now_is (done was.sound.rows order.0 (line_found old mid new name figures same (λ rows clean holds sound. is_named rows (found rows clean holds sound)) survives order.0 was)) in
+      let told = λ (order : IsInOrder new) (was : Stands old). found was.sound.rows (early order) was.sound.holds was.sound.sound in
+      let whole = λ (order : IsInOrder new) (was : Stands old). done_then (H was.sound.rows) old mid new r (same (early order) was.sound.holds.schema).0.now_is
+      (done was.sound.rows order.0 (holds_still old mid new same survives order.0 was) was.sound.sound (told order was)) in
       record {
         settled = settled;
         was_in_order = λ order. (clean_before _ old mid left.survives (early order), opened (early order));
@@ -128,19 +131,38 @@ module _ {A : Type 0} (H : TableRows → A → Database → Type 0) (step : Book
         does = λ order was.
             let held : stored_books old ≡ books_of was.sound.rows = books_held old.now was.sound.rows was.sound.holds was.sound.sound in
             subst (λ (books : Books). Does r (step books) (stored_books old) (stored_books new)) (sym held)
-            (does was.sound.rows (found was.sound.rows (early order) was.sound.holds was.sound.sound) (whole order was) order.1);
+            (does was.sound.rows (told order was) (whole order was) order.1);
       }
+
+  -- and a crash
+  pub wrote_commits : (P : TableRows → Trees → Type 0) → ((rows : TableRows) → Holds mid.now rows → AreSound rows → Q rows → Survives mid new (P rows))
+      → ((rows : TableRows) → Q rows → (db : Trees) → P rows db → HoldAfter (step (books_of rows)) db) → CommitsOnce old new step
+  wrote_commits P crash holds was =
+      let rows = was.sound.rows in
+      let held : stored_books old ≡ books_of rows = books_held old.now rows was.sound.holds was.sound.sound in
+      let told = λ (clean : HasCleanDisk new). found rows (clean_before _ mid new survives clean) was.sound.holds was.sound.sound in
+      survives_if old new (HoldAfter (step (stored_books old))) (survives_then old mid new _ _ (λ _. ⊤) (λ _ db none. tt) (λ _ db none. tt) left.survives survives)
+      (λ clean. survives_then old mid new _ _ (HoldAfter (step (stored_books old))) (λ _ db none. absurd (none was.sound.holds.schema))
+      (λ _ db made. subst (λ (books : Books). HoldAfter (step books) db) (sym held) (holds rows (told clean) db made))
+      left.survives (crash rows (holds_still old mid new same survives clean was) was.sound.sound (told clean)))
+
+-- a call that looked a book up, and then wrote
+module _ {A : Type 0} (H : TableRows → A → Database → Type 0) (step : Books → Result (A × Books) Refusal) (old mid new : State) (name : List ℕ) (figures : BookFigures) (r : Result A Denied)
+    (same : OverTables old mid (IsUnchanged old mid)) (left : OnlyReads old mid) (Q : TableRows → Type 0) (found : OverSound old mid Q) (is_named : (rows : TableRows) → Q rows → IsBookNamed rows name figures) (survives : Survives mid new (λ _. ⊤)) where
+  line_found : (rows : TableRows) → Holds mid.now rows → AreSound rows → Q rows → HasLine mid.now rows name figures
+  line_found rows holds sound told = record { holds = holds; sound = sound; there = (is_named rows told).there }
+
+  pub written_changes : new.in_transaction ≡ false → (HasCleanDisk mid → IsTrue old.is_open) → ((rows : TableRows) → HasCleanDisk new → HasLine mid.now rows name figures → IsDone mid new r (H rows))
+      → ((rows : TableRows) (a : A) → H rows a new.now → IsSound new.now)
+      → ((rows : TableRows) → Q rows → IsDone old new r (H rows) → IsTrue new.is_open → Does r (step (books_of rows)) (stored_books old) (stored_books new)) → Changes old new r step
+  written_changes settled opened done sound does =
+      wrote_changes H step old mid new r same left Q found survives settled opened (λ rows clean holds kept told. done rows clean (line_found rows holds kept told)) sound does
 
   -- and a crash
   pub written_commits : (P : TableRows → Trees → Type 0) → ((rows : TableRows) → HasLine mid.now rows name figures → Survives mid new (P rows))
       → ((rows : TableRows) → Q rows → (db : Trees) → P rows db → HoldAfter (step (books_of rows)) db) → CommitsOnce old new step
-  written_commits P crash holds was =
-      let rows = was.sound.rows in
-      let held : stored_books old ≡ books_of rows = books_held old.now rows was.sound.holds was.sound.sound in
-      survives_if old new (HoldAfter (step (stored_books old))) (survives_then old mid new _ _ (λ _. ⊤) (λ _ db none. tt) (λ _ db none. tt) left.survives survives)
-      (λ clean. survives_then old mid new _ _ (HoldAfter (step (stored_books old))) (λ _ db none. absurd (none was.sound.holds.schema))
-      (λ _ db made. subst (λ (books : Books). HoldAfter (step books) db) (sym held) (holds rows (found rows (clean_before _ mid new survives clean) was.sound.holds was.sound.sound) db made))
-      left.survives (crash rows (line_found old mid new name figures same (λ rows clean holds sound. is_named rows (found rows clean holds sound)) survives clean was)))
+  written_commits P crash holds =
+      wrote_commits H step old mid new r same left Q found survives P (λ rows kept sound told. crash rows (line_found rows kept sound told)) holds
 
 pub named_hold : {A : Type 0} (rows : TableRows) (name : List ℕ) (figures : BookFigures) (f : Book → Result (A × Books) Refusal) (db : Trees) → IsBookNamed rows name figures
     → HoldAfter (f (book_of rows (line_row name figures))) db → HoldAfter (book_named (books_of rows) name >>= f) db

@@ -5,3 +5,4 @@ pub mod PutLemmas
 pub mod PlanLemmas
 pub mod LayLemmas
 pub mod StoreLemmas
+pub mod CreateLemmas

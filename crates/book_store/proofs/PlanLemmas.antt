@@ -35,13 +35,13 @@ found_as a b m n k l live cards number = ap (λ x. found_with x m k) live ∙ ap
 pub answer_is : (limits : Bounds) (card : List Line) (expect : Option ℕ) (a b : Found) (r : Result PutAnswer Refusal) → a ≡ b → r ≡ put_answer limits a card expect → put_answer limits b card expect ≡ r
 answer_is limits card expect a b r same is = ap (λ f. put_answer limits f card expect) (sym same) ∙ sym is
 
-pub told_refused : (due : Result PutAnswer Refusal) (refusal : Refusal) → due ≡ Err refusal → Answers {T = PutAnswer} {A = PutAnswer} IsTold (Err (Refused refusal)) due
-told_refused due refusal is = subst (λ d. Answers {T = PutAnswer} {A = PutAnswer} IsTold (Err (Refused refusal)) d) (sym is) refl
+pub told_refused : {T : Type 0} (due : Result T Refusal) (refusal : Refusal) → due ≡ Err refusal → Answers {T = T} {A = T} IsTold (Err (Refused refusal)) due
+told_refused {T = T} due refusal is = subst (λ d. Answers {T = T} {A = T} IsTold (Err (Refused refusal)) d) (sym is) refl
 
-pub told_ok : (due : Result PutAnswer Refusal) (answer : PutAnswer) → due ≡ Ok answer → Answers {T = PutAnswer} {A = PutAnswer} IsTold (Ok answer) due
-told_ok due answer is = subst (λ d. Answers {T = PutAnswer} {A = PutAnswer} IsTold (Ok answer) d) (sym is) refl
+pub told_ok : {T : Type 0} (due : Result T Refusal) (answer : T) → due ≡ Ok answer → Answers {T = T} {A = T} IsTold (Ok answer) due
+told_ok {T = T} due answer is = subst (λ d. Answers {T = T} {A = T} IsTold (Ok answer) d) (sym is) refl
 
-pub told_back : (due : Result PutAnswer Refusal) (answer : PutAnswer) → Answers {T = PutAnswer} {A = PutAnswer} IsTold (Ok answer) due → due ≡ Ok answer
+pub told_back : {T : Type 0} (due : Result T Refusal) (answer : T) → Answers {T = T} {A = T} IsTold (Ok answer) due → due ≡ Ok answer
 told_back (Ok asked) answer told = ap Ok (sym told)
 told_back (Err refusal) answer told = absurd told
 

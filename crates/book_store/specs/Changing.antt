@@ -8,6 +8,7 @@ use Rattle.book_model.specs.declared.denied.Denied.{Denied}
 use Rattle.book_model.specs.declared.refusal.Refusal.{Refusal}
 use Rattle.book_model.specs.Books.{Books}
 use Rattle.book_model.specs.Outcomes.{Does}
+use Rattle.book_rows.specs.LookupLaws.{IsNameFree}
 use Rattle.book_rows.specs.SoundTables.{AreSound, IsSound}
 use Rattle.book_rows.specs.TableBooks.{BookFigures, line_row, numbers_row, books_in}
 use Rattle.book_rows.specs.TableRows.{TableRows, Holds}
@@ -35,6 +36,12 @@ pub record HasLine (db : Database) (rows : TableRows) (name : List ℕ) (figures
   pub holds : Holds db rows
   pub sound : AreSound rows
   pub there : Has rows.books (line_row name figures)
+
+-- before a change, the tables hold these sound rows, and no book has the name
+pub record LacksLine (db : Database) (rows : TableRows) (name : List ℕ) : Type 0 where
+  pub holds : Holds db rows
+  pub sound : AreSound rows
+  pub free : IsNameFree rows name
 
 -- inside a transaction, the tables held these rows
 abbrev pub ChangesLine :

@@ -1,14 +1,16 @@
-//! Books in the tables of a database: so far what opens a new store over them, and two of the calls
-//! that change a book.
+//! Books in the tables of a database: so far what opens a new store over them, what it tells, and
+//! three of the calls that change the books.
 #![tactic(auto)]
 
 mod columns;
+mod creating;
 mod forgetting;
 mod laying;
 pub mod open_fault;
 mod planning;
 mod put_call;
 mod putting;
+mod reads;
 pub mod sql_store;
 #[cfg(test)]
 mod tests;

@@ -25,7 +25,7 @@ use std::alloc::Global;
 use vcard_text::Card;
 
 /// What is live, as a version and a borrowed card.
-fn behind(live: &Option<Stored>) -> Option<(u64, &Card)>
+pub(crate) fn behind(live: &Option<Stored>) -> Option<(u64, &Card)>
     ensures { stored_behind result ≡ live.now }
 {
     match live {

@@ -57,7 +57,7 @@ fn put_row<S: Alter>(
 }
 
 /// Puts in one transaction.
-fn commit_put<S: Alter>(
+pub(crate) fn commit_put<S: Alter>(
     conn: &mut Connection<S>,
     id: i64,
     uid: &str,

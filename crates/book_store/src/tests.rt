@@ -1,5 +1,7 @@
 mod calls;
 mod changing;
+mod stores;
+mod telling;
 
 use sqlite::{Connection, MemStore, Row};
 use std::alloc::Global;

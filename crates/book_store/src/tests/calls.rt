@@ -2,10 +2,12 @@
 //! their clauses along.
 
 use super::told_all;
+use crate::creating::create_in_tables;
 use crate::forgetting::forget_in_book;
 use crate::put_call::put_in_book;
 use book_model::{Denied, Fault, Limits, PutAnswer, Refusal};
 use book_tables::books::{BookNumbers, find_book, insert_book, renumber_book};
+use book_tables::keeps::{find_keep, insert_keep};
 use book_tables::laying::lay_tables;
 use book_tables::members::{find_member, members_of, put_member};
 use sqlite::types::ValueRef;
@@ -19,6 +21,8 @@ pub(super) fn fill(tx: &mut Transaction<'_, MemStore>) -> Result<(), Fail> {
     lay_tables(tx)?;
     insert_book(tx, 1, "friends")?;
     insert_book(tx, 2, "work")?;
+    insert_keep(tx, 1, 2)?;
+    insert_keep(tx, 2, 2)?;
     put_member(tx, 1, "a", 1, Some("A"))?;
     put_member(tx, 1, "b", 2, None)?;
     put_member(tx, 1, "c", 3, Some("C"))?;
@@ -96,7 +100,7 @@ pub(super) fn forget(
 }
 
 /// A card with the UID `n` and the name.
-fn card(alloc: Global, name: &str) -> Result<Card, Fail> {
+pub(super) fn card(alloc: Global, name: &str) -> Result<Card, Fail> {
     let text = format!(in alloc;
         "BEGIN:VCARD\r\nVERSION:4.0\r\nUID:n\r\nFN:{name}\r\nEND:VCARD\r\n"
     )?;
@@ -126,6 +130,33 @@ pub(super) fn put(
         }
         Err(_) => Ok(String::from_str(alloc, "fault")?),
     }
+}
+
+/// The id of a new book of the name, or what was refused.
+pub(super) fn create(
+    alloc: Global,
+    conn: &mut Connection<MemStore>,
+    name: &str,
+) -> Result<String, Fail> {
+    if !conn.is_autocommit() {
+        return Ok(String::from_str(alloc, "inside")?);
+    }
+    match create_in_tables(conn, Limits::standard(), name) {
+        Ok(id) => Ok(format!(in alloc; "{id}")?),
+        Err(Denied::Refused(Refusal::BadBookName)) => Ok(String::from_str(alloc, "bad")?),
+        Err(Denied::Refused(Refusal::BookExists)) => Ok(String::from_str(alloc, "exists")?),
+        Err(_) => Ok(String::from_str(alloc, "fault")?),
+    }
+}
+
+/// What the book with the id keeps.
+pub(super) fn keep(
+    alloc: Global,
+    conn: &mut Connection<MemStore>,
+    book: i64,
+) -> Result<String, Fail> {
+    let row = find_keep(conn, book)?;
+    told(alloc, &row)
 }
 
 pub(super) fn has_member(

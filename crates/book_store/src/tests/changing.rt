@@ -73,3 +73,19 @@ fn puts_a_card(rt: HostRuntime) -> Result<(), Fail> {
         "|1|6|0|5|1|0|0|0|0|0",
     )
 }
+
+#[test]
+fn makes_a_book(rt: HostRuntime) -> Result<(), Fail> {
+    let alloc = rt.alloc();
+    let mut conn = with_books(&rt, alloc)?;
+    is(&rt, calls::create(alloc, &mut conn, "New"), "bad")?;
+    is(&rt, calls::create(alloc, &mut conn, "friends"), "exists")?;
+    is(&rt, calls::create(alloc, &mut conn, "new"), "3")?;
+    is(
+        &rt,
+        calls::book(alloc, &mut conn, "new"),
+        "|3|0|0|0|0|0|0|0|0|0",
+    )?;
+    is(&rt, calls::keep(alloc, &mut conn, 3), "|10000")?;
+    is(&rt, calls::create(alloc, &mut conn, "new"), "exists")
+}
