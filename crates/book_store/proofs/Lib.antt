@@ -6,3 +6,4 @@ pub mod PlanLemmas
 pub mod LayLemmas
 pub mod StoreLemmas
 pub mod CreateLemmas
+pub mod RemoveLemmas

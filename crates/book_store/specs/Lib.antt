@@ -2,3 +2,4 @@ pub mod Opening
 pub mod StoreViews
 pub mod Changing
 pub mod Planning
+pub mod Removals

@@ -1,5 +1,5 @@
 //! Books in the tables of a database: so far what opens a new store over them, what it tells, and
-//! three of the calls that change the books.
+//! four of the calls that change the books.
 #![tactic(auto)]
 
 mod columns;
@@ -11,6 +11,8 @@ mod planning;
 mod put_call;
 mod putting;
 mod reads;
+mod remove_call;
+mod removing;
 pub mod sql_store;
 #[cfg(test)]
 mod tests;

@@ -5,6 +5,7 @@ use super::told_all;
 use crate::creating::create_in_tables;
 use crate::forgetting::forget_in_book;
 use crate::put_call::put_in_book;
+use crate::remove_call::remove_in_book;
 use book_model::{Denied, Fault, Limits, PutAnswer, Refusal};
 use book_tables::books::{BookNumbers, find_book, insert_book, renumber_book};
 use book_tables::keeps::{find_keep, insert_keep};
@@ -125,6 +126,25 @@ pub(super) fn put(
         Ok(PutAnswer::Created { version }) => Ok(format!(in alloc; "created {version}")?),
         Ok(PutAnswer::Edited { version }) => Ok(format!(in alloc; "edited {version}")?),
         Ok(PutAnswer::Unchanged { version }) => Ok(format!(in alloc; "same {version}")?),
+        Err(Denied::Refused(Refusal::VersionMismatch { has })) => {
+            Ok(format!(in alloc; "has {has}")?)
+        }
+        Err(_) => Ok(String::from_str(alloc, "fault")?),
+    }
+}
+
+/// The number of the removal of the card of the UID `n`, or what was refused.
+pub(super) fn remove(
+    alloc: Global,
+    conn: &mut Connection<MemStore>,
+    expect: Option<u64>,
+) -> Result<String, Fail> {
+    if !conn.is_autocommit() {
+        return Ok(String::from_str(alloc, "inside")?);
+    }
+    match remove_in_book(alloc, conn, Limits::standard(), "friends", "n", expect) {
+        Ok(number) => Ok(format!(in alloc; "{number}")?),
+        Err(Denied::Refused(Refusal::NoSuchCard)) => Ok(String::from_str(alloc, "no card")?),
         Err(Denied::Refused(Refusal::VersionMismatch { has })) => {
             Ok(format!(in alloc; "has {has}")?)
         }

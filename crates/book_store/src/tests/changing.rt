@@ -89,3 +89,35 @@ fn makes_a_book(rt: HostRuntime) -> Result<(), Fail> {
     is(&rt, calls::keep(alloc, &mut conn, 3), "|10000")?;
     is(&rt, calls::create(alloc, &mut conn, "new"), "exists")
 }
+
+#[test]
+fn removes_a_card(rt: HostRuntime) -> Result<(), Fail> {
+    let alloc = rt.alloc();
+    let mut conn = with_books(&rt, alloc)?;
+    is(&rt, calls::remove(alloc, &mut conn, None), "no card")?;
+    is(&rt, calls::put(alloc, &mut conn, "Ann", None), "created 5")?;
+    is(&rt, calls::remove(alloc, &mut conn, Some(4)), "has 5")?;
+    is(&rt, calls::remove(alloc, &mut conn, Some(5)), "6")?;
+    is(
+        &rt,
+        calls::members(alloc, &mut conn, 1),
+        "|a|1|A |c|3|C |d|4|- |n|6|- ",
+    )?;
+    is(
+        &rt,
+        calls::book(alloc, &mut conn, "friends"),
+        "|1|6|2|5|0|0|0|0|1|0",
+    )?;
+    is(&rt, calls::put(alloc, &mut conn, "Ann", None), "created 7")?;
+    is(&rt, calls::remove(alloc, &mut conn, None), "8")?;
+    is(
+        &rt,
+        calls::members(alloc, &mut conn, 1),
+        "|a|1|A |c|3|C |d|4|- |n|8|- ",
+    )?;
+    is(
+        &rt,
+        calls::book(alloc, &mut conn, "friends"),
+        "|1|8|2|6|0|0|0|0|2|0",
+    )
+}
