@@ -1,11 +1,14 @@
 //! What a book's row has beside the name, as it was read and tested.
 ghost use Rattle.book_model.specs.Counting.{total};
+ghost use Rattle.book_model.specs.declared.change.Change.TheVariants.{Stores};
+ghost use Rattle.book_rows.specs.ChangeLaws.{figures_after};
 ghost use Rattle.book_rows.specs.ShownRows.{ShowsBook, ShowsCounts};
 ghost use Rattle.book_reading.specs.Faults.{IsFault};
-ghost use Rattle.std.specs.Prelude.{◌≡◌, ◌≤◌, IfErr, IfOk, IfSome};
+ghost use Rattle.std.specs.Prelude.{◌≡◌, ◌≤◌, ◌+◌, ◌<◌, ◌^◌, IfErr, IfOk, IfSome, List};
+ghost use Rattle.vcard_lines.specs.declared.line.Line.{Line};
 
 use crate::values::number_in;
-use book_model::{Counts, Denied, Fault};
+use book_model::{Counts, Denied, Fault, StoreReason};
 use sqlite::Row;
 use std::marker::Model;
 
@@ -58,6 +61,26 @@ impl Figures {
         ensures most { result ≤ self.now.number }
     {
         self.horizon
+    }
+
+    /// The figures after one more change, which stored a card for the reason.
+    pub fn after_storing(self, why: StoreReason) -> Figures
+        requires { self.number + 1 < 2 ^ 63 }
+        ensures { (card : List Line) → result ≡ figures_after (Stores card why) self }
+    {
+        let mut counts = self.counts;
+        match why {
+            StoreReason::Creation => counts.created += 1,
+            StoreReason::Edit => counts.edited += 1,
+            StoreReason::Import => counts.imported += 1,
+            StoreReason::ImportEdit => counts.import_edited += 1,
+            StoreReason::MoveIn => counts.moved_in += 1,
+        }
+        Figures {
+            number: self.number + 1,
+            counts,
+            ..self
+        }
     }
 
     /// The book's changes by their reasons, as many as its number.

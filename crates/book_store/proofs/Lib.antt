@@ -7,3 +7,5 @@ pub mod LayLemmas
 pub mod StoreLemmas
 pub mod CreateLemmas
 pub mod RemoveLemmas
+pub mod ImportLemmas
+pub mod WroteLemmas

@@ -3,3 +3,4 @@ pub mod StoreViews
 pub mod Changing
 pub mod Planning
 pub mod Removals
+pub mod Importing

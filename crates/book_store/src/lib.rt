@@ -5,6 +5,8 @@
 mod columns;
 mod creating;
 mod forgetting;
+mod import_plan;
+mod importing;
 mod laying;
 pub mod open_fault;
 mod planning;

@@ -92,7 +92,7 @@ pub(crate) fn commit_put<S: Alter>(
 }
 
 /// The card's canonical text.
-fn text_of(alloc: Global, card: &Card) -> Result<String, Denied>
+pub(crate) fn text_of(alloc: Global, card: &Card) -> Result<String, Denied>
     ensures canonical { IfOk result (λ text. string_bytes text ≡ canonical_text card.now) }
     ensures card { IfOk result (λ text. text_card (string_bytes text) ≡ card.now) }
     ensures fault { IfErr result IsFault }
