@@ -1,0 +1,3 @@
+pub mod SchemaLemmas
+pub mod MetaLemmas
+pub mod AnswerLemmas

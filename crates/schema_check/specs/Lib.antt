@@ -1,0 +1,4 @@
+pub mod OpenFaults
+pub mod SchemaTests
+pub mod StoredSchema
+pub mod Stated

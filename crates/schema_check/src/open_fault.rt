@@ -1,0 +1,49 @@
+//! Why a store can't be opened.
+ghost use Rattle.schema_check.specs.OpenFaults.{IsErrorFault, open_error, open_fault_number};
+ghost use Rattle.std.specs.Prelude.{◌≡◌};
+
+use sqlite::{Error, ErrorCode};
+
+/// Why tables can't be opened as a store of books, or can't be laid.
+#[derive(Clone, Copy, Debug, PartialEq, Eq)]
+pub enum OpenFault {
+    /// The database answered an error.
+    Store,
+    /// The tables aren't those of a store of books.
+    NotOurs,
+    /// The tables are those of another schema, which has this number.
+    OtherSchema { has: i64 },
+    /// The tables hold no well-formed books.
+    Damaged,
+    /// Tables are there already, where new ones were to be laid.
+    NotEmpty,
+    /// Memory ran out.
+    Memory,
+}
+
+impl OpenFault {
+    /// The number under which the fault is reported, 1 to 6.
+    pub fn number(&self) -> u8
+        ensures { result ≡ open_fault_number self.now }
+    {
+        match self {
+            OpenFault::Store => 1,
+            OpenFault::NotOurs => 2,
+            OpenFault::OtherSchema { .. } => 3,
+            OpenFault::Damaged => 4,
+            OpenFault::NotEmpty => 5,
+            OpenFault::Memory => 6,
+        }
+    }
+}
+
+/// An error of the database: `Memory` where it is want of memory, and else `Store`.
+pub fn open_fault_of(error: Error) -> OpenFault
+    ensures value { result ≡ open_error error }
+    ensures kind { IsErrorFault result }
+{
+    match error {
+        Error::SqliteFailure(ErrorCode::OutOfMemory) => OpenFault::Memory,
+        _ => OpenFault::Store,
+    }
+}
