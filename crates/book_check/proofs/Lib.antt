@@ -5,3 +5,6 @@ pub mod CheckedLemmas
 pub mod DistinctLemmas
 pub mod NameLemmas
 pub mod StoredLemmas
+pub mod MovedLemmas
+pub mod ShownLemmas
+pub mod OpenLemmas

@@ -1,2 +1,4 @@
 pub mod CheckedRows
 pub mod ReadRows
+pub mod StoredRows
+pub mod Opening

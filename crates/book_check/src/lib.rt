@@ -9,4 +9,5 @@ mod keys;
 pub mod laws;
 mod members;
 mod names;
+pub mod opening;
 pub mod tables;

@@ -1,3 +1,4 @@
 mod checking;
+mod opening;
 mod reading;
 mod tables;

@@ -10,14 +10,14 @@ use std::alloc::Global;
 use std::process::Abort;
 use std::test::Fail;
 
-type Memory = Connection<MemStore>;
+pub(super) type Memory = Connection<MemStore>;
 
 const ANNA: &str = "BEGIN:VCARD\r\nVERSION:4.0\r\nUID:a\r\nFN:Anna\r\nEND:VCARD\r\n";
 
 const BOB: &str = "BEGIN:VCARD\r\nVERSION:4.0\r\nUID:b\r\nFN:Bob\r\nEND:VCARD\r\n";
 
 /// A call without its clauses.
-fn run(conn: &mut Memory, statements: &str) -> Result<(), Fail> {
+pub(super) fn run(conn: &mut Memory, statements: &str) -> Result<(), Fail> {
     Ok(conn.execute_batch(statements)?)
 }
 
@@ -35,7 +35,7 @@ fn lay(tx: &mut Transaction<'_, MemStore>) -> Result<(), Fail> {
 
 /// The book `staff` with nine changes, of which two left live cards and two are removals that are
 /// remembered; and the book `desk`, which is empty.
-fn filled(rt: &impl Abort, alloc: Global) -> Result<Memory, Fail> {
+pub(super) fn filled(rt: &impl Abort, alloc: Global) -> Result<Memory, Fail> {
     let mut conn = Connection::open_in_memory(alloc)?;
     let is_autocommit = conn.is_autocommit();
     assert!(rt; is_autocommit);

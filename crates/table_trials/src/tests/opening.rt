@@ -1,0 +1,116 @@
+use super::checking::{Memory, filled, run};
+use book_check::opening::test_tables;
+use book_model::Limits;
+use schema_check::OpenFault;
+use sqlite::Connection;
+use std::alloc::Global;
+use std::process::Abort;
+use std::test::Fail;
+
+/// A call without its clauses.
+fn test(alloc: Global, conn: &mut Memory) -> Result<(), OpenFault> {
+    test_tables(alloc, conn, Limits::standard())
+}
+
+/// What opening answers after the statements.
+fn after(rt: &impl Abort, alloc: Global, statements: &str) -> Result<Result<(), OpenFault>, Fail> {
+    let mut conn = filled(rt, alloc)?;
+    run(&mut conn, statements)?;
+    Ok(test(alloc, &mut conn))
+}
+
+#[test]
+fn opens_well_formed_books(rt: HostRuntime) -> Result<(), Fail> {
+    let alloc = rt.alloc();
+    let mut conn = filled(&rt, alloc)?;
+    assert_eq!(&rt; test(alloc, &mut conn), Ok(()));
+    assert_eq!(&rt; test(alloc, &mut conn), Ok(()));
+    Ok(())
+}
+
+#[test]
+fn opens_no_other_tables(rt: HostRuntime) -> Result<(), Fail> {
+    let alloc = rt.alloc();
+    let mut conn = Connection::open_in_memory(alloc)?;
+    assert_eq!(&rt; test(alloc, &mut conn), Err(OpenFault::NotOurs));
+    let statements = [
+        "DELETE FROM meta",
+        "UPDATE meta SET name = 'scheme'",
+        "INSERT INTO meta VALUES ('more', 2)",
+        "DROP TABLE keeping",
+        "DROP TABLE import_key",
+        "CREATE TABLE more (n INTEGER NOT NULL) STRICT",
+        "CREATE INDEX by_changed ON member (changed)",
+        "DROP TABLE keeping; CREATE TABLE keeping (book INTEGER PRIMARY KEY, keep INTEGER) STRICT",
+        "CREATE VIEW gone AS SELECT uid FROM member WHERE card IS NULL",
+    ];
+    for change in statements {
+        assert_eq!(&rt; after(&rt, alloc, change)?, Err(OpenFault::NotOurs));
+    }
+    Ok(())
+}
+
+#[test]
+fn tells_another_schema(rt: HostRuntime) -> Result<(), Fail> {
+    let alloc = rt.alloc();
+    let seven = after(&rt, alloc, "UPDATE meta SET val = 7")?;
+    assert_eq!(&rt; seven, Err(OpenFault::OtherSchema { has: 7 }));
+    // That the books are damaged too isn't looked at.
+    let both = after(
+        &rt,
+        alloc,
+        "UPDATE meta SET val = 3; UPDATE book SET number = 6 WHERE id = 1",
+    )?;
+    assert_eq!(&rt; both, Err(OpenFault::OtherSchema { has: 3 }));
+    Ok(())
+}
+
+/// The tables of the first schema, which lacks the keeps.
+const FIRST: &str = "\
+    CREATE TABLE meta (name TEXT NOT NULL PRIMARY KEY, val INTEGER NOT NULL) STRICT; \
+    CREATE TABLE book (id INTEGER PRIMARY KEY, name TEXT NOT NULL UNIQUE, \
+      number INTEGER NOT NULL, horizon INTEGER NOT NULL, created INTEGER NOT NULL, \
+      edited INTEGER NOT NULL, imported INTEGER NOT NULL, import_edited INTEGER NOT NULL, \
+      moved_in INTEGER NOT NULL, deleted INTEGER NOT NULL, moved_out INTEGER NOT NULL) STRICT; \
+    CREATE TABLE member (book INTEGER NOT NULL REFERENCES book(id), uid TEXT NOT NULL, \
+      changed INTEGER NOT NULL, card TEXT, PRIMARY KEY (book, uid), UNIQUE (book, changed)) STRICT; \
+    CREATE TABLE import_key (book INTEGER NOT NULL REFERENCES book(id), ikey TEXT NOT NULL, \
+      added INTEGER NOT NULL, edited INTEGER NOT NULL, same INTEGER NOT NULL, \
+      number INTEGER NOT NULL, PRIMARY KEY (book, ikey)) STRICT";
+
+#[test]
+fn tells_the_first_schema(rt: HostRuntime) -> Result<(), Fail> {
+    let alloc = rt.alloc();
+    let mut conn = Connection::open_in_memory(alloc)?;
+    run(&mut conn, FIRST)?;
+    assert_eq!(&rt; test(alloc, &mut conn), Err(OpenFault::NotOurs));
+    run(&mut conn, "INSERT INTO meta VALUES ('schema', 1)")?;
+    assert_eq!(&rt;
+        test(alloc, &mut conn),
+        Err(OpenFault::OtherSchema { has: 1 })
+    );
+    // The second schema has the keeps.
+    run(&mut conn, "UPDATE meta SET val = 2")?;
+    assert_eq!(&rt; test(alloc, &mut conn), Err(OpenFault::NotOurs));
+    run(
+        &mut conn,
+        "CREATE TABLE keeping (book INTEGER PRIMARY KEY REFERENCES book(id), \
+         keep INTEGER NOT NULL) STRICT",
+    )?;
+    assert_eq!(&rt; test(alloc, &mut conn), Ok(()));
+    Ok(())
+}
+
+#[test]
+fn opens_no_damaged_books(rt: HostRuntime) -> Result<(), Fail> {
+    let alloc = rt.alloc();
+    let statements = [
+        "UPDATE book SET number = 6 WHERE id = 1",
+        "UPDATE member SET card = 'x' WHERE uid = 'a'",
+        "DELETE FROM keeping WHERE book = 2",
+    ];
+    for damage in statements {
+        assert_eq!(&rt; after(&rt, alloc, damage)?, Err(OpenFault::Damaged));
+    }
+    Ok(())
+}
