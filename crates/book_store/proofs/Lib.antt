@@ -9,3 +9,4 @@ pub mod CreateLemmas
 pub mod RemoveLemmas
 pub mod ImportLemmas
 pub mod WroteLemmas
+pub mod AdoptLemmas

@@ -1,32 +1,17 @@
 -- What opening a store comes to. This project's own.
-use Rattle.std.specs.Prelude.{◌≡◌, ◌⊎◌, ℕ}
-use Rattle.sqlite.specs.State.{State}
+use Rattle.std.specs.Prelude.{◌≡◌, Err}
+use Rattle.sqlite.specs.Held.{Held, state}
+use Rattle.sqlite.specs.State.{State, HasCleanDisk}
 use Rattle.sqlite.specs.Tree.{Trees}
-use Rattle.sqlite.specs.declared.error.Error.{Error}
-use Rattle.sqlite.specs.declared.error.Error.TheVariants.{SqliteFailure}
-use Rattle.sqlite.specs.declared.error.ErrorCode.TheVariants.{OutOfMemory}
+use Rattle.sqlite_trees.specs.declared.store.Store.{Ghosts}
+use Rattle.book_model.specs.Bounds.{Bounds, bounds_of}
 use Rattle.book_tables.specs.Meta.{IsLaid, schema_number}
 use Rattle.book_tables.specs.Tables.{book_schema}
-use Rattle.book_store.specs.declared.open_fault.OpenFault.{OpenFault}
-use Rattle.book_store.specs.declared.open_fault.OpenFault.TheVariants.{Store, NotOurs, OtherSchema, Damaged, NotEmpty, Memory}
+use Rattle.schema_check.specs.StoredSchema.{ChangesNothing}
+use Rattle.schema_check.specs.declared.open_fault.OpenFault.{OpenFault}
+use Rattle.book_check.specs.Opening.{Opens}
 
--- the number under which the fault is reported
-abbrev pub open_fault_number : OpenFault → ℕ
-open_fault_number Store = 1
-open_fault_number NotOurs = 2
-open_fault_number (OtherSchema has) = 3
-open_fault_number Damaged = 4
-open_fault_number NotEmpty = 5
-open_fault_number Memory = 6
-
--- an error of the database is want of memory, or the store's fault
-abbrev pub open_error : Error → OpenFault
-open_error (SqliteFailure OutOfMemory) = Memory
-open_error error = Store
-
--- it is one of these two
-abbrev pub IsErrorFault : OpenFault → Type 0
-IsErrorFault fault = (fault ≡ Store) ⊎ (fault ≡ Memory)
+-- ---- new stores
 
 -- tables that were just laid, and are committed
 pub record StandsLaid (s : State) : Type 0 where
@@ -36,3 +21,17 @@ pub record StandsLaid (s : State) : Type 0 where
 -- the trees of tables that were just laid
 abbrev pub IsLaidIn : Trees → Type 0
 IsLaidIn trees = IsLaid schema_number (record { schema = book_schema; trees = trees })
+
+-- ---- tables that are there
+
+-- the limits that stored books are tested against, with the greatest of cards, changes and books
+abbrev pub greatest : Bounds
+greatest = bounds_of 100 10000 1000000000000 100
+
+-- The connection was left as it was, and was dropped as `end`. If the disk had returned what was
+-- written until then, the fault is the one that the tables call for.
+pub record IsRefused {S : Type 0} (g : Ghosts S) (start : Held S) (fault : OpenFault)
+    : Type 0 where
+  pub end : Held S
+  pub left : ChangesNothing (state g start) (state g end)
+  pub due : HasCleanDisk (state g end) → Opens greatest (state g start).now (Err fault)

@@ -1,14 +1,14 @@
-//! Books in the tables of a database: so far what opens a new store over them, what it tells, and
-//! four of the calls that change the books.
+//! Books in the tables of a database: so far what opens a store over them, new or there already,
+//! what it tells, and five of the calls that change the books.
 #![tactic(auto)]
 
+pub mod adopting;
 mod columns;
 mod creating;
 mod forgetting;
 mod import_plan;
 mod importing;
 mod laying;
-pub mod open_fault;
 mod planning;
 mod put_call;
 mod putting;
@@ -19,5 +19,5 @@ pub mod sql_store;
 #[cfg(test)]
 mod tests;
 
-pub use open_fault::OpenFault;
+pub use schema_check::OpenFault;
 pub use sql_store::SqlStore;

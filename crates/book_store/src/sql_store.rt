@@ -1,8 +1,9 @@
 //! A store of books over the tables of a connection.
-ghost use Rattle.book_store.specs.Opening.{IsErrorFault, IsLaidIn};
+ghost use Rattle.book_store.specs.Opening.{IsLaidIn};
 ghost use Rattle.book_store.specs.StoreViews.{IsInOrder, IsStore, stored_books};
-ghost use Rattle.book_store.specs.declared.open_fault.OpenFault.TheVariants.{NotEmpty};
 ghost use Rattle.book_tables.specs.Laying.{no_schema};
+ghost use Rattle.schema_check.specs.OpenFaults.{IsErrorFault};
+ghost use Rattle.schema_check.specs.declared.open_fault.OpenFault.TheVariants.{NotEmpty};
 ghost use Rattle.sqlite.specs.Held.{state};
 ghost use Rattle.sqlite.specs.State.{Survives};
 ghost use Rattle.sqlite.specs.Steps.{over_memory};
@@ -10,8 +11,9 @@ ghost use Rattle.std.specs.FinMap as finite;
 ghost use Rattle.std.specs.Prelude.{◌≡◌, Err, IfErr, IfOk, OnOk, false};
 
 use crate::laying::{is_bare, lay};
-use crate::open_fault::{OpenFault, open_fault_of};
 use book_model::Limits;
+use schema_check::OpenFault;
+use schema_check::open_fault::open_fault_of;
 use sqlite::{Alter, Connection, MemStore};
 use std::alloc::Global;
 use std::marker::Model;

@@ -1,3 +1,4 @@
+mod adopting;
 mod calls;
 mod changing;
 mod stores;
