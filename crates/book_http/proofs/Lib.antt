@@ -1,1 +1,2 @@
 pub mod AnsweringLemmas
+pub mod ServingLemmas

@@ -1,2 +1,4 @@
 pub mod Performing
 pub mod Answering
+pub mod ServeFaults
+pub mod Serving

@@ -2,7 +2,11 @@
 #![tactic(auto)]
 
 pub mod answering;
+pub mod serve_fault;
 pub mod service;
+pub mod serving;
 
 pub use answering::answer;
+pub use serve_fault::ServeFault;
 pub use service::Service;
+pub use serving::serve;

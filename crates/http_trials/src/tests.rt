@@ -1,3 +1,4 @@
+mod connections;
 mod pages;
 mod replies;
 mod requests;

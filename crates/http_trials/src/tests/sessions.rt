@@ -2,17 +2,67 @@ use book_http::Service;
 use book_model::Limits;
 use http_requests::Session;
 use std::alloc::Global;
+use std::process::Abort;
+use std::rt::HostRuntime;
+use std::str;
 use std::test::Fail;
-use sync_core::PlainStore;
+use sync_core::{BookStore, PlainStore};
 
-/// What a new service replies to the octets of one connection.
-fn replied(alloc: Global, requests: &[u8]) -> Result<String, Fail> {
-    let mut service = Service {
+/// A book is made, Ann's card is put into it, and its initial report is asked for.
+pub(super) const REQUESTS: &str = "PUT /books/staff HTTP/1.1\r\nHost: office\r\n\r\n\
+    PUT /books/staff/cards/a HTTP/1.1\r\nHost: office\r\nContent-Length: 52\r\n\r\n\
+    BEGIN:VCARD\r\nVERSION:4.0\r\nUID:a\r\nFN:Ann\r\nEND:VCARD\r\n\
+    GET /books/staff/sync?token= HTTP/1.1\r\nHost: office\r\n\r\n";
+
+/// The reply to the first of them.
+pub(super) const MADE: &str = "HTTP/1.1 201 Created\r\nContent-Type: application/json\r\n\
+    Content-Length: 8\r\nConnection: keep-alive\r\n\r\n{\"id\":1}";
+
+/// The replies to the others.
+const PUT_AND_TOLD: &str = "HTTP/1.1 201 Created\r\nContent-Type: application/json\r\n\
+    Content-Length: 29\r\nConnection: keep-alive\r\n\r\n{\"put\":\"created\",\"version\":1}\
+    HTTP/1.1 200 OK\r\nContent-Type: application/json\r\n\
+    Content-Length: 185\r\nConnection: keep-alive\r\n\r\n\
+    {\"members\":[{\"card\":\"BEGIN:VCARD\\r\\nVERSION:4.0\\r\\nUID:a\\r\\nFN:Ann\\r\\nEND:VCARD\\r\\n\",\
+    \"status\":200,\"uid\":\"a\",\"version\":1}],\
+    \"token\":\"http://contacts.invalid/sync/1/1/1\",\"truncated\":false}";
+
+/// The replies to all of them.
+pub(super) fn replies(alloc: Global) -> Result<String, Fail> {
+    Ok(format!(in alloc; "{MADE}{PUT_AND_TOLD}")?)
+}
+
+/// A service that nobody has asked yet.
+pub(super) fn new_service(alloc: Global) -> Service<PlainStore> {
+    Service {
         store: PlainStore::new(alloc, Limits::standard()),
-    };
+    }
+}
+
+/// What a new service replies to pieces of one connection, and whether the session is closed then.
+fn replied(alloc: Global, pieces: &[&[u8]]) -> Result<(Vec<u8>, bool), Fail> {
+    let mut service = new_service(alloc);
     let mut session = Session::new(alloc);
-    let replies = session.feed(alloc, &mut service, requests)?;
-    Ok(String::from_utf8_lossy(alloc, &replies)?)
+    let mut replies = Vec::new(alloc);
+    for piece in pieces {
+        let more = session.feed(alloc, &mut service, *piece)?;
+        replies.extend_from_slice(&more)?;
+    }
+    Ok((replies, session.closed()))
+}
+
+/// The octets are replied to so, and the session is closed then, or isn't.
+fn is_replied(
+    rt: &impl Abort,
+    alloc: Global,
+    requests: &str,
+    wanted: &str,
+    closed: bool,
+) -> Result<(), Fail> {
+    let (octets, is_closed) = replied(alloc, &[requests.as_bytes()])?;
+    assert_eq!(rt; str::from_utf8(octets.as_slice()), Ok(wanted));
+    assert!(rt; is_closed == closed);
+    Ok(())
 }
 
 #[test]
@@ -23,7 +73,76 @@ fn answers_requests_in_turn(rt: HostRuntime) -> Result<(), Fail> {
         Content-Length: 8\r\nConnection: keep-alive\r\n\r\n{\"id\":1}\
         HTTP/1.1 405 Method Not Allowed\r\nContent-Type: application/json\r\nAllow: PUT\r\n\
         Content-Length: 34\r\nConnection: close\r\n\r\n{\"fault\":\"bad-method\",\"number\":28}";
-    let text = replied(rt.alloc(), requests.as_bytes())?;
-    assert_eq!(rt; text.as_str(), wanted);
+    is_replied(&rt, rt.alloc(), requests, wanted, true)
+}
+
+#[test]
+fn replies_alike_to_every_cut(rt: HostRuntime) -> Result<(), Fail> {
+    let wanted = replies(rt.alloc())?;
+    is_replied(&rt, rt.alloc(), REQUESTS, wanted.as_str(), false)?;
+    let octets = REQUESTS.as_bytes();
+    for cut in 0..octets.len() {
+        let (out, closed) = replied(rt.alloc(), &[&octets[..cut], &octets[cut..]])?;
+        assert!(rt; out.as_slice() == wanted.as_bytes(), "cut at {cut}");
+        assert!(rt; !closed);
+    }
     Ok(())
+}
+
+#[test]
+fn replies_alike_to_single_octets(rt: HostRuntime) -> Result<(), Fail> {
+    let wanted = replies(rt.alloc())?;
+    let mut service = new_service(rt.alloc());
+    let mut session = Session::new(rt.alloc());
+    let mut out = Vec::new(rt.alloc());
+    for octet in REQUESTS.as_bytes().chunks(1) {
+        let more = session.feed(rt.alloc(), &mut service, octet)?;
+        out.extend_from_slice(&more)?;
+    }
+    assert_eq!(rt; str::from_utf8(out.as_slice()), Ok(wanted.as_str()));
+    Ok(())
+}
+
+#[test]
+fn acts_on_whole_bodies_alone(rt: HostRuntime) -> Result<(), Fail> {
+    let octets = REQUESTS.as_bytes();
+    let body = REQUESTS.find("BEGIN").unwrap_or_default();
+    for end in body..body.saturating_add(52).min(octets.len()) {
+        let mut service = new_service(rt.alloc());
+        let mut session = Session::new(rt.alloc());
+        let out = session.feed(
+            rt.alloc(),
+            &mut service,
+            octets.get(..end).unwrap_or_default(),
+        )?;
+        assert_eq!(rt; str::from_utf8(out.as_slice()), Ok(MADE));
+        assert!(rt; service.store.get("staff", "a").is_err(), "at {end}");
+    }
+    Ok(())
+}
+
+#[test]
+fn ignores_what_follows_a_closing_request(rt: HostRuntime) -> Result<(), Fail> {
+    let requests = "PUT /books/staff HTTP/1.1\r\nHost: office\r\n\r\nGET /books HTTP/1.0\r\n\r\n\
+        PUT /books/clients HTTP/1.1\r\nHost: office\r\n\r\n";
+    let mut service = new_service(rt.alloc());
+    let mut session = Session::new(rt.alloc());
+    let out = session.feed(rt.alloc(), &mut service, requests.as_bytes())?;
+    let wanted = format!(in rt.alloc();
+        "{MADE}{}",
+        "HTTP/1.1 200 OK\r\nContent-Type: application/json\r\nContent-Length: 58\r\n\
+         Connection: close\r\n\r\n\
+         {\"books\":[{\"horizon\":0,\"id\":1,\"name\":\"staff\",\"number\":0}]}"
+    )?;
+    assert_eq!(rt; str::from_utf8(out.as_slice()), Ok(wanted.as_str()));
+    assert!(rt; session.closed());
+    assert!(rt; service.store.book("clients").is_err());
+    Ok(())
+}
+
+#[test]
+fn tells_a_head_without_a_host(rt: HostRuntime) -> Result<(), Fail> {
+    let wanted = "HTTP/1.1 400 Bad Request\r\nContent-Type: application/json\r\n\
+        Content-Length: 32\r\nConnection: close\r\n\r\n{\"fault\":\"bad-host\",\"number\":23}";
+    is_replied(&rt, rt.alloc(), "GET / HTTP/1.1\r\n\r\n", wanted, true)
 }
