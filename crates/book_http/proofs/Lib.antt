@@ -1,2 +1,7 @@
 pub mod AnsweringLemmas
 pub mod ServingLemmas
+pub mod OctetRunLemmas
+pub mod OneRunLemmas
+pub mod CutRunLemmas
+pub mod ConnectionLemmas
+pub mod ReaderLemmas

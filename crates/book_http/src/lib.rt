@@ -2,6 +2,7 @@
 #![tactic(auto)]
 
 pub mod answering;
+pub mod laws;
 pub mod serve_fault;
 pub mod service;
 pub mod serving;

@@ -1,0 +1,101 @@
+-- However octets are cut, the same requests run.
+use Rattle.std.proofs.Common.{◌≡◌, ◌⊎◌, ℕ, Bool, true, false, List, [], ◌++◌, refl, sym, subst, inl, inr, Option, Some, None}
+use Rattle.std.specs.List.{flat_map}
+use Rattle.std.proofs.lemmas.List.{append-nil}
+use Rattle.book_model.specs.declared.denied.Fault.{Fault as FaultKind}
+use Rattle.book_model.specs.Bounds.{Bounds}
+use Rattle.book_model.specs.Books.{Books}
+use Rattle.book_service.specs.Runs.{Moment}
+use Rattle.http_replies.specs.Replies.{head_fault_octets}
+use Rattle.http_requests.specs.Feeding.{Feeds, IsAnswered, IsRefused}
+use Rattle.http_requests.specs.Requests.{Request}
+use Rattle.http_requests.proofs.PieceLemmas.{cuts_agree, pieces_are_fed}
+use Rattle.http_requests.proofs.CutLemmas.{determined}
+use Rattle.book_http.specs.declared.service.Service.{Service}
+use Rattle.book_http.specs.OctetRuns.{RunsAs}
+use Rattle.book_http.specs.OctetPromise.{CutsRunAlike, RanAlike, Serving, StartsAt}
+use Rattle.book_http.proofs.OctetRunLemmas.{requests_run}
+use Rattle.book_http.proofs.OneRunLemmas.{AreReadInOneWay, ran_once}
+
+module _ {S : Type 0} (books : S → Books) (limits : S → Bounds) (premise : S → Type 0) (may_fault : FaultKind → Type 0) (law : AreReadInOneWay) where
+  abbrev Refused : List ℕ → List ℕ → Type 0
+  Refused rest last = IsRefused (Serving books limits premise may_fault) head_fault_octets rest last
+
+  -- what comes behind the replies to all requests
+  abbrev Ends : Bool → List ℕ → List ℕ → Type 0
+  Ends ended rest last = ((ended ≡ true) × (last ≡ [])) ⊎ ((ended ≡ false) × Refused rest last)
+
+  abbrev EndAlike : List ℕ → List ℕ → List ℕ → Type 0
+  EndAlike rest last other = ((last ≡ []) × (other ≡ [])) ⊎ (Refused rest last × Refused rest other)
+
+  end_alike : (ended : Bool) (rest last other : List ℕ) → Ends ended rest last → Ends ended rest other → EndAlike rest last other
+  end_alike ended rest last other (inl a) (inl b) = inl (a.1, b.1)
+  end_alike ended rest last other (inl a) (inr b) = absurd (cc (a.0, b.0))
+  end_alike ended rest last other (inr a) (inl b) = absurd (cc (a.0, b.0))
+  end_alike ended rest last other (inr a) (inr b) = inr (a.1, b.1)
+
+  module _ (now : Moment) (octets replies others : List ℕ) (old new other : Service S) where
+    abbrev All : Service S → List ℕ → Bool → List ℕ → Type 0
+    All end told ended rest = IsAnswered (Serving books limits premise may_fault) head_fault_octets octets old told end ended rest
+
+    ran_alike : StartsAt books limits premise may_fault now old new → StartsAt books limits premise may_fault now old other
+        → (told told_too last last_too : List ℕ) (ended ended_too : Bool) (rest rest_too : List ℕ)
+        → All new told ended rest → All other told_too ended_too rest_too
+        → replies ≡ told ++ last → others ≡ told_too ++ last_too
+        → (ended_too ≡ ended → rest_too ≡ rest → EndAlike rest last last_too)
+        → RanAlike books limits premise may_fault now octets replies others (books new.store) (books other.store)
+    ran_alike starts starts_too told told_too last last_too ended ended_too rest rest_too one two is is_too ends =
+        let same = determined octets two.requests one.requests ended_too ended rest_too rest two.are one.are in
+        let ran : RunsAs now one.requests told (books new.store) = requests_run books limits premise may_fault now old new one.requests told starts one.handles in
+        let ran_too : RunsAs now one.requests told_too (books other.store) =
+        subst (λ (rs : List Request). RunsAs now rs told_too (books other.store)) same.0
+        (requests_run books limits premise may_fault now old other two.requests told_too starts_too two.handles) in
+        record {
+          requests = one.requests;
+          ended = ended;
+          rest = rest;
+          are = one.are;
+          told = told;
+          ran = ran;
+          other_told = told_too;
+          other_ran = ran_too;
+          alike = ran_once law now one.requests told told_too (books new.store) (books other.store) ran ran_too;
+          last = last;
+          replies_are = is;
+          other_last = last_too;
+          others_are = is_too;
+          lasts = ends same.1 same.2;
+        }
+
+    fed_alike : StartsAt books limits premise may_fault now old new → StartsAt books limits premise may_fault now old other
+        → (session left : Option (List ℕ)) → session ≡ left
+        → Feeds (Serving books limits premise may_fault) head_fault_octets octets old replies new session
+        → Feeds (Serving books limits premise may_fault) head_fault_octets octets old others other left
+        → RanAlike books limits premise may_fault now octets replies others (books new.store) (books other.store)
+    fed_alike starts starts_too (Some rest) (Some left) same fed fed_too =
+        ran_alike starts starts_too replies others [] [] false false rest left fed.0 fed_too.0 (sym (append-nil replies)) (sym (append-nil others))
+        (λ _ _. inl (refl, refl))
+    fed_alike starts starts_too (Some rest) None same fed fed_too = absurd (cc same)
+    fed_alike starts starts_too None (Some left) same fed fed_too = absurd (cc same)
+    fed_alike starts starts_too None None same stop stop_too =
+        ran_alike starts starts_too stop.answers stop_too.answers stop.last stop_too.last stop.ended stop_too.ended stop.rest stop_too.rest
+        stop.answered stop_too.answered stop.replies_are stop_too.replies_are
+        (λ (ended : stop_too.ended ≡ stop.ended) (rest : stop_too.rest ≡ stop.rest).
+        end_alike stop.ended stop.rest stop.last stop_too.last stop.why
+        (subst (λ (b : Bool). Ends b stop.rest stop_too.last) ended (subst (λ (r : List ℕ). Ends stop_too.ended r stop_too.last) rest stop_too.why)))
+
+  abbrev pieces : List (List ℕ × List ℕ) → List ℕ
+  pieces turns = flat_map (λ (turn : List ℕ × List ℕ). turn.0) turns
+
+  abbrev answers : List (List ℕ × List ℕ) → List ℕ
+  answers turns = flat_map (λ (turn : List ℕ × List ℕ). turn.1) turns
+
+  pub cuts_run_alike : CutsRunAlike books limits premise may_fault
+  cuts_run_alike now old new other turns others session left starts starts_too takes takes_too same =
+      let fed : Feeds (Serving books limits premise may_fault) head_fault_octets (pieces turns) old (answers turns) new session =
+      pieces_are_fed (Serving books limits premise may_fault) head_fault_octets turns old new session takes in
+      let fed_too : Feeds (Serving books limits premise may_fault) head_fault_octets (pieces turns) old (answers others) other left =
+      subst (λ t. Feeds (Serving books limits premise may_fault) head_fault_octets t old (answers others) other left) (sym same)
+      (pieces_are_fed (Serving books limits premise may_fault) head_fault_octets others old other left takes_too) in
+      let held : session ≡ left = cuts_agree (Serving books limits premise may_fault) head_fault_octets (pieces turns) old new other (answers turns) (answers others) session left fed fed_too in
+      (held, fed_alike now (pieces turns) (answers turns) (answers others) old new other starts starts_too session left held fed fed_too)

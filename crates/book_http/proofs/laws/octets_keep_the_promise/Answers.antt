@@ -1,0 +1,35 @@
+use Rattle.book_http.proofs.ConnectionLemmas.{connections_run, faults_leave_runs}
+use Rattle.book_http.proofs.CutRunLemmas.{cuts_run_alike}
+use Rattle.book_http.proofs.OctetRunLemmas.{lost_pieces_run, requests_run, sessions_run}
+use Rattle.book_http.proofs.ReaderLemmas.{readers_are_devices}
+use Rattle.book_http.proofs.laws.octets_keep_the_promise.Goals as goal
+
+pub returns-clause-requests : goal.returns-clause-requests
+returns-clause-requests g c = requests_run g.S.BookStore.books g.S.BookStore.limits g.S.BookStore.premise g.S.BookStore.may_fault
+
+pub returns-clause-sessions : goal.returns-clause-sessions
+returns-clause-sessions g c = sessions_run g.S.BookStore.books g.S.BookStore.limits g.S.BookStore.premise g.S.BookStore.may_fault
+
+pub returns-clause-cuts : goal.returns-clause-cuts
+returns-clause-cuts g c = cuts_run_alike g.S.BookStore.books g.S.BookStore.limits g.S.BookStore.premise g.S.BookStore.may_fault (record {
+  cards = c.card_is_one.ensures;
+  card_faults = c.first_fault_without_card.ensures.one;
+  no_card_has_fault = c.first_fault_without_card.ensures.not_both;
+  rows_are_one = c.cards_of_rows_are_one.ensures;
+  row_faults = c.first_fault_without_cards.ensures.one;
+  no_rows_have_fault = c.first_fault_without_cards.ensures.not_both;
+  tokens = c.token_texts_are_one.ensures;
+  expansions = c.expansion_is_one.ensures;
+})
+
+pub returns-clause-lost : goal.returns-clause-lost
+returns-clause-lost g c = lost_pieces_run g.S.BookStore.books g.S.BookStore.limits g.S.BookStore.premise g.S.BookStore.may_fault
+
+pub returns-clause-connections : goal.returns-clause-connections
+returns-clause-connections g c = connections_run g.S.BookStore.books g.S.BookStore.limits g.S.BookStore.premise g.S.BookStore.may_fault
+
+pub returns-clause-faults : goal.returns-clause-faults
+returns-clause-faults g c = faults_leave_runs g.S.BookStore.books g.S.BookStore.limits g.S.BookStore.premise g.S.BookStore.may_fault
+
+pub returns-clause-devices : goal.returns-clause-devices
+returns-clause-devices g c = readers_are_devices c.token_texts_are_one.ensures c.texts_tell_pages.ensures
