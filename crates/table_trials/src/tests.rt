@@ -1,4 +1,5 @@
 mod checking;
+mod importing;
 mod opening;
 mod reading;
 mod tables;
