@@ -14,10 +14,14 @@ use vcard_text::{Card, read_card, write_card};
 
 /// The card of Ann, with lines before END.
 fn ann_with(alloc: Global, lines: &str) -> Result<String, Fail> {
-    let mut text = String::from_str(alloc, "BEGIN:VCARD\r\nVERSION:4.0\r\nUID:a\r\nFN:Ann\r\n")?;
-    text.push_str(lines)?;
-    text.push_str("END:VCARD\r\n")?;
-    Ok(text)
+    let head = "BEGIN:VCARD\r\nVERSION:4.0\r\nUID:a\r\nFN:Ann\r\n";
+    Ok(format!(in alloc; "{head}{lines}END:VCARD\r\n")?)
+}
+
+/// The same, read.
+fn card_with(alloc: Global, lines: &str) -> Result<Card, Fail> {
+    let text = ann_with(alloc, lines)?;
+    Ok(read_card(alloc, text.as_bytes())?)
 }
 
 /// What the text is read as, in the canonical text of the card, or the fault that it is refused
@@ -55,4 +59,17 @@ fn is_refused(
         Err(fault) => assert_eq!(rt; fault, wanted, "{why}"),
     }
     Ok(())
+}
+
+/// Ann's card with the lines is written as with those that are wanted.
+fn are_written_as(
+    rt: &impl Abort,
+    alloc: Global,
+    lines: &str,
+    wanted: &str,
+    why: &str,
+) -> Result<(), Fail> {
+    let text = ann_with(alloc, lines)?;
+    let wanted = ann_with(alloc, wanted)?;
+    is_read_as(rt, alloc, text.as_str(), wanted.as_str(), why)
 }

@@ -1,6 +1,7 @@
 use base_types::{Items, NoMemory, Text, TextMap};
 use std::alloc::Global;
 use std::collections::BTreeMap;
+use std::process::Abort;
 use std::test::Fail;
 
 fn two_texts(alloc: Global) -> Result<Vec<Text>, NoMemory> {
@@ -33,6 +34,14 @@ fn compares_and_shows_texts(rt: HostRuntime) -> Result<(), Fail> {
     Ok(())
 }
 
+fn joined(alloc: Global, items: &Items<Text>) -> Result<String, Fail> {
+    let mut joined = String::new(alloc);
+    for text in items {
+        joined.push_str(text.as_str())?;
+    }
+    Ok(joined)
+}
+
 #[test]
 fn compares_and_walks_items(rt: HostRuntime) -> Result<(), Fail> {
     let items = Items::from(two_texts(rt.alloc())?);
@@ -40,55 +49,70 @@ fn compares_and_walks_items(rt: HostRuntime) -> Result<(), Fail> {
     assert!(rt; items != Items::new(rt.alloc()));
     assert_eq!(rt; items.len(), 2);
     assert!(rt; !items.is_empty());
-    let mut joined = String::new(rt.alloc());
-    for text in &items {
-        joined.push_str(text.as_str())?;
-    }
-    assert_eq!(rt; joined.as_str(), "ab");
+    assert_eq!(rt; joined(rt.alloc(), &items)?.as_str(), "ab");
     Ok(())
 }
 
-/// A map of one key and one value.
-fn map_of(alloc: Global, key: &str, value: u8) -> Result<TextMap<u8>, NoMemory> {
+/// A map into which these were put, one after another.
+fn map_of(alloc: Global, puts: &[(&str, u8)]) -> Result<TextMap<u8>, NoMemory> {
     let mut map = TextMap::new(alloc);
-    map.insert(String::from_str(alloc, key)?, value)?;
+    for (key, value) in puts {
+        map.insert(String::from_str(alloc, key)?, *value)?;
+    }
     Ok(map)
 }
 
 #[test]
 fn compares_maps(rt: HostRuntime) -> Result<(), Fail> {
-    let map = map_of(rt.alloc(), "a", 1)?;
-    assert!(rt; map == map_of(rt.alloc(), "a", 1)?);
-    assert!(rt; map != map_of(rt.alloc(), "a", 2)?);
-    assert!(rt; map != map_of(rt.alloc(), "b", 1)?);
+    let map = map_of(rt.alloc(), &[("a", 1)])?;
+    assert!(rt; map == map_of(rt.alloc(), &[("a", 1)])?);
+    assert!(rt; map != map_of(rt.alloc(), &[("a", 2)])?);
+    assert!(rt; map != map_of(rt.alloc(), &[("b", 1)])?);
     assert!(rt; !map.is_empty());
     assert!(rt; TextMap::<u8>::new(rt.alloc()).is_empty());
     assert_eq!(rt; map.into_map().len(), 1);
     Ok(())
 }
 
-#[test]
-fn keeps_maps(rt: HostRuntime) -> Result<(), Fail> {
-    let mut map = TextMap::new(rt.alloc());
-    for (key, value) in [("b", 2), ("a", 1), ("b", 3)] {
-        map.insert(String::from_str(rt.alloc(), key)?, value)?;
-    }
-    assert_eq!(rt; map.get("b"), Some(&3));
-    let entries = map.entries(rt.alloc())?;
-    for (entry, wanted) in entries.iter().zip([("a", 1), ("b", 3)]) {
+/// What the maps below are made of.
+const PUTS: &[(&str, u8)] = &[("b", 2), ("a", 1), ("b", 3)];
+
+fn is_value(rt: &impl Abort, value: Option<u8>, wanted: Option<u8>, why: &str) {
+    assert_eq!(rt; value, wanted, "{why}");
+}
+
+fn has(rt: &impl Abort, map: &TextMap<u8>, key: &str, wanted: Option<u8>) {
+    is_value(rt, map.get(key).copied(), wanted, key);
+}
+
+fn are_entries(rt: &impl Abort, entries: &[(&str, &u8)], wanted: &[(&str, u8)]) {
+    for (entry, wanted) in entries.iter().zip(wanted) {
         assert_eq!(rt; entry.0, wanted.0);
         assert_eq!(rt; *entry.1, wanted.1);
     }
-    drop(entries);
+}
+
+#[test]
+fn keeps_maps(rt: HostRuntime) -> Result<(), Fail> {
+    let map = map_of(rt.alloc(), PUTS)?;
+    has(&rt, &map, "b", Some(3));
+    let entries = map.entries(rt.alloc())?;
+    are_entries(&rt, &entries, &[("a", 1), ("b", 3)]);
     assert_eq!(rt; map.as_map().len(), 2);
-    assert_eq!(rt; map.replace("b", 4), Some(3));
-    assert_eq!(rt; map.replace("c", 5), None);
-    assert_eq!(rt; map.get("c"), None);
-    assert_eq!(rt; map.remove("b"), Some(4));
-    assert_eq!(rt; map.get("b"), None);
-    map.clear();
-    assert_eq!(rt; map.get("a"), None);
     let empty: TextMap<u8> = TextMap::from_map(BTreeMap::new(rt.alloc()));
-    assert_eq!(rt; empty.get("a"), None);
+    has(&rt, &empty, "a", None);
+    Ok(())
+}
+
+#[test]
+fn changes_maps(rt: HostRuntime) -> Result<(), Fail> {
+    let mut map = map_of(rt.alloc(), PUTS)?;
+    is_value(&rt, map.replace("b", 4), Some(3), "what b had");
+    is_value(&rt, map.replace("c", 5), None, "c isn't there");
+    has(&rt, &map, "c", None);
+    is_value(&rt, map.remove("b"), Some(4), "what b had then");
+    has(&rt, &map, "b", None);
+    map.clear();
+    has(&rt, &map, "a", None);
     Ok(())
 }

@@ -1,4 +1,5 @@
 //! Lines that are read, written, folded and joined again.
+use crate::tests::is_text;
 use base_types::{Items, Part, Text};
 use std::test::Fail;
 use vcard_lines::{
@@ -14,48 +15,62 @@ const LONG: (&str, &str) = (
      zum Ende\r\n",
 );
 
+/// The faults, and their numbers.
+const FAULTS: &[(CardFault, u8)] = &[
+    (CardFault::TooLong, 1),
+    (CardFault::NotUtf8, 2),
+    (CardFault::BadChar, 3),
+    (CardFault::BadLine, 4),
+    (CardFault::NoBegin, 5),
+    (CardFault::BadVersion, 6),
+    (CardFault::NoEnd, 7),
+    (CardFault::NoName, 8),
+    (CardFault::NoUid, 9),
+    (CardFault::BadUid, 10),
+    (CardFault::Twice, 11),
+    (CardFault::MemberOutsideGroup, 12),
+    (CardFault::Memory, 13),
+];
+
+/// Texts that are no lines, and why.
+const REFUSED: &[(&str, CardFault)] = &[
+    ("TEL", CardFault::BadLine),
+    (".TEL:1", CardFault::BadLine),
+    ("TEL;TYPE:1", CardFault::BadLine),
+    ("TEL:\u{7F}", CardFault::BadChar),
+    ("T\u{1}L", CardFault::BadChar),
+];
+
 #[test]
 fn numbers_faults(rt: HostRuntime) {
-    let faults = [
-        (CardFault::TooLong, 1),
-        (CardFault::NotUtf8, 2),
-        (CardFault::BadChar, 3),
-        (CardFault::BadLine, 4),
-        (CardFault::NoBegin, 5),
-        (CardFault::BadVersion, 6),
-        (CardFault::NoEnd, 7),
-        (CardFault::NoName, 8),
-        (CardFault::NoUid, 9),
-        (CardFault::BadUid, 10),
-        (CardFault::Twice, 11),
-        (CardFault::MemberOutsideGroup, 12),
-        (CardFault::Memory, 13),
-    ];
-    for (fault, number) in faults {
-        assert_eq!(rt; fault.number(), number);
+    for (fault, number) in FAULTS {
+        assert_eq!(rt; fault.number(), *number);
     }
 }
 
 #[test]
 fn reads_and_writes_lines(rt: HostRuntime) -> Result<(), Fail> {
     let line = read_line(rt.alloc(), "item1.Tel;TYPE=a,\"b;\";PREF=1:+1;2")?;
-    assert_eq!(rt; line.name.as_str(), "TEL");
-    assert_eq!(rt; line.value.as_str(), "+1;2");
+    is_text(&rt, line.name.as_str(), "TEL", "the name");
+    is_text(&rt, line.value.as_str(), "+1;2", "the value");
     let mut text = String::from_str(rt.alloc(), "before")?;
     write_line(&mut text, &line)?;
-    assert_eq!(rt; text.as_str(), "item1.TEL;TYPE=a,\"b;\";PREF=1:+1;2");
+    is_text(
+        &rt,
+        text.as_str(),
+        "item1.TEL;TYPE=a,\"b;\";PREF=1:+1;2",
+        "the line",
+    );
     assert_eq!(rt; folded_line_len(&line), text.len() + 2);
     assert_eq!(rt; line.try_copy()?.is_same(&line), true);
-    for (text, fault) in [
-        ("TEL", CardFault::BadLine),
-        (".TEL:1", CardFault::BadLine),
-        ("TEL;TYPE:1", CardFault::BadLine),
-        ("TEL:\u{7F}", CardFault::BadChar),
-        ("T\u{1}L", CardFault::BadChar),
-    ] {
-        assert_eq!(rt; read_line(rt.alloc(), text).err(), Some(fault), "{text}");
-    }
     Ok(())
+}
+
+#[test]
+fn refuses_lines(rt: HostRuntime) {
+    for (text, fault) in REFUSED {
+        assert_eq!(rt; read_line(rt.alloc(), text).err(), Some(*fault), "{text}");
+    }
 }
 
 #[test]
@@ -80,21 +95,27 @@ fn judges_parts(rt: HostRuntime) -> Result<(), Fail> {
 }
 
 #[test]
-fn folds_and_joins(rt: HostRuntime) -> Result<(), Fail> {
+fn folds(rt: HostRuntime) -> Result<(), Fail> {
     let (line, folded) = LONG;
     let mut text = String::new(rt.alloc());
     write_folded(&mut text, line)?;
-    assert_eq!(rt; text.as_str(), folded);
+    is_text(&rt, text.as_str(), folded, "the folding");
     assert_eq!(rt; folded_len(line), folded.len());
-    let mut joined = String::new(rt.alloc());
-    let mut pieces = text.lines();
+    Ok(())
+}
+
+#[test]
+fn joins(rt: HostRuntime) -> Result<(), Fail> {
+    let (line, folded) = LONG;
+    let mut pieces = folded.lines();
     let first = pieces.next().ok_or("no line")?;
     assert_eq!(rt; first.len(), 75);
+    let mut joined = String::new(rt.alloc());
     for piece in pieces {
         if continues(piece) {
             join(first, &mut joined, piece)?;
         }
     }
-    assert_eq!(rt; line_so_far(first, &joined), line);
+    is_text(&rt, line_so_far(first, &joined), line, "the line");
     Ok(())
 }

@@ -1,11 +1,12 @@
 //! Small shapes of cards, each with what the group `g` comes to.
-use super::{card_of, cards_of, told};
+use super::{card_of, cards_of, is_told};
+use crate::tests::is_text;
 use card_core::{GroupFault, expand};
 use std::collections::BTreeMap;
 use std::test::Fail;
 
 /// Why, the cards, and what is told of `g`.
-pub(super) const EXAMPLES: [(&str, &str, &str); 24] = [
+pub(super) const EXAMPLES: &[(&str, &str, &str)] = &[
     (
         "groups in a circle",
         "g group g2 urn:uuid:x nobody; g2 group g y; x individual; y individual",
@@ -124,25 +125,26 @@ pub(super) const EXAMPLES: [(&str, &str, &str); 24] = [
 fn tells_whom_a_group_reaches(rt: HostRuntime) -> Result<(), Fail> {
     for (why, shape, wanted) in EXAMPLES {
         let cards = cards_of(rt.alloc(), shape)?;
-        let told = told(rt.alloc(), &cards, "g")?;
-        assert_eq!(rt; told.as_str(), wanted, "{why}");
+        is_told(&rt, rt.alloc(), &cards, "g", wanted, why)?;
     }
     Ok(())
 }
+
+/// UIDs that are asked for, and what is told of them.
+const UIDS: &[(&str, &str)] = &[
+    ("urn:uuid:g", "no card has the UID"),
+    ("G", "no card has the UID"),
+    ("", "no card has the UID"),
+    ("x", "the card isn't a group"),
+    ("g", "people x, missing"),
+];
 
 /// The UID that is asked for is a UID, and not a member's value.
 #[test]
 fn takes_urn_off_members_alone(rt: HostRuntime) -> Result<(), Fail> {
     let cards = cards_of(rt.alloc(), "g group x; x individual")?;
-    for (uid, wanted) in [
-        ("urn:uuid:g", "no card has the UID"),
-        ("G", "no card has the UID"),
-        ("", "no card has the UID"),
-        ("x", "the card isn't a group"),
-        ("g", "people x, missing"),
-    ] {
-        let told = told(rt.alloc(), &cards, uid)?;
-        assert_eq!(rt; told.as_str(), wanted, "{uid}");
+    for (uid, wanted) in UIDS {
+        is_told(&rt, rt.alloc(), &cards, uid, wanted, uid)?;
     }
     Ok(())
 }
@@ -166,7 +168,7 @@ fn says_faults(rt: HostRuntime) -> Result<(), Fail> {
         (GroupFault::Memory, "no memory"),
     ] {
         let text = format!(in rt.alloc(); "{fault}")?;
-        assert_eq!(rt; text.as_str(), wanted);
+        is_text(&rt, text.as_str(), wanted, "a fault");
     }
     Ok(())
 }

@@ -1,5 +1,5 @@
 //! Cards that stand elsewhere than in a map of cards.
-use super::{cards_of, told};
+use super::{cards_of, is_told};
 use card_core::CardsByUid;
 use std::collections::BTreeMap;
 use std::test::Fail;
@@ -29,9 +29,12 @@ fn a_group_is_expanded_over_any_lookup(rt: HostRuntime) -> Result<(), Fail> {
         "g group x h nobody; h group y; x individual; y individual",
     )?;
     let borrowed = Borrowed { cards: &cards };
-    assert_eq!(rt;
-        told(alloc, &borrowed, "g")?.as_str(),
-        "people x y, missing nobody"
-    );
-    Ok(())
+    is_told(
+        &rt,
+        alloc,
+        &borrowed,
+        "g",
+        "people x y, missing nobody",
+        "borrowed cards",
+    )
 }
