@@ -1,5 +1,8 @@
 //! Each call of a store in memory once, where there is memory enough. What calls answer in which
 //! order is tried by the scripts of `book_service`.
+use super::answers::{
+    is_counted, is_created, is_got, is_moved, is_no_report, is_put, is_removed, is_reported,
+};
 use super::{card, changed, mark, page_of_one, removed, token};
 use book_model::decisions::is_book_name;
 use book_model::{
@@ -46,7 +49,7 @@ const CLIENTS: Tally = Tally {
 };
 
 /// The puts of Ann, Bob and Cy, and of Ann as Anna, each with its answer.
-const PUTS: [(&str, &str, PutAnswer); 4] = [
+const PUTS: &[(&str, &str, PutAnswer)] = &[
     ("a", "Ann", PutAnswer::Created { version: 1 }),
     ("b", "Bob", PutAnswer::Created { version: 2 }),
     ("c", "Cy", PutAnswer::Created { version: 3 }),
@@ -55,26 +58,22 @@ const PUTS: [(&str, &str, PutAnswer); 4] = [
 
 /// The puts come to the new book `staff`, and Bob goes.
 fn five_changes<S: BookStore>(rt: &impl Abort, alloc: Global, store: &mut S) -> Result<(), Fail> {
-    assert_eq!(rt; store.create_book("staff"), Ok(1));
+    is_created(rt, store, "staff", 1);
     for (uid, name, answer) in PUTS {
-        let card = card(alloc, uid, name)?;
-        assert_eq!(rt; store.put("staff", &card, None), Ok(answer), "{uid} {name}");
+        is_put(rt, alloc, store, "staff", uid, name, *answer)?;
     }
-    assert_eq!(rt; store.remove("staff", "b", None), Ok(5));
+    is_removed(rt, store, "staff", "b", 5);
     Ok(())
 }
 
 /// Then Cy moves to the new book `clients`.
 fn a_move<S: BookStore>(rt: &impl Abort, store: &mut S) {
-    assert_eq!(rt; store.create_book("clients"), Ok(2));
+    is_created(rt, store, "clients", 2);
     let moved = Moved {
         from: 6,
         version: 1,
     };
-    assert_eq!(rt;
-        store.move_card("staff", "clients", "c", Some(3)),
-        Ok(moved)
-    );
+    is_moved(rt, store, ("staff", "clients"), "c", Some(3), moved);
 }
 
 fn stored(alloc: Global, version: u64, uid: &str, name: &str) -> Result<Stored, Fail> {
@@ -97,28 +96,30 @@ fn last_page(alloc: Global) -> Result<Page, Fail> {
     page_of_one(alloc, removed(alloc, "b")?, mark(5, 5), false)
 }
 
-/// What is told of the cards after five changes.
-fn cards_are_told<S: BookStore>(rt: &impl Abort, alloc: Global, store: &mut S) -> Result<(), Fail> {
+/// All cards after five changes.
+fn all_cards_are_told<S: BookStore>(
+    rt: &impl Abort,
+    alloc: Global,
+    store: &mut S,
+) -> Result<(), Fail> {
     let anna = stored(alloc, 4, "a", "Anna")?;
     let cy = stored(alloc, 3, "c", "Cy")?;
     let cards = store.cards("staff")?;
     assert_eq!(rt; cards.len(), 2);
     assert_eq!(rt; cards.get("a"), Some(&anna));
     assert_eq!(rt; cards.get("c"), Some(&cy));
-    assert_eq!(rt; store.get("staff", "a"), Ok(anna));
-    let page = store.report("staff", token(1, 4, 4), None)?;
-    assert_eq!(rt; page, last_page(alloc)?);
     Ok(())
 }
 
-/// What is told of the books after five changes.
-fn books_are_told<S: BookStore>(rt: &impl Abort, alloc: Global, store: &mut S) -> Result<(), Fail> {
-    let line = staff_line(alloc)?;
+/// All books after five changes.
+fn all_books_are_told<S: BookStore>(
+    rt: &impl Abort,
+    alloc: Global,
+    store: &mut S,
+) -> Result<(), Fail> {
     let lines = store.books()?;
     assert_eq!(rt; lines.len(), 1);
-    assert_eq!(rt; lines[0], line);
-    assert_eq!(rt; store.book("staff"), Ok(line));
-    assert_eq!(rt; store.tally("staff"), Ok(STAFF));
+    assert_eq!(rt; lines[0], staff_line(alloc)?);
     Ok(())
 }
 
@@ -129,10 +130,14 @@ fn calls_are_answered<S: BookStore>(
     store: &mut S,
 ) -> Result<(), Fail> {
     five_changes(rt, alloc, store)?;
-    cards_are_told(rt, alloc, store)?;
-    books_are_told(rt, alloc, store)?;
+    all_cards_are_told(rt, alloc, store)?;
+    is_got(rt, store, "staff", "a", stored(alloc, 4, "a", "Anna")?);
+    is_reported(rt, store, "staff", token(1, 4, 4), None, last_page(alloc)?)?;
+    all_books_are_told(rt, alloc, store)?;
+    assert_eq!(rt; store.book("staff"), Ok(staff_line(alloc)?));
+    is_counted(rt, store, "staff", STAFF);
     a_move(rt, store);
-    assert_eq!(rt; store.tally("clients"), Ok(CLIENTS));
+    is_counted(rt, store, "clients", CLIENTS);
     Ok(())
 }
 
@@ -144,40 +149,49 @@ fn each_call_of_a_store_in_memory_is_answered(rt: HostRuntime) -> Result<(), Fai
 
 /// What no command asks of a new store: a token whose numbers are in the wrong order, and a book by
 /// itself.
-fn rare_calls_are_refused<S: BookStore>(rt: &impl Abort, store: &mut S) -> Result<(), Fail> {
-    store.create_book("staff")?;
+fn rare_calls_are_refused<S: BookStore>(rt: &impl Abort, store: &mut S) {
+    is_created(rt, store, "staff", 1);
     let no_book = Denied::Refused(Refusal::NoSuchBook);
     assert_eq!(rt; store.book("clients").err(), Some(no_book));
     assert_eq!(rt; store.cards("clients").err(), Some(no_book));
-    let too_new = Denied::Refused(Refusal::BadToken(TokenCause::TooNew));
-    assert_eq!(rt;
-        store.report("staff", token(1, 1, 0), None).err(),
-        Some(too_new)
-    );
-    Ok(())
+    let too_new = Refusal::BadToken(TokenCause::TooNew);
+    is_no_report(rt, store, "staff", token(1, 1, 0), too_new);
 }
 
 #[test]
-fn calls_that_no_command_makes_are_refused(rt: HostRuntime) -> Result<(), Fail> {
+fn calls_that_no_command_makes_are_refused(rt: HostRuntime) {
     let mut store = PlainStore::new(rt.alloc(), Limits::standard());
-    rare_calls_are_refused(&rt, &mut store)
+    rare_calls_are_refused(&rt, &mut store);
 }
+
+/// Texts, and whether they are names of books.
+const NAMES: &[(&str, bool)] = &[
+    ("", false),
+    ("Staff", false),
+    ("our staff", false),
+    ("staff.1", false),
+    ("büro", false),
+    ("aaaaaaaaaabbbbbbbbbbccccccccccddddddddddx", false),
+    ("aaaaaaaaaabbbbbbbbbbccccccccccdddddddddd", true),
+    ("-", true),
+    ("a-0", true),
+];
 
 #[test]
 fn names_are_1_to_40_small_letters_digits_and_hyphens(rt: HostRuntime) {
-    for (name, is_name) in [
-        ("", false),
-        ("Staff", false),
-        ("our staff", false),
-        ("staff.1", false),
-        ("büro", false),
-        ("aaaaaaaaaabbbbbbbbbbccccccccccddddddddddx", false),
-        ("aaaaaaaaaabbbbbbbbbbccccccccccdddddddddd", true),
-        ("-", true),
-        ("a-0", true),
-    ] {
-        assert_eq!(rt; is_book_name(name), is_name, "{name}");
+    for (name, is_name) in NAMES {
+        assert_eq!(rt; is_book_name(name), *is_name, "{name}");
     }
+}
+
+/// What is removed is forgotten up to a number, which isn't below the horizon nor past the changes.
+fn is_forgotten<S: BookStore>(
+    rt: &impl Abort,
+    store: &mut S,
+    upto: u64,
+    dropped: Result<u64, Denied>,
+) {
+    assert_eq!(rt; store.forget("staff", upto), dropped, "{upto}");
 }
 
 /// After five changes what is removed is forgotten, and the horizon only rises, up to the number.
@@ -187,30 +201,31 @@ fn removed_members_are_forgotten(rt: HostRuntime) -> Result<(), Fail> {
     let mut store = PlainStore::new(alloc, Limits::standard());
     five_changes(&rt, alloc, &mut store)?;
     let too_far = Denied::Refused(Refusal::BadForget);
-    for (upto, dropped) in [(5, Ok(1)), (5, Ok(0)), (6, Err(too_far)), (4, Err(too_far))] {
-        assert_eq!(rt; store.forget("staff", upto), dropped, "{upto}");
-    }
+    is_forgotten(&rt, &mut store, 5, Ok(1));
+    is_forgotten(&rt, &mut store, 5, Ok(0));
+    is_forgotten(&rt, &mut store, 6, Err(too_far));
+    is_forgotten(&rt, &mut store, 4, Err(too_far));
     let forgotten = Tally {
         horizon: 5,
         remembered: 0,
         ..STAFF
     };
-    assert_eq!(rt; store.tally("staff"), Ok(forgotten));
-    assert_eq!(rt;
-        store.report("staff", token(1, 4, 4), None).err(),
-        Some(Denied::Refused(Refusal::BadToken(TokenCause::TooOld)))
-    );
-    let cy = changed(alloc, 3, "c", "Cy")?;
-    assert_eq!(rt;
-        store.report("staff", None, Some(1))?,
-        page_of_one(alloc, cy, mark(3, 5), true)?
-    );
-    let anna = changed(alloc, 4, "a", "Anna")?;
-    assert_eq!(rt;
-        store.report("staff", token(1, 3, 5), None)?,
-        page_of_one(alloc, anna, mark(5, 5), false)?
-    );
-    Ok(())
+    is_counted(&rt, &mut store, "staff", forgotten);
+    pages_leave_out_the_forgotten(&rt, alloc, &mut store)
+}
+
+/// What is reported where all of the five changes that removed a member are forgotten.
+fn pages_leave_out_the_forgotten<S: BookStore>(
+    rt: &impl Abort,
+    alloc: Global,
+    store: &mut S,
+) -> Result<(), Fail> {
+    let too_old = Refusal::BadToken(TokenCause::TooOld);
+    is_no_report(rt, store, "staff", token(1, 4, 4), too_old);
+    let cy = page_of_one(alloc, changed(alloc, 3, "c", "Cy")?, mark(3, 5), true)?;
+    is_reported(rt, store, "staff", None, Some(1), cy)?;
+    let anna = page_of_one(alloc, changed(alloc, 4, "a", "Anna")?, mark(5, 5), false)?;
+    is_reported(rt, store, "staff", token(1, 3, 5), None, anna)
 }
 
 /// No book has imports, and a key is letters, digits, dots, underscores and hyphens.

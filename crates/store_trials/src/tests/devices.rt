@@ -133,14 +133,20 @@ fn without_a_token_a_page_empties_the_copy(rt: HostRuntime) -> Result<(), Fail> 
     hears(&rt, alloc, &mut device, &PAGE_OF_RESTART)
 }
 
+/// The device applies the row's page.
+fn apply(alloc: Global, device: &mut Device, row: &Row) -> Result<(), Fail> {
+    device.apply(&page(alloc, row)?)?;
+    Ok(())
+}
+
 #[test]
 fn devices_that_heard_the_same_are_equal(rt: HostRuntime) -> Result<(), Fail> {
     let alloc = rt.alloc();
     let mut device = Device::new(alloc, "staff")?;
     let mut other = Device::new(alloc, "staff")?;
-    device.apply(&page(alloc, &PAGE_OF_RESTART)?)?;
+    apply(alloc, &mut device, &PAGE_OF_RESTART)?;
     assert_eq!(rt; device == other, false);
-    other.apply(&page(alloc, &PAGE_OF_RESTART)?)?;
+    apply(alloc, &mut other, &PAGE_OF_RESTART)?;
     assert_eq!(rt; device, other);
     other.restart();
     assert_eq!(rt; device == other, false);

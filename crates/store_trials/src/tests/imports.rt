@@ -4,9 +4,11 @@ ghost use Rattle.std.specs.List.{list_all};
 ghost use Rattle.vcard_text.specs.Cards.{uid_of};
 ghost use Rattle.book_model.specs.ImportLaws.{HaveDistinctUids};
 
+use super::answers::{is_counted, is_got};
 use super::card;
-use book_model::{Denied, ImportTally, Limits, Refusal, Tally};
+use book_model::{Denied, ImportTally, Limits, Refusal, Stored, Tally};
 use std::alloc::Global;
+use std::process::Abort;
 use std::test::Fail;
 use sync_core::{BookStore, PlainStore};
 use vcard_text::Card;
@@ -91,23 +93,51 @@ fn store_within(alloc: Global, cards_max: u64, changes_max: u64) -> Result<Plain
     Ok(store)
 }
 
+/// The import of the people is answered so.
+fn is_imported(
+    rt: &impl Abort,
+    alloc: Global,
+    store: &mut PlainStore,
+    key: &str,
+    people: &[(&str, &str)],
+    answer: Result<ImportTally, Denied>,
+) -> Result<(), Fail> {
+    assert_eq!(rt; import(alloc, store, key, people)?, answer, "{key}");
+    Ok(())
+}
+
+fn is_kept(rt: &impl Abort, store: &mut PlainStore, kept: Option<ImportTally>) {
+    assert_eq!(rt; store.kept_import("staff", "k1"), Ok(kept));
+}
+
 #[test]
 fn an_import_under_a_kept_key_acts_once(rt: HostRuntime) -> Result<(), Fail> {
     let alloc = rt.alloc();
     let mut store = store_within(alloc, 10_000, 1_000)?;
-    assert_eq!(rt; import(alloc, &mut store, "k1", &THREE)?, Ok(THREE_ADDED));
-    assert_eq!(rt;
-        import(alloc, &mut store, "k1", &THREE_MORE)?,
-        Ok(THREE_ADDED)
-    );
-    assert_eq!(rt; store.kept_import("staff", "k1"), Ok(Some(THREE_ADDED)));
+    is_imported(&rt, alloc, &mut store, "k1", &THREE, Ok(THREE_ADDED))?;
+    is_imported(&rt, alloc, &mut store, "k1", &THREE_MORE, Ok(THREE_ADDED))?;
+    is_kept(&rt, &mut store, Some(THREE_ADDED));
     let three = Tally {
         number: 3,
         cards: 3,
         imported: 3,
         ..NO_CHANGES
     };
-    assert_eq!(rt; store.tally("staff"), Ok(three));
+    is_counted(&rt, &mut store, "staff", three);
+    Ok(())
+}
+
+/// The card of the UID and name is stored with the version.
+fn is_stored(
+    rt: &impl Abort,
+    alloc: Global,
+    store: &mut PlainStore,
+    uid: &str,
+    name: &str,
+    version: u64,
+) -> Result<(), Fail> {
+    let card = card(alloc, uid, name)?;
+    is_got(rt, store, "staff", uid, Stored { version, card });
     Ok(())
 }
 
@@ -115,14 +145,14 @@ fn an_import_under_a_kept_key_acts_once(rt: HostRuntime) -> Result<(), Fail> {
 fn cards_are_added_edited_or_the_same(rt: HostRuntime) -> Result<(), Fail> {
     let alloc = rt.alloc();
     let mut store = store_within(alloc, 10_000, 1_000)?;
-    assert_eq!(rt; import(alloc, &mut store, "k1", &THREE)?, Ok(THREE_ADDED));
+    is_imported(&rt, alloc, &mut store, "k1", &THREE, Ok(THREE_ADDED))?;
     let one_each = ImportTally {
         added: 1,
         edited: 1,
         same: 1,
         number: 5,
     };
-    assert_eq!(rt; import(alloc, &mut store, "k2", &THREE_MORE)?, Ok(one_each));
+    is_imported(&rt, alloc, &mut store, "k2", &THREE_MORE, Ok(one_each))?;
     let four = Tally {
         number: 5,
         cards: 4,
@@ -130,13 +160,10 @@ fn cards_are_added_edited_or_the_same(rt: HostRuntime) -> Result<(), Fail> {
         import_edited: 1,
         ..NO_CHANGES
     };
-    assert_eq!(rt; store.tally("staff"), Ok(four));
-    for (uid, name, version) in [("p", "Pat Lee", 1), ("q", "Quinn", 4), ("s", "Sy", 5)] {
-        let stored = store.get("staff", uid)?;
-        assert_eq!(rt; stored.version, version, "{uid}");
-        assert_eq!(rt; stored.card, card(alloc, uid, name)?, "{uid}");
-    }
-    Ok(())
+    is_counted(&rt, &mut store, "staff", four);
+    is_stored(&rt, alloc, &mut store, "p", "Pat Lee", 1)?;
+    is_stored(&rt, alloc, &mut store, "q", "Quinn", 4)?;
+    is_stored(&rt, alloc, &mut store, "s", "Sy", 5)
 }
 
 #[test]
@@ -149,28 +176,32 @@ fn an_import_of_no_cards_is_kept_and_takes_no_number(rt: HostRuntime) -> Result<
         same: 0,
         number: 0,
     };
-    assert_eq!(rt; import(alloc, &mut store, "k1", &[])?, Ok(nothing));
-    assert_eq!(rt; store.tally("staff"), Ok(NO_CHANGES));
-    assert_eq!(rt; import(alloc, &mut store, "k1", &THREE)?, Ok(nothing));
-    Ok(())
+    is_imported(&rt, alloc, &mut store, "k1", &[], Ok(nothing))?;
+    is_counted(&rt, &mut store, "staff", NO_CHANGES);
+    is_imported(&rt, alloc, &mut store, "k1", &THREE, Ok(nothing))
 }
 
 /// A refused import changes nothing, and its key isn't kept.
+fn is_beyond(
+    rt: &impl Abort,
+    alloc: Global,
+    cards_max: u64,
+    changes_max: u64,
+    refusal: Refusal,
+) -> Result<(), Fail> {
+    let mut store = store_within(alloc, cards_max, changes_max)?;
+    let refused = Err(Denied::Refused(refusal));
+    is_imported(rt, alloc, &mut store, "k1", &THREE, refused)?;
+    is_kept(rt, &mut store, None);
+    is_counted(rt, &mut store, "staff", NO_CHANGES);
+    Ok(())
+}
+
 #[test]
 fn imports_beyond_a_limit_are_refused(rt: HostRuntime) -> Result<(), Fail> {
-    let alloc = rt.alloc();
-    for (cards_max, changes_max, refusal) in [
-        (2, 2, Refusal::BookFull),
-        (2, 3, Refusal::BookFull),
-        (3, 2, Refusal::ChangesSpent),
-    ] {
-        let mut store = store_within(alloc, cards_max, changes_max)?;
-        let refused = import(alloc, &mut store, "k1", &THREE)?;
-        assert_eq!(rt; refused, Err(Denied::Refused(refusal)));
-        assert_eq!(rt; store.kept_import("staff", "k1"), Ok(None));
-        assert_eq!(rt; store.tally("staff"), Ok(NO_CHANGES));
-    }
-    Ok(())
+    is_beyond(&rt, rt.alloc(), 2, 2, Refusal::BookFull)?;
+    is_beyond(&rt, rt.alloc(), 2, 3, Refusal::BookFull)?;
+    is_beyond(&rt, rt.alloc(), 3, 2, Refusal::ChangesSpent)
 }
 
 /// A full book that took all its changes takes the same cards again.
@@ -178,19 +209,18 @@ fn imports_beyond_a_limit_are_refused(rt: HostRuntime) -> Result<(), Fail> {
 fn imports_up_to_the_limits_are_done(rt: HostRuntime) -> Result<(), Fail> {
     let alloc = rt.alloc();
     let mut store = store_within(alloc, 3, 3)?;
-    assert_eq!(rt; import(alloc, &mut store, "k1", &THREE)?, Ok(THREE_ADDED));
+    is_imported(&rt, alloc, &mut store, "k1", &THREE, Ok(THREE_ADDED))?;
     let same = ImportTally {
         added: 0,
         edited: 0,
         same: 3,
         number: 3,
     };
-    assert_eq!(rt; import(alloc, &mut store, "k2", &THREE)?, Ok(same));
-    let full = import(alloc, &mut store, "k3", &THREE_MORE)?;
-    assert_eq!(rt; full, Err(Denied::Refused(Refusal::BookFull)));
-    let spent = import(alloc, &mut store, "k3", &[("p", "Pat")])?;
-    assert_eq!(rt; spent, Err(Denied::Refused(Refusal::ChangesSpent)));
-    Ok(())
+    is_imported(&rt, alloc, &mut store, "k2", &THREE, Ok(same))?;
+    let full = Err(Denied::Refused(Refusal::BookFull));
+    is_imported(&rt, alloc, &mut store, "k3", &THREE_MORE, full)?;
+    let spent = Err(Denied::Refused(Refusal::ChangesSpent));
+    is_imported(&rt, alloc, &mut store, "k3", &[("p", "Pat")], spent)
 }
 
 #[test]

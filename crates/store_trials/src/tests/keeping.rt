@@ -1,6 +1,7 @@
 //! What a book drops by itself where it keeps one removed member.
-use super::{card, changed, mark, page_of_one, removed, token};
-use book_model::{Denied, Limits, Moved, PutAnswer, Refusal, TokenCause};
+use super::answers::{is_created, is_moved, is_no_report, is_put, is_removed, is_reported};
+use super::{changed, mark, page_of_one, removed, token};
+use book_model::{Limits, Moved, PutAnswer, Refusal, TokenCause};
 use std::alloc::Global;
 use std::process::Abort;
 use std::test::Fail;
@@ -11,26 +12,31 @@ use sync_core::{BookStore, PlainStore};
 fn desk(rt: &impl Abort, alloc: Global) -> Result<PlainStore, Fail> {
     let limits = Limits::standard().with_keep(1).ok_or("no keep")?;
     let mut store = PlainStore::new(alloc, limits);
-    assert_eq!(rt; store.create_book("desk"), Ok(1));
-    assert_eq!(rt; store.create_book("shelf"), Ok(2));
+    is_created(rt, &mut store, "desk", 1);
+    is_created(rt, &mut store, "shelf", 2);
     for (uid, name, version) in [("a", "Ann", 1), ("b", "Bob", 2), ("c", "Cy", 3)] {
-        let card = card(alloc, uid, name)?;
         let created = PutAnswer::Created { version };
-        assert_eq!(rt; store.put("desk", &card, None), Ok(created));
+        is_put(rt, alloc, &mut store, "desk", uid, name, created)?;
     }
     Ok(store)
 }
 
 /// The horizon of `desk`, how many removed members it remembers, and how many were deleted and
 /// moved away.
-fn desk_in_numbers<S: BookStore>(store: &mut S) -> Result<(u64, u64, u64, u64), Fail> {
+fn is_desk<S: BookStore>(
+    rt: &impl Abort,
+    store: &mut S,
+    wanted: (u64, u64, u64, u64),
+) -> Result<(), Fail> {
     let tally = store.tally("desk")?;
-    Ok((
+    let numbers = (
         tally.horizon,
         tally.remembered,
         tally.deleted,
         tally.moved_out,
-    ))
+    );
+    assert_eq!(rt; numbers, wanted);
+    Ok(())
 }
 
 /// After two cards left `desk`, by the changes 4 and 5, the first of them is dropped. So are the
@@ -40,35 +46,26 @@ fn the_first_is_dropped<S: BookStore>(
     alloc: Global,
     store: &mut S,
 ) -> Result<(), Fail> {
-    let too_old = Denied::Refused(Refusal::BadToken(TokenCause::TooOld));
-    for at in [1, 3] {
-        let token = token(1, at, 3);
-        assert_eq!(rt; store.report("desk", token, None).err(), Some(too_old));
-    }
-    assert_eq!(rt;
-        store.report("desk", token(1, 4, 4), None)?,
-        page_of_one(alloc, removed(alloc, "b")?, mark(5, 5), false)?
-    );
-    Ok(())
+    let too_old = Refusal::BadToken(TokenCause::TooOld);
+    is_no_report(rt, store, "desk", token(1, 1, 3), too_old);
+    is_no_report(rt, store, "desk", token(1, 3, 3), too_old);
+    let second = page_of_one(alloc, removed(alloc, "b")?, mark(5, 5), false)?;
+    is_reported(rt, store, "desk", token(1, 4, 4), None, second)
 }
 
 #[test]
 fn a_removal_drops_the_one_that_lies_longest_back(rt: HostRuntime) -> Result<(), Fail> {
     let alloc = rt.alloc();
     let mut store = desk(&rt, alloc)?;
-    let ann = changed(alloc, 1, "a", "Ann")?;
-    assert_eq!(rt;
-        store.report("desk", None, Some(1))?,
-        page_of_one(alloc, ann, mark(1, 3), true)?
-    );
-    assert_eq!(rt; store.remove("desk", "a", None), Ok(4));
-    assert_eq!(rt; desk_in_numbers(&mut store)?, (0, 1, 1, 0));
-    assert_eq!(rt; store.remove("desk", "b", None), Ok(5));
-    assert_eq!(rt; desk_in_numbers(&mut store)?, (4, 1, 2, 0));
+    let ann = page_of_one(alloc, changed(alloc, 1, "a", "Ann")?, mark(1, 3), true)?;
+    is_reported(&rt, &mut store, "desk", None, Some(1), ann)?;
+    is_removed(&rt, &mut store, "desk", "a", 4);
+    is_desk(&rt, &mut store, (0, 1, 1, 0))?;
+    is_removed(&rt, &mut store, "desk", "b", 5);
+    is_desk(&rt, &mut store, (4, 1, 2, 0))?;
     the_first_is_dropped(&rt, alloc, &mut store)?;
-    assert_eq!(rt; store.remove("desk", "c", None), Ok(6));
-    assert_eq!(rt; desk_in_numbers(&mut store)?, (5, 1, 3, 0));
-    Ok(())
+    is_removed(&rt, &mut store, "desk", "c", 6);
+    is_desk(&rt, &mut store, (5, 1, 3, 0))
 }
 
 #[test]
@@ -77,9 +74,9 @@ fn a_move_drops_in_the_book_that_the_card_leaves(rt: HostRuntime) -> Result<(), 
     let mut store = desk(&rt, alloc)?;
     for (uid, from, version) in [("a", 4, 1), ("b", 5, 2)] {
         let moved = Moved { from, version };
-        assert_eq!(rt; store.move_card("desk", "shelf", uid, None), Ok(moved));
+        is_moved(&rt, &mut store, ("desk", "shelf"), uid, None, moved);
     }
-    assert_eq!(rt; desk_in_numbers(&mut store)?, (4, 1, 0, 2));
+    is_desk(&rt, &mut store, (4, 1, 0, 2))?;
     the_first_is_dropped(&rt, alloc, &mut store)?;
     let shelf = store.tally("shelf")?;
     assert_eq!(rt;
@@ -94,14 +91,10 @@ fn a_move_drops_in_the_book_that_the_card_leaves(rt: HostRuntime) -> Result<(), 
 fn a_member_that_came_back_is_not_remembered(rt: HostRuntime) -> Result<(), Fail> {
     let alloc = rt.alloc();
     let mut store = desk(&rt, alloc)?;
-    assert_eq!(rt; store.remove("desk", "a", None), Ok(4));
+    is_removed(&rt, &mut store, "desk", "a", 4);
     let back = PutAnswer::Created { version: 5 };
-    assert_eq!(rt;
-        store.put("desk", &card(alloc, "a", "Ann")?, None),
-        Ok(back)
-    );
-    assert_eq!(rt; desk_in_numbers(&mut store)?, (0, 0, 1, 0));
-    assert_eq!(rt; store.remove("desk", "b", None), Ok(6));
-    assert_eq!(rt; desk_in_numbers(&mut store)?, (0, 1, 2, 0));
-    Ok(())
+    is_put(&rt, alloc, &mut store, "desk", "a", "Ann", back)?;
+    is_desk(&rt, &mut store, (0, 0, 1, 0))?;
+    is_removed(&rt, &mut store, "desk", "b", 6);
+    is_desk(&rt, &mut store, (0, 1, 2, 0))
 }
