@@ -24,3 +24,18 @@ fn whole(
 fn is_written(rt: &impl Abort, octets: &[u8], wanted: &str) {
     assert_eq!(rt; str::from_utf8(octets), Ok(wanted));
 }
+
+/// The octets are a whole reply in JSON, with no line of Allow.
+fn is_whole(
+    rt: &impl Abort,
+    alloc: Global,
+    octets: &[u8],
+    status: &str,
+    length: u64,
+    connection: &str,
+    body: &str,
+) -> Result<(), Fail> {
+    let wanted = whole(alloc, status, "", length, connection, body)?;
+    is_written(rt, octets, wanted.as_str());
+    Ok(())
+}

@@ -34,19 +34,20 @@ impl Handler for Echo {
     }
 }
 
-fn reply_of(alloc: Global, head: &Head, body: &[u8]) -> Result<Vec<u8>, NoMemory> {
-    let mut reply = Vec::new(alloc);
-    reply.extend_from_slice(head.method.as_str().as_bytes())?;
-    reply.extend_from_slice(b" ")?;
-    reply.extend_from_slice(head.target.as_str().as_bytes())?;
-    if head.close {
-        reply.extend_from_slice(b" close ")?;
-    } else {
-        reply.extend_from_slice(b" open ")?;
+/// The pieces, one behind the other.
+fn joined(alloc: Global, pieces: &[&[u8]]) -> Result<Vec<u8>, NoMemory> {
+    let mut octets = Vec::new(alloc);
+    for piece in pieces {
+        octets.extend_from_slice(piece)?;
     }
-    reply.extend_from_slice(body)?;
-    reply.extend_from_slice(b";")?;
-    Ok(reply)
+    Ok(octets)
+}
+
+fn reply_of(alloc: Global, head: &Head, body: &[u8]) -> Result<Vec<u8>, NoMemory> {
+    let method = head.method.as_str().as_bytes();
+    let target = head.target.as_str().as_bytes();
+    let close: &[u8] = if head.close { b" close " } else { b" open " };
+    joined(alloc, &[method, b" ", target, close, body, b";"])
 }
 
 /// What was replied to all, and whether the session is closed behind it.
@@ -73,6 +74,35 @@ fn in_two(alloc: Global, front: &[u8], rest: &[u8]) -> Result<(Vec<u8>, bool), N
     Ok((replies, session.closed()))
 }
 
+/// In two pieces, the text is replied to as is wanted.
+fn replies_to_two(
+    rt: &impl Abort,
+    alloc: Global,
+    pieces: (&[u8], &[u8]),
+    wanted: &[u8],
+    closed: bool,
+) -> Result<(), Fail> {
+    let cut = pieces.0.len();
+    let (out, out_closed) = in_two(alloc, pieces.0, pieces.1)?;
+    assert!(rt; out.as_slice() == wanted, "cut at {cut}");
+    assert!(rt; out_closed == closed);
+    Ok(())
+}
+
+/// Octet by octet, it is.
+fn replies_to_octets(
+    rt: &impl Abort,
+    alloc: Global,
+    text: &[u8],
+    wanted: &[u8],
+    closed: bool,
+) -> Result<(), Fail> {
+    let (octets, octets_closed) = in_pieces(alloc, text, 1)?;
+    assert!(rt; octets.as_slice() == wanted);
+    assert!(rt; octets_closed == closed);
+    Ok(())
+}
+
 /// Whole, octet by octet, and cut once behind each octet, a text is replied to as is wanted.
 fn replies(
     rt: &impl Abort,
@@ -81,16 +111,11 @@ fn replies(
     wanted: &[u8],
     closed: bool,
 ) -> Result<(), Fail> {
-    let (whole, whole_closed) = in_two(alloc, text, b"")?;
-    assert!(rt; whole.as_slice() == wanted);
-    assert!(rt; whole_closed == closed);
-    let (octets, octets_closed) = in_pieces(alloc, text, 1)?;
-    assert!(rt; octets.as_slice() == wanted);
-    assert!(rt; octets_closed == closed);
+    replies_to_two(rt, alloc, (text, b""), wanted, closed)?;
+    replies_to_octets(rt, alloc, text, wanted, closed)?;
     for cut in 0..text.len() {
-        let (out, out_closed) = in_two(alloc, &text[..cut], &text[cut..])?;
-        assert!(rt; out.as_slice() == wanted, "cut at {cut}");
-        assert!(rt; out_closed == closed);
+        let pieces = (&text[..cut], &text[cut..]);
+        replies_to_two(rt, alloc, pieces, wanted, closed)?;
     }
     Ok(())
 }
@@ -127,33 +152,36 @@ fn nothing_follows_a_closing_request(rt: HostRuntime) -> Result<(), Fail> {
     )
 }
 
+/// Requests with faults, and what they are replied.
+const FAULTY: &[(&str, &str)] = &[
+    ("GET / HTTP/9.1\r\nHost: x\r\n\r\n", "bad-head"),
+    ("GET / HTTP/1.1\r\n\r\n", "bad-host"),
+    ("GET / HTTP/1.1\r\nHost: x\r\nHost: x\r\n\r\n", "bad-host"),
+    (
+        "PUT / HTTP/1.1\r\nHost: x\r\nTransfer-Encoding: chunked\r\nContent-Length: 5\r\n\r\n",
+        "transfer-encoding",
+    ),
+    (
+        "PUT / HTTP/1.1\r\nHost: x\r\nContent-Length: +5\r\n\r\n",
+        "bad-length",
+    ),
+    (
+        "PUT / HTTP/1.1\r\nHost: x\r\nContent-Length: 5\r\nContent-Length: 5\r\n\r\n",
+        "bad-length",
+    ),
+    (
+        "PUT / HTTP/1.1\r\nHost: x\r\nContent-Length: 0000000000000005\r\n\r\n",
+        "bad-length",
+    ),
+    (
+        "PUT / HTTP/1.1\r\nHost: x\r\nContent-Length: 8388609\r\n\r\n",
+        "body-too-large",
+    ),
+];
+
 #[test]
 fn heads_have_faults(rt: HostRuntime) -> Result<(), Fail> {
-    for (text, wanted) in [
-        ("GET / HTTP/9.1\r\nHost: x\r\n\r\n", "bad-head"),
-        ("GET / HTTP/1.1\r\n\r\n", "bad-host"),
-        ("GET / HTTP/1.1\r\nHost: x\r\nHost: x\r\n\r\n", "bad-host"),
-        (
-            "PUT / HTTP/1.1\r\nHost: x\r\nTransfer-Encoding: chunked\r\nContent-Length: 5\r\n\r\n",
-            "transfer-encoding",
-        ),
-        (
-            "PUT / HTTP/1.1\r\nHost: x\r\nContent-Length: +5\r\n\r\n",
-            "bad-length",
-        ),
-        (
-            "PUT / HTTP/1.1\r\nHost: x\r\nContent-Length: 5\r\nContent-Length: 5\r\n\r\n",
-            "bad-length",
-        ),
-        (
-            "PUT / HTTP/1.1\r\nHost: x\r\nContent-Length: 0000000000000005\r\n\r\n",
-            "bad-length",
-        ),
-        (
-            "PUT / HTTP/1.1\r\nHost: x\r\nContent-Length: 8388609\r\n\r\n",
-            "body-too-large",
-        ),
-    ] {
+    for (text, wanted) in FAULTY {
         replies(&rt, rt.alloc(), text.as_bytes(), wanted.as_bytes(), true)?;
     }
     Ok(())
@@ -170,20 +198,22 @@ fn bodies_are_waited_for(rt: HostRuntime) -> Result<(), Fail> {
     Ok(())
 }
 
+/// Faults of heads, with their numbers and statuses.
+const FAULTS: &[(HeadFault, u8, u16)] = &[
+    (HeadFault::BadHead, 21, 400),
+    (HeadFault::HeadTooLarge, 22, 431),
+    (HeadFault::BadHost, 23, 400),
+    (HeadFault::TransferEncoding, 24, 501),
+    (HeadFault::BadLength, 25, 400),
+    (HeadFault::BodyTooLarge, 26, 413),
+];
+
 #[test]
-fn faults_are_numbered(rt: HostRuntime) -> Result<(), Fail> {
-    for (fault, number, status) in [
-        (HeadFault::BadHead, 21u8, 400u16),
-        (HeadFault::HeadTooLarge, 22, 431),
-        (HeadFault::BadHost, 23, 400),
-        (HeadFault::TransferEncoding, 24, 501),
-        (HeadFault::BadLength, 25, 400),
-        (HeadFault::BodyTooLarge, 26, 413),
-    ] {
-        assert!(rt; fault.number() == number);
-        assert!(rt; fault.status() == status);
+fn faults_are_numbered(rt: HostRuntime) {
+    for (fault, number, status) in FAULTS {
+        assert!(rt; fault.number() == *number);
+        assert!(rt; fault.status() == *status);
     }
-    Ok(())
 }
 
 /// A head of so many fields.
@@ -203,13 +233,10 @@ fn head_of_fields(alloc: Global, count: usize) -> Result<Vec<u8>, NoMemory> {
 
 #[test]
 fn fields_are_bounded(rt: HostRuntime) -> Result<(), Fail> {
-    let (most, most_closed) = in_pieces(rt.alloc(), &head_of_fields(rt.alloc(), 64)?, 1)?;
-    assert!(rt; most.as_slice() == b"GET / open ;".as_slice());
-    assert!(rt; !most_closed);
-    let (more, more_closed) = in_pieces(rt.alloc(), &head_of_fields(rt.alloc(), 65)?, 1)?;
-    assert!(rt; more.as_slice() == b"bad-head".as_slice());
-    assert!(rt; more_closed);
-    Ok(())
+    let most = head_of_fields(rt.alloc(), 64)?;
+    replies_to_octets(&rt, rt.alloc(), &most, b"GET / open ;", false)?;
+    let more = head_of_fields(rt.alloc(), 65)?;
+    replies_to_octets(&rt, rt.alloc(), &more, b"bad-head", true)
 }
 
 /// The front, and then one octet so many times.
@@ -254,14 +281,21 @@ fn the_longest_head_is_read(rt: HostRuntime) -> Result<(), Fail> {
     counts(&rt, rt.alloc(), &longest, 16_381, true)
 }
 
+/// In pieces of the size, the text is replied to with all of its body.
+fn is_whole_at(rt: &impl Abort, alloc: Global, text: &[u8], size: usize) -> Result<(), Fail>
+    requires { 0 < size }
+{
+    let (out, closed) = in_pieces(alloc, text, size)?;
+    assert!(rt; out.len() == 100_013, "at {size}");
+    assert!(rt; closed);
+    Ok(())
+}
+
 #[test]
 fn bodies_come_in_pieces(rt: HostRuntime) -> Result<(), Fail> {
     let head = b"PUT / HTTP/1.0\r\nContent-Length: 100000\r\n\r\n";
     let text = filled(rt.alloc(), head, b'a', 100_000)?;
-    for size in [1usize, 1500, 200_000] {
-        let (out, closed) = in_pieces(rt.alloc(), &text, size)?;
-        assert!(rt; out.len() == 100_013, "at {size}");
-        assert!(rt; closed);
-    }
-    Ok(())
+    is_whole_at(&rt, rt.alloc(), &text, 1)?;
+    is_whole_at(&rt, rt.alloc(), &text, 1500)?;
+    is_whole_at(&rt, rt.alloc(), &text, 200_000)
 }

@@ -1,11 +1,13 @@
 //! Texts of no page, each with the number of its first fault.
 use super::{is_read_as, json_card};
+use std::alloc::Global;
+use std::process::Abort;
 use std::rt::HostRuntime;
 use std::test::Fail;
 
 /// A text and the number that the format gives its fault: 1 where it isn't JSON, 2 for its shape,
 /// and 4 for its token.
-const REFUSED: [(&str, &str); 20] = [
+const REFUSED: &[(&str, &str)] = &[
     ("", "fault 1"),
     ("[", "fault 1"),
     (
@@ -84,7 +86,7 @@ fn texts_are_refused(rt: HostRuntime) -> Result<(), Fail> {
 /// The members of a page whose token is none, and the number of its fault. A shape counts first,
 /// wherever it stands, then the first member that has a fault: 3 where its text is no card, and 2
 /// where the card has another UID. `@` stands for the text of the card with UID a.
-const MEMBERS: [(&str, &str); 10] = [
+const MEMBERS: &[(&str, &str)] = &[
     (
         "{\"card\":\"@\",\"status\":200,\"uid\":\"a\",\"version\":0}",
         "fault 2",
@@ -130,16 +132,26 @@ const MEMBERS: [(&str, &str); 10] = [
     ),
 ];
 
+fn are_read_as(
+    rt: &impl Abort,
+    alloc: Global,
+    card: &str,
+    members: &str,
+    wanted: &str,
+) -> Result<(), Fail> {
+    let members = members.replace(alloc, "@", card)?;
+    let text = format!(in alloc;
+        "{{\"members\":[{members}],\"token\":\"x\",\"truncated\":false}}"
+    )?;
+    is_read_as(rt, alloc, text.as_str(), wanted)
+}
+
 #[test]
 fn members_are_refused(rt: HostRuntime) -> Result<(), Fail> {
     let alloc = rt.alloc();
     let card = json_card(alloc, "a", "Ann")?;
     for (members, wanted) in MEMBERS {
-        let members = members.replace(alloc, "@", card.as_str())?;
-        let text = format!(in alloc;
-            "{{\"members\":[{members}],\"token\":\"x\",\"truncated\":false}}"
-        )?;
-        is_read_as(&rt, alloc, text.as_str(), wanted)?;
+        are_read_as(&rt, alloc, card.as_str(), members, wanted)?;
     }
     Ok(())
 }

@@ -3,6 +3,7 @@ use super::{card_text, is_read_as, json_card};
 use book_model::{Entry, Mark, Page};
 use page_json::{read_report, write_report};
 use std::alloc::Global;
+use std::process::Abort;
 use std::rt::HostRuntime;
 use std::test::Fail;
 use vcard_text::{Items, Text, read_card};
@@ -34,43 +35,54 @@ fn page_of(book: u64, entries: Vec<Entry>, at: u64, base: u64, truncated: bool) 
     }
 }
 
+/// The page is written as the text, which is read as the page.
+fn is_text_of(rt: &impl Abort, alloc: Global, page: &Page, wanted: &str) -> Result<(), Fail> {
+    let text = write_report(alloc, page)?;
+    assert!(rt; text.as_slice() == wanted.as_bytes());
+    assert!(rt; read_report(alloc, wanted.as_bytes())? == *page);
+    Ok(())
+}
+
 #[test]
 fn a_removal_is_written_and_read(rt: HostRuntime) -> Result<(), Fail> {
     let alloc = rt.alloc();
     let page = page_of(1, vec![in alloc; removed(alloc, "d")?]?, 9, 9, false);
-    let text = write_report(alloc, &page)?;
-    assert_eq!(rt; text.len(), 101);
-    assert!(rt; text.as_slice() == GONE.as_bytes());
+    assert_eq!(rt; GONE.len(), 101);
+    is_text_of(&rt, alloc, &page, GONE)?;
     let told = "d removed, http://contacts.invalid/sync/1/9/9, truncated false";
-    is_read_as(&rt, alloc, GONE, told)?;
-    assert!(rt; read_report(alloc, GONE.as_bytes())? == page);
-    Ok(())
+    is_read_as(&rt, alloc, GONE, told)
+}
+
+/// The page of Anna's card.
+fn page_of_anna(alloc: Global) -> Result<Page, Fail> {
+    let anna = changed(alloc, "a", 4, card_text(alloc, "a", "Anna")?.as_str())?;
+    Ok(page_of(1, vec![in alloc; anna]?, 4, 5, true))
+}
+
+/// Its text.
+fn text_of_anna(alloc: Global) -> Result<String, Fail> {
+    let card = json_card(alloc, "a", "Anna")?;
+    let member = format!(in alloc;
+        "{{\"card\":\"{card}\",\"status\":200,\"uid\":\"a\",\"version\":4}}"
+    )?;
+    let token = "\"token\":\"http://contacts.invalid/sync/1/4/5\"";
+    Ok(format!(in alloc; "{{\"members\":[{member}],{token},\"truncated\":true}}")?)
 }
 
 /// The line ends of a card's text are `\r\n` in JSON, and names stand in the order of their octets.
 #[test]
 fn a_card_is_written_and_read(rt: HostRuntime) -> Result<(), Fail> {
     let alloc = rt.alloc();
-    let anna = changed(alloc, "a", 4, card_text(alloc, "a", "Anna")?.as_str())?;
-    let page = page_of(1, vec![in alloc; anna]?, 4, 5, true);
-    let card = json_card(alloc, "a", "Anna")?;
-    let member = format!(in alloc;
-        "{{\"card\":\"{card}\",\"status\":200,\"uid\":\"a\",\"version\":4}}"
-    )?;
-    let token = "\"token\":\"http://contacts.invalid/sync/1/4/5\"";
-    let wanted = format!(in alloc; "{{\"members\":[{member}],{token},\"truncated\":true}}")?;
-    let text = write_report(alloc, &page)?;
-    assert!(rt; text.as_slice() == wanted.as_bytes());
+    let page = page_of_anna(alloc)?;
+    let text = text_of_anna(alloc)?;
+    is_text_of(&rt, alloc, &page, text.as_str())?;
     let told = "a version 4 octets 53, http://contacts.invalid/sync/1/4/5, truncated true";
-    is_read_as(&rt, alloc, wanted.as_str(), told)?;
-    assert!(rt; read_report(alloc, text.as_slice())? == page);
-    Ok(())
+    is_read_as(&rt, alloc, text.as_str(), told)
 }
 
-/// Folded lines, characters outside ASCII, and signs that JSON escapes.
-#[test]
-fn long_cards_are_written_and_read(rt: HostRuntime) -> Result<(), Fail> {
-    let alloc = rt.alloc();
+/// A page of a card with folded lines, characters outside ASCII and signs that JSON escapes, and of
+/// a removal.
+fn page_of_long_card(alloc: Global) -> Result<Page, Fail> {
     let uid = "urn:uuid:8d3f0c52 \"\\\u{1F4C7}";
     let note = "NOTE:Answers in the language of the letter\\; \
         \u{65E5}\u{672C}\u{8A9E}\u{306F}\t\u{4E00}\u{9031}\u{9593}\u{524D}\u{307E}\u{3067}.\r\n";
@@ -82,9 +94,14 @@ fn long_cards_are_written_and_read(rt: HostRuntime) -> Result<(), Fail> {
         changed(alloc, uid, 9_999_999_999_999, text.as_str())?,
         removed(alloc, uid)?,
     ]?;
-    let page = page_of(100, entries, 0, 1_000_000_000_000, true);
-    let text = write_report(alloc, &page)?;
-    assert!(rt; read_report(alloc, text.as_slice())? == page);
+    Ok(page_of(100, entries, 0, 1_000_000_000_000, true))
+}
+
+#[test]
+fn long_cards_are_written_and_read(rt: HostRuntime) -> Result<(), Fail> {
+    let page = page_of_long_card(rt.alloc())?;
+    let text = write_report(rt.alloc(), &page)?;
+    assert!(rt; read_report(rt.alloc(), text.as_slice())? == page);
     Ok(())
 }
 

@@ -1,5 +1,5 @@
 //! The whole reply to each answer.
-use super::{is_written, whole};
+use super::{is_whole, is_written};
 use book_model::{BookLine, Entry, ImportTally, Mark, Moved, Page, PutAnswer, Tally};
 use book_service::Reply;
 use card_core::Expansion;
@@ -91,72 +91,62 @@ fn is_told(
     body: &str,
 ) -> Result<(), Fail> {
     let octets = reply_bytes(alloc, reply, false)?;
-    let wanted = whole(alloc, status, "", length, "keep-alive", body)?;
-    is_written(rt, &octets, &wanted);
-    Ok(())
+    is_whole(rt, alloc, &octets, status, length, "keep-alive", body)
+}
+
+fn is_put(
+    rt: &impl Abort,
+    alloc: Global,
+    put: PutAnswer,
+    status: &str,
+    length: u64,
+    body: &str,
+) -> Result<(), Fail> {
+    is_told(rt, alloc, Reply::Put(put), status, length, body)
+}
+
+#[test]
+fn puts_are_told(rt: HostRuntime) -> Result<(), Fail> {
+    let put = PutAnswer::Created { version: 1 };
+    let body = "{\"put\":\"created\",\"version\":1}";
+    is_put(&rt, rt.alloc(), put, "201 Created", 29, body)?;
+    let put = PutAnswer::Edited { version: 4 };
+    let body = "{\"put\":\"edited\",\"version\":4}";
+    is_put(&rt, rt.alloc(), put, "200 OK", 28, body)?;
+    let put = PutAnswer::Unchanged { version: 7 };
+    let body = "{\"put\":\"unchanged\",\"version\":7}";
+    is_put(&rt, rt.alloc(), put, "200 OK", 31, body)
 }
 
 #[test]
 fn changes_are_told(rt: HostRuntime) -> Result<(), Fail> {
-    let alloc = rt.alloc();
-    let rows: [(Reply, &str, u64, &str); 9] = [
-        (Reply::Created { id: 1 }, "201 Created", 8, "{\"id\":1}"),
-        (
-            Reply::Put(PutAnswer::Created { version: 1 }),
-            "201 Created",
-            29,
-            "{\"put\":\"created\",\"version\":1}",
-        ),
-        (
-            Reply::Put(PutAnswer::Edited { version: 4 }),
-            "200 OK",
-            28,
-            "{\"put\":\"edited\",\"version\":4}",
-        ),
-        (
-            Reply::Put(PutAnswer::Unchanged { version: 7 }),
-            "200 OK",
-            31,
-            "{\"put\":\"unchanged\",\"version\":7}",
-        ),
-        (Reply::Gone { number: 5 }, "200 OK", 12, "{\"number\":5}"),
-        (
-            Reply::Moved(Moved {
-                from: 10,
-                version: 1,
-            }),
-            "200 OK",
-            23,
-            "{\"from\":10,\"version\":1}",
-        ),
-        (
-            Reply::Imported(imported()),
-            "200 OK",
-            40,
-            "{\"edited\":0,\"new\":3,\"number\":5,\"same\":1}",
-        ),
-        (
-            Reply::Forgot {
-                dropped: 1,
-                horizon: 5,
-            },
-            "200 OK",
-            25,
-            "{\"dropped\":1,\"horizon\":5}",
-        ),
-        (
-            Reply::Tally(tally()),
-            "200 OK",
-            144,
-            "{\"cards\":2,\"created\":3,\"deleted\":1,\"edited\":4,\"horizon\":5,\
-                \"import_edited\":6,\"imported\":7,\"moved_in\":8,\"moved_out\":9,\
-                \"number\":10,\"remembered\":11}",
-        ),
-    ];
-    for (reply, status, length, body) in rows {
-        is_told(&rt, alloc, reply, status, length, body)?;
-    }
-    Ok(())
+    let created = Reply::Created { id: 1 };
+    is_told(&rt, rt.alloc(), created, "201 Created", 8, "{\"id\":1}")?;
+    let gone = Reply::Gone { number: 5 };
+    is_told(&rt, rt.alloc(), gone, "200 OK", 12, "{\"number\":5}")?;
+    let moved = Reply::Moved(Moved {
+        from: 10,
+        version: 1,
+    });
+    let body = "{\"from\":10,\"version\":1}";
+    is_told(&rt, rt.alloc(), moved, "200 OK", 23, body)
+}
+
+#[test]
+fn counts_are_told(rt: HostRuntime) -> Result<(), Fail> {
+    let counted = Reply::Imported(imported());
+    let body = "{\"edited\":0,\"new\":3,\"number\":5,\"same\":1}";
+    is_told(&rt, rt.alloc(), counted, "200 OK", 40, body)?;
+    let forgot = Reply::Forgot {
+        dropped: 1,
+        horizon: 5,
+    };
+    let body = "{\"dropped\":1,\"horizon\":5}";
+    is_told(&rt, rt.alloc(), forgot, "200 OK", 25, body)?;
+    let body = "{\"cards\":2,\"created\":3,\"deleted\":1,\"edited\":4,\"horizon\":5,\
+        \"import_edited\":6,\"imported\":7,\"moved_in\":8,\"moved_out\":9,\
+        \"number\":10,\"remembered\":11}";
+    is_told(&rt, rt.alloc(), Reply::Tally(tally()), "200 OK", 144, body)
 }
 
 #[test]
