@@ -1,4 +1,5 @@
 pub mod ChangeLemmas
+pub mod HeldLemmas
 pub mod CallLemmas
 pub mod ForgetLemmas
 pub mod PutLemmas
@@ -10,3 +11,4 @@ pub mod RemoveLemmas
 pub mod ImportLemmas
 pub mod WroteLemmas
 pub mod AdoptLemmas
+pub mod MoveLemmas

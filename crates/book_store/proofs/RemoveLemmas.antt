@@ -40,16 +40,17 @@ use Rattle.book_rows.specs.TableBooks.{BookFigures, line_row, numbers_row, book_
 use Rattle.book_rows.specs.TableRows.{TableRows, forgotten_rows, put_rows, renumbered_rows}
 use Rattle.book_rows.proofs.BookLemmas.{changes_one, renumbering_held}
 use Rattle.book_rows.proofs.FirstLemmas.{first_is_first, none_is_none, removals_remembered}
-use Rattle.book_rows.proofs.HeldRows.{books_held}
 use Rattle.book_rows.proofs.RemovedLemmas.{forgetting_forgets, forgetting_held}
 use Rattle.book_rows.proofs.WriteLemmas.{go_on, put_is_row}
 use Rattle.book_reading.specs.Answers.{Answers, IsTold}
 use Rattle.book_reading.specs.Faults.{IsFault}
 use Rattle.book_store.specs.Changing.{HasLine, HoldAfter, HoldsBooks, TreesHold}
+use Rattle.book_store.specs.Moves.{HoldsChange}
 use Rattle.book_store.specs.Removals.{IsRemovalPlanned, drop_by_next, removal_in}
 use Rattle.book_store.specs.StoreViews.{stored_books}
 use Rattle.book_store.proofs.CallLemmas.{denied_does}
 use Rattle.book_store.proofs.ForgetLemmas.{writes_table}
+use Rattle.book_store.proofs.HeldLemmas.{still_there}
 use Rattle.book_store.proofs.PlanLemmas.{found_with}
 
 -- ---- what is written, with a drop
@@ -58,7 +59,7 @@ module _ (old a b new : State) (rows : TableRows) (name : List ℕ) (figures : B
   pub row_dropped : HasLine old.now rows name figures → (one : HoldsPut a.now rows (line_row name figures) uid (pos (figures.number + 1)) None)
       → HasMembers b (without_removed (pos figures.id) (pos upto) (put_in one.id (pos figures.id) uid (pos (figures.number + 1)) None rows.members)) → WritesOnly 4 a b
       → HasBooks new (renumbered (pos figures.id) (numbers_row (figures.number + 1) upto (counts_with (TakesAway why) figures.counts)) rows.books) → WritesOnly 2 b new
-      → LeavesInside new (λ db. HoldsBooks db (finite.insert (books_of rows) name (book_after_forget (with_row (book_of rows (line_row name figures)) uid (TakesAway why)) upto)))
+      → LeavesInside new (λ db. HoldsChange db rows (pos figures.id) (finite.insert (books_of rows) name (book_after_forget (with_row (book_of rows (line_row name figures)) uid (TakesAway why)) upto)))
   row_dropped line one members second books third =
       let with_it = put_rows one.id (pos figures.id) uid (pos (figures.number + 1)) None rows in
       let two = forgetting_held a.now b.now with_it (line_row name figures) upto one.holds one.within.sound members (writes_table 4 a b second) in
@@ -67,12 +68,14 @@ module _ (old a b new : State) (rows : TableRows) (name : List ℕ) (figures : B
       let three = renumbering_held b.now new.now left (pos figures.id) numbers two.holds two.within.sound books (writes_table 2 b new third) in
       record {
         holds = record {
-          sound = record { rows = renumbered_rows (pos figures.id) numbers left; holds = three.holds; sound = three.sound };
-          are = books_held new.now (renumbered_rows (pos figures.id) numbers left) three.holds three.sound
-              ∙ changes_one rows left (line_row name figures) numbers line.sound line.there (go_on (pos figures.id) rows with_it left one.within two.within)
+          after = renumbered_rows (pos figures.id) numbers left;
+          holds = three.holds;
+          sound = three.sound;
+          are = changes_one rows left (line_row name figures) numbers line.sound line.there (go_on (pos figures.id) rows with_it left one.within two.within)
               ∙ ap (finite.insert (books_of rows) name)
               (forgetting_forgets with_it name (figures_after (TakesAway why) figures) upto one.within.sound
               ∙ ap (λ k. book_after_forget k upto) (put_is_row rows name figures one.id uid None (TakesAway why) line.sound refl));
+          others = λ b there apart. (still_there (pos figures.id) numbers rows.books b there apart, two.within.others b apart ∙ one.within.others b apart);
         };
         inside = third.inside;
       }

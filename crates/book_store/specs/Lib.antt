@@ -4,3 +4,4 @@ pub mod Changing
 pub mod Planning
 pub mod Removals
 pub mod Importing
+pub mod Moves

@@ -1,5 +1,5 @@
 //! Books in the tables of a database: so far what opens a store over them, new or there already,
-//! what it tells, and five of the calls that change the books.
+//! what it tells, and the calls that change the books.
 #![tactic(auto)]
 
 pub mod adopting;
@@ -9,6 +9,8 @@ mod forgetting;
 mod import_plan;
 mod importing;
 mod laying;
+mod move_call;
+mod moving;
 mod planning;
 mod put_call;
 mod putting;

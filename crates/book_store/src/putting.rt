@@ -9,6 +9,7 @@ ghost use Rattle.book_rows.specs.TableBooks.{BookFigures, book_of, books_of, lin
 ghost use Rattle.book_rows.specs.TableRows.{TableRows};
 ghost use Rattle.book_rows.specs.Values.{text_card};
 ghost use Rattle.book_store.specs.Changing.{AreColumns, ChangesLine, HasLine, HoldsBooks, IsDone, TreesHold};
+ghost use Rattle.book_store.specs.Moves.{HoldsChange};
 ghost use Rattle.book_tables.specs.Books.{numbers_of};
 ghost use Rattle.book_tables.specs.Laying.{LeavesInside};
 ghost use Rattle.sqlite.specs.Held.{state};
@@ -29,7 +30,7 @@ use vcard_text::laws::card_is_computed;
 use vcard_text::{Card, write_card};
 
 /// Puts the member with the UID of the book with the id, and renumbers the book.
-fn put_row<S: Alter>(
+pub(crate) fn put_row<S: Alter>(
     tx: &mut Transaction<'_, S>,
     id: i64,
     uid: &str,
@@ -42,8 +43,8 @@ fn put_row<S: Alter>(
         (λ rows name figures. (change : Change) → changed ≡ pos (figures.number + 1)
         → IsTextOf (option_copied card.entry) change
         → AreColumns (figures_after change figures) id numbers
-        → OnOk result (LeavesInside (state S.Store tx.new.conn.now) (λ db. HoldsBooks db
-        (finite.insert (books_of rows) name
+        → OnOk result (LeavesInside (state S.Store tx.new.conn.now) (λ db. HoldsChange db rows
+        (pos figures.id) (finite.insert (books_of rows) name
         (with_row (book_of rows (line_row name figures)) uid.now change))))) }
     ensures kept { ChangesLine (state S.Store tx.old.conn.now) (state S.Store tx.new.conn.now)
         (λ rows name figures. id ≡ pos figures.id
@@ -105,7 +106,7 @@ pub(crate) fn text_of(alloc: Global, card: &Card) -> Result<String, Denied>
 }
 
 /// The numbers of the book after the change, as its columns keep them.
-fn columns_after(figures: Figures, change: &Change) -> Result<BookNumbers, Denied>
+pub(crate) fn columns_after(figures: Figures, change: &Change) -> Result<BookNumbers, Denied>
     requires { figures.number < 2 ^ 63 }
     ensures numbers { IfOk result (λ columns. numbers_of columns
         ≡ numbers_row (figures.number + 1) figures.horizon (counts_with change.now figures.counts)) }

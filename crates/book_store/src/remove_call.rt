@@ -118,7 +118,10 @@ fn lesser(first: Option<u64>, number: u64) -> u64
 
 /// Up to which number the book with the figures forgets where one more member is removed from it by
 /// the next change.
-fn drop_of_book<S: Alter>(conn: &mut Connection<S>, figures: Figures) -> Result<Option<u64>, Denied>
+pub(crate) fn drop_of_book<S: Alter>(
+    conn: &mut Connection<S>,
+    figures: Figures,
+) -> Result<Option<u64>, Denied>
     requires { figures.number < 2 ^ 63 }
     ensures drop { OverBook (state S.Store conn.old) (state S.Store conn.new) figures
         (λ book. IfOk result (λ drop. drop_by_next book ≡ drop)) }

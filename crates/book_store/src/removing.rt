@@ -9,6 +9,7 @@ ghost use Rattle.book_reading.specs.Faults.{IsFault};
 ghost use Rattle.book_rows.specs.TableBooks.{BookFigures, book_of, books_of, line_row, numbers_row};
 ghost use Rattle.book_rows.specs.TableRows.{TableRows};
 ghost use Rattle.book_store.specs.Changing.{AreColumns, ChangesLine, HasLine, HoldsBooks, IsDone, TreesHold};
+ghost use Rattle.book_store.specs.Moves.{HoldsChange};
 ghost use Rattle.book_store.specs.Removals.{figures_after_drop};
 ghost use Rattle.book_tables.specs.Books.{numbers_of};
 ghost use Rattle.book_tables.specs.Laying.{LeavesInside};
@@ -28,7 +29,7 @@ use sqlite::{Alter, Connection, Error, Transaction};
 
 /// Removes the member with the UID of the book with the id, deletes the members that were removed
 /// up to the number, and renumbers the book.
-fn drop_row<S: Alter>(
+pub(crate) fn drop_row<S: Alter>(
     tx: &mut Transaction<'_, S>,
     id: i64,
     uid: &str,
@@ -41,8 +42,8 @@ fn drop_row<S: Alter>(
         (λ rows name figures. (why : RemovalReason) (last : ℕ)
         → changed ≡ pos (figures.number + 1) → upto ≡ pos last
         → AreColumns (figures_after_drop why last figures) id numbers
-        → OnOk result (LeavesInside (state S.Store tx.new.conn.now) (λ db. HoldsBooks db
-        (finite.insert (books_of rows) name (book_after_forget
+        → OnOk result (LeavesInside (state S.Store tx.new.conn.now) (λ db. HoldsChange db rows
+        (pos figures.id) (finite.insert (books_of rows) name (book_after_forget
         (with_row (book_of rows (line_row name figures)) uid.now (TakesAway why)) last))))) }
     ensures kept { ChangesLine (state S.Store tx.old.conn.now) (state S.Store tx.new.conn.now)
         (λ rows name figures. id ≡ pos figures.id

@@ -12,6 +12,7 @@ use Rattle.book_rows.specs.ChangeLaws.{figures_after}
 use Rattle.book_rows.specs.TableBooks.{book_of, books_of, line_row}
 use Rattle.book_store.specs.Changing.{AreColumns, HasLine, HoldsBooks, IsDone}
 use Rattle.book_store.proofs.ChangeLemmas.{committed_done, failed_done}
+use Rattle.book_store.proofs.HeldLemmas.{change_inside}
 use Rattle.book_store.proofs.putting.commit_put.Goals as goal
 
 pub returns-in_err-commit-clause-done : goal.returns-in_err-commit-clause-done
@@ -27,7 +28,7 @@ returns-in_err-commit-clause-done g c rows name figures change clean line change
     let there : HasLine (state g.S.Store c.transaction-tx.result.conn.now).now rows name figures = rw begun line in
     let at : to_z w64 (of_z w64 c.args.changed) ≡ pos (figures.number + 1) = to_z-of_z c.ranges.changed ∙ changed_is in
     let now_columns : AreColumns (figures_after change figures) (to_z w64 (of_z w64 c.args.id)) c.args.numbers = record { id_is = to_z-of_z c.ranges.id ∙ columns.id_is; numbers = columns.numbers } in
-    let left = c.in_ok-put_row.ensures.holds rows name figures first inside there change at is now_columns in
+    let left = change_inside mid rows (pos figures.id) _ (c.in_ok-put_row.ensures.holds rows name figures first inside there change at is now_columns) in
     let kept : KeepsCommit (state g.S.Store (record old { in_transaction = true })) mid = rw begun at (c.in_ok-put_row.ensures.kept rows name figures first inside there now_columns.id_is) in
     let settled : IsTrue (state g.S.Store old).is_open → (state g.S.Store old).now ≡ (state g.S.Store old).committed = c.is_autocommit-settled.ensures.settled (c.is_autocommit-settled.ensures.value ∙ ap not c.requires) in
     let said : c.from_residual-in_err-commit.result ≡ Err c.in_err-commit.field-0.0 = search rules in
@@ -47,7 +48,7 @@ returns-clause-done g c rows name figures change clean line changed_is is column
     let there : HasLine (state g.S.Store c.transaction-tx.result.conn.now).now rows name figures = rw begun line in
     let at : to_z w64 (of_z w64 c.args.changed) ≡ pos (figures.number + 1) = to_z-of_z c.ranges.changed ∙ changed_is in
     let now_columns : AreColumns (figures_after change figures) (to_z w64 (of_z w64 c.args.id)) c.args.numbers = record { id_is = to_z-of_z c.ranges.id ∙ columns.id_is; numbers = columns.numbers } in
-    let left = c.in_ok-put_row.ensures.holds rows name figures first inside there change at is now_columns in
+    let left = change_inside mid rows (pos figures.id) _ (c.in_ok-put_row.ensures.holds rows name figures first inside there change at is now_columns) in
     let made = finite.insert (books_of rows) name (with_row (book_of rows (line_row name figures)) c.args.uid.now change) in
     let did = committed_done mid (state g.S.Store end) (λ db. HoldsBooks db made) left (c.in_ok-commit.ensures.ok late).1 in
     subst (λ k. HoldsBooks (state g.S.Store k).now made × ((state g.S.Store k).now ≡ (state g.S.Store k).committed)) same did
