@@ -1,14 +1,3 @@
-pub mod ChangeLemmas
-pub mod HeldLemmas
-pub mod CallLemmas
-pub mod ForgetLemmas
-pub mod PutLemmas
-pub mod PlanLemmas
 pub mod LayLemmas
 pub mod StoreLemmas
-pub mod CreateLemmas
-pub mod RemoveLemmas
-pub mod ImportLemmas
-pub mod WroteLemmas
 pub mod AdoptLemmas
-pub mod MoveLemmas

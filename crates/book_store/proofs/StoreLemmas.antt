@@ -2,12 +2,14 @@
 use Rattle.std.proofs.Common.{◌≡◌, Result, Ok, Err, sym, ap, subst, ◌∙◌}
 use Rattle.std.specs.FinMap as finite
 use Rattle.sqlite.specs.Effect.{Database}
+use Rattle.sqlite.specs.Held.{state}
 use Rattle.sqlite.specs.State.{State}
+use Rattle.sqlite_trees.specs.declared.store.Store.{Ghosts}
 use Rattle.book_model.specs.declared.denied.Denied.{Denied}
 use Rattle.book_model.specs.declared.denied.Denied.TheVariants.{Refused, Fault}
 use Rattle.book_model.specs.declared.refusal.Refusal.{Refusal}
 use Rattle.book_model.specs.Books.{Books}
-use Rattle.book_model.specs.Bounds.{Bounds}
+use Rattle.book_model.specs.Bounds.{Bounds, IsInRange}
 use Rattle.book_model.specs.Outcomes.{Reads}
 use Rattle.book_tables.specs.States.{OnlyReads}
 use Rattle.book_tables.proofs.LaidLemmas.{clean_before}
@@ -18,7 +20,9 @@ use Rattle.book_rows.proofs.HeldRows.{books_held, nothing_held, no_rows_sound}
 use Rattle.book_rows.proofs.OpenLemmas.{laid_empty}
 use Rattle.book_reading.specs.Answers.{Answers, OverSound}
 use Rattle.book_store.specs.Opening.{StandsLaid}
-use Rattle.book_store.specs.StoreViews.{IsInOrder, IsStore, Stands, stored_books}
+use Rattle.book_store.specs.StoreViews.{ChangesStore, IsStore, StoreView}
+use Rattle.book_writing.specs.Changing.{Changes, CommitsOnce}
+use Rattle.book_writing.specs.StoredBooks.{IsInOrder, Stands, stored_books}
 
 -- an answer of a call that changed nothing
 pub reads_of : {T A S : Type 0} (allows : T → A → Type 0) (r : Result A Denied) (due : Result T Refusal) (old new : S) → Answers allows r due → new ≡ old → Reads allows r due old new
@@ -62,3 +66,14 @@ laid_stands s h = record { committed = h.committed; sound = record { rows = no_r
 
 pub laid_books : (s : State) → StandsLaid s → stored_books s ≡ finite.empty
 laid_books s h = (nothing_held s.now (laid_empty s.now h.laid)).books
+
+-- a call that changed the tables of a store
+pub changes_store : {S A : Type 0} (g : Ghosts S) (old new : StoreView S) (r : Result A Denied) (step : Bounds → Books → Result (A × Books) Refusal) → IsStore (state g old.conn) old.limits → new.limits ≡ old.limits
+    → Changes (state g old.conn) (state g new.conn) r (step old.limits) → CommitsOnce (state g old.conn) (state g new.conn) (step old.limits) → ChangesStore g old new r step
+changes_store g old new r step store same changed commits = record {
+  premise = changed.was_in_order;
+  limits = same;
+  range = subst IsInRange (sym same) store.range;
+  does = λ order. changed.does order (store.stands (changed.was_in_order order));
+  crash = λ order. commits (store.stands order);
+}

@@ -2,4 +2,5 @@ mod checking;
 mod importing;
 mod opening;
 mod reading;
+mod stores;
 mod tables;

@@ -7,6 +7,7 @@ use sqlite::MemStore;
 use std::alloc::Global;
 use std::process::Abort;
 use std::test::Fail;
+use sync_core::BookStore;
 
 type Store = SqlStore<MemStore>;
 

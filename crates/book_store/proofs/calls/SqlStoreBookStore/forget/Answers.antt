@@ -1,0 +1,17 @@
+use Rattle.std.proofs.Common.{refl, subst}
+use Rattle.book_model.specs.Books.{Books}
+use Rattle.book_model.specs.Bounds.{Bounds}
+use Rattle.book_model.specs.Forgetting.{forget_step}
+use Rattle.book_store.specs.StoreViews.{ChangesStore, StoreView}
+use Rattle.book_store.proofs.StoreLemmas.{changes_store}
+use Rattle.book_store.proofs.calls.SqlStoreBookStore.forget.Goals as goal
+
+pub returns : goal.returns
+returns g c =
+    let new : StoreView _ = record { conn = c.forget_in_book.new.conn; limits = c.self.inside.limits } in
+    let old : StoreView _ = record { conn = c.self.inside.conn; limits = c.self.inside.limits } in
+    let step = λ (limits : Bounds) (books : Books). forget_step books c.args.book.now c.args.upto in
+    record {
+      changes = subst (λ (v : StoreView _). ChangesStore g.S.Store v new c.forget_in_book.result step) c.self.view_is
+      (changes_store g.S.Store old new c.forget_in_book.result step c.self.invariant refl c.forget_in_book.ensures.changes c.forget_in_book.ensures.crash);
+    }

@@ -1,0 +1,17 @@
+use Rattle.std.proofs.Common.{refl, subst}
+use Rattle.book_model.specs.Books.{Books}
+use Rattle.book_model.specs.Bounds.{Bounds}
+use Rattle.book_model.specs.Moving.{move_step}
+use Rattle.book_store.specs.StoreViews.{ChangesStore, StoreView}
+use Rattle.book_store.proofs.StoreLemmas.{changes_store}
+use Rattle.book_store.proofs.calls.SqlStoreBookStore.move_card.Goals as goal
+
+pub returns : goal.returns
+returns g c =
+    let new : StoreView _ = record { conn = c.move_in_tables.new.conn; limits = c.self.inside.limits } in
+    let old : StoreView _ = record { conn = c.self.inside.conn; limits = c.self.inside.limits } in
+    let step = λ (limits : Bounds) (books : Books). move_step limits books c.args.from.now c.args.to.now c.args.uid.now c.args.expect in
+    record {
+      changes = subst (λ (v : StoreView _). ChangesStore g.S.Store v new c.move_in_tables.result step) c.self.view_is
+      (changes_store g.S.Store old new c.move_in_tables.result step c.self.invariant refl c.move_in_tables.ensures.changes c.move_in_tables.ensures.crash);
+    }

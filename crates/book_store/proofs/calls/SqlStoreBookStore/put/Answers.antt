@@ -1,0 +1,17 @@
+use Rattle.std.proofs.Common.{refl, subst}
+use Rattle.book_model.specs.Books.{Books}
+use Rattle.book_model.specs.Bounds.{Bounds}
+use Rattle.book_model.specs.Putting.{put_step}
+use Rattle.book_store.specs.StoreViews.{ChangesStore, StoreView}
+use Rattle.book_store.proofs.StoreLemmas.{changes_store}
+use Rattle.book_store.proofs.calls.SqlStoreBookStore.put.Goals as goal
+
+pub returns : goal.returns
+returns g c =
+    let new : StoreView _ = record { conn = c.put_in_book.new.conn; limits = c.self.inside.limits } in
+    let old : StoreView _ = record { conn = c.self.inside.conn; limits = c.self.inside.limits } in
+    let step = λ (limits : Bounds) (books : Books). put_step limits books c.args.book.now c.args.card.now c.args.expect in
+    record {
+      changes = subst (λ (v : StoreView _). ChangesStore g.S.Store v new c.put_in_book.result step) c.self.view_is
+      (changes_store g.S.Store old new c.put_in_book.result step c.self.invariant refl c.put_in_book.ensures.changes c.put_in_book.ensures.crash);
+    }

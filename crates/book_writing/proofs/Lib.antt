@@ -1,0 +1,11 @@
+pub mod ChangeLemmas
+pub mod HeldLemmas
+pub mod CallLemmas
+pub mod ForgetLemmas
+pub mod PutLemmas
+pub mod PlanLemmas
+pub mod CreateLemmas
+pub mod RemoveLemmas
+pub mod ImportLemmas
+pub mod WroteLemmas
+pub mod MoveLemmas

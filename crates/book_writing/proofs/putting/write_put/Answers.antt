@@ -1,0 +1,49 @@
+use Rattle.std.proofs.Common.{rules, ◌≡◌, ◌+◌, Some, option_copied, pos, to_z, of_z, w64, ap}
+use Rattle.book_model.specs.declared.change.Change.TheVariants.{Stores}
+use Rattle.book_model.specs.Counting.{counts_with}
+use Rattle.book_tables.specs.Books.{numbers_of}
+use Rattle.book_rows.specs.ChangeLaws.{IsTextOf, figures_after}
+use Rattle.book_rows.specs.TableBooks.{numbers_row}
+use Rattle.book_reading.proofs.FindLemmas.{back_of}
+use Rattle.book_writing.specs.Changing.{AreColumns}
+use Rattle.book_writing.proofs.putting.write_put.Goals as goal
+
+pub returns-in-Ok-clause-done : goal.returns-in-Ok-clause-done
+returns-in-Ok-clause-done g c rows name clean line =
+    let change = Stores c.args.card.now c.args.why in
+    let id : to_z w64 (of_z w64 c.in_ok-id.id) ≡ pos c.args.figures.id = back_of c.in_ok-id.id c.id.result c.args.figures.id c.in_ok-id.ensures.ok c.in_ok-id.ensures.fits c.id.ensures in
+    let at : to_z w64 (of_z w64 c.in_ok-changed.changed) ≡ pos (c.args.figures.number + 1) = back_of c.in_ok-changed.changed (c.number.result + 1) (c.args.figures.number + 1) c.in_ok-changed.ensures.ok c.in_ok-changed.ensures.fits (ap (λ k. k + 1) c.number.ensures) in
+    let numbers : numbers_of c.in_ok-numbers.numbers ≡ numbers_row (c.args.figures.number + 1) c.args.figures.horizon (counts_with change c.args.figures.counts) = search rules in
+    let columns : AreColumns (figures_after change c.args.figures) (to_z w64 (of_z w64 c.in_ok-id.id)) c.in_ok-numbers.numbers = record { id_is = id; numbers = numbers } in
+    let is : IsTextOf (option_copied (Some c.as_str.result)) change = search rules in
+    rw c.uid.ensures at (c.in-Ok.ensures.done rows name c.args.figures change clean line at is columns)
+
+pub returns-in-Ok-clause-crash : goal.returns-in-Ok-clause-crash
+returns-in-Ok-clause-crash g c rows name line =
+    let change = Stores c.args.card.now c.args.why in
+    let id : to_z w64 (of_z w64 c.in_ok-id.id) ≡ pos c.args.figures.id = back_of c.in_ok-id.id c.id.result c.args.figures.id c.in_ok-id.ensures.ok c.in_ok-id.ensures.fits c.id.ensures in
+    let at : to_z w64 (of_z w64 c.in_ok-changed.changed) ≡ pos (c.args.figures.number + 1) = back_of c.in_ok-changed.changed (c.number.result + 1) (c.args.figures.number + 1) c.in_ok-changed.ensures.ok c.in_ok-changed.ensures.fits (ap (λ k. k + 1) c.number.ensures) in
+    let numbers : numbers_of c.in_ok-numbers.numbers ≡ numbers_row (c.args.figures.number + 1) c.args.figures.horizon (counts_with change c.args.figures.counts) = search rules in
+    let columns : AreColumns (figures_after change c.args.figures) (to_z w64 (of_z w64 c.in_ok-id.id)) c.in_ok-numbers.numbers = record { id_is = id; numbers = numbers } in
+    let is : IsTextOf (option_copied (Some c.as_str.result)) change = search rules in
+    rw c.uid.ensures at (c.in-Ok.ensures.crash rows name c.args.figures change line at is columns)
+
+pub returns-clause-done : goal.returns-clause-done
+returns-clause-done g c rows name clean line =
+    let change = Stores c.args.card.now c.args.why in
+    let id : to_z w64 (of_z w64 c.in_ok-id.id) ≡ pos c.args.figures.id = back_of c.in_ok-id.id c.id.result c.args.figures.id c.in_ok-id.ensures.ok c.in_ok-id.ensures.fits c.id.ensures in
+    let at : to_z w64 (of_z w64 c.in_ok-changed.changed) ≡ pos (c.args.figures.number + 1) = back_of c.in_ok-changed.changed (c.number.result + 1) (c.args.figures.number + 1) c.in_ok-changed.ensures.ok c.in_ok-changed.ensures.fits (ap (λ k. k + 1) c.number.ensures) in
+    let numbers : numbers_of c.in_ok-numbers.numbers ≡ numbers_row (c.args.figures.number + 1) c.args.figures.horizon (counts_with change c.args.figures.counts) = search rules in
+    let columns : AreColumns (figures_after change c.args.figures) (to_z w64 (of_z w64 c.in_ok-id.id)) c.in_ok-numbers.numbers = record { id_is = id; numbers = numbers } in
+    let is : IsTextOf (option_copied (Some c.as_str.result)) change = search rules in
+    c.in-Err.ensures.done rows name c.args.figures change clean line at is columns
+
+pub returns-clause-crash : goal.returns-clause-crash
+returns-clause-crash g c rows name line =
+    let change = Stores c.args.card.now c.args.why in
+    let id : to_z w64 (of_z w64 c.in_ok-id.id) ≡ pos c.args.figures.id = back_of c.in_ok-id.id c.id.result c.args.figures.id c.in_ok-id.ensures.ok c.in_ok-id.ensures.fits c.id.ensures in
+    let at : to_z w64 (of_z w64 c.in_ok-changed.changed) ≡ pos (c.args.figures.number + 1) = back_of c.in_ok-changed.changed (c.number.result + 1) (c.args.figures.number + 1) c.in_ok-changed.ensures.ok c.in_ok-changed.ensures.fits (ap (λ k. k + 1) c.number.ensures) in
+    let numbers : numbers_of c.in_ok-numbers.numbers ≡ numbers_row (c.args.figures.number + 1) c.args.figures.horizon (counts_with change c.args.figures.counts) = search rules in
+    let columns : AreColumns (figures_after change c.args.figures) (to_z w64 (of_z w64 c.in_ok-id.id)) c.in_ok-numbers.numbers = record { id_is = id; numbers = numbers } in
+    let is : IsTextOf (option_copied (Some c.as_str.result)) change = search rules in
+    rw c.uid.ensures at (c.in-Err.ensures.crash rows name c.args.figures change line at is columns)

@@ -1,0 +1,6 @@
+pub mod StoredBooks
+pub mod Changing
+pub mod Planning
+pub mod Removals
+pub mod Importing
+pub mod Moves
