@@ -1,3 +1,4 @@
 pub mod LayLemmas
 pub mod StoreLemmas
 pub mod AdoptLemmas
+pub mod FileLemmas

@@ -1,5 +1,5 @@
 -- What opening a store comes to. This project's own.
-use Rattle.std.specs.Prelude.{◌≡◌, Err}
+use Rattle.std.specs.Prelude.{◌≡◌, ⊤, Err}
 use Rattle.sqlite.specs.Held.{Held, state}
 use Rattle.sqlite.specs.State.{State, HasCleanDisk}
 use Rattle.sqlite.specs.Tree.{Trees}
@@ -9,6 +9,7 @@ use Rattle.book_tables.specs.Meta.{IsLaid, schema_number}
 use Rattle.book_tables.specs.Tables.{book_schema}
 use Rattle.schema_check.specs.StoredSchema.{ChangesNothing}
 use Rattle.schema_check.specs.declared.open_fault.OpenFault.{OpenFault}
+use Rattle.schema_check.specs.declared.open_fault.OpenFault.TheVariants.{Store, NotOurs, OtherSchema, Damaged, NotEmpty, Memory}
 use Rattle.book_check.specs.Opening.{Opens}
 
 -- ---- new stores
@@ -21,6 +22,15 @@ pub record StandsLaid (s : State) : Type 0 where
 -- the trees of tables that were just laid
 abbrev pub IsLaidIn : Trees → Type 0
 IsLaidIn trees = IsLaid schema_number (record { schema = book_schema; trees = trees })
+
+-- what a new store may be refused with
+abbrev pub IsFaultOfCreating : OpenFault → Type 0
+IsFaultOfCreating Store = ⊤
+IsFaultOfCreating NotOurs = ⊤
+IsFaultOfCreating (OtherSchema has) = ⊥
+IsFaultOfCreating Damaged = ⊥
+IsFaultOfCreating NotEmpty = ⊤
+IsFaultOfCreating Memory = ⊤
 
 -- ---- tables that are there
 

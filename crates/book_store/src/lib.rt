@@ -4,8 +4,10 @@
 
 pub mod adopting;
 pub mod calls;
+pub mod files;
 mod laying;
 pub mod sql_store;
 
+pub use files::FileBooks;
 pub use schema_check::OpenFault;
 pub use sql_store::SqlStore;

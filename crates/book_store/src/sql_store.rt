@@ -1,5 +1,5 @@
 //! A store of books over the tables of a connection.
-ghost use Rattle.book_store.specs.Opening.{IsLaidIn};
+ghost use Rattle.book_store.specs.Opening.{IsFaultOfCreating, IsLaidIn};
 ghost use Rattle.book_store.specs.StoreViews.{IsStore};
 ghost use Rattle.book_writing.specs.StoredBooks.{IsInOrder, stored_books};
 ghost use Rattle.book_tables.specs.Laying.{no_schema};
@@ -92,6 +92,7 @@ impl<S: Alter + Drop> SqlStore<S> {
             → result ≡ Err NotEmpty }
         ensures fault { (state S.Store connection).now.schema ≡ no_schema
             → IfErr result IsErrorFault }
+        ensures kind { IfErr result IsFaultOfCreating }
 
         // A crash leaves what it could leave before, or the laid tables.
         ensures crash { IfOk result (λ store. Survives (state S.Store connection)

@@ -1,0 +1,27 @@
+-- What opening files comes to.
+use Rattle.std.proofs.Common.{◌≡◌, inl, inr, Result, Ok, Err, IfOk, sym, subst}
+use Rattle.sqlite.specs.State.{State, HasCleanDisk, IsLive, Opens}
+use Rattle.schema_check.specs.OpenFaults.{IsErrorFault}
+use Rattle.schema_check.specs.StoredSchema.{ChangesNothing}
+use Rattle.schema_check.specs.declared.open_fault.OpenFault.{OpenFault}
+use Rattle.book_rows.specs.SoundTables.{HoldsWellFormed}
+use Rattle.book_store.specs.Opening.{IsFaultOfCreating, greatest}
+use Rattle.book_writing.specs.StoredBooks.{IsInOrder}
+
+-- an error of the database may come of creating a store
+pub error_of_creating : (fault : OpenFault) → IsErrorFault fault → IsFaultOfCreating fault
+error_of_creating fault (inl store) = subst IsFaultOfCreating (sym store) tt
+error_of_creating fault (inr memory) = subst IsFaultOfCreating (sym memory) tt
+
+-- a connection that was just opened, and that a test left as it was, holds what was found
+pub found_well_formed : (old new : State) → ChangesNothing old new → (HasCleanDisk old → Opens old × IsLive old) → (IsInOrder new → IsInOrder old) → (IsInOrder new → HoldsWellFormed greatest old.now)
+    → IsInOrder new → HoldsWellFormed greatest new.now
+found_well_formed old new left opened before found order =
+    let same = left.same order.0 order.1 (λ _. (opened (before order).0).0.clean) in
+    subst (HoldsWellFormed greatest) (sym same.now_is) (found order)
+
+-- and so of the store that was made of it
+pub adopted_well_formed : {A E : Type 0} (state_of : A → State) (old : State) (r : Result A E) → (HasCleanDisk old → Opens old × IsLive old) → IfOk r (λ a. ChangesNothing old (state_of a)) → IfOk r (λ a. IsInOrder (state_of a) → IsInOrder old)
+    → IfOk r (λ a. IsInOrder (state_of a) → HoldsWellFormed greatest old.now) → IfOk r (λ a. IsInOrder (state_of a) → HoldsWellFormed greatest (state_of a).now)
+adopted_well_formed state_of old (Ok a) opened left before found = found_well_formed old (state_of a) left opened before found
+adopted_well_formed state_of old (Err e) opened left before found = tt
