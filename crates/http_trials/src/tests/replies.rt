@@ -1,4 +1,3 @@
-mod answers;
 mod faults;
 
 use std::alloc::Global;

@@ -152,41 +152,6 @@ fn nothing_follows_a_closing_request(rt: HostRuntime) -> Result<(), Fail> {
     )
 }
 
-/// Requests with faults, and what they are replied.
-const FAULTY: &[(&str, &str)] = &[
-    ("GET / HTTP/9.1\r\nHost: x\r\n\r\n", "bad-head"),
-    ("GET / HTTP/1.1\r\n\r\n", "bad-host"),
-    ("GET / HTTP/1.1\r\nHost: x\r\nHost: x\r\n\r\n", "bad-host"),
-    (
-        "PUT / HTTP/1.1\r\nHost: x\r\nTransfer-Encoding: chunked\r\nContent-Length: 5\r\n\r\n",
-        "transfer-encoding",
-    ),
-    (
-        "PUT / HTTP/1.1\r\nHost: x\r\nContent-Length: +5\r\n\r\n",
-        "bad-length",
-    ),
-    (
-        "PUT / HTTP/1.1\r\nHost: x\r\nContent-Length: 5\r\nContent-Length: 5\r\n\r\n",
-        "bad-length",
-    ),
-    (
-        "PUT / HTTP/1.1\r\nHost: x\r\nContent-Length: 0000000000000005\r\n\r\n",
-        "bad-length",
-    ),
-    (
-        "PUT / HTTP/1.1\r\nHost: x\r\nContent-Length: 8388609\r\n\r\n",
-        "body-too-large",
-    ),
-];
-
-#[test]
-fn heads_have_faults(rt: HostRuntime) -> Result<(), Fail> {
-    for (text, wanted) in FAULTY {
-        replies(&rt, rt.alloc(), text.as_bytes(), wanted.as_bytes(), true)?;
-    }
-    Ok(())
-}
-
 #[test]
 fn bodies_are_waited_for(rt: HostRuntime) -> Result<(), Fail> {
     for text in [
@@ -216,29 +181,6 @@ fn faults_are_numbered(rt: HostRuntime) {
     }
 }
 
-/// A head of so many fields.
-fn head_of_fields(alloc: Global, count: usize) -> Result<Vec<u8>, NoMemory> {
-    let mut text = Vec::new(alloc);
-    text.extend_from_slice(b"GET / HTTP/1.1\r\n")?;
-    for i in 0..count {
-        if i == 0 {
-            text.extend_from_slice(b"Host: x\r\n")?;
-        } else {
-            text.extend_from_slice(b"A: b\r\n")?;
-        }
-    }
-    text.extend_from_slice(b"\r\n")?;
-    Ok(text)
-}
-
-#[test]
-fn fields_are_bounded(rt: HostRuntime) -> Result<(), Fail> {
-    let most = head_of_fields(rt.alloc(), 64)?;
-    replies_to_octets(&rt, rt.alloc(), &most, b"GET / open ;", false)?;
-    let more = head_of_fields(rt.alloc(), 65)?;
-    replies_to_octets(&rt, rt.alloc(), &more, b"bad-head", true)
-}
-
 /// The front, and then one octet so many times.
 fn filled(alloc: Global, front: &[u8], octet: u8, count: usize) -> Result<Vec<u8>, NoMemory> {
     let mut text = Vec::new(alloc);
@@ -261,17 +203,6 @@ fn counts(
     assert!(rt; out.len() == wanted);
     assert!(rt; out_closed == closed);
     Ok(())
-}
-
-#[test]
-fn heads_are_bounded(rt: HostRuntime) -> Result<(), Fail> {
-    let too_large = HeadFault::HeadTooLarge.text().len();
-    let beginning = filled(rt.alloc(), b"GET /", b'a', 16_379)?;
-    counts(&rt, rt.alloc(), &beginning, too_large, true)?;
-    let blank = filled(rt.alloc(), b"", b'\n', 16_384)?;
-    counts(&rt, rt.alloc(), &blank, too_large, true)?;
-    let shorter = filled(rt.alloc(), b"GET /", b'a', 16_378)?;
-    counts(&rt, rt.alloc(), &shorter, 0, false)
 }
 
 #[test]

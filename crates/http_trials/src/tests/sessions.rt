@@ -66,17 +66,6 @@ fn is_replied(
 }
 
 #[test]
-fn answers_requests_in_turn(rt: HostRuntime) -> Result<(), Fail> {
-    let requests = "PUT /books/staff HTTP/1.1\r\nHost: office\r\n\r\n\
-        DELETE /books/staff HTTP/1.1\r\nHost: office\r\nConnection: close\r\n\r\n";
-    let wanted = "HTTP/1.1 201 Created\r\nContent-Type: application/json\r\n\
-        Content-Length: 8\r\nConnection: keep-alive\r\n\r\n{\"id\":1}\
-        HTTP/1.1 405 Method Not Allowed\r\nContent-Type: application/json\r\nAllow: PUT\r\n\
-        Content-Length: 34\r\nConnection: close\r\n\r\n{\"fault\":\"bad-method\",\"number\":28}";
-    is_replied(&rt, rt.alloc(), requests, wanted, true)
-}
-
-#[test]
 fn replies_alike_to_every_cut(rt: HostRuntime) -> Result<(), Fail> {
     let wanted = replies(rt.alloc())?;
     is_replied(&rt, rt.alloc(), REQUESTS, wanted.as_str(), false)?;
@@ -86,20 +75,6 @@ fn replies_alike_to_every_cut(rt: HostRuntime) -> Result<(), Fail> {
         assert!(rt; out.as_slice() == wanted.as_bytes(), "cut at {cut}");
         assert!(rt; !closed);
     }
-    Ok(())
-}
-
-#[test]
-fn replies_alike_to_single_octets(rt: HostRuntime) -> Result<(), Fail> {
-    let wanted = replies(rt.alloc())?;
-    let mut service = new_service(rt.alloc());
-    let mut session = Session::new(rt.alloc());
-    let mut out = Vec::new(rt.alloc());
-    for octet in REQUESTS.as_bytes().chunks(1) {
-        let more = session.feed(rt.alloc(), &mut service, octet)?;
-        out.extend_from_slice(&more)?;
-    }
-    assert_eq!(rt; str::from_utf8(out.as_slice()), Ok(wanted.as_str()));
     Ok(())
 }
 
@@ -119,30 +94,4 @@ fn acts_on_whole_bodies_alone(rt: HostRuntime) -> Result<(), Fail> {
         assert!(rt; service.store.get("staff", "a").is_err(), "at {end}");
     }
     Ok(())
-}
-
-#[test]
-fn ignores_what_follows_a_closing_request(rt: HostRuntime) -> Result<(), Fail> {
-    let requests = "PUT /books/staff HTTP/1.1\r\nHost: office\r\n\r\nGET /books HTTP/1.0\r\n\r\n\
-        PUT /books/clients HTTP/1.1\r\nHost: office\r\n\r\n";
-    let mut service = new_service(rt.alloc());
-    let mut session = Session::new(rt.alloc());
-    let out = session.feed(rt.alloc(), &mut service, requests.as_bytes())?;
-    let wanted = format!(in rt.alloc();
-        "{MADE}{}",
-        "HTTP/1.1 200 OK\r\nContent-Type: application/json\r\nContent-Length: 58\r\n\
-         Connection: close\r\n\r\n\
-         {\"books\":[{\"horizon\":0,\"id\":1,\"name\":\"staff\",\"number\":0}]}"
-    )?;
-    assert_eq!(rt; str::from_utf8(out.as_slice()), Ok(wanted.as_str()));
-    assert!(rt; session.closed());
-    assert!(rt; service.store.book("clients").is_err());
-    Ok(())
-}
-
-#[test]
-fn tells_a_head_without_a_host(rt: HostRuntime) -> Result<(), Fail> {
-    let wanted = "HTTP/1.1 400 Bad Request\r\nContent-Type: application/json\r\n\
-        Content-Length: 32\r\nConnection: close\r\n\r\n{\"fault\":\"bad-host\",\"number\":23}";
-    is_replied(&rt, rt.alloc(), "GET / HTTP/1.1\r\n\r\n", wanted, true)
 }

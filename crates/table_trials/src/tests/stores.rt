@@ -3,8 +3,7 @@
 mod adopting;
 mod calls;
 mod changing;
-mod telling;
-mod told;
+mod files;
 
 use sqlite::{Connection, MemStore, Row};
 use std::alloc::Global;

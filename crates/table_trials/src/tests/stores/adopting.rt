@@ -1,5 +1,5 @@
-use book_store::{OpenFault, SqlStore};
 use book_model::{Limits, PutAnswer};
+use book_store::{OpenFault, SqlStore};
 use sqlite::{Connection, MemStore};
 use std::alloc::Global;
 use std::test::Fail;

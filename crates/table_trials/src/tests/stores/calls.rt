@@ -2,16 +2,16 @@
 //! their clauses along.
 
 use super::told_all;
-use book_writing::creating::create_in_tables;
-use book_writing::forgetting::forget_in_book;
-use book_writing::move_call::move_in_tables;
-use book_writing::put_call::put_in_book;
-use book_writing::remove_call::remove_in_book;
 use book_model::{Denied, Fault, Limits, PutAnswer, Refusal};
 use book_tables::books::{BookNumbers, find_book, insert_book, renumber_book};
 use book_tables::keeps::{find_keep, insert_keep};
 use book_tables::laying::lay_tables;
 use book_tables::members::{find_member, members_of, put_member};
+use book_writing::creating::create_in_tables;
+use book_writing::forgetting::forget_in_book;
+use book_writing::move_call::move_in_tables;
+use book_writing::put_call::put_in_book;
+use book_writing::remove_call::remove_in_book;
 use sqlite::types::ValueRef;
 use sqlite::{Connection, MemStore, Row, Transaction};
 use std::alloc::Global;

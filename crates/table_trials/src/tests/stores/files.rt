@@ -1,0 +1,80 @@
+//! Stores in files: made, opened again, and refused.
+
+use super::calls::card;
+use book_model::Limits;
+use book_store::{FileBooks, OpenFault, SqlStore};
+use std::fs;
+use std::test::Fail;
+use sync_core::BookStore;
+
+const FOLDER: &str = "books_in_files";
+
+const BOOKS: &str = "books_in_files/books.db";
+
+const OTHERS: &str = "books_of_others";
+
+const LETTER: &str = "books_of_others/letter.txt";
+
+const MISSING: &str = "books_of_others/missing.db";
+
+fn create(rt: &HostRuntime, path: &str) -> Result<FileBooks, OpenFault> {
+    SqlStore::create(rt, path, Limits::standard())
+}
+
+fn open(rt: &HostRuntime, path: &str) -> Result<FileBooks, OpenFault> {
+    SqlStore::open(rt, path, Limits::standard())
+}
+
+/// Makes the book `staff`, and puts Ann's card there.
+fn fill(rt: &HostRuntime, store: &mut FileBooks) -> Result<(), Fail> {
+    let ann = card(rt.alloc(), "Ann")?;
+    store.create_book("staff")?;
+    store.put("staff", &ann, None)?;
+    Ok(())
+}
+
+fn version_of_card(store: &mut FileBooks) -> Result<u64, Fail> {
+    Ok(store.get("staff", "n")?.version)
+}
+
+/// The number of the fault with which the file is refused, and 0 where it is opened.
+fn refused(opened: Result<FileBooks, OpenFault>) -> u8 {
+    match opened {
+        Ok(_) => 0,
+        Err(fault) => fault.number(),
+    }
+}
+
+#[test]
+fn keeps_books_in_a_file(rt: HostRuntime) -> Result<(), Fail> {
+    let _ = fs::remove_dir_all(&rt, FOLDER);
+    fs::create_dir(&rt, FOLDER)?;
+    let Ok(mut store) = create(&rt, BOOKS) else {
+        return Err(Fail::new("not made"));
+    };
+    fill(&rt, &mut store)?;
+    drop(store);
+    assert_eq!(rt; refused(create(&rt, BOOKS)), 5);
+    let Ok(mut store) = open(&rt, BOOKS) else {
+        return Err(Fail::new("not opened"));
+    };
+    assert_eq!(rt; version_of_card(&mut store)?, 1);
+    assert_eq!(rt; refused(open(&rt, BOOKS)), 1);
+    Ok(())
+}
+
+#[test]
+fn refuses_other_files(rt: HostRuntime) -> Result<(), Fail> {
+    let _ = fs::remove_dir_all(&rt, OTHERS);
+    fs::create_dir(&rt, OTHERS)?;
+    fs::write(
+        &rt,
+        LETTER,
+        "Dear Ann, this letter is no database of books.",
+    )?;
+    assert_eq!(rt; refused(open(&rt, LETTER)), 2);
+    assert_eq!(rt; refused(open(&rt, MISSING)), 1);
+    assert!(rt; !fs::exists(&rt, MISSING)?);
+    assert_eq!(rt; refused(open(&rt, OTHERS)), 1);
+    Ok(())
+}
