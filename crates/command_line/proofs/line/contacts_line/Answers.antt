@@ -1,0 +1,17 @@
+use Rattle.std.proofs.Common.{◌∙◌, ap, codes, true}
+use Rattle.clap.specs.Simple.{App, Shape, app_of_fields, new_app, on_top}
+use Rattle.std.proofs.lemmas.Result.{IfOk-weaker}
+use Rattle.command_line.specs.Lines.{order_lines}
+use Rattle.command_line.proofs.LineLemmas.{lines-added}
+use Rattle.command_line.proofs.line.contacts_line.Goals as goal
+
+-- the words have no name of the program before them
+abbrev bare : App → App
+bare a = on_top (λ (s : Shape). record s { no_binary_name = true }) a
+
+pub returns : goal.returns
+returns c =
+    let top = ap app_of_fields c.no_binary_name.ensures ∙ ap bare
+    (ap app_of_fields c.after_help.ensures ∙ ap app_of_fields c.about.ensures ∙ c.new.ensures.app) in
+    IfOk-weaker c.subcommands.result _ _ (λ made adds.
+    lines-added (bare (new_app (codes "contacts"))) order_lines c.no_binary_name.result c.in_ok-order_lines.field-0.items made top c.in_ok-order_lines.ensures adds) c.subcommands.ensures

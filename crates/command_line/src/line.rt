@@ -1,0 +1,255 @@
+//! The command line as `clap` reads it, with what help says of each order.
+ghost use Rattle.std.specs.Prelude.{◌≡◌, IfOk, List};
+ghost use Rattle.clap.specs.Words.{Rule, app_of};
+ghost use Rattle.command_line.specs.Lines as lines;
+ghost use Rattle.command_line.specs.Lines.{AreOrderLines, AreWords, IsOrderLine};
+
+use crate::arguments::{amount, book, choice, file, number, word};
+use clap::{Arg, Command};
+use std::alloc::{AllocError, Global};
+
+/// The most that a number of the command line is, but for those that have less.
+const MOST_NUMBER: u64 = 999_999_999_999_999;
+
+/// An order with its words.
+fn order_line<'a>(
+    alloc: Global,
+    name: &'a str,
+    about: &'a str,
+    example: &'a str,
+    words: Vec<Arg<'a>>,
+) -> Result<Command<'a>, AllocError>
+    ensures { (rules : List Rule) → AreWords rules words.entry.items
+        → IfOk result (IsOrderLine (lines.order_line name.entry.now rules)) }
+{
+    Command::new(alloc, name)
+        .about(about)
+        .after_help(example)
+        .args(words)
+}
+
+fn try_line<'a>(alloc: Global) -> Result<Command<'a>, AllocError>
+    ensures { IfOk result (IsOrderLine lines.try_line) }
+{
+    order_line(
+        alloc,
+        "try",
+        "Reads one vCard from standard input, puts it into an empty book in memory, and prints the \
+         book's initial report",
+        "Example:\n  contacts try < ann.vcf\n\nA card has at most 262,144 octets.",
+        Vec::new(alloc),
+    )
+}
+
+fn init_line<'a>(alloc: Global) -> Result<Command<'a>, AllocError>
+    ensures { IfOk result (IsOrderLine lines.init_line) }
+{
+    order_line(
+        alloc,
+        "init",
+        "Makes a file for books; there must be none yet",
+        "Example:\n  contacts init office.db",
+        Vec::from_array(alloc, [file(alloc)])?,
+    )
+}
+
+fn book_line<'a>(alloc: Global) -> Result<Command<'a>, AllocError>
+    ensures { IfOk result (IsOrderLine lines.book_line) }
+{
+    order_line(
+        alloc,
+        "book",
+        "Makes an empty book in the file, and prints its number",
+        "Example:\n  contacts book office.db staff",
+        Vec::from_array(alloc, [file(alloc), book(alloc)])?,
+    )
+}
+
+fn serve_line<'a>(alloc: Global) -> Result<Command<'a>, AllocError>
+    ensures { IfOk result (IsOrderLine lines.serve_line) }
+{
+    let port = amount(
+        alloc,
+        "P",
+        "port",
+        0,
+        65_535,
+        "0",
+        "The port, 0 to 65535; 0 is any free one",
+    );
+    let connections = amount(
+        alloc,
+        "N",
+        "connections",
+        1,
+        1_000_000,
+        "1",
+        "How many connections are served, 1 to 1000000",
+    );
+    order_line(
+        alloc,
+        "serve",
+        "Serves the file's books over HTTP at 127.0.0.1, one connection after another, and ends",
+        "Example:\n  contacts serve office.db --port 8080 --connections 1000000",
+        Vec::from_array(alloc, [file(alloc), port, connections])?,
+    )
+}
+
+fn import_line<'a>(alloc: Global) -> Result<Command<'a>, AllocError>
+    ensures { IfOk result (IsOrderLine lines.import_line) }
+{
+    let key = word(
+        alloc,
+        "KEY",
+        "The import's key; a second import under it changes nothing",
+    );
+    let csv = word(alloc, "CSV", "A file of rows, of at most 8388608 octets");
+    order_line(
+        alloc,
+        "import",
+        "Imports the cards of a CSV file into the book",
+        "Example:\n  contacts import office.db staff monday people.csv",
+        Vec::from_array(alloc, [file(alloc), book(alloc), key, csv])?,
+    )
+}
+
+fn export_line<'a>(alloc: Global) -> Result<Command<'a>, AllocError>
+    ensures { IfOk result (IsOrderLine lines.export_line) }
+{
+    let form = choice(
+        alloc,
+        "F",
+        "form",
+        "cards",
+        "What a row is: `cards`, a UID and a card's text, or `columns`, a card's parts",
+    );
+    order_line(
+        alloc,
+        "export",
+        "Writes the book's cards as CSV",
+        "Example:\n  contacts export office.db staff --form columns > people.csv",
+        Vec::from_array(alloc, [file(alloc), book(alloc), form])?,
+    )
+}
+
+fn tally_line<'a>(alloc: Global) -> Result<Command<'a>, AllocError>
+    ensures { IfOk result (IsOrderLine lines.tally_line) }
+{
+    order_line(
+        alloc,
+        "tally",
+        "Tells how many cards the book has, and how they came and went",
+        "Example:\n  contacts tally office.db staff",
+        Vec::from_array(alloc, [file(alloc), book(alloc)])?,
+    )
+}
+
+fn forget_line<'a>(alloc: Global) -> Result<Command<'a>, AllocError>
+    ensures { IfOk result (IsOrderLine lines.forget_line) }
+{
+    let upto = number(
+        alloc,
+        "UPTO",
+        0,
+        MOST_NUMBER,
+        "The number of the last change that is forgotten, 0 to 999999999999999",
+    );
+    order_line(
+        alloc,
+        "forget",
+        "Forgets which cards were removed from the book, up to a number",
+        "Example:\n  contacts forget office.db staff 100",
+        Vec::from_array(alloc, [file(alloc), book(alloc), upto])?,
+    )
+}
+
+fn mirror_line<'a>(alloc: Global) -> Result<Command<'a>, AllocError>
+    ensures { IfOk result (IsOrderLine lines.mirror_line) }
+{
+    let limit = amount(
+        alloc,
+        "L",
+        "limit",
+        0,
+        MOST_NUMBER,
+        "100",
+        "The most entries of a page, 0 to 999999999999999",
+    );
+    let pages = amount(
+        alloc,
+        "P",
+        "pages",
+        1,
+        1_000_000,
+        "1000",
+        "The most pages, 1 to 1000000",
+    );
+    order_line(
+        alloc,
+        "mirror",
+        "Follows the book as a new device does, page by page, and prints what the device holds",
+        "Example:\n  contacts mirror office.db staff --limit 10 --pages 100",
+        Vec::from_array(alloc, [file(alloc), book(alloc), limit, pages])?,
+    )
+}
+
+fn expand_line<'a>(alloc: Global) -> Result<Command<'a>, AllocError>
+    ensures { IfOk result (IsOrderLine lines.expand_line) }
+{
+    let uid = word(alloc, "UID", "The UID of a group");
+    order_line(
+        alloc,
+        "expand",
+        "Lists the people of a group and of the groups in it",
+        "Example:\n  contacts expand office.db staff choir",
+        Vec::from_array(alloc, [file(alloc), book(alloc), uid])?,
+    )
+}
+
+fn migrate_line<'a>(alloc: Global) -> Result<Command<'a>, AllocError>
+    ensures { IfOk result (IsOrderLine lines.migrate_line) }
+{
+    order_line(
+        alloc,
+        "migrate",
+        "Brings a file of the first schema to the present one",
+        "Example:\n  contacts migrate office.db",
+        Vec::from_array(alloc, [file(alloc)])?,
+    )
+}
+
+/// All orders.
+fn order_lines<'a>(alloc: Global) -> Result<Vec<Command<'a>>, AllocError>
+    ensures { IfOk result (λ made. AreOrderLines lines.order_lines made.items) }
+{
+    Ok(Vec::from_array(
+        alloc,
+        [
+            try_line(alloc)?,
+            init_line(alloc)?,
+            book_line(alloc)?,
+            serve_line(alloc)?,
+            import_line(alloc)?,
+            export_line(alloc)?,
+            tally_line(alloc)?,
+            forget_line(alloc)?,
+            mirror_line(alloc)?,
+            expand_line(alloc)?,
+            migrate_line(alloc)?,
+        ],
+    )?)
+}
+
+/// The words behind the program's name.
+pub(crate) fn contacts_line<'a>(alloc: Global) -> Result<Command<'a>, AllocError>
+    ensures { IfOk result (λ made. app_of made ≡ lines.contacts_line) }
+{
+    Command::new(alloc, "contacts")
+        .about("Keeps address books that many devices share")
+        .after_help(
+            "Without an order it does what `try` does. `contacts help ORDER` tells an order's \
+             words, defaults and limits.\n\nExample:\n  contacts tally office.db staff",
+        )
+        .no_binary_name(true)
+        .subcommands(order_lines(alloc)?)
+}
