@@ -251,5 +251,6 @@ pub(crate) fn contacts_line<'a>(alloc: Global) -> Result<Command<'a>, AllocError
              words, defaults and limits.\n\nExample:\n  contacts tally office.db staff",
         )
         .no_binary_name(true)
+        .bin_name("contacts")?
         .subcommands(order_lines(alloc)?)
 }

@@ -10,18 +10,18 @@ use clap::ArgMatches;
 use csv_cards::Form;
 use std::alloc::{AllocError, Global};
 
-/// What is wrong with the value, in the form of `clap`'s own texts.
-fn value_text(alloc: Global, id: &str, value: &str) -> Result<Text, AllocError> {
+/// What is wrong with the value of what was wanted, in the form of `clap`'s own texts.
+fn value_text(alloc: Global, wanted: &str, value: &str) -> Result<Text, AllocError> {
     Ok(Text::new(format!(in alloc;
-        "error: invalid value '{value}' for '{id}'\n\nFor more information, try '--help'.\n"
+        "error: invalid value '{value}' for {wanted}\n\nFor more information, try '--help'.\n"
     )?))
 }
 
 /// Words that `clap` takes and that mean nothing all the same.
-pub(crate) fn refuse<T>(alloc: Global, id: &str, value: &str) -> Result<T, LineFault>
+pub(crate) fn refuse<T>(alloc: Global, wanted: &str, value: &str) -> Result<T, LineFault>
     ensures { Gives None result }
 {
-    let text = value_text(alloc, id, value)?;
+    let text = value_text(alloc, wanted, value)?;
     Err(LineFault::Bad { text })
 }
 
@@ -55,6 +55,9 @@ pub(crate) fn port_in(alloc: Global, matches: &ArgMatches<'_>) -> Result<u16, Li
     }
 }
 
+/// What `--form` wants.
+const FORMS: &str = "'--form <F>'\n  [possible values: cards, columns]";
+
 /// The form that the text names.
 fn form_of(text: &str) -> Option<Form>
     ensures { result ≡ meanings.form_of text.now }
@@ -73,10 +76,10 @@ pub(crate) fn form_in(alloc: Global, matches: &ArgMatches<'_>) -> Result<Form, L
     ensures { Gives (meanings.form_in (rows_of (found_of matches.now))) result }
 {
     let Some(text) = matches.get_str("F") else {
-        return refuse(alloc, "--form <F>", "");
+        return refuse(alloc, FORMS, "");
     };
     match form_of(text) {
         Some(form) => Ok(form),
-        None => refuse(alloc, "--form <F>", text),
+        None => refuse(alloc, FORMS, text),
     }
 }

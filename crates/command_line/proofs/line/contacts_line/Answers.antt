@@ -11,7 +11,7 @@ bare a = on_top (λ (s : Shape). record s { no_binary_name = true }) a
 
 pub returns : goal.returns
 returns c =
-    let top = ap app_of_fields c.no_binary_name.ensures ∙ ap bare
+    let top = ap app_of_fields c.in_ok-bin_name.ensures.0 ∙ ap app_of_fields c.no_binary_name.ensures ∙ ap bare
     (ap app_of_fields c.after_help.ensures ∙ ap app_of_fields c.about.ensures ∙ c.new.ensures.app) in
     IfOk-weaker c.subcommands.result _ _ (λ made adds.
-    lines-added (bare (new_app (codes "contacts"))) order_lines c.no_binary_name.result c.in_ok-order_lines.field-0.items made top c.in_ok-order_lines.ensures adds) c.subcommands.ensures
+    lines-added (bare (new_app (codes "contacts"))) order_lines c.in_ok-bin_name.field-0 c.in_ok-order_lines.field-0.items made top c.in_ok-order_lines.ensures adds) c.subcommands.ensures
