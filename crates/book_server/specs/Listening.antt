@@ -13,7 +13,7 @@ first_fault (None ∷ ends) = first_fault ends
 first_fault (Some fault ∷ ends) = Some fault
 
 -- So many connections were to be served, and these are the ends of those that were: all of them,
--- and where some were given up, the first one's fault is told; or fewer, since none came.
+-- and where some were given up, the first one's fault is told; or fewer of them.
 abbrev pub EndsAs : ℕ → List (Option ServeFault) → Result (Unit {0}) ListenFault → Type 0
 EndsAs connections ends (Ok _) = (length ends ≡ connections) × (first_fault ends ≡ None)
 EndsAs connections ends (Err (Serve fault)) =
