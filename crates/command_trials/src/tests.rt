@@ -134,7 +134,10 @@ fn tells_bad_words(rt: HostRuntime) -> Result<(), Fail> {
             "serve a.db --port 1 --port 2",
             "cannot be used multiple times",
         ),
-        ("export a.db staff --form rows", "[possible values: cards, columns]"),
+        (
+            "export a.db staff --form rows",
+            "[possible values: cards, columns]",
+        ),
         ("forget a.db staff -1", "'-1'"),
         ("--help", "contacts tally office.db staff"),
         ("help serve", "Usage: contacts serve [OPTIONS] <FILE>"),
