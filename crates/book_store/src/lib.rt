@@ -8,6 +8,6 @@ pub mod files;
 mod laying;
 pub mod sql_store;
 
-pub use files::FileBooks;
+pub use files::{FileBooks, FileBooksFrom};
 pub use schema_check::OpenFault;
 pub use sql_store::SqlStore;
