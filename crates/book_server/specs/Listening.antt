@@ -12,18 +12,10 @@ first_fault [] = None
 first_fault (None ∷ ends) = first_fault ends
 first_fault (Some fault ∷ ends) = Some fault
 
--- So many connections were to be served, and these are the ends of those that were: all of them,
--- and where some were given up, the first one's fault is told; or fewer of them.
-abbrev pub EndsAs : ℕ → List (Option ServeFault) → Result (Unit {0}) ListenFault → Type 0
-EndsAs connections ends (Ok _) = (length ends ≡ connections) × (first_fault ends ≡ None)
-EndsAs connections ends (Err (Serve fault)) =
-    (length ends ≡ connections) × (first_fault ends ≡ Some fault)
-EndsAs connections ends (Err Device) = length ends < connections
-
 -- A connection is seen by the octets that it has left to be read, and by those that were written to
--- it, where these are known.
+-- it, where these are known. Waiting for one may come to these, or to none where it fails.
 module _ {State Connection : Type 0} (does : Doing State) (fault_reply : FaultReplies)
-    (remaining contents : Connection → Option (List ℕ)) (arrives : Connection → Type 0) where
+    (remaining contents : Connection → Option (List ℕ)) (accepts : Option Connection → Type 0) where
   -- it was served to its end, or given up for a fault
   abbrev pub Ends : Option ServeFault → Connection → Connection → State → State → Type 0
   Ends None before after old new =
@@ -37,7 +29,7 @@ module _ {State Connection : Type 0} (does : Doing State) (fault_reply : FaultRe
   pub record ServesOne (old : State) (end : Option ServeFault) (new : State) : Type 0 where
     pub before : Connection
     pub after : Connection
-    pub arrived : arrives before
+    pub arrived : accepts (Some before)
     pub ended : Ends end before after old new
 
   -- one behind the other was served, and they ended so
@@ -45,6 +37,14 @@ module _ {State Connection : Type 0} (does : Doing State) (fault_reply : FaultRe
   ServesInTurn old [] new = old ≡ new
   ServesInTurn old (end ∷ ends) new =
       (middle : State) × ServesOne old end middle × ServesInTurn middle ends new
+
+  -- So many connections were to be served, and these are the ends of those that were: all of them,
+  -- and where some were given up, the first one's fault is told; or fewer, since waiting failed.
+  abbrev pub EndsAs : ℕ → List (Option ServeFault) → Result (Unit {0}) ListenFault → Type 0
+  EndsAs connections ends (Ok _) = (length ends ≡ connections) × (first_fault ends ≡ None)
+  EndsAs connections ends (Err (Serve fault)) =
+      (length ends ≡ connections) × (first_fault ends ≡ Some fault)
+  EndsAs connections ends (Err Device) = (length ends < connections) × accepts None
 
   -- connections were served in turn, as many as were to be, or as arrived
   pub record Listens

@@ -7,6 +7,6 @@ use book_http::ServeFault;
 pub enum ListenFault {
     /// A connection was given up for this, the first one that was. All others were served.
     Serve(ServeFault),
-    /// The listener failed, and no further connection was served.
+    /// Waiting for a connection failed, and no further one was served.
     Device,
 }

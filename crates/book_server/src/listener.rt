@@ -1,5 +1,5 @@
 //! Where connections come from.
-ghost use Rattle.std.specs.Prelude.{⊤, IfOk};
+ghost use Rattle.std.specs.Prelude.{⊤, IfErr, IfOk, None, Option, Some};
 
 use crate::connection::Connection;
 use std::io;
@@ -9,19 +9,20 @@ use std::net::{TcpListener, TcpStream};
 pub trait Listener {
     type Stream: Connection + Drop;
 
-    /// The connections that arrive at it.
-    ghost arrives: { Self → Self.Stream → Type 0 };
+    /// What waiting for a connection may come to: one that arrives, or none where it fails.
+    ghost accepts: { Self → Option Self.Stream → Type 0 };
 
     /// Waits for the next connection.
     fn accept(&self) -> io::Result<Self::Stream>
-        ensures { IfOk result (λ stream. arrives self.now stream) };
+        ensures arrived { IfOk result (λ stream. accepts self.now (Some stream)) }
+        ensures failed { IfErr result (λ error. accepts self.now None) };
 }
 
-/// Contracts don't know what connects to a socket.
+/// Contracts don't know what connects to a socket, nor when it fails.
 impl Listener for TcpListener {
     type Stream = TcpStream;
 
-    ghost arrives = { λ _ _. ⊤ };
+    ghost accepts = { λ _ _. ⊤ };
 
     fn accept(&self) -> io::Result<TcpStream> {
         let (stream, _address) = TcpListener::accept(self)?;

@@ -1,5 +1,5 @@
 //! Connections, accepted and served in turn.
-ghost use Rattle.std.specs.Prelude.{◌≡◌, IfErr, IfOk};
+ghost use Rattle.std.specs.Prelude.{◌≡◌, IfErr, IfOk, None};
 ghost use Rattle.book_server.specs.Listening.{Listens, ServesOne};
 ghost use Rattle.book_server.specs.declared.listen_fault.ListenFault.{ListenFault as TheFault};
 
@@ -17,10 +17,11 @@ fn serve_next<H: Handler, L: Listener>(
     listener: &L,
 ) -> Result<Option<ServeFault>, ListenFault>
     ensures served { IfOk result (λ end. ServesOne H.does H.fault_reply
-        L.Stream.remaining L.Stream.contents (L.arrives listener.now)
+        L.Stream.remaining L.Stream.contents (L.accepts listener.now)
         handler.old end handler.new) }
     ensures device { IfErr result (λ fault. (fault ≡ TheFault.Device)
         × (handler.new ≡ handler.old)) }
+    ensures failed { IfErr result (λ fault. L.accepts listener.now None) }
 {
     let Ok(mut stream) = listener.accept() else {
         return Err(ListenFault::Device);
@@ -34,7 +35,7 @@ fn serve_next<H: Handler, L: Listener>(
 /// Accepts so many connections and serves each in its turn, with a new session. A connection that
 /// is given up ends none but itself: the others are served.
 ///
-/// `Serve` where one was given up, the first of them. `Device` at once where none can be accepted.
+/// `Serve` where one was given up, the first of them. `Device` at once where waiting for one fails.
 /// With no connection to serve nothing is accepted.
 pub fn serve_listener<H: Handler, L: Listener>(
     alloc: Global,
@@ -43,7 +44,7 @@ pub fn serve_listener<H: Handler, L: Listener>(
     connections: u64,
 ) -> Result<(), ListenFault>
     ensures { Listens H.does H.fault_reply
-        L.Stream.remaining L.Stream.contents (L.arrives listener.now)
+        L.Stream.remaining L.Stream.contents (L.accepts listener.now)
         connections handler.old result handler.new }
 {
     let mut first = None;
