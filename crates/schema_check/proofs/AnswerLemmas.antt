@@ -7,6 +7,8 @@ use Rattle.sqlite.specs.Order.{Row, column}
 use Rattle.sqlite_rules.specs.Edit.{id_in}
 use Rattle.book_tables.specs.Meta.{meta_listed, schema_row, schema_number}
 use Rattle.book_tables.specs.Tables.{book_schema}
+use Rattle.book_tables.specs.Laying.{with_imports}
+use Rattle.schema_check.specs.FirstSchema.{TellsFirst, first_number}
 use Rattle.schema_check.specs.StoredSchema.{IsOfStore, SaysNumber, TellsSchema}
 use Rattle.schema_check.specs.Stated.{IsJudged, IsStated, States}
 use Rattle.schema_check.specs.declared.open_fault.OpenFault.{OpenFault}
@@ -44,7 +46,7 @@ said_once a b db one two = ap number_of (sym one ∙ two)
 -- ---- the answer
 
 module _ (db : Database) (rows : List Row) (keeps : Bool) (store : IsOfStore db.schema) (ours : (keeps ≡ true) ↔ (db.schema ≡ book_schema)) (same : IsPermutation (map meta_listed (db.trees 0)) rows) where
-  pub judged : (said : Option ℤ) (r : Result (Unit {0}) OpenFault) → IsStated rows said → IsJudged keeps said r → TellsSchema db r
+  pub judged : (said : Option ℤ) (r : Result (Unit {0}) OpenFault) → IsStated rows said → IsJudged schema_number keeps said r → TellsSchema db r
   judged None r stated told =
       subst (TellsSchema db) (sym told) (λ is. none_said db rows same stated schema_number is.meta, λ has is. none_said db rows same stated has is.meta)
   judged (Some number) (Ok done) stated told =
@@ -59,3 +61,22 @@ module _ (db : Database) (rows : List Row) (keeps : Bool) (store : IsOfStore db.
   judged (Some number) (Err Damaged) stated told = absurd told
   judged (Some number) (Err NotEmpty) stated told = absurd told
   judged (Some number) (Err Memory) stated told = absurd told
+
+-- ---- the answer of the first schema
+
+module _ (db : Database) (rows : List Row) (first : Bool) (store : IsOfStore db.schema) (declared : (first ≡ true) ↔ (db.schema ≡ with_imports)) (same : IsPermutation (map meta_listed (db.trees 0)) rows) where
+  pub first_judged : (said : Option ℤ) (r : Result (Unit {0}) OpenFault) → IsStated rows said → IsJudged first_number first said r → TellsFirst db r
+  first_judged None r stated told =
+      subst (TellsFirst db) (sym told) (λ is. none_said db rows same stated first_number is.meta, λ has is. none_said db rows same stated has is.meta)
+  first_judged (Some number) (Ok done) stated told =
+      record { schema = declared.0 told.1; meta = subst (λ n. SaysNumber n db) told.0 (some_said db rows number same stated) }
+  first_judged (Some number) (Err Store) stated told = absurd told
+  first_judged (Some number) (Err NotOurs) stated told = (
+    λ is. true≢false (sym (declared.1 is.schema) ∙ told.1),
+    λ has is. is.other (said_once has number db is.meta (some_said db rows number same stated) ∙ told.0),
+  )
+  first_judged (Some number) (Err (OtherSchema has)) stated told =
+      record { schema = store; meta = subst (λ n. SaysNumber n db) told.0 (some_said db rows number same stated); other = λ e. told.1 (told.0 ∙ e) }
+  first_judged (Some number) (Err Damaged) stated told = absurd told
+  first_judged (Some number) (Err NotEmpty) stated told = absurd told
+  first_judged (Some number) (Err Memory) stated told = absurd told

@@ -2,3 +2,4 @@ pub mod OpenFaults
 pub mod SchemaTests
 pub mod StoredSchema
 pub mod Stated
+pub mod FirstSchema

@@ -2,7 +2,6 @@
 use Rattle.std.specs.Prelude.{◌≡◌, ℤ, List, [], ◌∷◌, codes, Bool, true, false, Option, Some, None, Result, Ok, Err}
 use Rattle.sqlite.specs.declared.types.Value.TheVariants.{Int, Text}
 use Rattle.sqlite.specs.Order.{Row, column}
-use Rattle.book_tables.specs.Meta.{schema_number}
 use Rattle.schema_check.specs.declared.open_fault.OpenFault.{OpenFault}
 use Rattle.schema_check.specs.declared.open_fault.OpenFault.TheVariants.{Store, NotOurs, OtherSchema, Damaged, NotEmpty, Memory}
 
@@ -20,13 +19,13 @@ abbrev pub IsStated : List Row → Option ℤ → Type 0
 IsStated rows None = (number : ℤ) → (row : Row) → rows ≡ row ∷ [] → ¬ States row number
 IsStated rows (Some number) = (row : Row) × (rows ≡ row ∷ []) × States row number
 
--- the number is the one of these tables, which have the keeps, or another, or there is none
-abbrev pub IsJudged : Bool → Option ℤ → Result (Unit {0}) OpenFault → Type 0
-IsJudged keeps None told = told ≡ Err NotOurs
-IsJudged keeps (Some number) (Ok done) = (number ≡ schema_number) × (keeps ≡ true)
-IsJudged keeps (Some number) (Err Store) = ⊥
-IsJudged keeps (Some number) (Err NotOurs) = (number ≡ schema_number) × (keeps ≡ false)
-IsJudged keeps (Some number) (Err (OtherSchema has)) = (number ≡ has) × ¬ (number ≡ schema_number)
-IsJudged keeps (Some number) (Err Damaged) = ⊥
-IsJudged keeps (Some number) (Err NotEmpty) = ⊥
-IsJudged keeps (Some number) (Err Memory) = ⊥
+-- the number is the wanted one, whose tables are declared, or another, or there is none
+abbrev pub IsJudged : ℤ → Bool → Option ℤ → Result (Unit {0}) OpenFault → Type 0
+IsJudged wanted declared None told = told ≡ Err NotOurs
+IsJudged wanted declared (Some number) (Ok done) = (number ≡ wanted) × (declared ≡ true)
+IsJudged wanted declared (Some number) (Err Store) = ⊥
+IsJudged wanted declared (Some number) (Err NotOurs) = (number ≡ wanted) × (declared ≡ false)
+IsJudged wanted declared (Some number) (Err (OtherSchema has)) = (number ≡ has) × ¬ (number ≡ wanted)
+IsJudged wanted declared (Some number) (Err Damaged) = ⊥
+IsJudged wanted declared (Some number) (Err NotEmpty) = ⊥
+IsJudged wanted declared (Some number) (Err Memory) = ⊥

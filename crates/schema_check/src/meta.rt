@@ -10,7 +10,6 @@ ghost use Rattle.std.specs.List.Sorted.{IsPermutation};
 ghost use Rattle.std.specs.Prelude.{◌≡◌, ◌↔◌, ℤ, IfOk, IsTrue, MatchOption, OnOk, map};
 
 use crate::open_fault::OpenFault;
-use book_tables::meta::SCHEMA;
 use sqlite::types::ValueRef;
 use sqlite::{Alter, Connection, Error, Row, params};
 
@@ -74,17 +73,17 @@ pub(crate) fn schema_stated(rows: &[Row]) -> Option<i64>
     }
 }
 
-/// Whether the number is the one of these tables, which have the keeps or don't.
-pub(crate) fn judge(keeps: bool, stated: Option<i64>) -> Result<(), OpenFault>
-    ensures { IsJudged keeps stated result }
+/// Whether the number that is stated is the wanted one, whose tables are declared or aren't.
+pub(crate) fn judge(wanted: i64, is_declared: bool, stated: Option<i64>) -> Result<(), OpenFault>
+    ensures { IsJudged wanted is_declared stated result }
 {
     let Some(number) = stated else {
         return Err(OpenFault::NotOurs);
     };
-    if number != SCHEMA {
+    if number != wanted {
         return Err(OpenFault::OtherSchema { has: number });
     }
-    if keeps {
+    if is_declared {
         Ok(())
     } else {
         Err(OpenFault::NotOurs)
