@@ -110,7 +110,7 @@ fn count_live(members: &[Row], id: i64) -> usize
 }
 
 /// How many members the book with the id had that were removed after the horizon.
-fn count_removed(members: &[Row], id: i64, horizon: i64) -> usize
+pub fn count_removed(members: &[Row], id: i64, horizon: i64) -> usize
     ensures { result ≡ length (filter (is_removed_after id horizon) (map member_in members.now)) }
 {
     let mut count: usize = 0;

@@ -21,7 +21,7 @@ fn value_at(row: &Row, at: usize) -> ValueRef<'_>
 }
 
 /// The number of the column, and 0 where it has none.
-pub(crate) fn number_at(row: &Row, at: usize) -> i64
+pub fn number_at(row: &Row, at: usize) -> i64
     ensures { result ≡ id_in (column row.now at) }
 {
     match value_at(row, at) {
@@ -61,7 +61,7 @@ pub(crate) fn text_if_any_at(row: &Row, at: usize) -> Option<&[u8]>
 }
 
 /// Whether the column has a number.
-pub(crate) fn has_number(row: &Row, at: usize) -> bool
+pub fn has_number(row: &Row, at: usize) -> bool
     ensures { IsTrue result ↔ HasNumber at row.now }
 {
     matches!(value_at(row, at), ValueRef::Int(_))

@@ -1,8 +1,8 @@
 //! Whether stored tables hold well-formed books: what is tested of their rows, one by one.
 #![tactic(auto)]
 
-mod books;
-mod cells;
+pub mod books;
+pub mod cells;
 mod distinct;
 mod imports;
 mod keys;

@@ -24,7 +24,7 @@ pub type FileBooksFrom<S> = SqlStore<FileStore<FileFrom<S>>>;
 pub type FileBooks = FileBooksFrom<Unknown>;
 
 /// What a file is refused with, that can't be opened as a database. A file that is none isn't ours.
-fn fault_of_file(error: Error) -> OpenFault
+pub fn fault_of_file(error: Error) -> OpenFault
     ensures { IsFaultOfCreating result }
 {
     match error {

@@ -1,0 +1,5 @@
+pub mod FirstLemmas
+pub mod RestateLemmas
+pub mod WriteLemmas
+pub mod PlanLemmas
+pub mod MigrateLemmas

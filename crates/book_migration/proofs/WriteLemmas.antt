@@ -1,0 +1,61 @@
+-- What writing the tables of the second schema leaves, one statement after another.
+use Rattle.std.proofs.Common.{◌≡◌, ◌⊎◌, inl, inr, ℤ, false, true≢false, List, [], ◌∷◌, map, IsTrue, IsPermutation, Result, Ok, Err, OnOk, IfErr, int_eq, refl, sym, ap, ap₂, subst, ◌∙◌}
+use Rattle.std.specs.List.{AllByRecursion}
+use Rattle.sqlite.specs.declared.error.Error.{Error}
+use Rattle.sqlite.specs.Effect.{Database}
+use Rattle.sqlite.specs.Order.{Row}
+use Rattle.sqlite.specs.State.{State, HasCleanDisk, IsRolledBack, KeepsCommit, KeepsCounts, Shows}
+use Rattle.sqlite.specs.Steps.{FailsToCommit}
+use Rattle.sqlite.specs.Tree.{Trees}
+use Rattle.sqlite_trees.proofs.ListLemmas.{all_weaker}
+use Rattle.book_tables.specs.Keeps.{AddsKeep, HoldKeeps, KeepRow}
+use Rattle.book_tables.specs.Laying.{IsMade, LeavesInside, with_imports}
+use Rattle.book_tables.specs.States.{Spares, WritesOnly}
+use Rattle.book_tables.specs.Tables.{book_schema}
+use Rattle.book_tables.proofs.KeyedRows.{turned}
+use Rattle.book_migration.specs.Planning.{keep_told}
+use Rattle.book_migration.specs.Writing.{Ends, HasKept}
+
+-- ---- the keeps
+
+-- the first keep of some, and the others
+pub record IsCut (row : Row) (rest : List Row) (due : List KeepRow) : Type 0 where
+  pub first : KeepRow
+  pub others : List KeepRow
+  pub is : due ≡ first ∷ others
+  pub row_is : row ≡ keep_told first
+  pub rest_is : rest ≡ map keep_told others
+
+pub cut : (keeps : List Row) (row : Row) (rest : List Row) (due : List KeepRow) → keeps ≡ row ∷ rest → keeps ≡ map keep_told due → IsCut row rest due
+cut keeps row rest [] whole told = absurd (let e : row ∷ rest ≡ [] = sym whole ∙ told in cc)
+cut keeps row rest (k ∷ ks) whole told =
+    let e : row ∷ rest ≡ keep_told k ∷ map keep_told ks = sym whole ∙ told in
+    record { first = k; others = ks; is = refl; row_is = cc; rest_is = cc }
+
+spares_then : (a b c : Trees) → Spares 9 a b → Spares 9 b c → Spares 9 a c
+spares_then a b c one two =
+    (λ n. two.0 n ∙ one.0 n, (λ n. two.1.0 n ∙ one.1.0 n, (λ n. two.1.1.0 n ∙ one.1.1.0 n, (λ n. two.1.1.1.0 n ∙ one.1.1.1.0 n, (λ n. two.1.1.1.1.0 n ∙ one.1.1.1.1.0 n, tt)))))
+
+pub one_kept : (a b c : State) (k : KeepRow) (ks : List KeepRow) (book keep : ℤ) → book ≡ k.book → keep ≡ k.keep → HasKept ks a b → AddsKeep c book keep ks → WritesOnly 9 b c → HasKept (k ∷ ks) a c
+one_kept a b c k ks book keep book_is keep_is before added wrote =
+    let it = subst (λ z. AddsKeep c k.book z ks) keep_is (subst (λ z. AddsKeep c z keep ks) book_is added) in
+    record {
+      wrote = record { schema = wrote.schema; spares = spares_then a.now.trees b.now.trees c.now.trees before.wrote.spares wrote.spares; inside = wrote.inside };
+      hold = it.hold;
+      apart = (all_weaker _ (λ (x : KeepRow). int_eq k.book x.book ≡ false) (λ x h. turned x.book k.book h) ks it.free, before.apart);
+    }
+
+-- ---- the transaction
+
+-- it was rolled back
+rolled_back : (begun mid end : State) → KeepsCommit begun mid → IsRolledBack mid end → (IsTrue begun.is_open → begun.now ≡ begun.committed) → IsTrue end.is_open → (end.now ≡ begun.now) × (end.now ≡ end.committed)
+rolled_back begun mid end kept undone settled up =
+    let open_mid = undone.was_open up in
+    ((undone.undone up).0 ∙ kept.committed open_mid ∙ sym (settled (kept.was_open open_mid)), (undone.undone up).0 ∙ sym (undone.undone up).1)
+
+-- its commit succeeded, or failed
+pub ends : (begun mid end : State) (r : Result (Unit {0}) Error) (P : Database → Type 0) → KeepsCommit begun mid → LeavesInside mid P → (IsTrue begun.is_open → begun.now ≡ begun.committed)
+    → OnOk r (IsTrue mid.in_transaction × Shows mid end mid.now mid.now false × KeepsCounts mid end × (end.marks ≡ [])) → IfErr r (FailsToCommit mid end) → Ends begun end r P
+ends begun mid end (Ok done) P kept left settled ok err = (subst P (sym ok.1.now_is) left.holds, ok.1.now_is ∙ sym ok.1.committed_is)
+ends begun mid end (Err e) P kept left settled ok (inl h) = λ up. rolled_back begun mid end kept h.3 settled up
+ends begun mid end (Err e) P kept left settled ok (inr h) = absurd (true≢false (sym left.inside ∙ h.1))

@@ -1,0 +1,7 @@
+use Rattle.std.proofs.Common.{◌≡◌, take}
+use Rattle.book_migration.specs.Planning.{keeps_told}
+use Rattle.book_migration.proofs.planning.keeps_of.Given as goal
+
+-- the keeps of the books so far
+abbrev pub invariant-loop-book : goal.invariant-loop-book
+invariant-loop-book l = l.keeps.items ≡ keeps_told (take l.book-index l.books) l.members

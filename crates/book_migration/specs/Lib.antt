@@ -1,0 +1,4 @@
+pub mod FirstRows
+pub mod Migration
+pub mod Planning
+pub mod Writing
