@@ -1,0 +1,5 @@
+pub mod OctetLemmas
+pub mod StopLemmas
+pub mod CommandLemmas
+pub mod ReplyLemmas
+pub mod FileLemmas
