@@ -1,0 +1,153 @@
+//! Commands, written as lines of words.
+//!
+//! An optional number that is `-`, or is no number, is `None`. A token that is `-` is the empty
+//! text. In a card's text and in a body `\n` stands for a line feed.
+use book_service::Command;
+use csv_cards::Form;
+use std::alloc::Global;
+use vcard_text::{Items, NoMemory, Text, unescape};
+
+/// The word at the place, and an empty one behind the last.
+fn word<'a>(words: &[&'a str], place: usize) -> &'a str {
+    match words.get(place) {
+        Some(word) => *word,
+        None => "",
+    }
+}
+
+fn number(words: &[&str], place: usize) -> Option<u64> {
+    word(words, place).parse::<u64>().ok()
+}
+
+fn text(alloc: Global, words: &[&str], place: usize) -> Result<Text, NoMemory> {
+    Ok(Text::copy_of(alloc, word(words, place))?)
+}
+
+/// The octets that the word stands for.
+fn octets(alloc: Global, words: &[&str], place: usize) -> Result<Items<u8>, NoMemory> {
+    let text = unescape(alloc, word(words, place))?;
+    Ok(Items::from_vec(text.into_bytes()))
+}
+
+/// `get BOOK UID`
+fn get(alloc: Global, words: &[&str]) -> Result<Command, NoMemory> {
+    Ok(Command::Get {
+        book: text(alloc, words, 1)?,
+        uid: text(alloc, words, 2)?,
+    })
+}
+
+/// `put BOOK UID EXPECT TEXT`
+fn put(alloc: Global, words: &[&str]) -> Result<Command, NoMemory> {
+    Ok(Command::Put {
+        book: text(alloc, words, 1)?,
+        uid: text(alloc, words, 2)?,
+        expect: number(words, 3),
+        text: octets(alloc, words, 4)?,
+    })
+}
+
+/// `remove BOOK UID EXPECT`
+fn remove(alloc: Global, words: &[&str]) -> Result<Command, NoMemory> {
+    Ok(Command::Remove {
+        book: text(alloc, words, 1)?,
+        uid: text(alloc, words, 2)?,
+        expect: number(words, 3),
+    })
+}
+
+/// `move BOOK UID TO EXPECT`
+fn move_card(alloc: Global, words: &[&str]) -> Result<Command, NoMemory> {
+    Ok(Command::MoveCard {
+        book: text(alloc, words, 1)?,
+        uid: text(alloc, words, 2)?,
+        to: text(alloc, words, 3)?,
+        expect: number(words, 4),
+    })
+}
+
+/// `report BOOK TOKEN LIMIT`
+fn report(alloc: Global, words: &[&str]) -> Result<Command, NoMemory> {
+    let token = match word(words, 2) {
+        "-" => "",
+        token => token,
+    };
+    Ok(Command::Report {
+        book: text(alloc, words, 1)?,
+        token: Text::copy_of(alloc, token)?,
+        limit: number(words, 3),
+    })
+}
+
+/// `import BOOK KEY BODY`
+fn import(alloc: Global, words: &[&str]) -> Result<Command, NoMemory> {
+    Ok(Command::Import {
+        book: text(alloc, words, 1)?,
+        key: text(alloc, words, 2)?,
+        body: octets(alloc, words, 3)?,
+    })
+}
+
+/// `forget BOOK UPTO`
+fn forget(alloc: Global, words: &[&str]) -> Result<Command, NoMemory> {
+    Ok(Command::Forget {
+        book: text(alloc, words, 1)?,
+        upto: number(words, 2).unwrap_or(0),
+    })
+}
+
+/// `export BOOK FORM`, where the form is `cards`, or any other word for columns.
+fn export(alloc: Global, words: &[&str]) -> Result<Command, NoMemory> {
+    let book = text(alloc, words, 1)?;
+    let form = match word(words, 2) {
+        "cards" => Form::Cards,
+        _ => Form::Columns,
+    };
+    Ok(Command::Export { book, form })
+}
+
+/// `people BOOK UID`
+fn people(alloc: Global, words: &[&str]) -> Result<Command, NoMemory> {
+    Ok(Command::People {
+        book: text(alloc, words, 1)?,
+        uid: text(alloc, words, 2)?,
+    })
+}
+
+/// `create BOOK`, `tally BOOK`, and `books` for any other word.
+fn plain(alloc: Global, words: &[&str]) -> Result<Command, NoMemory> {
+    let book = text(alloc, words, 1)?;
+    match word(words, 0) {
+        "create" => Ok(Command::CreateBook { book }),
+        "tally" => Ok(Command::TallyOf { book }),
+        _ => Ok(Command::Books),
+    }
+}
+
+/// The words of a line, between spaces. The last may have spaces: a card's text, or a body.
+fn words_in(alloc: Global, line: &str) -> Result<Vec<&str>, NoMemory> {
+    let most = if line.starts_with("import ") { 4 } else { 5 };
+    let mut words = Vec::new(alloc);
+    for word in line.splitn(most, ' ') {
+        words.push(word)?;
+    }
+    Ok(words)
+}
+
+/// The command that a line says.
+pub(crate) fn command_in(alloc: Global, line: &str) -> Result<Command, NoMemory> {
+    let words = words_in(alloc, line)?;
+    let words = words.as_slice();
+    match word(words, 0) {
+        "get" => get(alloc, words),
+        "put" => put(alloc, words),
+        "remove" => remove(alloc, words),
+        "move" => move_card(alloc, words),
+        "report" => report(alloc, words),
+        "import" => import(alloc, words),
+        "forget" => forget(alloc, words),
+        "export" => export(alloc, words),
+        "people" => people(alloc, words),
+        _ => plain(alloc, words),
+    }
+}
