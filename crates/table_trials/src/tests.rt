@@ -1,5 +1,4 @@
 mod checking;
-mod importing;
 mod opening;
 mod reading;
 mod stores;

@@ -1,11 +1,11 @@
 //! Stores in files: made, opened again, and refused.
 
-use super::calls::card;
 use book_model::Limits;
 use book_store::{FileBooks, OpenFault, SqlStore};
 use std::fs;
 use std::test::Fail;
 use sync_core::BookStore;
+use vcard_text::read_card;
 
 const FOLDER: &str = "books_in_files";
 
@@ -25,9 +25,14 @@ fn open(rt: &HostRuntime, path: &str) -> Result<FileBooks, OpenFault> {
     SqlStore::open(rt, path, Limits::standard())
 }
 
+/// Ann's card.
+const ANN: &str = "BEGIN:VCARD\r\nVERSION:4.0\r\nUID:n\r\nFN:Ann\r\nEND:VCARD\r\n";
+
 /// Makes the book `staff`, and puts Ann's card there.
 fn fill(rt: &HostRuntime, store: &mut FileBooks) -> Result<(), Fail> {
-    let ann = card(rt.alloc(), "Ann")?;
+    let Ok(ann) = read_card(rt.alloc(), ANN.as_bytes()) else {
+        return Err(Fail::new("no card"));
+    };
     store.create_book("staff")?;
     store.put("staff", &ann, None)?;
     Ok(())
