@@ -1,5 +1,5 @@
 -- What reading a whole table of the first schema gives and leaves, for any text.
-use Rattle.std.proofs.Common.{◌≡◌, inl, inr, ℕ, List, [], ◌∷◌, map, codes, false, Ok, Err, Result, IfOk, IfErr, OnOk, IsPermutation, refl, sym, ap, subst, ◌∙◌}
+use Rattle.std.proofs.Common.{◌≡◌, inl, ℕ, List, [], ◌∷◌, map, codes, false, Ok, Err, Result, IfOk, IfErr, OnOk, IsPermutation, refl, sym, ap, subst, ◌∙◌}
 use Rattle.std.specs.Prelude.{Vec}
 use Rattle.std.specs.declared.alloc.Global.{Global}
 use Rattle.sqlite.specs.declared.error.Error.{Error}

@@ -1,5 +1,5 @@
 -- What a migration comes to: the plan, and then its one transaction.
-use Rattle.std.proofs.Common.{◌≡◌, ◌⊎◌, inl, inr, ℕ, ℤ, IsTrue, List, map, length, IsPermutation, refl, sym, ap, subst, ◌∙◌}
+use Rattle.std.proofs.Common.{◌⊎◌, inl, inr, List, IsPermutation, sym, subst}
 use Rattle.std.specs.Prelude.{⊤}
 use Rattle.std.proofs.lemmas.List.Sorted.{IsPermutation-map, IsPermutation-trans}
 use Rattle.sqlite.specs.Effect.{Database}
@@ -12,7 +12,7 @@ use Rattle.book_tables.specs.Keeps.{KeepRow, keep_row}
 use Rattle.book_tables.specs.Tables.{book_schema}
 use Rattle.book_rows.specs.TableRows.{rows_in}
 use Rattle.book_migration.specs.Migration.{CommitsMigration, IsMigrated, IsWithKeeps, keeps_due}
-use Rattle.book_migration.specs.Planning.{IsPlanned, keep_told}
+use Rattle.book_migration.specs.Planning.{IsPlanned}
 use Rattle.book_migration.specs.Writing.{IsFirstWith, TreesWithKeeps}
 
 -- the keeps in the order of the plan are those that are due

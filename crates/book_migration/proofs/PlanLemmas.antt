@@ -1,5 +1,5 @@
 -- What the rows of tables of the first schema say of the tables that are made of them.
-use Rattle.std.proofs.Common.{◌≡◌, inl, inr, ℕ, ℤ, pos, max, List, [], ◌∷◌, map, filter, length, Ok, Err, Result, IfOk, IfErr, IsPermutation, refl, sym, ap, subst, ◌∙◌}
+use Rattle.std.proofs.Common.{◌≡◌, inl, inr, ℤ, pos, max, List, [], ◌∷◌, map, length, Ok, Err, Result, IfOk, IfErr, IsPermutation, sym, ap, subst, ◌∙◌}
 use Rattle.std.specs.Prelude.{Vec}
 use Rattle.std.specs.declared.alloc.Global.{Global}
 use Rattle.std.proofs.lemmas.List.{length-map}
@@ -13,7 +13,7 @@ use Rattle.sqlite_trees.proofs.ListLemmas.{map-map, IsPermutation-filter}
 use Rattle.book_model.specs.Bounds.{Bounds}
 use Rattle.book_tables.specs.Books.{BookRow, book_listed}
 use Rattle.book_tables.specs.Imports.{import_cells}
-use Rattle.book_tables.specs.Keeps.{KeepRow, keep_cells, keep_listed, keep_row, keeping_of}
+use Rattle.book_tables.specs.Keeps.{keep_cells, keep_listed, keep_row, keeping_of}
 use Rattle.book_tables.specs.Members.{MemberRow, is_removed_after, member_cells}
 use Rattle.book_rows.specs.TableRows.{book_in, member_in, rows_in}
 use Rattle.book_check.specs.Opening.{TellsRows}
@@ -24,7 +24,7 @@ use Rattle.schema_check.specs.OpenFaults.{IsErrorFault}
 use Rattle.schema_check.specs.declared.open_fault.OpenFault.{OpenFault}
 use Rattle.schema_check.specs.declared.open_fault.OpenFault.TheVariants.{Store, NotOurs, OtherSchema, Damaged, NotEmpty, Memory}
 use Rattle.book_tables.specs.Meta.{meta_listed, schema_row}
-use Rattle.book_migration.specs.FirstRows.{AreFirstListed, HasOneNumber, id_listed, meta_cells}
+use Rattle.book_migration.specs.FirstRows.{AreFirstListed, id_listed, meta_cells}
 use Rattle.book_migration.specs.Migration.{IsDue, IsMigrated, keep_due, keeps_due, remembered}
 use Rattle.book_migration.specs.Planning.{HasId, IsPlanned, TellsKeeps, due_told, keep_told, keeps_told}
 

@@ -15,7 +15,7 @@ use Rattle.sqlite.specs.Query.{Query}
 use Rattle.sqlite.specs.Rowids.TheVariants.{Given}
 use Rattle.sqlite.specs.Rows.{Task, Then, Edited, Gives, Written, Updates}
 use Rattle.sqlite.specs.State.{State, ExecutesInside, Writes, mode_of}
-use Rattle.sqlite.specs.Term.{Term, col}
+use Rattle.sqlite.specs.Term.{col}
 use Rattle.sqlite.specs.Tree.{Trees}
 use Rattle.sqlite.proofs.Callers.{IsPlain, command_of, one_permutation, one_step, runs_as, statement_of}
 use Rattle.sqlite_rules.specs.Calls.{ids_of}

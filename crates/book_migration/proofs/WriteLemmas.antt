@@ -1,17 +1,15 @@
 -- What writing the tables of the second schema leaves, one statement after another.
-use Rattle.std.proofs.Common.{◌≡◌, ◌⊎◌, inl, inr, ℤ, false, true≢false, List, [], ◌∷◌, map, IsTrue, IsPermutation, Result, Ok, Err, OnOk, IfErr, int_eq, refl, sym, ap, ap₂, subst, ◌∙◌}
-use Rattle.std.specs.List.{AllByRecursion}
+use Rattle.std.proofs.Common.{◌≡◌, inl, inr, ℤ, false, true≢false, List, [], ◌∷◌, map, IsTrue, Result, Ok, Err, OnOk, IfErr, int_eq, refl, sym, subst, ◌∙◌}
 use Rattle.sqlite.specs.declared.error.Error.{Error}
 use Rattle.sqlite.specs.Effect.{Database}
 use Rattle.sqlite.specs.Order.{Row}
-use Rattle.sqlite.specs.State.{State, HasCleanDisk, IsRolledBack, KeepsCommit, KeepsCounts, Shows}
+use Rattle.sqlite.specs.State.{State, IsRolledBack, KeepsCommit, KeepsCounts, Shows}
 use Rattle.sqlite.specs.Steps.{FailsToCommit}
 use Rattle.sqlite.specs.Tree.{Trees}
 use Rattle.sqlite_trees.proofs.ListLemmas.{all_weaker}
-use Rattle.book_tables.specs.Keeps.{AddsKeep, HoldKeeps, KeepRow}
-use Rattle.book_tables.specs.Laying.{IsMade, LeavesInside, with_imports}
+use Rattle.book_tables.specs.Keeps.{AddsKeep, KeepRow}
+use Rattle.book_tables.specs.Laying.{LeavesInside}
 use Rattle.book_tables.specs.States.{Spares, WritesOnly}
-use Rattle.book_tables.specs.Tables.{book_schema}
 use Rattle.book_tables.proofs.KeyedRows.{turned}
 use Rattle.book_migration.specs.Planning.{keep_told}
 use Rattle.book_migration.specs.Writing.{Ends, HasKept}

@@ -1,5 +1,5 @@
 -- What carrying tables of the first schema into the second makes of them. This project's own.
-use Rattle.std.specs.Prelude.{◌≡◌, ⊤, ℕ, pos, max, List, [], ◌∷◌, map, filter, length, Err}
+use Rattle.std.specs.Prelude.{◌≡◌, ⊤, ℕ, pos, max, List, map, filter, length, Err}
 use Rattle.sqlite.specs.Effect.{Database}
 use Rattle.sqlite.specs.Tree.{Trees}
 use Rattle.book_model.specs.Bounds.{Bounds}
