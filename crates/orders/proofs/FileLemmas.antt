@@ -1,69 +1,57 @@
--- What was printed of the books in a file, as they were seen through the store over it.
-use Rattle.std.proofs.Common.{◌≡◌, ℕ, List, Option, Result, Ok, Err, IfOk, OnOk}
+-- What orders come to, on a store of books and on a file.
+use Rattle.std.proofs.Common.{ℕ, List, Option, Result, Ok, Err, IfErr, IfOk, OnOk, inl}
+use Rattle.book_model.specs.Bounds.{Bounds}
+use Rattle.book_model.specs.Books.{Books}
+use Rattle.book_model.specs.declared.denied.Fault.{Fault as FaultKind}
 use Rattle.book_service.specs.declared.command.Command.{Command}
-use Rattle.book_service.specs.declared.command.Command.TheVariants.{Import}
-use Rattle.book_store.specs.StoreViews.{StoreView}
-use Rattle.book_writing.specs.StoredBooks.{IsInOrder, stored_books}
+use Rattle.command_line.specs.declared.order.Order.{Order}
+use Rattle.command_line.specs.declared.order.Order.TheVariants.{Try, Init, Serve, Mirror, Migrate}
 use Rattle.http_requests.specs.Handling.{Doing, FaultReplies}
+use Rattle.orders.specs.Asking.{DoesOrder, IsCommandOf, StopsOrder}
 use Rattle.orders.specs.declared.stop.Stop.{Stop}
-use Rattle.orders.specs.Doing.{Prints, PrintsMirror}
-use Rattle.orders.specs.OnFiles.{AnyFault, IsOpened, Kept, PrintsCopy, PrintsImport, PrintsPort, PrintsReply}
+use Rattle.orders.specs.Doing.{Prints, Stops}
+use Rattle.orders.specs.OnFiles.{PrintsOrder, PrintsPort}
 use Rattle.orders.specs.Serving.{Announces}
-use Rattle.sqlite.specs.Files.{file_state}
-use Rattle.sqlite_disk.specs.declared.Disk.{Ghosts}
-use Rattle.sqlite_store.specs.declared.store.FileStore.{FileStore}
 
 -- connections were served behind the line
-module _ {State Connection : Type 0} (does : Doing State) (fault_reply : FaultReplies) (remaining contents : Connection → Option (List ℕ)) (arrives : Connection → Type 0) where
+module _ {State Connection : Type 0} (does : Doing State) (fault_reply : FaultReplies) (remaining contents : Connection → Option (List ℕ)) (accepts : Option Connection → Type 0) where
   pub port_printed : (result : Result (Unit {0}) Stop) (port connections : ℕ) (old new : State) (before after : Option (List ℕ))
-      → IfOk result (λ done. Announces does fault_reply remaining contents arrives port connections old before after (Ok done) new) → OnOk result (PrintsPort before after)
+      → IfOk result (λ done. Announces does fault_reply remaining contents accepts port connections old before after (Ok done) new) → OnOk result (PrintsPort before after)
   port_printed (Ok done) port connections old new before after a = record { port = port; written = a.written }
   port_printed (Err stop) port connections old new before after a = tt
 
-module _ {D : Type 0} {g : Ghosts D} where
-  -- what the file holds, as the store shows it
-  abbrev pub kept_of : StoreView (FileStore D g) → Kept
-  kept_of s = record { database = (file_state s.conn).now; is_clean = (file_state s.conn).is_clean; is_open = (file_state s.conn).is_open; limits = s.limits }
+module _ {S : Type 0} (books : S → Books) (limits : S → Bounds) (premise : S → Type 0) (may_fault : FaultKind → Type 0) where
+  -- an order that is a command was done as the command was
+  does_command : (order : Order) (command : Command) (old new : S) (before after : Option (List ℕ)) → IsCommandOf order command → Prints books limits premise may_fault old command before after new
+      → DoesOrder books limits premise may_fault order old before after new
+  does_command (Mirror file book limit pages) command old new before after asked p = absurd asked
+  does_command order command old new before after asked p = record { command = command; asked = asked; prints = p }
 
-  abbrev FilePrints : StoreView (FileStore D g) → Command → Option (List ℕ) → Option (List ℕ) → StoreView (FileStore D g) → Type 0
-  FilePrints = Prints (λ (s : StoreView (FileStore D g)). stored_books (file_state s.conn)) (λ s. s.limits) (λ s. IsInOrder (file_state s.conn)) AnyFault
+  pub command_done : (result : Result (Unit {0}) Stop) (order : Order) (command : Command) (old new : S) (before after : Option (List ℕ)) → IsCommandOf order command
+      → OnOk result (Prints books limits premise may_fault old command before after new) → OnOk result (DoesOrder books limits premise may_fault order old before after new)
+  command_done (Ok done) order command old new before after asked p = does_command order command old new before after asked p
+  command_done (Err stop) order command old new before after asked p = tt
 
-  abbrev FilePrintsMirror : StoreView (FileStore D g) → List ℕ → ℕ → ℕ → Option (List ℕ) → Option (List ℕ) → StoreView (FileStore D g) → Type 0
-  FilePrintsMirror = PrintsMirror (λ (s : StoreView (FileStore D g)). stored_books (file_state s.conn)) (λ s. s.limits) (λ s. IsInOrder (file_state s.conn)) AnyFault
+  stops_command : (order : Order) (command : Command) (old new : S) (stop : Stop) (before after : Option (List ℕ)) → IsCommandOf order command → Stops books limits premise may_fault old command stop before after new
+      → StopsOrder books limits premise may_fault order old stop before after new
+  stops_command (Mirror file book limit pages) command old new stop before after asked s = absurd asked
+  stops_command order command old new stop before after asked s = inl (record { command = command; asked = asked; stops = s })
 
-  pub reply_printed : (result : Result (Unit {0}) Stop) (old new : StoreView (FileStore D g)) (command : Command) (before after : Option (List ℕ)) → IsOpened (kept_of old)
-      → OnOk result (FilePrints old command before after new) → OnOk result (PrintsReply command before after)
-  reply_printed (Ok done) old new command before after opened p = record {
-    old = kept_of old;
-    new = kept_of new;
-    opened = opened;
-    prints = record {
-      reply = p.reply;
-      performed = record {
-        premises = p.performed.premises;
-        limits_are = p.performed.limits_are;
-        range = p.performed.range;
-        fault = p.performed.fault;
-        kept = p.performed.kept;
-        step = p.performed.step;
-      };
-      printed = p.printed;
-    };
-  }
-  reply_printed (Err stop) old new command before after opened p = tt
+  pub command_stopped : (result : Result (Unit {0}) Stop) (order : Order) (command : Command) (old new : S) (before after : Option (List ℕ)) → IsCommandOf order command
+      → IfErr result (λ stop. Stops books limits premise may_fault old command stop before after new) → IfErr result (λ stop. StopsOrder books limits premise may_fault order old stop before after new)
+  command_stopped (Ok done) order command old new before after asked s = tt
+  command_stopped (Err stop) order command old new before after asked s = stops_command order command old new stop before after asked s
 
-  pub copy_printed : (result : Result (Unit {0}) Stop) (old new : StoreView (FileStore D g)) (book : List ℕ) (limit pages : ℕ) (before after : Option (List ℕ)) → IsOpened (kept_of old)
-      → OnOk result (FilePrintsMirror old book limit pages before after new) → OnOk result (PrintsCopy book limit pages before after)
-  copy_printed (Ok done) old new book limit pages before after opened p = record {
-    old = kept_of old;
-    new = kept_of new;
-    opened = opened;
-    prints = record { mirrored = p.mirrored; mirrors = p.mirrors; few = p.few; written = p.written };
-  }
-  copy_printed (Err stop) old new book limit pages before after opened p = tt
+  -- what is printed of an order that was done
+  does_prints : (order : Order) (old new : S) (before after : Option (List ℕ)) → DoesOrder books limits premise may_fault order old before after new → PrintsOrder order before after
+  does_prints Try old new before after d = absurd d.asked
+  does_prints (Init file) old new before after d = absurd d.asked
+  does_prints (Serve file port connections) old new before after d = absurd d.asked
+  does_prints (Migrate file) old new before after d = absurd d.asked
+  does_prints (Mirror file book limit pages) old new before after d = record { mirrored = d.mirrored; written = d.written }
+  does_prints order old new before after d = record { reply = d.prints.reply; printed = d.prints.printed }
 
--- the rows were those that were read
-pub import_printed : (result : Result (Unit {0}) Stop) (book key rows : List ℕ) (before after : Option (List ℕ)) → OnOk result (PrintsReply (Import book key rows) before after)
-    → OnOk result (PrintsImport book key before after)
-import_printed (Ok done) book key rows before after p = record { rows = rows; prints = p }
-import_printed (Err stop) book key rows before after p = tt
+  pub done_prints : (result : Result (Unit {0}) Stop) (order : Order) (old new : S) (before after : Option (List ℕ)) → OnOk result (DoesOrder books limits premise may_fault order old before after new)
+      → OnOk result (PrintsOrder order before after)
+  done_prints (Ok done) order old new before after d = does_prints order old new before after d
+  done_prints (Err stop) order old new before after d = tt

@@ -40,9 +40,9 @@ stop_leaves r stop before after (inr cut) = left_by_device stop before after cut
 
 -- ---- of connections
 
-module _ {State Connection : Type 0} (does : Doing State) (fault_reply : FaultReplies) (remaining contents : Connection → Option (List ℕ)) (arrives : Connection → Type 0) where
+module _ {State Connection : Type 0} (does : Doing State) (fault_reply : FaultReplies) (remaining contents : Connection → Option (List ℕ)) (accepts : Option Connection → Type 0) where
   abbrev Stopped : ℕ → ℕ → State → Option (List ℕ) → Option (List ℕ) → Stop → State → Type 0
-  Stopped port connections old before after stop new = StopsServing does fault_reply remaining contents arrives port connections old before after stop new
+  Stopped port connections old before after stop new = StopsServing does fault_reply remaining contents accepts port connections old before after stop new
 
   pub stops_unsaid : (port connections : ℕ) (old : State) (w : Option (List ℕ)) (stop : Stop) → stop ≡ no_memory → Stopped port connections old w w stop old
   stops_unsaid port connections old w stop is = subst (λ (s : Stop). Stopped port connections old w w s old) (sym is) (refl, kept_same w, refl)
@@ -52,7 +52,7 @@ module _ {State Connection : Type 0} (does : Doing State) (fault_reply : FaultRe
   stops_mute port connections old before after stop is front = subst (λ (s : Stop). Stopped port connections old before after s old) (sym is) (inr (record { front = front; kept = refl }))
 
   pub stops_listening : (port connections : ℕ) (old new : State) (before after : Option (List ℕ)) (fault : ListenFault) → Appends before after (listening_line port)
-      → Listens does fault_reply remaining contents arrives connections old (Err fault) new → Stopped port connections old before after (stop_of_listening fault) new
+      → Listens does fault_reply remaining contents accepts connections old (Err fault) new → Stopped port connections old before after (stop_of_listening fault) new
   stops_listening port connections old new before after (GaveUp fault) written listens = record { written = written; listens = listens }
   stops_listening port connections old new before after NoListener written listens = inl (record { written = written; listens = listens })
 

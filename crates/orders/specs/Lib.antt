@@ -1,3 +1,4 @@
+pub mod Asking
 pub mod Stops
 pub mod Streams
 pub mod Telling

@@ -16,13 +16,13 @@ abbrev pub listening_line : ℕ → List ℕ
 listening_line port = codes "listening 127.0.0.1:" ++ (decimal port ++ line_feed ∷ [])
 
 module _ {State Connection : Type 0} (does : Doing State) (fault_reply : FaultReplies)
-    (remaining contents : Connection → Option (List ℕ)) (arrives : Connection → Type 0) where
+    (remaining contents : Connection → Option (List ℕ)) (accepts : Option Connection → Type 0) where
   -- the line was written whole, and what came of the connections is told as this
   pub record Announces (port connections : ℕ) (old : State)
       (before after : Option (List ℕ)) (end : Result (Unit {0}) ListenFault) (new : State)
       : Type 0 where
     pub written : Appends before after (listening_line port)
-    pub listens : Listens does fault_reply remaining contents arrives connections old end new
+    pub listens : Listens does fault_reply remaining contents accepts connections old end new
 
   -- the line wasn't written whole, and so no connection was accepted
   pub record IsMute (port : ℕ) (old : State) (before after : Option (List ℕ)) (new : State)

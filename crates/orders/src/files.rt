@@ -1,9 +1,6 @@
 //! Files and sockets that orders name.
-ghost use Rattle.std.specs.Prelude.{◌≤◌, IfOk, length};
-ghost use Rattle.book_rows.specs.SoundTables.{HoldsWellFormed};
-ghost use Rattle.book_store.specs.Opening.{greatest};
-ghost use Rattle.book_writing.specs.StoredBooks.{IsInOrder};
-ghost use Rattle.sqlite.specs.Files.{file_state};
+ghost use Rattle.std.specs.Prelude.{◌≡◌, ◌⊎◌, ◌≤◌, IfErr, IfOk, length};
+ghost use Rattle.orders.specs.Stops.{no_memory};
 
 use crate::reading::read_at_most;
 use crate::stop::Stop;
@@ -17,10 +14,7 @@ use sync_core::Limits;
 const CSV_OCTETS_MAX: usize = 8_388_608;
 
 /// The store of the books in the file.
-pub(crate) fn open_books(rt: &HostRuntime, file: &str) -> Result<FileBooks, Stop>
-    ensures well_formed { IfOk result (λ store. IsInOrder (file_state store.conn)
-        → HoldsWellFormed greatest (file_state store.conn).now) }
-{
+pub(crate) fn open_books(rt: &HostRuntime, file: &str) -> Result<FileBooks, Stop> {
     Ok(SqlStore::open(rt, file, Limits::standard())?)
 }
 
@@ -28,7 +22,8 @@ pub(crate) fn open_books(rt: &HostRuntime, file: &str) -> Result<FileBooks, Stop
 ///
 /// `Device` where it can't be read, or has more than 8,388,608 octets.
 pub(crate) fn read_csv(rt: &HostRuntime, path: &str) -> Result<Vec<u8>, Stop>
-    ensures { IfOk result (λ octets. length octets.items ≤ 8388608) }
+    ensures len { IfOk result (λ octets. length octets.items ≤ 8388608) }
+    ensures stop { IfErr result (λ stop. (stop ≡ no_memory) ⊎ (stop ≡ Stop.Device)) }
 {
     let Ok(mut file) = fs::open(rt, path) else {
         return Err(Stop::Device);

@@ -1,6 +1,7 @@
 //! What the program's orders do, and what they print.
 #![tactic(auto)]
 
+mod asking;
 pub mod doing;
 mod files;
 pub mod laws;
@@ -13,7 +14,7 @@ pub mod writing;
 
 pub use doing::{run_command, run_mirror};
 pub use reading::read_at_most;
-pub use running::run_order;
+pub use running::{run_on_store, run_order};
 pub use serving::announce_and_serve;
 pub use stop::Stop;
 pub use writing::write_out;

@@ -1,25 +1,77 @@
 //! Orders, done.
-ghost use Rattle.std.specs.Prelude.{◌≡◌, IfErr, OnOk};
+ghost use Rattle.std.specs.Prelude.{IfErr, IfSome, OnOk};
 ghost use Rattle.std.specs.Io.KnownBytes.{Appends};
 ghost use Rattle.order_texts.specs.OrderTexts.{made_line};
-ghost use Rattle.orders.specs.OnFiles.{PrintsCopy, PrintsImport, PrintsOrder, PrintsPort, PrintsReply};
+ghost use Rattle.orders.specs.Asking.{DoesOrder, StopsOrder};
+ghost use Rattle.orders.specs.OnFiles.{IsFileOf, PrintsOrder, PrintsPort};
 ghost use Rattle.orders.specs.Telling.{LeavesWriter};
 
+use crate::asking::command_of;
 use crate::doing::{run_command, run_mirror};
-use crate::files::{listen, open_books, read_csv};
+use crate::files::{listen, open_books};
 use crate::migrating::run_migrate;
 use crate::serving::announce_and_serve;
 use crate::stop::Stop;
 use crate::writing::write_out;
-use base_types::{Items, Text};
+use base_types::Text;
 use book_http::Service;
-use book_service::Command;
 use book_store::{FileBooks, SqlStore};
 use command_line::Order;
 use order_texts::made_text;
 use std::io::Write;
 use std::rt::HostRuntime;
-use sync_core::Limits;
+use sync_core::{BookStore, Limits};
+
+/// Does an order on a store of books, and writes its output: an order that is one command, or a
+/// mirror. The file of an import's rows is read first.
+///
+/// Stops as `run_command` and `run_mirror` do, and with `Device` where the rows can't be read or
+/// have more than 8,388,608 octets. The other orders aren't done on a store: `Device`.
+pub fn run_on_store<S: BookStore, W: Write>(
+    rt: &HostRuntime,
+    store: &mut S,
+    order: Order,
+    writer: &mut W,
+) -> Result<(), Stop>
+    ensures done { OnOk result (DoesOrder S.books S.limits S.premise S.may_fault order
+        store.old (W.contents writer.old) (W.contents writer.new) store.new) }
+    ensures stopped { IfErr result (λ stop. StopsOrder S.books S.limits S.premise S.may_fault order
+        store.old stop (W.contents writer.old) (W.contents writer.new) store.new) }
+    ensures left { IfErr result (λ stop.
+        LeavesWriter stop (W.contents writer.old) (W.contents writer.new)) }
+{
+    match order {
+        Order::Mirror {
+            file: _,
+            book,
+            limit,
+            pages,
+        } => run_mirror(rt.alloc(), store, book.as_str(), limit, pages, writer),
+        order => {
+            let command = command_of(rt, order)?;
+            run_command(rt.alloc(), store, &command, writer)
+        }
+    }
+}
+
+/// The file that an order names.
+fn file_of(order: &Order) -> Option<&str>
+    ensures { IfSome result (λ name. IsFileOf order.now name.now) }
+{
+    match order {
+        Order::Try => None,
+        Order::Init { file }
+        | Order::Book { file, .. }
+        | Order::Serve { file, .. }
+        | Order::Import { file, .. }
+        | Order::Export { file, .. }
+        | Order::Tally { file, .. }
+        | Order::Forget { file, .. }
+        | Order::Mirror { file, .. }
+        | Order::Expand { file, .. }
+        | Order::Migrate { file } => Some(file.as_str()),
+    }
+}
 
 /// Makes a store without books in the file, and writes that it is made.
 fn run_init<W: Write>(rt: &HostRuntime, file: Text, writer: &mut W) -> Result<(), Stop>
@@ -32,58 +84,18 @@ fn run_init<W: Write>(rt: &HostRuntime, file: Text, writer: &mut W) -> Result<()
     write_out(writer, made_text().as_bytes())
 }
 
-/// Does a command on the books in the file, and writes what is printed of its reply.
-fn run_on_file<W: Write>(
-    rt: &HostRuntime,
-    file: Text,
-    command: Command,
-    writer: &mut W,
-) -> Result<(), Stop>
+/// Does an order on the books in its file, as `run_on_store` does.
+fn run_on_file<W: Write>(rt: &HostRuntime, order: Order, writer: &mut W) -> Result<(), Stop>
     ensures printed { OnOk result
-        (PrintsReply command (W.contents writer.old) (W.contents writer.new)) }
+        (PrintsOrder order (W.contents writer.old) (W.contents writer.new)) }
     ensures left { IfErr result (λ stop.
         LeavesWriter stop (W.contents writer.old) (W.contents writer.new)) }
 {
-    let mut store = open_books(rt, file.as_str())?;
-    run_command(rt.alloc(), &mut store, &command, writer)
-}
-
-/// Imports the rows of the file `csv`. The store is opened first.
-fn run_import<W: Write>(
-    rt: &HostRuntime,
-    file: Text,
-    book: Text,
-    key: Text,
-    csv: Text,
-    writer: &mut W,
-) -> Result<(), Stop>
-    ensures printed { OnOk result
-        (PrintsImport book key (W.contents writer.old) (W.contents writer.new)) }
-    ensures left { IfErr result (λ stop.
-        LeavesWriter stop (W.contents writer.old) (W.contents writer.new)) }
-{
-    let mut store = open_books(rt, file.as_str())?;
-    let body = Items::from_vec(read_csv(rt, csv.as_str())?);
-    let command = Command::Import { book, key, body };
-    run_command(rt.alloc(), &mut store, &command, writer)
-}
-
-/// Follows a book of the file as a new device does, and writes what the device holds then.
-fn run_mirror_of<W: Write>(
-    rt: &HostRuntime,
-    file: Text,
-    book: Text,
-    limit: u64,
-    pages: u64,
-    writer: &mut W,
-) -> Result<(), Stop>
-    ensures printed { OnOk result
-        (PrintsCopy book limit pages (W.contents writer.old) (W.contents writer.new)) }
-    ensures left { IfErr result (λ stop.
-        LeavesWriter stop (W.contents writer.old) (W.contents writer.new)) }
-{
-    let mut store = open_books(rt, file.as_str())?;
-    run_mirror(rt.alloc(), &mut store, book.as_str(), limit, pages, writer)
+    let Some(file) = file_of(&order) else {
+        return Err(Stop::Device);
+    };
+    let mut store = open_books(rt, file)?;
+    run_on_store(rt, &mut store, order, writer)
 }
 
 /// Serves the books in the file at the port. The store is opened first.
@@ -120,6 +132,9 @@ fn run_serve<W: Write>(
 /// be read or has more than 8,388,608 octets, where no listener can be had at the port, or where
 /// the writer fails. What was done stands where it can't be written. `Try` reads standard input,
 /// which isn't had here, and so is `Device`.
+///
+/// What the order makes of the books is said by `run_on_store`: no clause ties a store to the file
+/// at a path.
 pub fn run_order<W: Write>(rt: &HostRuntime, order: Order, writer: &mut W) -> Result<(), Stop>
     ensures printed { OnOk result
         (PrintsOrder order (W.contents writer.old) (W.contents writer.new)) }
@@ -129,36 +144,12 @@ pub fn run_order<W: Write>(rt: &HostRuntime, order: Order, writer: &mut W) -> Re
     match order {
         Order::Try => Err(Stop::Device),
         Order::Init { file } => run_init(rt, file, writer),
-        Order::Book { file, book } => {
-            run_on_file(rt, file, Command::CreateBook { book }, writer)
-        }
         Order::Serve {
             file,
             port,
             connections,
         } => run_serve(rt, file, port, connections, writer),
-        Order::Import {
-            file,
-            book,
-            key,
-            csv,
-        } => run_import(rt, file, book, key, csv, writer),
-        Order::Export { file, book, form } => {
-            run_on_file(rt, file, Command::Export { book, form }, writer)
-        }
-        Order::Tally { file, book } => { run_on_file(rt, file, Command::TallyOf { book }, writer) }
-        Order::Forget { file, book, upto } => {
-            run_on_file(rt, file, Command::Forget { book, upto }, writer)
-        }
-        Order::Mirror {
-            file,
-            book,
-            limit,
-            pages,
-        } => run_mirror_of(rt, file, book, limit, pages, writer),
-        Order::Expand { file, book, uid } => {
-            run_on_file(rt, file, Command::People { book, uid }, writer)
-        }
         Order::Migrate { file } => run_migrate(rt, file, writer),
+        order => run_on_file(rt, order, writer),
     }
 }

@@ -31,11 +31,11 @@ pub fn announce_and_serve<H: Handler, L: Listener, W: Write>(
     writer: &mut W,
 ) -> Result<(), Stop>
     ensures served { IfOk result (λ done. Announces H.does H.fault_reply
-        L.Stream.remaining L.Stream.contents (L.arrives listener.now)
+        L.Stream.remaining L.Stream.contents (L.accepts listener.now)
         port connections handler.old (W.contents writer.old) (W.contents writer.new)
         (Ok done) handler.new) }
     ensures stopped { IfErr result (λ stop. StopsServing H.does H.fault_reply
-        L.Stream.remaining L.Stream.contents (L.arrives listener.now)
+        L.Stream.remaining L.Stream.contents (L.accepts listener.now)
         port connections handler.old (W.contents writer.old) (W.contents writer.new)
         stop handler.new) }
 {
