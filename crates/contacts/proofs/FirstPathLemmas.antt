@@ -32,7 +32,8 @@ use Rattle.book_laws.specs.Following.{AreStoriesOf, Follows, PagesFollow}
 use Rattle.book_laws.specs.ChangeLaws.{NothingFollows, CreatingFollows, PuttingFollows}
 use Rattle.book_laws.specs.ReadLaws.{ReportsFollow}
 use Rattle.contacts.specs.FirstPaths.{one_creation, first_page}
-use Rattle.contacts.specs.Stops.{IsStopFor, stop_of}
+use Rattle.contacts.specs.Stops.{IsStopFor}
+use Rattle.orders.specs.Stops.{stop_of}
 
 -- the limits that the program's store has
 pub record AreStandard (limits : Bounds) : Type 0 where

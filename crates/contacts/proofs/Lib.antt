@@ -1,3 +1,4 @@
 pub mod FirstPathLemmas
-pub mod OctetLemmas
+pub mod InputLemmas
+pub mod EndingLemmas
 pub mod LongTextLemmas

@@ -9,11 +9,12 @@ use Rattle.vcard_lines.specs.declared.fault.CardFault.{CardFault}
 use Rattle.vcard_lines.specs.declared.fault.CardFault.TheVariants.{TooLong, NotUtf8}
 use Rattle.vcard_text.specs.FirstFaults.{IsFirstFault, of_length, of_encoding, of_line, of_whole, of_canonical}
 use Rattle.contacts.specs.declared.first_path.FirstPath.{FirstPath}
-use Rattle.contacts.specs.declared.stop.Stop.{Stop}
-use Rattle.contacts.specs.declared.stop.Stop.TheVariants.{Refused, Fault, Device}
+use Rattle.orders.specs.declared.stop.Stop.{Stop}
+use Rattle.orders.specs.declared.stop.Stop.TheVariants.{Refused, Fault, Open, Serve, Device}
+use Rattle.orders.specs.Streams.{WritesFront}
 use Rattle.contacts.specs.FirstPaths.{IsFirstPath}
 use Rattle.contacts.specs.Inputs.{read_octets_max}
-use Rattle.contacts.specs.Outputs.{Prints, WritesFront, LeavesOutput, path_lines}
+use Rattle.contacts.specs.Outputs.{Prints, LeavesOutput, path_lines}
 use Rattle.contacts.specs.Stops.{IsStopFor}
 
 abbrev front : List ℕ → List ℕ
@@ -66,6 +67,8 @@ path_of_front input path p = subst (λ text. IsFirstPath text path) (short_front
 pub stop_for_front : (input : List ℕ) (stop : Stop) → IsStopFor (front input) stop → IsStopFor input stop
 stop_for_front input (Refused refusal) s = record { fault = s.fault; refusal_is = s.refusal_is; first = fault_of_front input s.fault s.first }
 stop_for_front input (Fault fault) s = s
+stop_for_front input (Open fault) s = s
+stop_for_front input (Serve fault) s = s
 stop_for_front input Device s = tt
 
 pub stopped_for_all : (a : Option (List ℕ)) (stop : Stop) → ((text : List ℕ) → IsStopFor text stop) → IfSome a (λ input. IsStopFor input stop)

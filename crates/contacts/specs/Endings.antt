@@ -1,17 +1,19 @@
 -- How the program ends: what standard error has of it, and its status. This project's own.
-use Rattle.std.specs.Prelude.{ℕ, ◌≡◌, ◌⊎◌, ◌∷◌, ◌++◌, [], List, Option, codes}
+use Rattle.std.specs.Prelude.{ℕ, ◌≡◌, ◌⊎◌, ◌∷◌, ◌++◌, [], List, Option, Result, Ok, Err}
 use Rattle.std.specs.Io.KnownBytes.{Keeps}
 use Rattle.base_types.specs.Octets.{line_feed}
-use Rattle.contacts.specs.declared.stop.Stop.{Stop}
-use Rattle.contacts.specs.Outputs.{LeavesOutput, Prints, WritesFront}
-use Rattle.contacts.specs.Stops.{IsStopFor, no_memory, status_of, stop_line}
+use Rattle.command_line.specs.declared.order.Order.{Order}
+use Rattle.contacts.specs.Outputs.{LeavesOutput, Prints}
+use Rattle.contacts.specs.Stops.{IsStopFor}
+use Rattle.orders.specs.declared.stop.Stop.{Stop}
+use Rattle.orders.specs.OnFiles.{PrintsOrder}
+use Rattle.orders.specs.Stops.{no_memory, status_of, stop_line}
+use Rattle.orders.specs.Streams.{WritesFront}
+use Rattle.orders.specs.Telling.{LeavesWriter}
 
 -- a line, ended by a line feed
 abbrev pub ended : List ℕ → List ℕ
 ended line = line ++ line_feed ∷ []
-
-abbrev pub usage_line : List ℕ
-usage_line = ended (codes "usage: contacts [try]")
 
 -- Standard error has the line of the stop, or some first octets of it where it failed itself; and
 -- the status is the stop's. Where no memory is left for the line, that is said in its place.
@@ -22,9 +24,15 @@ pub record Says (stop : Stop) (errors_before errors_after : Option (List ℕ)) (
   pub said : WritesFront (ended (stop_line told)) errors_before errors_after
   pub status_is : status ≡ status_of told
 
--- the words are none that are known, and standard error says which are
-pub record SaysUsage (errors_before errors_after : Option (List ℕ)) (status : ℕ) : Type 0 where
-  pub said : WritesFront usage_line errors_before errors_after
+-- it was done and nothing is said, with status 0, or it is said why it stopped
+abbrev pub Ends : Result (Unit {0}) Stop → Option (List ℕ) → Option (List ℕ) → ℕ → Type 0
+Ends (Ok done) errors_before errors_after status = Keeps errors_before errors_after × (status ≡ 0)
+Ends (Err stop) errors_before errors_after status = Says stop errors_before errors_after status
+
+-- the words ask for nothing that the program does, and standard error has the text that says why
+pub record SaysBad (text : List ℕ) (errors_before errors_after : Option (List ℕ)) (status : ℕ)
+    : Type 0 where
+  pub said : WritesFront text errors_before errors_after
   pub status_is : status ≡ 2
 
 -- it was done: the first path of the input was printed, and nothing else said
@@ -40,4 +48,18 @@ pub record IsStopped (input : List ℕ) (before after : Option (List ℕ))
   pub stop : Stop
   pub is : IsStopFor input stop
   pub left : LeavesOutput stop input before after
+  pub says : Says stop errors_before errors_after status
+
+-- the order was done: its output was printed, and nothing else said
+pub record IsOrderDone (order : Order) (before after : Option (List ℕ))
+    (errors_before errors_after : Option (List ℕ)) (status : ℕ) : Type 0 where
+  pub printed : PrintsOrder order before after
+  pub silent : Keeps errors_before errors_after
+  pub status_is : status ≡ 0
+
+-- the order stopped, and it is said why
+pub record IsOrderStopped (before after : Option (List ℕ))
+    (errors_before errors_after : Option (List ℕ)) (status : ℕ) : Type 0 where
+  pub stop : Stop
+  pub left : LeavesWriter stop before after
   pub says : Says stop errors_before errors_after status

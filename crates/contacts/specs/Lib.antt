@@ -1,4 +1,3 @@
-pub mod Orders
 pub mod Inputs
 pub mod Stops
 pub mod FirstPaths

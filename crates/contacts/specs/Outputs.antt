@@ -1,5 +1,5 @@
 -- The octets that are printed of the first path. This project's own.
-use Rattle.std.specs.Prelude.{ℕ, Bool, List, [], ◌∷◌, ◌++◌, ◌⊎◌, length, take, flat_map, codes, decimal, Option, if◌then◌else◌}
+use Rattle.std.specs.Prelude.{ℕ, Bool, List, [], ◌∷◌, ◌++◌, ◌⊎◌, length, flat_map, codes, decimal, Option, if◌then◌else◌}
 use Rattle.std.specs.Io.KnownBytes.{Appends, Keeps}
 use Rattle.vcard_text.specs.Cards.{canonical_text}
 use Rattle.base_types.specs.Octets.{line_feed}
@@ -10,9 +10,10 @@ use Rattle.book_model.specs.declared.page.Entry.TheVariants.{Changed, Removed}
 use Rattle.book_model.specs.declared.page.Page.{Page}
 use Rattle.book_devices.specs.TokenTexts.{token_octets}
 use Rattle.contacts.specs.declared.first_path.FirstPath.{FirstPath}
-use Rattle.contacts.specs.declared.stop.Stop.{Stop}
-use Rattle.contacts.specs.declared.stop.Stop.TheVariants.{Refused, Fault, Device}
 use Rattle.contacts.specs.FirstPaths.{IsFirstPath}
+use Rattle.orders.specs.declared.stop.Stop.{Stop}
+use Rattle.orders.specs.declared.stop.Stop.TheVariants.{Refused, Fault, Open, Serve, Device}
+use Rattle.orders.specs.Streams.{WritesFront}
 
 abbrev pub put_line : PutAnswer → List ℕ
 put_line (Created version) = codes "put created " ++ (decimal version ++ line_feed ∷ [])
@@ -45,11 +46,6 @@ path_lines path = put_line path.put ++ page_lines path.page
 
 -- ---- what a writer has of it
 
--- what was written is some first octets of the text, perhaps none
-pub record WritesFront (text : List ℕ) (before after : Option (List ℕ)) : Type 0 where
-  pub count : ℕ
-  pub written : Appends before after (take count text)
-
 -- what was written is the first path of the text
 pub record Prints (text : List ℕ) (before after : Option (List ℕ)) : Type 0 where
   pub path : FirstPath
@@ -67,4 +63,6 @@ pub record PrintsFront (text : List ℕ) (before after : Option (List ℕ)) : Ty
 abbrev pub LeavesOutput : Stop → List ℕ → Option (List ℕ) → Option (List ℕ) → Type 0
 LeavesOutput (Refused refusal) text before after = Keeps before after
 LeavesOutput (Fault fault) text before after = Keeps before after
+LeavesOutput (Open fault) text before after = Keeps before after
+LeavesOutput (Serve fault) text before after = Keeps before after
 LeavesOutput Device text before after = Keeps before after ⊎ PrintsFront text before after

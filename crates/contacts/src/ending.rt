@@ -1,17 +1,17 @@
 //! How the program ends: what it says on standard error, and its status.
-ghost use Rattle.std.specs.Prelude.{◌≡◌, ◌⊎◌, IfOk, IfSome, Ok, Err, string_bytes};
+ghost use Rattle.std.specs.Prelude.{◌≡◌, ◌≢◌, ◌⊎◌, List, ℕ, IfOk, IfSome, Ok, Err, string_bytes};
 ghost use Rattle.std.specs.Io.KnownBytes.{Keeps};
-ghost use Rattle.contacts.specs.Endings.{IsDone, IsStopped, Says, SaysUsage, ended};
-ghost use Rattle.contacts.specs.Stops.{stop_line};
-ghost use Rattle.contacts.specs.declared.order.Order.{Order as TheOrder};
-ghost use Rattle.contacts.specs.declared.stop.Stop.{Stop as TheStop};
+ghost use Rattle.command_line.specs.declared.fault.LineFault.{LineFault as TheFault};
+ghost use Rattle.command_line.specs.declared.order.Order.{Order as TheOrder};
+ghost use Rattle.contacts.specs.Endings.{Ends, IsDone, IsOrderDone, IsOrderStopped, IsStopped, Says, SaysBad, ended};
+ghost use Rattle.orders.specs.Stops.{no_memory, stop_line};
 
-use crate::order::Order;
-use crate::stop::Stop;
 use crate::tried::run_try;
-use crate::writing::write_out;
+use command_line::{LineFault, Order};
+use orders::{Stop, run_order, write_out};
 use std::alloc::Global;
 use std::io::{Read, Write};
+use std::rt::HostRuntime;
 use vcard_text::NoMemory;
 
 /// The line that is said of a stop.
@@ -38,20 +38,63 @@ fn say_stop<E: Write>(alloc: Global, errors: &mut E, stop: Stop) -> u8
     }
 }
 
-/// Says which words are known, and answers the status of words that aren't.
-fn say_usage<E: Write>(errors: &mut E) -> u8
-    ensures { SaysUsage (E.contents errors.old) (E.contents errors.new) result }
+/// Says why it stopped, where it did, and answers the status.
+fn tell_end<E: Write>(alloc: Global, errors: &mut E, done: Result<(), Stop>) -> u8
+    ensures { Ends done (E.contents errors.old) (E.contents errors.new) result }
 {
-    let _said = write_out(errors, b"usage: contacts [try]\n");
+    match done {
+        Ok(()) => 0,
+        Err(stop) => say_stop(alloc, errors, stop),
+    }
+}
+
+/// Says why the words ask for nothing, and answers the status of such words.
+fn say_bad<E: Write>(errors: &mut E, text: &str) -> u8
+    ensures { SaysBad text.now (E.contents errors.old) (E.contents errors.new) result }
+{
+    let _said = write_out(errors, text.as_bytes());
     2
 }
 
-/// Does what the words ask for, or says why it can't, and answers the status that the program ends
-/// with: 0 where it was done, 1 where it was refused, 2 for words that aren't known, and 3 where
-/// memory ran out or a device failed.
-pub(crate) fn run<R: Read, W: Write, E: Write>(
+/// Takes the first path of the input, or says why it can't, and answers the status.
+fn end_with_path<R: Read, W: Write, E: Write>(
     alloc: Global,
-    order: Result<Order, Stop>,
+    reader: &mut R,
+    writer: &mut W,
+    errors: &mut E,
+) -> u8
+    ensures { IfSome (R.remaining reader.old) (λ input.
+        IsDone input (W.contents writer.old) (W.contents writer.new) (E.contents errors.old)
+        (E.contents errors.new) result
+        ⊎ IsStopped input (W.contents writer.old) (W.contents writer.new) (E.contents errors.old)
+        (E.contents errors.new) result) }
+{
+    let done = run_try(alloc, reader, writer);
+    tell_end(alloc, errors, done)
+}
+
+/// Does another order, or says why it can't, and answers the status.
+fn end_with_order<W: Write, E: Write>(
+    rt: &HostRuntime,
+    order: Order,
+    writer: &mut W,
+    errors: &mut E,
+) -> u8
+    ensures { IsOrderDone order (W.contents writer.old) (W.contents writer.new)
+        (E.contents errors.old) (E.contents errors.new) result
+        ⊎ IsOrderStopped (W.contents writer.old) (W.contents writer.new) (E.contents errors.old)
+        (E.contents errors.new) result }
+{
+    let done = run_order(rt, order, writer);
+    tell_end(rt.alloc(), errors, done)
+}
+
+/// Does what the words ask for, or says why it can't, and answers the status that the program ends
+/// with: 0 where it was done, 1 where it was refused, 2 for words that ask for nothing or for help,
+/// and 3 where memory ran out, or a file, a connection or a device failed.
+pub(crate) fn run<R: Read, W: Write, E: Write>(
+    rt: &HostRuntime,
+    order: Result<Order, LineFault>,
     reader: &mut R,
     writer: &mut W,
     errors: &mut E,
@@ -63,23 +106,27 @@ pub(crate) fn run<R: Read, W: Write, E: Write>(
         ⊎ IsStopped input (W.contents writer.old) (W.contents writer.new) (E.contents errors.old)
         (E.contents errors.new) result) }
 
-    // Of words that aren't known it says so, and reads and writes nothing.
-    ensures usage { order ≡ Ok TheOrder.Usage →
-        SaysUsage (E.contents errors.old) (E.contents errors.new) result
+    // The output of another order is printed and nothing is said, or it is said why not.
+    ensures ran { (other : TheOrder) → order ≡ Ok other → other ≢ TheOrder.Try →
+        IsOrderDone other (W.contents writer.old) (W.contents writer.new) (E.contents errors.old)
+        (E.contents errors.new) result
+        ⊎ IsOrderStopped (W.contents writer.old) (W.contents writer.new) (E.contents errors.old)
+        (E.contents errors.new) result }
+
+    // Of words that ask for nothing it says why, and reads and writes nothing.
+    ensures bad { (text : List ℕ) → order ≡ Err (TheFault.Bad text) →
+        SaysBad text (E.contents errors.old) (E.contents errors.new) result
         × Keeps (W.contents writer.old) (W.contents writer.new) }
 
-    // Where the words can't be had it says why.
-    ensures stopped { (stop : TheStop) → order ≡ Err stop →
-        Says stop (E.contents errors.old) (E.contents errors.new) result
+    // Where the words can't be read for want of memory it says so.
+    ensures memory { order ≡ Err TheFault.Memory →
+        Says no_memory (E.contents errors.old) (E.contents errors.new) result
         × Keeps (W.contents writer.old) (W.contents writer.new) }
 {
-    let done = match order {
-        Ok(Order::Try) => run_try(alloc, reader, writer),
-        Ok(Order::Usage) => return say_usage(errors),
-        Err(stop) => Err(stop),
-    };
-    match done {
-        Ok(()) => 0,
-        Err(stop) => say_stop(alloc, errors, stop),
+    match order {
+        Ok(Order::Try) => end_with_path(rt.alloc(), reader, writer, errors),
+        Ok(order) => end_with_order(rt, order, writer, errors),
+        Err(LineFault::Bad { text }) => say_bad(errors, text.as_str()),
+        Err(LineFault::Memory) => say_stop(rt.alloc(), errors, Stop::no_memory()),
     }
 }

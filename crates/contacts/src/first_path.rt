@@ -4,7 +4,8 @@ ghost use Rattle.vcard_lines.specs.declared.line.Line.{Line};
 ghost use Rattle.vcard_text.specs.Spelling.{Spells};
 ghost use Rattle.book_model.specs.Outcomes.{no_memory};
 ghost use Rattle.contacts.specs.FirstPaths.{IsPathOf, IsFirstPath};
-ghost use Rattle.contacts.specs.Stops.{IsStopFor, stop_of};
+ghost use Rattle.contacts.specs.Stops.{IsStopFor};
+ghost use Rattle.orders.specs.Stops.{stop_of};
 
 use book_laws::following::{
     creating_follows_histories, empty_stores_have_no_history, putting_follows_histories,

@@ -1,9 +1,8 @@
-mod orders;
 mod paths;
 mod stops;
 
-use crate::stop::Stop;
 use crate::tried::run_try;
+use orders::Stop;
 use std::alloc::Global;
 use std::test::Fail;
 

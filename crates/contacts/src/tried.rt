@@ -1,14 +1,14 @@
 //! The first path, from the octets of the input to those of the output.
 ghost use Rattle.std.specs.Prelude.{IfErr, IfSome, OnOk};
-ghost use Rattle.contacts.specs.Inputs.{ReadsAtMost, read_octets_max};
+ghost use Rattle.contacts.specs.Inputs.{read_octets_max};
 ghost use Rattle.contacts.specs.Outputs.{LeavesOutput, Prints};
 ghost use Rattle.contacts.specs.Stops.{IsStopFor};
+ghost use Rattle.orders.specs.Streams.{ReadsAtMost};
 
 use crate::first_path::first_path;
 use crate::input::read_input;
 use crate::output::path_octets;
-use crate::stop::Stop;
-use crate::writing::write_out;
+use orders::{Stop, write_out};
 use std::alloc::Global;
 use std::io::{Read, Write};
 

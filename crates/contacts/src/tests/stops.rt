@@ -2,9 +2,12 @@
 use super::{TYPED_ANN, printed_ann, tried};
 use crate::ending::run;
 use crate::input::read_input;
-use crate::order::Order;
-use crate::stop::Stop;
 use crate::tried::run_try;
+use base_types::Text;
+use book_http::ServeFault;
+use book_store::OpenFault;
+use command_line::{LineFault, Order};
+use orders::Stop;
 use std::alloc::Global;
 use std::io;
 use std::io::{Read, Write};
@@ -55,6 +58,8 @@ fn says_why_and_with_what_status(rt: HostRuntime) -> Result<(), Fail> {
         ),
         (Stop::Fault(Fault::Store), "fault store-fault 19", 3),
         (Stop::Fault(Fault::Memory), "fault no-memory 20", 3),
+        (Stop::Open(OpenFault::NotOurs), "fault open 2", 3),
+        (Stop::Serve(ServeFault::TooManyTurns), "fault serve 3", 3),
         (Stop::Device, "fault device 1", 3),
     ];
     for (stop, line, status) in lines {
@@ -191,34 +196,40 @@ fn reads_one_octet_more_than_a_card_has(rt: HostRuntime) -> Result<(), Fail> {
     Ok(())
 }
 
-/// What standard output and standard error have of the words and the input, and the status.
-fn is_ended(
-    rt: &impl Abort,
-    alloc: Global,
-    order: Result<Order, Stop>,
+/// Whether standard output and standard error have this of the words and the input, and this is the
+/// status.
+fn ends_so(
+    rt: &HostRuntime,
+    order: Result<Order, LineFault>,
     input: &str,
     wanted: (&str, &str, u8),
-) -> Result<(), Fail> {
+) -> bool {
     let mut reader = input.as_bytes();
-    let mut writer = Vec::new(alloc);
-    let mut errors = Vec::new(alloc);
-    let status = run(alloc, order, &mut reader, &mut writer, &mut errors);
-    assert!(rt; writer.as_slice() == wanted.0.as_bytes());
-    assert!(rt; errors.as_slice() == wanted.1.as_bytes());
-    assert_eq!(rt; status, wanted.2);
-    Ok(())
+    let mut writer = Vec::new(rt.alloc());
+    let mut errors = Vec::new(rt.alloc());
+    let status = run(rt, order, &mut reader, &mut writer, &mut errors);
+    writer.as_slice() == wanted.0.as_bytes()
+        && errors.as_slice() == wanted.1.as_bytes()
+        && status == wanted.2
+}
+
+/// Words that ask for nothing.
+fn bad(alloc: Global, text: &str) -> Result<Result<Order, LineFault>, Fail> {
+    let text = Text::copy_of(alloc, text)?;
+    Ok(Err(LineFault::Bad { text }))
 }
 
 #[test]
 fn says_how_it_ends(rt: HostRuntime) -> Result<(), Fail> {
-    let alloc = rt.alloc();
-    let printed = printed_ann(alloc)?;
+    let printed = printed_ann(rt.alloc())?;
     let done = (printed.as_str(), "", 0);
     let refused = ("", "refused bad-card 5\n", 1);
-    let unknown = ("", "usage: contacts [try]\n", 2);
+    let unknown = ("", "error: no such word\n", 2);
     let memory = ("", "fault no-memory 20\n", 3);
-    is_ended(&rt, alloc, Ok(Order::Try), TYPED_ANN, done)?;
-    is_ended(&rt, alloc, Ok(Order::Try), "BEGIN:VCARD", refused)?;
-    is_ended(&rt, alloc, Ok(Order::Usage), TYPED_ANN, unknown)?;
-    is_ended(&rt, alloc, Err(Stop::no_memory()), TYPED_ANN, memory)
+    let bad = bad(rt.alloc(), "error: no such word\n")?;
+    assert!(rt; ends_so(&rt, Ok(Order::Try), TYPED_ANN, done));
+    assert!(rt; ends_so(&rt, Ok(Order::Try), "BEGIN:VCARD", refused));
+    assert!(rt; ends_so(&rt, bad, TYPED_ANN, unknown));
+    assert!(rt; ends_so(&rt, Err(LineFault::Memory), TYPED_ANN, memory));
+    Ok(())
 }

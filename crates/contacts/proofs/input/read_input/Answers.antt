@@ -1,13 +1,5 @@
-use Rattle.std.proofs.Common.{◌≡◌, ◌∙◌, length, take, IfSome, ap, sym, subst, rules}
-use Rattle.std.proofs.lemmas.List.{take_at}
-use Rattle.contacts.specs.Inputs.{read_octets_max}
-use Rattle.contacts.proofs.OctetLemmas.{front_read}
+use Rattle.contacts.proofs.InputLemmas.{stopped_for_none}
 use Rattle.contacts.proofs.input.read_input.Goals as goal
 
-pub returns-clause-read : goal.returns-clause-read
-returns-clause-read g c =
-    let full : length c.fill.new.room ≡ c.resize.new.self.len = search (rules) in
-    let all : length c.fill.new.room ≡ read_octets_max = search (rules) in
-    let items : c.truncate.new.self.items ≡ take c.in_ok-count.count c.fill.new.room = c.truncate.ensures.items ∙ ap (take c.in_ok-count.count) (take_at c.fill.new.room _ c.resize.new.self.len full) in
-    subst (λ xs. IfSome (g.R.Read.remaining c.args.reader.now) (λ input. xs ≡ take read_octets_max input)) (sym items)
-    (front_read _ _ c.in_ok-count.count read_octets_max c.fill.new.room all c.in_ok-count.ensures.count c.in_ok-count.ensures.read c.in_ok-count.ensures.end)
+pub returns-clause-stop : goal.returns-clause-stop
+returns-clause-stop g c = stopped_for_none c.read_at_most.result c.read_at_most.ensures.stop

@@ -2,8 +2,9 @@ use Rattle.std.proofs.Common.{◌∙◌, OnOk, subst}
 use Rattle.std.proofs.lemmas.Result.{err_from_is_err_and}
 use Rattle.std.specs.Io.KnownBytes.{Appends}
 use Rattle.contacts.specs.FirstPaths.{IsFirstPath}
-use Rattle.contacts.specs.Stops.{IsStopFor, stop_of}
-use Rattle.contacts.specs.Outputs.{WritesFront}
+use Rattle.contacts.specs.Stops.{IsStopFor}
+use Rattle.orders.specs.Stops.{stop_of}
+use Rattle.orders.specs.Streams.{WritesFront}
 use Rattle.contacts.proofs.LongTextLemmas.{stopped_for_all, stopped_for_input, printed_of_input, left_of_input}
 use Rattle.contacts.proofs.tried.run_try.Goals as goal
 
