@@ -1,0 +1,49 @@
+//! The tables of the first schema as its statements declared them, and what carrying them leaves.
+mod carrying;
+mod files;
+
+use sqlite::{Alter, Connection, params};
+use std::test::Fail;
+
+const TABLES: &str =
+    "CREATE TABLE meta (name TEXT NOT NULL PRIMARY KEY, val INTEGER NOT NULL) STRICT; \
+CREATE TABLE book (id INTEGER PRIMARY KEY, name TEXT NOT NULL UNIQUE, number INTEGER NOT NULL, \
+horizon INTEGER NOT NULL, created INTEGER NOT NULL, edited INTEGER NOT NULL, \
+imported INTEGER NOT NULL, import_edited INTEGER NOT NULL, moved_in INTEGER NOT NULL, \
+deleted INTEGER NOT NULL, moved_out INTEGER NOT NULL) STRICT; \
+CREATE TABLE member (book INTEGER NOT NULL REFERENCES book(id), uid TEXT NOT NULL, \
+changed INTEGER NOT NULL, card TEXT, PRIMARY KEY (book, uid), UNIQUE (book, changed)) STRICT; \
+CREATE TABLE import_key (book INTEGER NOT NULL REFERENCES book(id), ikey TEXT NOT NULL, \
+added INTEGER NOT NULL, edited INTEGER NOT NULL, same INTEGER NOT NULL, \
+number INTEGER NOT NULL, PRIMARY KEY (book, ikey)) STRICT; \
+INSERT INTO meta VALUES ('schema', 1)";
+
+const ANNA: &str = "BEGIN:VCARD\r\nVERSION:4.0\r\nUID:a\r\nFN:Anna\r\nEND:VCARD\r\n";
+
+const BOB: &str = "BEGIN:VCARD\r\nVERSION:4.0\r\nUID:b\r\nFN:Bob\r\nEND:VCARD\r\n";
+
+fn put<S: Alter>(
+    conn: &mut Connection<S>,
+    uid: &str,
+    changed: i64,
+    card: &str,
+) -> Result<(), Fail> {
+    conn.execute(
+        "INSERT INTO member (book, uid, changed, card) VALUES (1, ?1, ?2, ?3)",
+        params![uid, changed, card],
+    )?;
+    Ok(())
+}
+
+/// Lays the tables of the first schema, with the book `staff`: nine changes, of which two left live
+/// cards and two are removals that are remembered.
+fn lay<S: Alter>(conn: &mut Connection<S>) -> Result<(), Fail> {
+    conn.execute_batch(TABLES)?;
+    conn.execute_batch(
+        "INSERT INTO book VALUES (1, 'staff', 9, 0, 5, 1, 0, 0, 0, 3, 0); \
+         INSERT INTO member VALUES (1, 'c', 6, NULL); \
+         INSERT INTO member VALUES (1, 'd', 9, NULL)",
+    )?;
+    put(conn, "a", 4, ANNA)?;
+    put(conn, "b", 7, BOB)
+}
