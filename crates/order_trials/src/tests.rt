@@ -1,0 +1,64 @@
+mod files;
+mod served;
+
+use command_line::{LineFault, Order, read_order};
+use orders::{Stop, run_order};
+use std::alloc::{AllocError, Global};
+use std::rt::HostRuntime;
+use std::test::Fail;
+use std::{fs, str};
+
+/// A call without its clauses.
+fn order(alloc: Global, words: &[String]) -> Result<Order, LineFault> {
+    read_order(alloc, words)
+}
+
+/// The words of a line, cut at each space.
+fn words_of(alloc: Global, line: &str) -> Result<Vec<String>, AllocError> {
+    let mut words = Vec::new(alloc);
+    for word in line.split(' ') {
+        words.push(String::from_str(alloc, word)?)?;
+    }
+    Ok(words)
+}
+
+/// What is written by the order, and how it ends.
+fn done(rt: &HostRuntime, order: Order) -> (Vec<u8>, Result<(), Stop>) {
+    let mut out = Vec::new(rt.alloc());
+    let end = run_order(rt, order, &mut out);
+    (out, end)
+}
+
+/// What is printed by the order that the line asks for, and behind it why it stops, where it does.
+fn told(rt: &HostRuntime, line: &str) -> Result<String, Fail> {
+    let alloc = rt.alloc();
+    let words = words_of(alloc, line)?;
+    let Ok(order) = order(alloc, words.as_slice()) else {
+        return Err(Fail::new("no order"));
+    };
+    let (out, end) = done(rt, order);
+    let out = str::from_utf8(out.as_slice())?;
+    match end {
+        Ok(()) => Ok(String::from_str(alloc, out)?),
+        Err(stop) => Ok(format!(in alloc; "{out}{stop}")?),
+    }
+}
+
+/// The first line whose order isn't answered with what stands behind it, and what it is answered
+/// with. The orders are done one after another.
+fn differs(rt: &HostRuntime, rows: &[(&str, &str)]) -> Result<Option<String>, Fail> {
+    for (line, wanted) in rows {
+        let printed = told(rt, line)?;
+        if printed.as_str() != *wanted {
+            return Ok(Some(format!(in rt.alloc(); "{line}: {printed}")?));
+        }
+    }
+    Ok(None)
+}
+
+/// An empty folder.
+fn new_folder(rt: &HostRuntime, folder: &str) -> Result<(), Fail> {
+    let _ = fs::remove_dir_all(rt, folder);
+    fs::create_dir(rt, folder)?;
+    Ok(())
+}

@@ -1,0 +1,128 @@
+//! Orders on the books in a file.
+
+use super::{differs, new_folder};
+use book_store::{FileBooks, SqlStore};
+use std::alloc::Global;
+use std::fs;
+use std::rt::HostRuntime;
+use std::test::Fail;
+use sync_core::{BookStore, Limits};
+use vcard_text::{Card, read_card};
+
+/// A card that a form has no room for: five lines.
+fn card(alloc: Global, uid: &str, name: &str) -> Result<Card, Fail> {
+    let text = format!(in alloc; "BEGIN:VCARD\nVERSION:4.0\nUID:{uid}\nFN:{name}\nEND:VCARD\n")?;
+    Ok(read_card(alloc, text.as_bytes())?)
+}
+
+fn open(rt: &HostRuntime, path: &str) -> Result<FileBooks, Fail> {
+    match SqlStore::open(rt, path, Limits::standard()) {
+        Ok(store) => Ok(store),
+        Err(_) => Err(Fail::new("not opened")),
+    }
+}
+
+/// Five changes in the book `staff`: three cards come, one is edited, one goes.
+fn change_five_times(rt: &HostRuntime, path: &str) -> Result<(), Fail> {
+    let alloc = rt.alloc();
+    let mut store = open(rt, path)?;
+    for (uid, name) in [("a", "Ann"), ("b", "Bob"), ("c", "Cy"), ("a", "Anna")] {
+        store.put("staff", &card(alloc, uid, name)?, None)?;
+    }
+    store.remove("staff", "b", None)?;
+    Ok(())
+}
+
+#[test]
+fn keeps_books_in_a_file(rt: HostRuntime) -> Result<(), Fail> {
+    new_folder(&rt, "orders")?;
+    let begin = [
+        ("tally orders/a.db staff", "fault open 1"),
+        ("init orders/a.db", "made\n"),
+        ("init orders/a.db", "fault open 5"),
+        ("tally orders/a.db staff", "refused no-such-book 1"),
+        ("book orders/a.db staff", "book 1\n"),
+        ("book orders/a.db staff", "refused book-exists 2"),
+        ("book orders/a.db clients", "book 2\n"),
+        // the file has the present schema already
+        ("migrate orders/a.db", "fault open 3"),
+        ("migrate orders/b.db", "fault open 1"),
+    ];
+    assert_eq!(rt; differs(&rt, begin.as_slice())?, None);
+    change_five_times(&rt, "orders/a.db")?;
+    let more = [
+        (
+            "tally orders/a.db staff",
+            "cards                     2\n\
+             created                   3\n\
+             deleted                   1\n\
+             edited                    1\n\
+             horizon                   0\n\
+             import_edited             0\n\
+             imported                  0\n\
+             moved_in                  0\n\
+             moved_out                 0\n\
+             number                    5\n\
+             remembered                1\n",
+        ),
+        (
+            "mirror orders/a.db staff --limit 1",
+            "pages 2 done yes\n            4 a\n            3 c\n\
+             token http://contacts.invalid/sync/1/5/5\n",
+        ),
+        (
+            "mirror orders/a.db staff --limit 0",
+            "refused number-of-matches-within-limits 11",
+        ),
+        ("expand orders/a.db staff a", "refused not-group 17"),
+        (
+            "export orders/a.db staff --form columns",
+            "uid,fn,family,given,email,tel,org,note\na,Anna,,,,,,\nc,Cy,,,,,,\n",
+        ),
+        ("forget orders/a.db staff 5", "dropped 1 horizon 5\n"),
+        ("forget orders/a.db staff 6", "refused bad-forget 16"),
+    ];
+    assert_eq!(rt; differs(&rt, more.as_slice())?, None);
+    Ok(())
+}
+
+#[test]
+fn imports_rows_of_a_file(rt: HostRuntime) -> Result<(), Fail> {
+    new_folder(&rt, "imports")?;
+    fs::write(
+        &rt,
+        "imports/rows.csv",
+        "uid,vcard\n\
+         g,\"BEGIN:VCARD\nVERSION:4.0\nUID:g\nFN:All\nKIND:group\nMEMBER:p\nMEMBER:q\nEND:VCARD\n\"\n\
+         p,\"BEGIN:VCARD\nVERSION:4.0\nUID:p\nFN:Pat\nEND:VCARD\n\"\n",
+    )?;
+    fs::write(&rt, "imports/bad.csv", "uid,vcard\nx,y\n")?;
+    let rows = [
+        ("init imports/a.db", "made\n"),
+        ("book imports/a.db staff", "book 1\n"),
+        (
+            "import imports/a.db staff k imports/rows.csv",
+            "new 2 edited 0 same 0 number 2\n",
+        ),
+        (
+            "import imports/a.db staff k imports/bad.csv",
+            "new 2 edited 0 same 0 number 2\n",
+        ),
+        (
+            "import imports/a.db staff l imports/bad.csv",
+            "refused bad-import 14",
+        ),
+        (
+            "import imports/a.db staff l imports/none.csv",
+            "fault device 1",
+        ),
+        // the store is opened before the rows are looked for
+        (
+            "import imports/none.db staff l imports/none.csv",
+            "fault open 1",
+        ),
+        ("expand imports/a.db staff g", "person p\nmissing q\n"),
+    ];
+    assert_eq!(rt; differs(&rt, rows.as_slice())?, None);
+    Ok(())
+}
