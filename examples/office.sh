@@ -85,17 +85,17 @@ books=http://$address/books
 ask 201 '{"put":"created","version":1}' -T a.vcf "$books/staff/cards/a"
 ask 201 '{"put":"created","version":2}' -T b.vcf "$books/staff/cards/b"
 ask 201 '{"put":"created","version":3}' -T c.vcf "$books/staff/cards/c"
-phone 'a b c '
+phone 'a.vcf b.vcf c.vcf '
 card a Anna
 ask 200 '{"put":"edited","version":4}' -T a.vcf "$books/staff/cards/a?version=1"
 ask 412 '{"fault":"version-mismatch","has":4,"number":7}' -T a.vcf "$books/staff/cards/a?version=1"
 ask 200 '{"number":5}' -X DELETE "$books/staff/cards/b"
 ask 200 '{"from":6,"version":3}' -X POST "$books/staff/cards/a/move?to=clients"
-phone 'c '
+phone 'c.vcf '
 ask 200 '{"dropped":2,"horizon":6}' -X POST "$books/staff/forget?upto=6"
 ask 201 '{"put":"created","version":7}' -T b.vcf "$books/staff/cards/b"
 # the phone's token is as new as the horizon, so that it is taken
-phone 'b c '
+phone 'b.vcf c.vcf '
 expect 3 'fault open 1' tally office.db staff
 stop
 

@@ -17,7 +17,7 @@ while :; do
     # an empty token stands for an initial report, and begins with an empty copy
     [ -s "$folder/token" ] || rm -f "$folder"/cards/*
     jq -c '.members[]' "$folder/page" | while read -r member; do
-        card=$folder/cards/$(printf '%s' "$member" | jq -r '.uid | @uri')
+        card=$folder/cards/$(printf '%s' "$member" | jq -r '.uid | @uri').vcf
         case $(printf '%s' "$member" | jq .status) in
         200) printf '%s' "$member" | jq -j .card > "$card" ;;
         404) rm -f "$card" ;;
