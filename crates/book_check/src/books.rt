@@ -148,8 +148,8 @@ fn agrees_with_members(book: &Row, members: &[Row], keeps: &[Row]) -> bool
     is_kept && cards + departures_of(counts) == arrivals_of(counts)
 }
 
-/// Whether the book, of so many, has a legal name and an id of 1 to that number, and is right in its
-/// numbers and with its members and its keep.
+/// Whether the book, of so many, has a legal name and an id of 1 to that number, and is right in
+/// its numbers and with its members and its keep.
 fn is_good_book(limits: Limits, books: usize, members: &[Row], keeps: &[Row], book: &Row) -> bool
     ensures { IsTrue result ↔ IsCheckedBook limits books (map member_in members.now)
         (map keep_told keeps.now) (book_told book.now) }

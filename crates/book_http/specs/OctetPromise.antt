@@ -1,4 +1,5 @@
--- What holds of the octets of every connection to the service, over every store. This project's own.
+-- What holds of the octets of every connection to the service, over every store. This project's
+-- own.
 use Rattle.std.specs.Prelude.{◌≡◌, ◌⊎◌, ℕ, Bool, true, false, List, [], ◌++◌, Option, Some, None, Ok, slice_get, slice_set}
 use Rattle.std.specs.List.{flat_map}
 use Rattle.std.specs.Io.KnownBytes.{Appends, Consumes, IsAtEnd}

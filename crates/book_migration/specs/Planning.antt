@@ -41,8 +41,8 @@ pub record HasId (db : Database) : Type 0 where
   pub id : ℤ
   pub one : HasOneNumber id first_number db
 
--- The tables are those of the first schema, these are the keeps that are due, one for each book, and
--- what is made of the tables holds well-formed books.
+-- The tables are those of the first schema, these are the keeps that are due, one for each book,
+-- and what is made of the tables holds well-formed books.
 pub record IsPlanned (limits : Bounds) (db : Database) (keeps : List Row) : Type 0 where
   pub first : IsFirst db
   pub numbered : HasId db

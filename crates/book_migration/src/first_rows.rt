@@ -55,8 +55,8 @@ pub(crate) fn list_members<S: Alter>(conn: &mut Connection<S>) -> Result<Vec<Row
     )
 }
 
-/// All rows of the table `import_key`, whatever they hold: the row's id, the book, the key, the cards
-/// added, edited and the same, and the number of the last change.
+/// All rows of the table `import_key`, whatever they hold: the row's id, the book, the key, the
+/// cards added, edited and the same, and the number of the last change.
 pub(crate) fn list_imports<S: Alter>(conn: &mut Connection<S>) -> Result<Vec<Row>, Error>
     ensures lists { OverFirst (state S.Store conn.old) (state S.Store conn.new)
         (IfOk result (λ rows.

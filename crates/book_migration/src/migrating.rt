@@ -17,16 +17,16 @@ use std::alloc::Global;
 
 /// Carries the tables of the connection, which is outside a transaction, from the first schema into
 /// the second, in one transaction. All books, members and imports are as they were, and each book's
-/// keep is 10,000, or as many removed members as it remembers where they are more. The answer is the
-/// number of books.
+/// keep is 10,000, or as many removed members as it remembers where they are more. The answer is
+/// the number of books.
 ///
-/// All rows are read and tested before anything is written. Refused with `NotOurs` where other tables
-/// are declared than a store's, where the table `meta` says anything but one number of the schema, and
-/// where it says 1 and the keeps are there; with `OtherSchema` where the number is another than 1; and
-/// with `Damaged` where the rows stand for no well-formed books, tested against the greatest limits on
-/// books and changes that a store may have. In place of each answer `Memory` may come, where memory
-/// runs out, and `Store`, for any other error of the database. After a refusal all is as it was, unless
-/// the disk failed and shut the connection.
+/// All rows are read and tested before anything is written. Refused with `NotOurs` where other
+/// tables are declared than a store's, where the table `meta` says anything but one number of the
+/// schema, and where it says 1 and the keeps are there; with `OtherSchema` where the number is
+/// another than 1; and with `Damaged` where the rows stand for no well-formed books, tested against
+/// the greatest limits on books and changes that a store may have. In place of each answer `Memory`
+/// may come, where memory runs out, and `Store`, for any other error of the database. After a
+/// refusal all is as it was, unless the disk failed and shut the connection.
 pub fn migrate_connection<S: Alter>(
     alloc: Global,
     conn: &mut Connection<S>,

@@ -1,4 +1,5 @@
--- What came of a listener's connections, which were served one behind the other. This project's own.
+-- What came of a listener's connections, which were served one behind the other. This project's
+-- own.
 use Rattle.std.specs.Prelude.{◌≡◌, ◌<◌, ℕ, List, [], ◌∷◌, length, Option, Some, None, Result, Ok, Err}
 use Rattle.http_requests.specs.Handling.{Doing, FaultReplies}
 use Rattle.book_http.specs.Serving.{BreaksOff, ServesAll}

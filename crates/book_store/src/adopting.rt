@@ -15,16 +15,16 @@ use std::alloc::Global;
 
 impl<S: Alter + Drop> SqlStore<S> {
     /// The store of the books that the tables of the connection hold, which is outside a
-    /// transaction. All rows are read and tested, and nothing is written. On a refusal the connection
-    /// is dropped.
+    /// transaction. All rows are read and tested, and nothing is written. On a refusal the
+    /// connection is dropped.
     ///
-    /// Refused with `NotOurs` where other tables are declared than a store's, of this schema or of the
-    /// first, where the table `meta` says anything but one number of the schema, and where it says 2
-    /// and the keeps are missing; with `OtherSchema` where the number is another than 2; and with
-    /// `Damaged` where the rows stand for no well-formed books. These are tested against the greatest
-    /// limits on books and changes that a store may have, and not against those of this one. In place
-    /// of each answer `Memory` may come, where memory runs out, and `Store`, for any other error of
-    /// the database.
+    /// Refused with `NotOurs` where other tables are declared than a store's, of this schema or of
+    /// the first, where the table `meta` says anything but one number of the schema, and where it
+    /// says 2 and the keeps are missing; with `OtherSchema` where the number is another than 2; and
+    /// with `Damaged` where the rows stand for no well-formed books. These are tested against the
+    /// greatest limits on books and changes that a store may have, and not against those of this
+    /// one. In place of each answer `Memory` may come, where memory runs out, and `Store`, for any
+    /// other error of the database.
     pub fn adopt(
         alloc: Global,
         connection: Connection<S>,

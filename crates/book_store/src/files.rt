@@ -37,10 +37,10 @@ impl<S: Start> SqlStore<FileStore<FileFrom<S>>> {
     /// A new store without books in the file at the path, which is made where there is none, and
     /// may be there where it is empty.
     ///
-    /// Refused with `NotEmpty` where tables are there, with `NotOurs` where the file is no database,
-    /// with `Memory` where memory runs out, and with `Store` where the file can't be used: another
-    /// process has it open, it has two names, or the disk fails. Then no book was written; a file
-    /// that was made may be left, empty.
+    /// Refused with `NotEmpty` where tables are there, with `NotOurs` where the file is no
+    /// database, with `Memory` where memory runs out, and with `Store` where the file can't be
+    /// used: another process has it open, it has two names, or the disk fails. Then no book was
+    /// written; a file that was made may be left, empty.
     pub fn create_from(
         rt: &HostRuntime,
         path: &str,
@@ -62,9 +62,10 @@ impl<S: Start> SqlStore<FileStore<FileFrom<S>>> {
     /// written: the log beside the file is made, or its commits are taken over, and an empty file
     /// may be written to before it is refused.
     ///
-    /// Refused as `adopt` refuses the tables that the file holds; with `NotOurs` where the file is no
-    /// database or is empty; with `Memory` where memory runs out; and with `Store` where no file is
-    /// there or it can't be used: another process has it open, it has two names, or the disk fails.
+    /// Refused as `adopt` refuses the tables that the file holds; with `NotOurs` where the file is
+    /// no database or is empty; with `Memory` where memory runs out; and with `Store` where no file
+    /// is there or it can't be used: another process has it open, it has two names, or the disk
+    /// fails.
     pub fn open_from(
         rt: &HostRuntime,
         path: &str,

@@ -60,6 +60,9 @@ pub fn find_member<S: Alter>(conn: &mut Connection<S>, book: i64, uid: &str) -> 
 }
 
 /// How many members of the book with the id were removed by a change above the number.
+///
+/// Each member of the book that changed above the number is looked at, live ones too, so the work
+/// grows with them.
 pub fn count_removed<S: Alter>(
     conn: &mut Connection<S>,
     book: i64,

@@ -64,7 +64,8 @@ fn arrive<S: Alter>(
     }
 }
 
-/// The numbers of the book after a card moved out of it, with this horizon, as its columns keep them.
+/// The numbers of the book after a card moved out of it, with this horizon, as its columns keep
+/// them.
 fn columns_after_leaving(figures: Figures, horizon: u64) -> Result<BookNumbers, Denied>
     requires { figures.number < 2 ^ 63 }
     ensures numbers { IfOk result (λ columns. numbers_of columns ≡ numbers_row

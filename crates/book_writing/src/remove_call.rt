@@ -61,8 +61,8 @@ fn number_in_book<S: Alter>(
     Ok(number)
 }
 
-/// Whether the book with the figures keeps one more removed member in mind. The removed members above
-/// its horizon are counted, so that all members of the book that were changed since are read.
+/// Whether the book with the figures keeps one more removed member in mind. The removed members
+/// above its horizon are counted, so that all members of the book that were changed since are read.
 fn keeps_one_more<S: Alter>(conn: &mut Connection<S>, figures: Figures) -> Result<bool, Denied>
     ensures room { OverBook (state S.Store conn.old) (state S.Store conn.new) figures
         (λ book. IfOk result (λ room. nat_le (remembered_in book + 1) book.keep ≡ room)) }

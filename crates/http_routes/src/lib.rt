@@ -1,5 +1,5 @@
-//! What requests over HTTP ask of the service: the command of each, or its first fault, by one table
-//! of routes.
+//! What requests over HTTP ask of the service: the command of each, or its first fault, by one
+//! table of routes.
 #![tactic(auto)]
 
 pub mod ask;

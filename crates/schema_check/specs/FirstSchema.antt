@@ -1,4 +1,5 @@
--- Tables of the first schema, which have no keeps, and what is answered of them. This project's own.
+-- Tables of the first schema, which have no keeps, and what is answered of them. This project's
+-- own.
 use Rattle.std.specs.Prelude.{◌≡◌, ⊤, ℤ, pos, Result, Ok, Err}
 use Rattle.sqlite.specs.Effect.{Database}
 use Rattle.book_tables.specs.Laying.{with_imports}

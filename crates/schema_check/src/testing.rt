@@ -17,10 +17,10 @@ const FIRST: i64 = 1;
 /// Tests whether the tables of the connection are declared as a store's, and state the number 2 of
 /// their schema.
 ///
-/// Refused with `NotOurs` where other tables are declared than a store's, with the keeps or without;
-/// where `meta` states anything but one number; and where it states 2 and the keeps are missing.
-/// Refused with `OtherSchema` where the number is another than 2. In place of each answer `Memory` may
-/// come, where memory runs out, and `Store`, for any other error of the database.
+/// Refused with `NotOurs` where other tables are declared than a store's, with the keeps or
+/// without; where `meta` states anything but one number; and where it states 2 and the keeps are
+/// missing. Refused with `OtherSchema` where the number is another than 2. In place of each answer
+/// `Memory` may come, where memory runs out, and `Store`, for any other error of the database.
 pub fn test_schema<S: Alter>(conn: &mut Connection<S>) -> Result<(), OpenFault>
     ensures answers { HasCleanDisk (state S.Store conn.new)
         → TellsSchema (state S.Store conn.old).now result }
@@ -40,13 +40,13 @@ pub fn test_schema<S: Alter>(conn: &mut Connection<S>) -> Result<(), OpenFault>
     }
 }
 
-/// Tests whether the tables of the connection are declared as those of the first schema, without the
-/// keeps, and state its number, which is 1.
+/// Tests whether the tables of the connection are declared as those of the first schema, without
+/// the keeps, and state its number, which is 1.
 ///
-/// Refused with `NotOurs` where other tables are declared than a store's, with the keeps or without;
-/// where `meta` states anything but one number; and where it states 1 and the keeps are declared.
-/// Refused with `OtherSchema` where the number is another than 1. In place of each answer `Memory` may
-/// come, where memory runs out, and `Store`, for any other error of the database.
+/// Refused with `NotOurs` where other tables are declared than a store's, with the keeps or
+/// without; where `meta` states anything but one number; and where it states 1 and the keeps are
+/// declared. Refused with `OtherSchema` where the number is another than 1. In place of each answer
+/// `Memory` may come, where memory runs out, and `Store`, for any other error of the database.
 pub fn test_first_schema<S: Alter>(conn: &mut Connection<S>) -> Result<(), OpenFault>
     ensures answers { HasCleanDisk (state S.Store conn.new)
         → TellsFirst (state S.Store conn.old).now result }

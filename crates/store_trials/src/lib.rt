@@ -1,6 +1,6 @@
-//! Devices and stores of books, tried: pages that devices apply, the texts of tokens, each call of a
-//! store once where there is memory enough, imports, what a book keeps of its removals, limits, and
-//! the numbers of refusals.
+//! Devices and stores of books, tried: pages that devices apply, the texts of tokens, each call of
+//! a store once where there is memory enough, imports, what a book keeps of its removals, limits,
+//! and the numbers of refusals.
 #![tactic(auto)]
 
 #[cfg(test)]

@@ -1,5 +1,5 @@
-//! Tables, tried over a database in memory: each statement with the rows that it leaves, and what is
-//! told of the books that rows stand for.
+//! Tables, tried over a database in memory: each statement with the rows that it leaves, and what
+//! is told of the books that rows stand for.
 #![tactic(auto)]
 
 #[cfg(test)]
