@@ -10,7 +10,7 @@ use Rattle.book_model.specs.declared.denied.Denied.TheVariants as denied
 use Rattle.book_model.specs.declared.denied.Fault.{Fault}
 use Rattle.book_model.specs.declared.denied.Fault.TheVariants.{Memory, Store}
 
--- an error of the database is want of memory, or the store's fault
+-- an error of the database is that memory ran out, or the store's fault
 abbrev pub error_fault : Error → Fault
 error_fault (SqliteFailure OutOfMemory) = Memory
 error_fault error = Store

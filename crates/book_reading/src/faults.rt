@@ -6,7 +6,7 @@ use book_model::{Denied, Fault};
 use sqlite::{Error, ErrorCode};
 use vcard_text::CardFault;
 
-/// What is answered in place of an error of the database: `Memory` where it is want of memory, and
+/// What is answered in place of an error of the database: `Memory` where memory ran out, and
 /// else `Store`.
 pub fn fault_of(error: Error) -> Denied
     ensures value { result ≡ in_place (error_fault error) }

@@ -118,7 +118,7 @@ pub(crate) fn run<R: Read, W: Write, E: Write>(
         SaysBad text (E.contents errors.old) (E.contents errors.new) result
         × Keeps (W.contents writer.old) (W.contents writer.new) }
 
-    // Where the words can't be read for want of memory it says so.
+    // Where memory runs out over the words it says so.
     ensures memory { order ≡ Err TheFault.Memory →
         Says no_memory (E.contents errors.old) (E.contents errors.new) result
         × Keeps (W.contents writer.old) (W.contents writer.new) }

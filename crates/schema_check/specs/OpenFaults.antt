@@ -15,7 +15,7 @@ open_fault_number Damaged = 4
 open_fault_number NotEmpty = 5
 open_fault_number Memory = 6
 
--- an error of the database is want of memory, or the store's fault
+-- an error of the database is that memory ran out, or the store's fault
 abbrev pub open_error : Error → OpenFault
 open_error (SqliteFailure OutOfMemory) = Memory
 open_error error = Store

@@ -37,7 +37,7 @@ impl OpenFault {
     }
 }
 
-/// An error of the database: `Memory` where it is want of memory, and else `Store`.
+/// An error of the database: `Memory` where memory ran out, and else `Store`.
 pub fn open_fault_of(error: Error) -> OpenFault
     ensures value { result ≡ open_error error }
     ensures kind { IsErrorFault result }
