@@ -13,10 +13,10 @@ FIRST_ROWS = ROWS + "p,Pat Lee,Lee,Pat,pat@example.test,,,\nq,Quin,,,,,,\n"
 out = b""
 
 
-def row(title, *connections):
-    """Adds a row, which has stores of its own."""
+def row(title, *connections, setting=""):
+    """Adds a row, which has stores of its own; the setting says what they are like."""
     global out
-    out += f"\n#### {title}\n".encode()
+    out += f"\n#### {title}\n{setting}".encode()
     for name, octets in connections:
         out += f"\n==== {name}\n".encode() + octets
 
@@ -263,16 +263,6 @@ row(
         request("GET", "/books", fields=[f"X-{n}: 1" for n in range(64)]),
         NEVER,
     ),
-    connection(
-        "a head of 16,384 octets that goes on",
-        b"GET /books HTTP/1.1\r\nX: " + b"x" * (16384-24),
-    ),
-    connection("one octet less", b"GET /books HTTP/1.1\r\nX: " + b"x" * (16384-25)),
-    connection("empty lines alone", b"\n" * 16384),
-    connection(
-        "a whole head of 16,384 octets",
-        b"GET /" + b"a" * (16384-33) + b" HTTP/1.1\r\nHost: x\r\n\r\n",
-    ),
     connection("no host", faulty(host=False), NEVER),
     connection("two hosts", faulty("Host: office"), NEVER),
     connection(
@@ -293,6 +283,24 @@ row(
     connection("what was done", request("GET", "/books")),
 )
 row(
+    "heads at the most octets",
+    connection(
+        "a head of 16,384 octets that goes on",
+        b"GET /books HTTP/1.1\r\nX: " + b"x" * (16384-24),
+    ),
+    connection("one octet less", b"GET /books HTTP/1.1\r\nX: " + b"x" * (16384-25)),
+    connection("empty lines alone", b"\n" * 16384),
+    connection(
+        "a whole head of 16,384 octets",
+        b"GET /" + b"a" * (16384-33) + b" HTTP/1.1\r\nHost: x\r\n\r\n",
+    ),
+    connection(
+        "a head that is bad from its first line on, and goes on",
+        b"GET /books HTTP/7.1\r\nX: " + b"x" * (16384-24),
+    ),
+    connection("what was done", request("GET", "/books")),
+)
+row(
     "connections",
     connection("two requests in a row", *THREE[:2], sync("staff")),
     connection(
@@ -309,6 +317,165 @@ row(
     connection("a body that isn't whole", put("staff", "b", "Bob")[:-1]),
     connection("what was done", request("GET", "/books"), tally("staff")),
 )
+row(
+    "devices that fail",
+    connection("three requests", *THREE[:2], sync("staff")),
+    connection("the books", request("GET", "/books"), tally("staff")),
+    setting="failing-devices",
+)
+row(
+    "at most three changes of a book",
+    connection(
+        "puts",
+        STAFF,
+        put("staff", "a", "Ann"),
+        put("staff", "b", "Bob"),
+        put("staff", "a", "Anna"),
+        put("staff", "c", "Cy"),
+        put("staff", "b", "Bob"),
+    ),
+    connection(
+        "what else would be a change",
+        request("PUT", "/books/clients"),
+        remove("staff", "a"),
+        move("a", "staff", "clients"),
+        request("POST", "/books/staff/import?key=k", FIRST_ROWS),
+        request("POST", "/books/staff/import?key=k", ROWS),
+        tally("staff"),
+        tally("clients"),
+    ),
+    setting="limits 100 10000 3 100",
+)
+row(
+    "at most two cards of a book, and one book",
+    connection(
+        "puts",
+        STAFF,
+        put("staff", "a", "Ann"),
+        put("staff", "b", "Bob"),
+        put("staff", "c", "Cy"),
+        put("staff", "a", "Anna"),
+        request("POST", "/books/staff/import?key=k", FIRST_ROWS),
+    ),
+    connection("books", STAFF, request("PUT", "/books/clients"), request("GET", "/books")),
+    setting="limits 100 2 1000000000000 1",
+)
+row(
+    "at most one card of a book, and one of a page",
+    connection(
+        "a move to a full book, and pages",
+        STAFF,
+        request("PUT", "/books/clients"),
+        put("staff", "a", "Ann"),
+        put("clients", "b", "Bob"),
+        move("a", "staff", "clients"),
+        remove("clients", "b"),
+        move("a", "staff", "clients"),
+        sync("clients", None, 2),
+        sync("clients", "2/1/1", 2),
+        sync("clients", "2/2/2", 2),
+    ),
+    setting="limits 1 1 1000000000000 100",
+)
+for fault in ["store-fault", "no-memory"]:
+    row(
+        fault,
+        connection(
+            "each command",
+            request("GET", "/books"),
+            STAFF,
+            tally("staff"),
+            sync("staff"),
+            request("POST", "/books/staff/import?key=k", ROWS),
+            request("GET", "/books/staff/export"),
+            request("POST", "/books/staff/forget?upto=0"),
+            request("GET", "/books/staff/cards/a"),
+            put("staff", "a", "Ann"),
+            remove("staff", "a"),
+            move("a", "staff", "clients"),
+            request("GET", "/books/staff/cards/a/people"),
+        ),
+        connection(
+            "what doesn't reach the store",
+            request("GET", "/"),
+            request("DELETE", "/books"),
+            request("GET", "/books/staff/sync?limit=x"),
+        ),
+        setting=fault,
+    )
+
+
+class Drawing:
+    """Numbers that are the same each time."""
+
+    def __init__(self):
+        self.state = 2_463_534_242
+
+    def below(self, bound):
+        self.state = (self.state * 6_364_136_223_846_793_005 + 1) % 2**64
+        return (self.state >> 33) % bound
+
+    def one_of(self, items):
+        return items[self.below(len(items))]
+
+
+# Octets that mean something in a head, and others.
+OCTETS = b"\r\n :;,?&=/%+-.019azAZ\t\x00\x7f\x80\xc3\xa9\xff"
+
+
+def damaged(drawing, octets):
+    """The octets with up to three of them changed, dropped or put in."""
+    octets = bytearray(octets)
+    for _ in range(1 + drawing.below(3)):
+        place = drawing.below(len(octets))
+        octet = drawing.one_of(OCTETS)
+        match drawing.below(3):
+            case 0:
+                octets[place] = octet
+            case 1:
+                del octets[place]
+            case _:
+                octets.insert(place, octet)
+    return bytes(octets)
+
+
+def drawn_request(drawing):
+    uid = drawing.one_of("abc")
+    name = drawing.one_of(["Ann", "Bob", "Cy"])
+    return drawing.one_of(
+        [
+            put("staff", uid, name),
+            put("staff", uid, name, "?version=0"),
+            remove("staff", uid),
+            sync("staff", None, 2),
+            sync("staff", "1/0/0", 1),
+            tally("staff"),
+            move(uid, "staff", "clients"),
+            request("POST", "/books/staff/import?key=k1", ROWS + "p,Pat,,,,,,\n"),
+            request("GET", "/books/staff/export?form=columns"),
+            request("POST", "/books/staff/forget?upto=0"),
+            request("GET", f"/books/staff/cards/{uid}", fields=["Connection: close"]),
+            request("GET", "/books", version="1.0"),
+        ]
+    )
+
+
+def damaged_connections(drawing, count):
+    for number in range(1, count + 1):
+        octets = damaged(drawing, drawn_request(drawing))
+        if drawing.below(4) == 0:
+            octets += tally("staff")
+        yield connection(f"damaged {number}", octets)
+        yield connection(f"whole {number}", request("GET", "/books"))
+
+
+drawing = Drawing()
+for part in range(1, 9):
+    row(
+        f"damage, part {part}",
+        connection("books", STAFF, request("PUT", "/books/clients"), put("staff", "a", "Ann")),
+        *damaged_connections(drawing, 25),
+    )
 
 out += b"\n#### end\n"
 with open(os.path.join(os.path.dirname(os.path.abspath(__file__)), "stdin"), "wb") as file:
