@@ -2,8 +2,6 @@
 //! one over tables in a file. The replies are printed where all three give the same.
 #![tactic(auto)]
 
-mod commands;
-mod replies;
 mod runs;
 
 use crate::runs::tell_runs;

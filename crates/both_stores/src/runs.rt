@@ -1,8 +1,7 @@
 //! The list performed over three stores, which are given up and taken up again on the way.
 
-use crate::commands::command_in;
-use crate::replies::reply_told;
 use base_types::NoMemory;
+use book_scripts::{command_in, reply_told};
 use book_service::{Command, Reply, perform};
 use book_store::{FileBooks, OpenFault, SqlStore};
 use sqlite::MemStore;

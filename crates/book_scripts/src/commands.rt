@@ -1,7 +1,4 @@
 //! Commands, written as lines of words.
-//!
-//! An optional number that is `-`, or is no number, is `None`. A token that is `-` is the empty
-//! text. In a card's text and in a body `\n` stands for a line feed.
 use book_service::Command;
 use csv_cards::Form;
 use std::alloc::Global;
@@ -19,7 +16,7 @@ fn number(words: &[&str], place: usize) -> Option<u64> {
     word(words, place).parse::<u64>().ok()
 }
 
-fn text(alloc: Global, words: &[&str], place: usize) -> Result<Text, NoMemory> {
+fn text_of(alloc: Global, words: &[&str], place: usize) -> Result<Text, NoMemory> {
     Ok(Text::copy_of(alloc, word(words, place))?)
 }
 
@@ -32,26 +29,42 @@ fn octets(alloc: Global, words: &[&str], place: usize) -> Result<Items<u8>, NoMe
 /// `get BOOK UID`
 fn get(alloc: Global, words: &[&str]) -> Result<Command, NoMemory> {
     Ok(Command::Get {
-        book: text(alloc, words, 1)?,
-        uid: text(alloc, words, 2)?,
+        book: text_of(alloc, words, 1)?,
+        uid: text_of(alloc, words, 2)?,
     })
 }
 
 /// `put BOOK UID EXPECT TEXT`
 fn put(alloc: Global, words: &[&str]) -> Result<Command, NoMemory> {
     Ok(Command::Put {
-        book: text(alloc, words, 1)?,
-        uid: text(alloc, words, 2)?,
+        book: text_of(alloc, words, 1)?,
+        uid: text_of(alloc, words, 2)?,
         expect: number(words, 3),
         text: octets(alloc, words, 4)?,
+    })
+}
+
+/// `card BOOK UID LINES`: a put of the card that has the UID and the lines.
+fn card(alloc: Global, words: &[&str]) -> Result<Command, NoMemory> {
+    let uid = word(words, 2);
+    let lines = unescape(alloc, word(words, 3))?;
+    let lines = lines.as_str();
+    let text = format!(in alloc;
+        "BEGIN:VCARD\r\nVERSION:4.0\r\nUID:{uid}\r\n{lines}\r\nEND:VCARD\r\n"
+    )?;
+    Ok(Command::Put {
+        book: text_of(alloc, words, 1)?,
+        uid: text_of(alloc, words, 2)?,
+        expect: None,
+        text: Items::from_vec(text.into_bytes()),
     })
 }
 
 /// `remove BOOK UID EXPECT`
 fn remove(alloc: Global, words: &[&str]) -> Result<Command, NoMemory> {
     Ok(Command::Remove {
-        book: text(alloc, words, 1)?,
-        uid: text(alloc, words, 2)?,
+        book: text_of(alloc, words, 1)?,
+        uid: text_of(alloc, words, 2)?,
         expect: number(words, 3),
     })
 }
@@ -59,9 +72,9 @@ fn remove(alloc: Global, words: &[&str]) -> Result<Command, NoMemory> {
 /// `move BOOK UID TO EXPECT`
 fn move_card(alloc: Global, words: &[&str]) -> Result<Command, NoMemory> {
     Ok(Command::MoveCard {
-        book: text(alloc, words, 1)?,
-        uid: text(alloc, words, 2)?,
-        to: text(alloc, words, 3)?,
+        book: text_of(alloc, words, 1)?,
+        uid: text_of(alloc, words, 2)?,
+        to: text_of(alloc, words, 3)?,
         expect: number(words, 4),
     })
 }
@@ -73,7 +86,7 @@ fn report(alloc: Global, words: &[&str]) -> Result<Command, NoMemory> {
         token => token,
     };
     Ok(Command::Report {
-        book: text(alloc, words, 1)?,
+        book: text_of(alloc, words, 1)?,
         token: Text::copy_of(alloc, token)?,
         limit: number(words, 3),
     })
@@ -82,8 +95,8 @@ fn report(alloc: Global, words: &[&str]) -> Result<Command, NoMemory> {
 /// `import BOOK KEY BODY`
 fn import(alloc: Global, words: &[&str]) -> Result<Command, NoMemory> {
     Ok(Command::Import {
-        book: text(alloc, words, 1)?,
-        key: text(alloc, words, 2)?,
+        book: text_of(alloc, words, 1)?,
+        key: text_of(alloc, words, 2)?,
         body: octets(alloc, words, 3)?,
     })
 }
@@ -91,14 +104,14 @@ fn import(alloc: Global, words: &[&str]) -> Result<Command, NoMemory> {
 /// `forget BOOK UPTO`
 fn forget(alloc: Global, words: &[&str]) -> Result<Command, NoMemory> {
     Ok(Command::Forget {
-        book: text(alloc, words, 1)?,
+        book: text_of(alloc, words, 1)?,
         upto: number(words, 2).unwrap_or(0),
     })
 }
 
 /// `export BOOK FORM`, where the form is `cards`, or any other word for columns.
 fn export(alloc: Global, words: &[&str]) -> Result<Command, NoMemory> {
-    let book = text(alloc, words, 1)?;
+    let book = text_of(alloc, words, 1)?;
     let form = match word(words, 2) {
         "cards" => Form::Cards,
         _ => Form::Columns,
@@ -109,14 +122,14 @@ fn export(alloc: Global, words: &[&str]) -> Result<Command, NoMemory> {
 /// `people BOOK UID`
 fn people(alloc: Global, words: &[&str]) -> Result<Command, NoMemory> {
     Ok(Command::People {
-        book: text(alloc, words, 1)?,
-        uid: text(alloc, words, 2)?,
+        book: text_of(alloc, words, 1)?,
+        uid: text_of(alloc, words, 2)?,
     })
 }
 
 /// `create BOOK`, `tally BOOK`, and `books` for any other word.
 fn plain(alloc: Global, words: &[&str]) -> Result<Command, NoMemory> {
-    let book = text(alloc, words, 1)?;
+    let book = text_of(alloc, words, 1)?;
     match word(words, 0) {
         "create" => Ok(Command::CreateBook { book }),
         "tally" => Ok(Command::TallyOf { book }),
@@ -126,7 +139,8 @@ fn plain(alloc: Global, words: &[&str]) -> Result<Command, NoMemory> {
 
 /// The words of a line, between spaces. The last may have spaces: a card's text, or a body.
 fn words_in(alloc: Global, line: &str) -> Result<Vec<&str>, NoMemory> {
-    let most = if line.starts_with("import ") { 4 } else { 5 };
+    let has_four = line.starts_with("import ") || line.starts_with("card ");
+    let most = if has_four { 4 } else { 5 };
     let mut words = Vec::new(alloc);
     for word in line.splitn(most, ' ') {
         words.push(word)?;
@@ -134,13 +148,25 @@ fn words_in(alloc: Global, line: &str) -> Result<Vec<&str>, NoMemory> {
     Ok(words)
 }
 
-/// The command that a line says.
-pub(crate) fn command_in(alloc: Global, line: &str) -> Result<Command, NoMemory> {
+/// The command that a line of words says: one of
+///
+/// - `create BOOK`, `tally BOOK`, `books`
+/// - `get BOOK UID`, `people BOOK UID`
+/// - `put BOOK UID EXPECT TEXT`, `card BOOK UID LINES`, `remove BOOK UID EXPECT`,
+///   `move BOOK UID TO EXPECT`
+/// - `import BOOK KEY BODY`, `forget BOOK UPTO`, `export BOOK cards` or `columns`
+/// - `report BOOK TOKEN LIMIT`
+///
+/// A line that begins otherwise is `books`. A number that is `-`, or is no number, is left out, and
+/// so is what stands behind the last word; a token that is `-` is the empty text. In a text, in
+/// lines and in a body, which may have spaces, `\n` stands for a line feed.
+pub fn command_in(alloc: Global, line: &str) -> Result<Command, NoMemory> {
     let words = words_in(alloc, line)?;
     let words = words.as_slice();
     match word(words, 0) {
         "get" => get(alloc, words),
         "put" => put(alloc, words),
+        "card" => card(alloc, words),
         "remove" => remove(alloc, words),
         "move" => move_card(alloc, words),
         "report" => report(alloc, words),

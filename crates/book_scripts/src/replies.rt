@@ -161,8 +161,9 @@ fn refusal_told(alloc: Global, refusal: &Refusal) -> Result<String, NoMemory> {
     Ok(told)
 }
 
-/// A reply in one line, without the line's end.
-pub(crate) fn reply_told(alloc: Global, reply: &Reply) -> Result<String, NoMemory> {
+/// A reply in one line, without the line's end: what it is, with its numbers and cards, and what it
+/// lists behind bars.
+pub fn reply_told(alloc: Global, reply: &Reply) -> Result<String, NoMemory> {
     match reply {
         Reply::Created { id } => Ok(format!(in alloc; "book {id}")?),
         Reply::Books(lines) => books_told(alloc, lines.as_slice()),

@@ -1,0 +1,10 @@
+//! Commands and replies as lines of text, for programs that try stores of books.
+#![tactic(auto)]
+
+mod commands;
+mod replies;
+mod telling;
+
+pub use commands::command_in;
+pub use replies::reply_told;
+pub use telling::replies_told;
