@@ -1,0 +1,112 @@
+//! All sweeps, and what is told of them.
+
+mod books;
+mod checking;
+mod commands;
+mod counts;
+mod course;
+mod disks;
+mod followers;
+mod migrations;
+mod run;
+mod sweep;
+mod trouble;
+
+use crate::stops::course::Course;
+use crate::stops::disks::{Disks, Place};
+use crate::stops::migrations::{carried_told, first_disks, sweep_carrying};
+use crate::stops::sweep::{Sweep, sweep_list};
+use crate::stops::trouble::Trouble;
+use std::alloc::Global;
+use sync_core::Limits;
+use vcard_text::NoMemory;
+
+const PLACES: [Place; 2] = [Place::Database, Place::Log];
+
+/// How many removed members a book remembers, in the one run and in the other.
+const KEEPS: [u64; 2] = [10_000, 1];
+
+/// What is told, and how many stops there were.
+#[derive(Drop)]
+struct Telling {
+    alloc: Global,
+    told: String,
+    stops: u64,
+}
+
+impl Telling {
+    /// Tells of a sweep over the file, and counts its stops.
+    fn tell(&mut self, place: Place, sweep: &Sweep) -> Result<(), NoMemory> {
+        let title = format!(in self.alloc; "-- the {} fails", place.name())?;
+        self.told
+            .push_str(sweep.told(self.alloc, title.as_str())?.as_str())?;
+        self.stops = self.stops.saturating_add(sweep.stops.sum());
+        Ok(())
+    }
+
+    fn tell_finding(&mut self, what: &str) -> Result<(), NoMemory> {
+        let line = format!(in self.alloc; "** {what}\n")?;
+        self.told.push_str(line.as_str())?;
+        Ok(())
+    }
+}
+
+/// Sweeps over the list, for books that remember so many removed members.
+fn tell_list(alloc: Global, keep: u64, telling: &mut Telling) -> Result<(), NoMemory> {
+    let Some(limits) = Limits::standard().with_keep(keep) else {
+        return Ok(());
+    };
+    let course = Course::of_list(alloc, limits)?;
+    let count = course.steps.len();
+    let title = format!(in alloc; "==== keep {keep}, {count} commands, and the books then\n")?;
+    telling.told.push_str(title.as_str())?;
+    telling.told.push_str(course.told_behind(count))?;
+    if course.refusals() > 0 {
+        telling.tell_finding("a command of the list is refused")?;
+    }
+    for place in PLACES {
+        let sweep = sweep_list(&course, place)?;
+        telling.tell(place, &sweep)?;
+    }
+    Ok(())
+}
+
+/// Sweeps over the carrying of the tables that the disks have.
+fn tell_carrying(alloc: Global, first: &Disks, telling: &mut Telling) -> Result<(), Trouble> {
+    let wanted = carried_told(alloc, first)?;
+    telling
+        .told
+        .push_str("==== tables of the first schema, and the books then\n")?;
+    telling.told.push_str(wanted.as_str())?;
+    for place in PLACES {
+        let sweep = sweep_carrying(alloc, first, wanted.as_str(), place)?;
+        telling.tell(place, &sweep)?;
+    }
+    Ok(())
+}
+
+/// Lays tables of the first schema, and sweeps over their carrying.
+fn tell_migration(alloc: Global, telling: &mut Telling) -> Result<(), Trouble> {
+    let first = first_disks(alloc)?;
+    tell_carrying(alloc, &first, telling)
+}
+
+/// What all sweeps come to.
+pub(crate) fn tell_stops(alloc: Global) -> Result<String, NoMemory> {
+    let mut telling = Telling {
+        alloc,
+        told: String::new(alloc),
+        stops: 0,
+    };
+    for keep in KEEPS {
+        tell_list(alloc, keep, &mut telling)?;
+    }
+    match tell_migration(alloc, &mut telling) {
+        Ok(()) => {}
+        Err(Trouble::Memory) => return Err(NoMemory),
+        Err(Trouble::Finding(what)) => telling.tell_finding(what)?,
+    }
+    let total = format!(in alloc; "==== {} stops in all\n", telling.stops)?;
+    telling.told.push_str(total.as_str())?;
+    Ok(telling.told)
+}

@@ -1,0 +1,127 @@
+//! How many stops there were.
+
+use crate::stops::commands::Kind;
+use std::alloc::Global;
+use vcard_text::NoMemory;
+
+/// How many stops fell in what.
+#[derive(Clone, Copy)]
+pub(crate) struct StopCounts {
+    laying: u64,
+    one_book: u64,
+    two_books: u64,
+    import: u64,
+    page: u64,
+    carrying: u64,
+    end: u64,
+}
+
+/// No stops.
+pub(crate) const NO_STOPS: StopCounts = StopCounts {
+    laying: 0,
+    one_book: 0,
+    two_books: 0,
+    import: 0,
+    page: 0,
+    carrying: 0,
+    end: 0,
+};
+
+impl StopCounts {
+    /// Counts one more.
+    pub(crate) fn add(&mut self, kind: Kind) {
+        let count = match kind {
+            Kind::Laying => &mut self.laying,
+            Kind::OneBook => &mut self.one_book,
+            Kind::TwoBooks => &mut self.two_books,
+            Kind::Import => &mut self.import,
+            Kind::Page => &mut self.page,
+            Kind::Carrying => &mut self.carrying,
+            Kind::End => &mut self.end,
+        };
+        *count = count.saturating_add(1);
+    }
+
+    /// Each count with what it counts.
+    fn parts(self) -> [(&'static str, u64); 7] {
+        [
+            ("in opening and laying", self.laying),
+            ("in a command of one book", self.one_book),
+            ("in one of two books", self.two_books),
+            ("in an import", self.import),
+            ("in a page", self.page),
+            ("in carrying", self.carrying),
+            ("behind all", self.end),
+        ]
+    }
+
+    pub(crate) fn sum(self) -> u64 {
+        let mut sum = 0u64;
+        for (_, count) in self.parts() {
+            sum = sum.saturating_add(count);
+        }
+        sum
+    }
+
+    /// The counts that aren't 0, a line each.
+    pub(crate) fn told(self, alloc: Global) -> Result<String, NoMemory> {
+        let mut told = String::new(alloc);
+        for (name, count) in self.parts() {
+            if count > 0 {
+                told.push_str(format!(in alloc; "  {name} {count}\n")?.as_str())?;
+            }
+        }
+        Ok(told)
+    }
+}
+
+/// What the stopped call left.
+#[derive(Clone, Copy)]
+pub(crate) enum Left {
+    /// The books before it.
+    Before,
+    /// The books after it.
+    After,
+}
+
+/// What was found behind the stops in one way.
+#[derive(Clone, Copy)]
+pub(crate) struct LeftCounts {
+    before: u64,
+    after: u64,
+    wrong: u64,
+    pub(crate) anew: u64,
+}
+
+/// Nothing yet.
+pub(crate) const NOTHING_LEFT: LeftCounts = LeftCounts {
+    before: 0,
+    after: 0,
+    wrong: 0,
+    anew: 0,
+};
+
+impl LeftCounts {
+    pub(crate) fn add(&mut self, left: Left) {
+        match left {
+            Left::Before => self.before = self.before.saturating_add(1),
+            Left::After => self.after = self.after.saturating_add(1),
+        }
+    }
+
+    pub(crate) fn add_wrong(&mut self) {
+        self.wrong = self.wrong.saturating_add(1);
+    }
+
+    pub(crate) fn told(self, alloc: Global, way: &str) -> Result<String, NoMemory> {
+        let LeftCounts {
+            before,
+            after,
+            wrong,
+            anew,
+        } = self;
+        Ok(format!(in alloc;
+            "  {way}: before {before}, after {after}, wrong {wrong}; devices began anew {anew}\n"
+        )?)
+    }
+}

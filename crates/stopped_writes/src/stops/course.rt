@@ -1,0 +1,78 @@
+//! The list as it is performed over books in memory, where nothing stops: what is to be found.
+
+use crate::stops::books::books_told;
+use crate::stops::commands::{Kind, LIST, kind_of};
+use book_scripts::command_in;
+use book_service::{Command, Reply, perform};
+use std::alloc::Global;
+use sync_core::{Limits, PlainStore};
+use vcard_text::NoMemory;
+
+/// A command, what it is replied, and what the books are behind it.
+#[derive(Drop)]
+pub(crate) struct Step {
+    pub(crate) command: Command,
+    pub(crate) reply: Reply,
+    told: String,
+}
+
+/// The list over a store with these limits.
+#[derive(Drop)]
+pub(crate) struct Course {
+    pub(crate) alloc: Global,
+    pub(crate) limits: Limits,
+    pub(crate) steps: Vec<Step>,
+}
+
+impl Course {
+    /// Performs the list over a store in memory.
+    pub(crate) fn of_list(alloc: Global, limits: Limits) -> Result<Course, NoMemory> {
+        let mut store = PlainStore::new(alloc, limits);
+        let mut steps = Vec::new(alloc);
+        for line in LIST.lines() {
+            let command = command_in(alloc, line)?;
+            let reply = perform(alloc, &mut store, &command);
+            let told = books_told(alloc, &mut store)?;
+            steps.push(Step {
+                command,
+                reply,
+                told,
+            })?;
+        }
+        Ok(Course {
+            alloc,
+            limits,
+            steps,
+        })
+    }
+
+    /// What the books are behind so many commands.
+    pub(crate) fn told_behind(&self, count: usize) -> &str {
+        let Some(place) = count.checked_sub(1) else {
+            return "";
+        };
+        match self.steps.as_slice().get(place) {
+            Some(step) => step.told.as_str(),
+            None => "",
+        }
+    }
+
+    /// What a stop in the command at the place falls in.
+    pub(crate) fn kind_at(&self, place: usize) -> Kind {
+        match self.steps.as_slice().get(place) {
+            Some(step) => kind_of(&step.command),
+            None => Kind::End,
+        }
+    }
+
+    /// How many commands are refused.
+    pub(crate) fn refusals(&self) -> u64 {
+        let mut count = 0u64;
+        for step in self.steps.as_slice() {
+            if matches!(&step.reply, Reply::Refused(_) | Reply::Fault(_)) {
+                count = count.saturating_add(1);
+            }
+        }
+        count
+    }
+}
