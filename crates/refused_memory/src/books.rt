@@ -1,0 +1,193 @@
+//! Commands over filled stores of two kinds: each of the calls of a store is among them.
+
+use crate::desk::Desk;
+use crate::stop::Stop;
+use book_scripts::command_in;
+use book_service::{Command, Reply, perform};
+use book_store::SqlStore;
+use sqlite::MemStore;
+use std::alloc::Global;
+use sync_core::{BookStore, Fault, Limits, PlainStore};
+
+/// A kind of stores.
+pub(crate) trait Stores {
+    type Store: BookStore + Drop;
+
+    /// What follows the name of a case over stores of this kind.
+    fn suffix(&self) -> &'static str;
+
+    /// A store of these limits, without books.
+    fn new_store(&self, alloc: Global, limits: Limits) -> Result<Self::Store, Stop>;
+}
+
+/// Stores that keep their books in memory.
+pub(crate) struct InMemory;
+
+impl Stores for InMemory {
+    type Store = PlainStore;
+
+    fn suffix(&self) -> &'static str {
+        "in memory"
+    }
+
+    fn new_store(&self, alloc: Global, limits: Limits) -> Result<PlainStore, Stop> {
+        Ok(PlainStore::new(alloc, limits))
+    }
+}
+
+/// Stores over tables in memory.
+pub(crate) struct OverTables;
+
+impl Stores for OverTables {
+    type Store = SqlStore<MemStore>;
+
+    fn suffix(&self) -> &'static str {
+        "over tables"
+    }
+
+    fn new_store(&self, alloc: Global, limits: Limits) -> Result<SqlStore<MemStore>, Stop> {
+        Ok(SqlStore::open_in_memory(alloc, limits)?)
+    }
+}
+
+/// What the stores hold before a call. A book remembers one removed member, and `staff` does.
+pub(crate) const FILLING: &str = "create staff
+create clients
+card staff a FN:Ann\\nEMAIL:ann@office.invalid
+card staff b FN:Bob\\nNOTE:Bob is in the office on Mondays and Tuesdays\\, and \
+    elsewhere on each of the other days of the week.
+card staff c FN:Cy
+card staff d FN:Dee
+card staff g FN:All\\nKIND:group\\nMEMBER:a\\nMEMBER:urn:uuid:b\\nMEMBER:nobody
+card clients x FN:Xavier
+import clients k uid,fn,family,given,email,tel,org,note\\nh,Hal,,,,,,\\ni,Ida,,,,,,\\n
+remove staff d";
+
+/// Commands that change nothing, and whose replies tell all books: their lines, their numbers, the
+/// cards, the removed member that one remembers, and the answers of kept imports.
+const TELLING: &str = "books
+tally staff
+tally clients
+tally third
+report staff
+report staff http://contacts.invalid/sync/1/0/0
+report clients
+report third
+import staff k
+import staff k2
+import clients k";
+
+/// The cases: a name, and the command whose growths are refused.
+const CASES: [(&str, &str); 20] = [
+    ("create_book", "create third"),
+    (
+        "put, created",
+        "card staff e FN:Eve\\nTEL;TYPE=\"home,cell\":1",
+    ),
+    (
+        "put, edited",
+        "card staff a FN:Anna\\nEMAIL:anna@office.invalid",
+    ),
+    ("put, unchanged", "card staff c FN:Cy"),
+    ("book, before a bad card", "card staff c nonsense"),
+    ("get", "get staff b"),
+    ("remove", "remove clients h"),
+    ("remove, and forget another", "remove staff c"),
+    ("move_card, and forget another", "move staff c clients"),
+    ("forget", "forget staff 6"),
+    ("kept_import", "import clients k nonsense"),
+    (
+        "import",
+        "import staff k2 uid,fn,family,given,email,tel,org,note\\na,Anna,,,,,,\\nc,Cy,,,,,,\\n\
+            d,Dee,Dee,Dora,,,,\\nk,Kay,,,k@office.invalid,1,,\\n",
+    ),
+    (
+        "import, refused",
+        "import staff k2 uid,vcard\\na,nonsense\\n",
+    ),
+    ("books", "books"),
+    ("cards, exported as cards", "export staff cards"),
+    ("cards, exported as columns", "export staff columns"),
+    ("cards, for people", "people staff g"),
+    ("tally", "tally staff"),
+    ("report, initial", "report staff"),
+    (
+        "report, since a token",
+        "report staff http://contacts.invalid/sync/1/2/2 3",
+    ),
+];
+
+/// The limits of all stores here.
+pub(crate) fn limits() -> Result<Limits, Stop> {
+    Limits::standard().with_keep(1).ok_or(Stop)
+}
+
+/// The replies to the commands of the lines, in turn.
+fn replies_to<S: BookStore>(
+    alloc: Global,
+    store: &mut S,
+    script: &str,
+) -> Result<Vec<Reply>, Stop> {
+    let mut replies = Vec::new(alloc);
+    for line in script.lines() {
+        let command = command_in(alloc, line)?;
+        replies.push(perform(alloc, store, &command))?;
+    }
+    Ok(replies)
+}
+
+/// All that the books are.
+pub(crate) fn books_of<S: BookStore>(alloc: Global, store: &mut S) -> Result<Vec<Reply>, Stop> {
+    replies_to(alloc, store, TELLING)
+}
+
+/// A store of the kind, filled.
+pub(crate) fn filled<K: Stores>(alloc: Global, kind: &K) -> Result<K::Store, Stop> {
+    let mut store = kind.new_store(alloc, limits()?)?;
+    replies_to(alloc, &mut store, FILLING)?;
+    Ok(store)
+}
+
+pub(crate) fn is_no_memory(reply: &Reply) -> bool {
+    matches!(reply, Reply::Fault(Fault::Memory))
+}
+
+/// Performs the command over a filled store, and tells what came of it.
+fn tell_command<K: Stores>(
+    desk: &Desk,
+    kind: &K,
+    name: &str,
+    command: &Command,
+) -> Result<(), Stop> {
+    let alloc = desk.alloc();
+    let mut store = filled(alloc, kind)?;
+    let mut twin = filled(alloc, kind)?;
+    let before = books_of(alloc, &mut twin)?;
+    let wanted = perform(alloc, &mut twin, command);
+    let after = books_of(alloc, &mut twin)?;
+    desk.opens(name)?;
+    let reply = perform(alloc, &mut store, command);
+    desk.closes()?;
+    let left = books_of(alloc, &mut store)?;
+    if !is_no_memory(&reply) {
+        let same = reply == wanted && left.as_slice() == after.as_slice();
+        return desk.tells_answer(same, &reply);
+    }
+    let again = perform(alloc, &mut store, command);
+    let then = books_of(alloc, &mut store)?;
+    let does_again = again == wanted && then.as_slice() == after.as_slice();
+    desk.tells_no_memory(left.as_slice() == before.as_slice(), does_again, &left)
+}
+
+/// Runs the chosen commands over stores of the kind.
+pub(crate) fn tell_commands<K: Stores>(desk: &Desk, kind: &K) -> Result<(), Stop> {
+    let alloc = desk.alloc();
+    for (name, line) in CASES {
+        let name = format!(in alloc; "{name}, {}", kind.suffix())?;
+        if desk.wants(name.as_str()) {
+            let command = command_in(alloc, line)?;
+            tell_command(desk, kind, name.as_str(), &command)?;
+        }
+    }
+    Ok(())
+}

@@ -1,0 +1,161 @@
+//! Lists of events, and copies of whole books.
+
+use crate::books::{Stores, books_of, filled, is_no_memory};
+use crate::desk::Desk;
+use crate::stop::Stop;
+use book_scripts::command_in;
+use book_service::{Event, Reply, drive, mirror};
+use std::alloc::Global;
+use sync_core::{BookStore, Denied, Device, Fault};
+use vcard_text::NoMemory;
+
+/// Two devices ask among commands.
+const EVENTS: &str = "ask 0 2
+card staff e FN:Eve
+ask 1
+remove staff c
+ask 0 1
+move staff a clients
+import staff k2 uid,fn,family,given,email,tel,org,note\\nb,Bobby,,,,,,\\nm,Mo,,,,,,\\n
+ask 1
+report staff http://contacts.invalid/sync/1/8/8
+export staff columns
+get clients a";
+
+/// By these both devices hear of all that is left.
+const LAST_ASKS: &str = "ask 0
+ask 1
+ask 0
+ask 1";
+
+/// `ask DEVICE LIMIT`, where the limit may be left out.
+fn ask_in(words: &str) -> Event {
+    let (device, limit) = words.split_once(' ').unwrap_or((words, ""));
+    Event::Ask {
+        device: device.parse::<usize>().unwrap_or(0),
+        limit: limit.parse::<u64>().ok(),
+    }
+}
+
+/// The events that the lines say: an ask of a device, or a command.
+fn events_in(alloc: Global, script: &str) -> Result<Vec<Event>, NoMemory> {
+    let mut events = Vec::new(alloc);
+    for line in script.lines() {
+        let event = match line.strip_prefix("ask ") {
+            Some(words) => ask_in(words),
+            None => Event::Do(command_in(alloc, line)?),
+        };
+        events.push(event)?;
+    }
+    Ok(events)
+}
+
+/// A filled store, and two devices of its book.
+#[derive(Drop)]
+struct Office<S> {
+    store: S,
+    devices: Vec<Device>,
+}
+
+fn new_office<K: Stores>(alloc: Global, kind: &K) -> Result<Office<K::Store>, Stop> {
+    let store = filled(alloc, kind)?;
+    let mut devices = Vec::new(alloc);
+    devices.push(Device::new(alloc, "staff")?)?;
+    devices.push(Device::new(alloc, "staff")?)?;
+    Ok(Office { store, devices })
+}
+
+/// Drives the events, and answers the reply to each.
+fn driven<S: BookStore>(
+    alloc: Global,
+    office: &mut Office<S>,
+    events: &[Event],
+) -> Result<Vec<Reply>, NoMemory> {
+    let Office { store, devices } = office;
+    let count = devices.len();
+    if !events.iter().all(|event| event.is_within(count)) {
+        return Err(NoMemory);
+    }
+    drive(alloc, store, devices, events)
+}
+
+/// Drives in the twin office the events that found memory in the other, and answers whether they
+/// are replied alike.
+fn are_alike<S: BookStore>(
+    alloc: Global,
+    twin: &mut Office<S>,
+    events: &[Event],
+    replies: &[Reply],
+) -> Result<bool, Stop> {
+    let mut alike = events.len() == replies.len();
+    for (event, reply) in events.chunks(1).zip(replies) {
+        if !is_no_memory(reply) {
+            let others = driven(alloc, twin, event)?;
+            alike = alike && others.first() == Some(reply);
+        }
+    }
+    Ok(alike)
+}
+
+/// Whether both stores have the same books, and both offices' devices the same copies once they
+/// have heard of all.
+fn are_settled_alike<S: BookStore>(
+    alloc: Global,
+    office: &mut Office<S>,
+    twin: &mut Office<S>,
+) -> Result<bool, Stop> {
+    let asks = events_in(alloc, LAST_ASKS)?;
+    driven(alloc, office, asks.as_slice())?;
+    driven(alloc, twin, asks.as_slice())?;
+    let books = books_of(alloc, &mut office.store)?;
+    let others = books_of(alloc, &mut twin.store)?;
+    Ok(books.as_slice() == others.as_slice() && office.devices == twin.devices)
+}
+
+/// Drives the events: those for which memory ran out are as if they hadn't been there, and the
+/// others are done as they are without them.
+pub(crate) fn tell_drive<K: Stores>(desk: &Desk, kind: &K) -> Result<(), Stop> {
+    let alloc = desk.alloc();
+    let name = format!(in alloc; "drive, {}", kind.suffix())?;
+    if !desk.wants(name.as_str()) {
+        return Ok(());
+    }
+    let mut office = new_office(alloc, kind)?;
+    let mut twin = new_office(alloc, kind)?;
+    let events = events_in(alloc, EVENTS)?;
+    desk.opens(name.as_str())?;
+    let answer = driven(alloc, &mut office, events.as_slice());
+    desk.closes()?;
+    let (ran_out, alike) = match &answer {
+        Ok(replies) => (
+            replies.iter().any(is_no_memory),
+            are_alike(alloc, &mut twin, events.as_slice(), replies.as_slice())?,
+        ),
+        Err(NoMemory) => (true, office.devices == twin.devices),
+    };
+    let settled = are_settled_alike(alloc, &mut office, &mut twin)?;
+    if ran_out {
+        return desk.tells_no_memory(alike, settled, &answer);
+    }
+    desk.tells_answer(alike && settled, &answer)
+}
+
+/// Mirrors a book in pages of two entries.
+pub(crate) fn tell_mirror<K: Stores>(desk: &Desk, kind: &K) -> Result<(), Stop> {
+    let alloc = desk.alloc();
+    let name = format!(in alloc; "mirror, {}", kind.suffix())?;
+    if !desk.wants(name.as_str()) {
+        return Ok(());
+    }
+    let mut store = filled(alloc, kind)?;
+    let before = books_of(alloc, &mut store)?;
+    desk.opens(name.as_str())?;
+    let answer = mirror(alloc, &mut store, "staff", 2, 10);
+    desk.closes()?;
+    let left = books_of(alloc, &mut store)?.as_slice() == before.as_slice();
+    let again = mirror(alloc, &mut store, "staff", 2, 10);
+    if matches!(&answer, Err(Denied::Fault(Fault::Memory))) {
+        return desk.tells_no_memory(left, again.is_ok(), &answer);
+    }
+    desk.tells_answer(left && answer == again, &answer)
+}

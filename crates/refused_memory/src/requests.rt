@@ -1,0 +1,129 @@
+//! Requests of one piece over HTTP.
+
+use crate::books::{Stores, books_of, filled};
+use crate::desk::Desk;
+use crate::stop::Stop;
+use base_types::NoMemory;
+use book_http::Service;
+use book_service::Reply;
+use http_replies::reply_bytes;
+use http_requests::Session;
+use std::alloc::Global;
+use sync_core::{BookStore, Fault};
+
+/// The requests of the piece.
+const REQUESTS: [&str; 4] = [
+    "PUT /books/third HTTP/1.1\r\nHost: office\r\n\r\n",
+    "PUT /books/staff/cards/e HTTP/1.1\r\nHost: office\r\nContent-Length: 52\r\n\r\n\
+     BEGIN:VCARD\r\nVERSION:4.0\r\nUID:e\r\nFN:Eve\r\nEND:VCARD\r\n",
+    "GET /books/staff/sync?token= HTTP/1.1\r\nHost: office\r\n\r\n",
+    "DELETE /books/staff/cards/c HTTP/1.1\r\nHost: office\r\n\r\n",
+];
+
+/// Which of the requests were done.
+type Done = [bool; 4];
+
+/// How many ways there are in which some of the requests are done.
+const WAYS: u8 = 16;
+
+/// The way at the place, of which the first has all requests done.
+fn way(place: u8) -> Done {
+    [
+        place & 8 == 0,
+        place & 4 == 0,
+        place & 2 == 0,
+        place & 1 == 0,
+    ]
+}
+
+/// Whether nothing was done behind what wasn't.
+fn is_prefix(done: Done) -> bool {
+    let [first, second, third, fourth] = done;
+    (first || !second) && (second || !third) && (third || !fourth)
+}
+
+/// What is replied where some requests are done, and memory runs out for each of the others.
+fn replies_where<S: BookStore>(
+    alloc: Global,
+    service: &mut Service<S>,
+    done: Done,
+) -> Result<Vec<u8>, Stop> {
+    let mut session = Session::new(alloc);
+    let mut replies = Vec::new(alloc);
+    for (request, is_done) in REQUESTS.iter().zip(done) {
+        let reply = if is_done {
+            session.feed(alloc, service, request.as_bytes())?
+        } else {
+            reply_bytes(alloc, Reply::Fault(Fault::Memory), false)?
+        };
+        replies.extend_from_slice(reply.as_slice())?;
+    }
+    Ok(replies)
+}
+
+/// The octets of those requests that weren't done.
+fn requests_left(alloc: Global, done: Done) -> Result<String, NoMemory> {
+    let mut text = String::new(alloc);
+    for (request, is_done) in REQUESTS.iter().zip(done) {
+        if !is_done {
+            text.push_str(*request)?;
+        }
+    }
+    Ok(text)
+}
+
+/// Whether what came of the piece is what comes where these requests are done: their replies, or
+/// none where they are the first, and their books. The requests that are left are then done over
+/// both stores.
+fn came_of<K: Stores>(
+    alloc: Global,
+    kind: &K,
+    service: &mut Service<K::Store>,
+    answer: &Result<Vec<u8>, NoMemory>,
+    done: Done,
+) -> Result<bool, Stop> {
+    let mut twin = Service {
+        store: filled(alloc, kind)?,
+    };
+    let wanted = replies_where(alloc, &mut twin, done)?;
+    let replied = match answer {
+        Ok(replies) => replies.as_slice() == wanted.as_slice(),
+        Err(NoMemory) => is_prefix(done),
+    };
+    let books = books_of(alloc, &mut service.store)?;
+    let others = books_of(alloc, &mut twin.store)?;
+    if !replied || books.as_slice() != others.as_slice() {
+        return Ok(false);
+    }
+    let left = requests_left(alloc, done)?;
+    let more = Session::new(alloc).feed(alloc, service, left.as_bytes())?;
+    let others = Session::new(alloc).feed(alloc, &mut twin, left.as_bytes())?;
+    Ok(more.as_slice() == others.as_slice())
+}
+
+/// Feeds a session the piece.
+pub(crate) fn tell_feed<K: Stores>(desk: &Desk, kind: &K) -> Result<(), Stop> {
+    let alloc = desk.alloc();
+    let name = format!(in alloc; "Session::feed, {}", kind.suffix())?;
+    if !desk.wants(name.as_str()) {
+        return Ok(());
+    }
+    let mut service = Service {
+        store: filled(alloc, kind)?,
+    };
+    let mut session = Session::new(alloc);
+    let piece = requests_left(alloc, [false; 4])?;
+    desk.opens(name.as_str())?;
+    let answer = session.feed(alloc, &mut service, piece.as_bytes());
+    desk.closes()?;
+    let ends_rightly = session.closed() == answer.is_err();
+    for place in 0..WAYS {
+        if came_of(alloc, kind, &mut service, &answer, way(place))? {
+            if place == 0 && answer.is_ok() {
+                return desk.tells_answer(ends_rightly, &answer);
+            }
+            return desk.tells_no_memory(ends_rightly, true, &answer);
+        }
+    }
+    desk.tells_no_memory(false, false, &answer)
+}

@@ -1,0 +1,61 @@
+//! Why no case is run any more.
+
+use base_types::NoMemory;
+use book_store::OpenFault;
+use sqlite::Error;
+use std::alloc::{AllocError, AllocFailed};
+use std::io;
+use sync_core::Denied;
+use vcard_text::CardFault;
+
+/// What prepares or checks a case failed, where nothing is refused.
+#[derive(Clone, Copy, Debug)]
+pub(crate) struct Stop;
+
+impl From<NoMemory> for Stop {
+    fn from(_error: NoMemory) -> Stop {
+        Stop
+    }
+}
+
+impl From<AllocError> for Stop {
+    fn from(_error: AllocError) -> Stop {
+        Stop
+    }
+}
+
+impl<T: Drop> From<AllocFailed<T>> for Stop {
+    fn from(_error: AllocFailed<T>) -> Stop {
+        Stop
+    }
+}
+
+impl From<io::Error> for Stop {
+    fn from(_error: io::Error) -> Stop {
+        Stop
+    }
+}
+
+impl From<Denied> for Stop {
+    fn from(_denied: Denied) -> Stop {
+        Stop
+    }
+}
+
+impl From<CardFault> for Stop {
+    fn from(_fault: CardFault) -> Stop {
+        Stop
+    }
+}
+
+impl From<OpenFault> for Stop {
+    fn from(_fault: OpenFault) -> Stop {
+        Stop
+    }
+}
+
+impl From<Error> for Stop {
+    fn from(_error: Error) -> Stop {
+        Stop
+    }
+}

@@ -1,0 +1,186 @@
+//! What reads and writes texts, and keeps no state.
+
+use crate::books::{InMemory, filled};
+use crate::desk::Desk;
+use crate::stop::Stop;
+use base_types::NoMemory;
+use card_core::{GroupFault, expand};
+use command_line::{LineFault, read_order};
+use csv_cards::{CsvCause, CsvFault, Form, read_rows, write_rows};
+use page_json::{ReportFault, read_report, write_report};
+use std::alloc::Global;
+use std::collections::BTreeMap;
+use sync_core::{BookStore, Page};
+use vcard_text::{Card, CardFault, read_card, write_card};
+
+/// A card with a fold, a group, parameters in quotes and without, and a line that is to be folded.
+const CARD: &str = "BEGIN:VCARD\r\nVERSION:4.0\r\nUID:a\r\nfn;LANGUAGE=en:An\r\n n Example\r\n\
+    home.TEL;TYPE=\"home,voice\";PREF=1:+1 555 0100\r\nN:Example;Ann;;;\r\n\
+    NOTE:She is in the office on Mondays and Tuesdays\\, and elsewhere on the other days\r\n\
+    END:VCARD\r\n";
+
+/// A group that reaches another, a circle, and a member that is missing.
+const GROUPS: [&str; 4] = [
+    "UID:g\r\nFN:All\r\nKIND:group\r\nMEMBER:a\r\nMEMBER:urn:uuid:h\r\nMEMBER:nobody\r\n",
+    "UID:h\r\nFN:Some\r\nKIND:group\r\nMEMBER:b\r\nMEMBER:g\r\nMEMBER:a\r\n",
+    "UID:a\r\nFN:Ann\r\nN:Example;Ann;;;\r\nEMAIL:ann@office.invalid\r\n",
+    "UID:b\r\nFN:Bob\r\nNOTE:one\\, two\\; \"three\"\r\n",
+];
+
+/// Rows of columns, some of them in quotes.
+const COLUMNS: &str = "uid,fn,family,given,email,tel,org,note\r\na,Ann,Example,Ann,,,Office,\r\n\
+    b,\"Bob, of the desk\",,,bob@office.invalid,1,,\"one\n\"\"two\"\"\"\r\nc,Cy,,,,,,\r\n";
+
+/// Rows of a UID and a card's text.
+const ROWS: &str = "uid,vcard\na,\"BEGIN:VCARD\nVERSION:4.0\nUID:a\nFN:Ann\nEND:VCARD\n\"\n\
+    ,\"BEGIN:VCARD\nVERSION:4.0\nUID:b\nFN:Bob\nEND:VCARD\n\"\n";
+
+fn card_cases(desk: &Desk) -> Result<(), Stop> {
+    let alloc = desk.alloc();
+    if desk.wants("read_card") {
+        desk.opens("read_card")?;
+        let answer = read_card(alloc, CARD.as_bytes());
+        desk.closes()?;
+        let again = read_card(alloc, CARD.as_bytes());
+        let ran_out = matches!(&answer, Err(CardFault::Memory));
+        desk.tells_alone(ran_out, &answer, &again)?;
+    }
+    if desk.wants("write_card") {
+        let card = read_card(alloc, CARD.as_bytes())?;
+        desk.opens("write_card")?;
+        let answer = write_card(alloc, &card);
+        desk.closes()?;
+        let again = write_card(alloc, &card);
+        desk.tells_alone(answer.is_err(), &answer, &again)?;
+    }
+    Ok(())
+}
+
+fn read_rows_case(desk: &Desk, name: &str, rows: &str) -> Result<(), Stop> {
+    if !desk.wants(name) {
+        return Ok(());
+    }
+    let alloc = desk.alloc();
+    desk.opens(name)?;
+    let answer = read_rows(alloc, rows.as_bytes());
+    desk.closes()?;
+    let again = read_rows(alloc, rows.as_bytes());
+    let ran_out = is_out_of_memory(&answer);
+    desk.tells_alone(ran_out, &answer, &again)
+}
+
+fn is_out_of_memory(read: &Result<Vec<Card>, CsvFault>) -> bool {
+    match read {
+        Ok(_) => false,
+        Err(fault) => matches!(fault.cause, CsvCause::Memory),
+    }
+}
+
+/// The cards of the groups, by their UIDs.
+fn group_cards(alloc: Global) -> Result<BTreeMap<String, Card>, Stop> {
+    let mut cards = BTreeMap::new(alloc);
+    for lines in GROUPS {
+        let text = format!(in alloc; "BEGIN:VCARD\r\nVERSION:4.0\r\n{lines}END:VCARD\r\n")?;
+        let card = read_card(alloc, text.as_bytes())?;
+        cards.insert(String::from_str(alloc, card.uid())?, card)?;
+    }
+    Ok(cards)
+}
+
+fn write_rows_case(desk: &Desk, name: &str, form: Form) -> Result<(), Stop> {
+    if !desk.wants(name) {
+        return Ok(());
+    }
+    let alloc = desk.alloc();
+    let cards = group_cards(alloc)?;
+    desk.opens(name)?;
+    let answer = write_rows(alloc, &cards, form);
+    desk.closes()?;
+    let again = write_rows(alloc, &cards, form);
+    desk.tells_alone(answer.is_err(), &answer, &again)
+}
+
+fn expand_case(desk: &Desk) -> Result<(), Stop> {
+    if !desk.wants("expand") {
+        return Ok(());
+    }
+    let alloc = desk.alloc();
+    let cards = group_cards(alloc)?;
+    desk.opens("expand")?;
+    let answer = expand(alloc, &cards, "g");
+    desk.closes()?;
+    let again = expand(alloc, &cards, "g");
+    let ran_out = matches!(&answer, Err(GroupFault::Memory));
+    desk.tells_alone(ran_out, &answer, &again)
+}
+
+/// A page of cards and of one that went.
+fn some_page(alloc: Global) -> Result<Page, Stop> {
+    let mut store = filled(alloc, &InMemory)?;
+    let from = store.report("staff", None, Some(1))?.token();
+    store.remove("staff", "c", None)?;
+    Ok(store.report("staff", Some(from), None)?)
+}
+
+fn write_report_case(desk: &Desk) -> Result<(), Stop> {
+    if !desk.wants("write_report") {
+        return Ok(());
+    }
+    let alloc = desk.alloc();
+    let page = some_page(alloc)?;
+    desk.opens("write_report")?;
+    let answer = write_report(alloc, &page);
+    desk.closes()?;
+    let again = write_report(alloc, &page);
+    desk.tells_alone(answer.is_err(), &answer, &again)
+}
+
+fn read_report_case(desk: &Desk) -> Result<(), Stop> {
+    if !desk.wants("read_report") {
+        return Ok(());
+    }
+    let alloc = desk.alloc();
+    let page = some_page(alloc)?;
+    let text = write_report(alloc, &page)?;
+    desk.opens("read_report")?;
+    let answer = read_report(alloc, text.as_slice());
+    desk.closes()?;
+    let again = read_report(alloc, text.as_slice());
+    let ran_out = matches!(&answer, Err(ReportFault::Memory));
+    desk.tells_alone(ran_out, &answer, &again)
+}
+
+fn words(alloc: Global) -> Result<Vec<String>, NoMemory> {
+    let mut words = Vec::new(alloc);
+    for word in ["tally", "FILE", "staff"] {
+        words.push(String::from_str(alloc, word)?)?;
+    }
+    Ok(words)
+}
+
+fn read_order_case(desk: &Desk) -> Result<(), Stop> {
+    if !desk.wants("read_order") {
+        return Ok(());
+    }
+    let alloc = desk.alloc();
+    let words = words(alloc)?;
+    desk.opens("read_order")?;
+    let answer = read_order(alloc, words.as_slice());
+    desk.closes()?;
+    let again = read_order(alloc, words.as_slice());
+    let ran_out = matches!(&answer, Err(LineFault::Memory));
+    desk.tells_alone(ran_out, &answer, &again)
+}
+
+/// Runs the chosen cases of texts.
+pub(crate) fn tell_texts(desk: &Desk) -> Result<(), Stop> {
+    card_cases(desk)?;
+    read_rows_case(desk, "read_rows, of columns", COLUMNS)?;
+    read_rows_case(desk, "read_rows, of cards", ROWS)?;
+    write_rows_case(desk, "write_rows, as columns", Form::Columns)?;
+    write_rows_case(desk, "write_rows, as cards", Form::Cards)?;
+    expand_case(desk)?;
+    write_report_case(desk)?;
+    read_report_case(desk)?;
+    read_order_case(desk)
+}
