@@ -40,7 +40,7 @@ impl<S: Start> SqlStore<FileStore<FileFrom<S>>> {
     /// Refused with `NotEmpty` where tables are there, with `NotOurs` where the file is no
     /// database, with `Memory` where memory runs out, and with `Store` where the file can't be
     /// used: another process has it open, it has two names, or the disk fails. Then no book was
-    /// written; a file that was made may be left, empty.
+    /// written; a file that was made may be left, empty or as a database without tables.
     pub fn create_from(
         rt: &HostRuntime,
         path: &str,
