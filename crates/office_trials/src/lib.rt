@@ -1,5 +1,5 @@
-//! What an office's program is made of, tried: connections served over sockets, and what orders
-//! print.
+//! What an office's program is made of, tried: words and the orders that they ask for, over files;
+//! what orders print; connections served over sockets; tables of the first schema, carried.
 #![tactic(auto)]
 
 #[cfg(test)]

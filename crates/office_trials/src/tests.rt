@@ -1,2 +1,5 @@
+mod migration;
+mod order_rows;
 mod sockets;
 mod texts;
+mod words;

@@ -1,3 +1,4 @@
+//! What rows of words ask for, and what help says.
 use command_line::{LineFault, Order, read_order};
 use csv_cards::Form;
 use std::alloc::{AllocError, Global};

@@ -1,3 +1,4 @@
+//! Rows of words, each with what its order prints or why it stops.
 mod files;
 mod served;
 
