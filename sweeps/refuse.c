@@ -7,7 +7,9 @@
    REFUSE_WHOLE  where it is there, all growths of the process count; else only those in a window
 
    A window opens as the program writes something to standard output that ends no line, which is the
-   name of a case, and closes as it writes ": ". */
+   name of a case, and closes as it writes ": ".
+
+   Random octets are always the same, so that runs which do the same leave the same files. */
 
 #define _GNU_SOURCE
 #include <errno.h>
@@ -78,4 +80,10 @@ ssize_t write(int file, const void *octets, size_t count)
     if (text[count - 1] != '\n' && (count != 2 || memcmp(text, ": ", 2) != 0))
         is_open = 1;
     return written;
+}
+
+int getentropy(void *octets, size_t count)
+{
+    memset(octets, 7, count);
+    return 0;
 }

@@ -141,11 +141,20 @@ pub(crate) fn books_of<S: BookStore>(alloc: Global, store: &mut S) -> Result<Vec
     replies_to(alloc, store, TELLING)
 }
 
+/// A store of the kind, over which these commands were performed.
+pub(crate) fn filled_by<K: Stores>(
+    alloc: Global,
+    kind: &K,
+    filling: &str,
+) -> Result<K::Store, Stop> {
+    let mut store = kind.new_store(alloc, limits()?)?;
+    replies_to(alloc, &mut store, filling)?;
+    Ok(store)
+}
+
 /// A store of the kind, filled.
 pub(crate) fn filled<K: Stores>(alloc: Global, kind: &K) -> Result<K::Store, Stop> {
-    let mut store = kind.new_store(alloc, limits()?)?;
-    replies_to(alloc, &mut store, FILLING)?;
-    Ok(store)
+    filled_by(alloc, kind, FILLING)
 }
 
 pub(crate) fn is_no_memory(reply: &Reply) -> bool {
@@ -154,7 +163,7 @@ pub(crate) fn is_no_memory(reply: &Reply) -> bool {
 
 /// Performs the command over a filled store, and tells what came of it.
 fn tell_command<K: Stores>(
-    desk: &Desk,
+    desk: &mut Desk,
     kind: &K,
     name: &str,
     command: &Command,
@@ -180,7 +189,7 @@ fn tell_command<K: Stores>(
 }
 
 /// Runs the chosen commands over stores of the kind.
-pub(crate) fn tell_commands<K: Stores>(desk: &Desk, kind: &K) -> Result<(), Stop> {
+pub(crate) fn tell_commands<K: Stores>(desk: &mut Desk, kind: &K) -> Result<(), Stop> {
     let alloc = desk.alloc();
     for (name, line) in CASES {
         let name = format!(in alloc; "{name}, {}", kind.suffix())?;

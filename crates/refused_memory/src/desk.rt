@@ -1,82 +1,143 @@
-//! Where cases are chosen and told. The line of a case is written in three parts, of which
-//! `sweeps/refuse.c` knows the first two: behind the name, which ends no line, the window opens,
-//! and with `: ` it closes. Between them a case allocates nothing but what its call does.
+//! Where cases are chosen and told.
+//!
+//! A case does one call in a window, and nothing else there. How memory is refused in it depends:
+//! from outside, where the line of a case is written in three parts, of which `sweeps/refuse.c`
+//! knows the first two (behind the name, which ends no line, the window opens, and with `: ` it
+//! closes); or by a hoard, which leaves little of it while the window is open.
 
+use crate::hoard::Hoard;
+use crate::outcome::Outcome;
 use crate::stop::Stop;
 use std::alloc::Global;
 use std::fmt::Debug;
 use std::io::Write;
+use std::mem;
 
-/// What was chosen, and where it is told.
-#[derive(Clone, Copy)]
+/// What is chosen, and where it is told.
+#[derive(Drop)]
 pub(crate) struct Desk<'a> {
     rt: &'a HostRuntime,
-    chosen: &'a str,
+    chosen: String,
+    /// The cases that were run and told, in their order.
+    names: Vec<String>,
+    /// What came of the last one.
+    outcome: Outcome,
+    hoard: Option<Hoard>,
+    /// How many octets the hoard leaves in a window.
+    left: usize,
 }
 
 impl<'a> Desk<'a> {
-    pub(crate) fn new(rt: &'a HostRuntime, chosen: &'a str) -> Desk<'a> {
-        Desk { rt, chosen }
+    pub(crate) fn new(rt: &'a HostRuntime) -> Desk<'a> {
+        let alloc = rt.alloc();
+        Desk {
+            rt,
+            chosen: String::new(alloc),
+            names: Vec::new(alloc),
+            outcome: Outcome::Same,
+            hoard: None,
+            left: 0,
+        }
     }
 
     pub(crate) fn alloc(&self) -> Global {
         self.rt.alloc()
     }
 
-    /// Whether the case is to be run.
-    pub(crate) fn wants(&self, name: &str) -> bool {
-        self.chosen == "all" || self.chosen == name
+    /// Chooses the case of this name, or `all` of them.
+    pub(crate) fn choose(&mut self, name: &str) -> Result<(), Stop> {
+        self.chosen = String::from_str(self.alloc(), name)?;
+        Ok(())
     }
 
-    /// Begins the line of the case. From now on allocations may be refused.
-    pub(crate) fn opens(&self, name: &str) -> Result<(), Stop> {
-        self.rt.stdout().write_all(name.as_bytes())?;
+    /// Whether the case is to be run.
+    pub(crate) fn wants(&self, name: &str) -> bool {
+        self.chosen.as_str() == "all" || self.chosen.as_str() == name
+    }
+
+    /// The cases that were told so far.
+    pub(crate) fn take_names(&mut self) -> Vec<String> {
+        let none = Vec::new(self.alloc());
+        mem::replace(&mut self.names, none)
+    }
+
+    /// From now on each window has so many octets, and nothing is told but findings.
+    pub(crate) fn leave(&mut self, octets: usize) -> Result<(), Stop> {
+        if self.hoard.is_none() {
+            self.hoard = Some(Hoard::new(self.alloc())?);
+        }
+        self.left = octets;
         Ok(())
+    }
+
+    /// What came of the last case.
+    pub(crate) fn outcome(&self) -> Outcome {
+        self.outcome
+    }
+
+    /// Opens the window of the case. From now on allocations may be refused.
+    pub(crate) fn opens(&mut self, name: &str) -> Result<(), Stop> {
+        if let Some(hoard) = &mut self.hoard {
+            return hoard.leave(self.left);
+        }
+        self.names.push(String::from_str(self.rt.alloc(), name)?)?;
+        self.write(name)
     }
 
     /// From now on nothing is refused.
-    pub(crate) fn closes(&self) -> Result<(), Stop> {
-        self.rt.stdout().write_all(b": ")?;
-        Ok(())
-    }
-
-    fn ends(&self, line: &str) -> Result<(), Stop> {
-        self.rt.stdout().write_all(line.as_bytes())?;
-        Ok(())
-    }
-
-    /// Ends the line of a call that didn't run out of memory, and gave what it gives where nothing
-    /// is refused, or something else.
-    pub(crate) fn tells_answer<T: Debug>(&self, same: bool, answer: &T) -> Result<(), Stop> {
-        if same {
-            return self.ends("as it is without refusals\n");
+    pub(crate) fn closes(&mut self) -> Result<(), Stop> {
+        if let Some(hoard) = &mut self.hoard {
+            hoard.give_back();
+            return Ok(());
         }
-        self.ends("another answer\n")?;
+        self.write(": ")
+    }
+
+    pub(crate) fn write(&self, text: &str) -> Result<(), Stop> {
+        self.rt.stdout().write_all(text.as_bytes())?;
+        Ok(())
+    }
+
+    fn ends(&mut self, outcome: Outcome) -> Result<(), Stop> {
+        self.outcome = outcome;
+        if self.hoard.is_some() {
+            return Ok(());
+        }
+        self.write(outcome.line())
+    }
+
+    /// Tells a call that didn't run out of memory, and gave what it gives where nothing is refused,
+    /// or something else.
+    pub(crate) fn tells_answer<T: Debug>(&mut self, same: bool, answer: &T) -> Result<(), Stop> {
+        if same {
+            return self.ends(Outcome::Same);
+        }
+        self.ends(Outcome::AnotherAnswer)?;
         self.tells_finding(answer)
     }
 
-    /// Ends the line of a call that ran out of memory: whether all was left as it was, and whether
-    /// the same was answered and left when it was asked again.
+    /// Tells a call that ran out of memory: whether all was left as it was, and whether it answered
+    /// and left the same when it was asked again.
     pub(crate) fn tells_no_memory<T: Debug>(
-        &self,
+        &mut self,
         left: bool,
         again: bool,
         state: &T,
     ) -> Result<(), Stop> {
         if left && again {
-            return self.ends("out of memory, nothing changed, asked again gives the same\n");
+            return self.ends(Outcome::OutOfMemory);
         }
         if left {
-            self.ends("out of memory, nothing changed, asked again gives something else\n")?;
+            self.ends(Outcome::AnotherThen)?;
         } else {
-            self.ends("out of memory, and something changed\n")?;
+            self.ends(Outcome::Changed)?;
         }
         self.tells_finding(state)
     }
 
     /// Tells a call that is asked alone: what it answered, and what it answers again.
     pub(crate) fn tells_alone<T: PartialEq + Debug>(
-        &self,
+        &mut self,
         ran_out: bool,
         answer: &T,
         again: &T,
@@ -89,6 +150,6 @@ impl<'a> Desk<'a> {
 
     fn tells_finding<T: Debug>(&self, found: &T) -> Result<(), Stop> {
         let line = format!(in self.alloc(); "** {found:?}\n")?;
-        self.ends(line.as_str())
+        self.write(line.as_str())
     }
 }

@@ -36,7 +36,7 @@ fn has_first_entries(
 }
 
 /// Applies a page of an edited card, a new one and one that went.
-pub(crate) fn tell_device(desk: &Desk) -> Result<(), Stop> {
+pub(crate) fn tell_device(desk: &mut Desk) -> Result<(), Stop> {
     if !desk.wants("Device::apply") {
         return Ok(());
     }

@@ -1,6 +1,6 @@
 //! Lists of events, and copies of whole books.
 
-use crate::books::{Stores, books_of, filled, is_no_memory};
+use crate::books::{FILLING, Stores, books_of, filled_by, is_no_memory};
 use crate::desk::Desk;
 use crate::stop::Stop;
 use book_scripts::command_in;
@@ -9,8 +9,33 @@ use std::alloc::Global;
 use sync_core::{BookStore, Denied, Device, Fault};
 use vcard_text::NoMemory;
 
-/// Two devices ask among commands.
-const EVENTS: &str = "ask 0 2
+/// Devices of a book ask among commands that change it, from its making on: for pages of one entry,
+/// from a token that is old, and once more when all is known.
+const FIRST_DAYS: &str = "create staff
+report staff
+card staff a FN:Ann
+card staff b FN:Bob
+card staff c FN:Cy
+card staff a FN:Anna
+remove staff b
+tally staff
+ask 0 1
+ask 1 1
+report staff http://contacts.invalid/sync/1/3/5 1
+remove staff c
+card staff b FN:Bob
+ask 0 1
+ask 1 1
+ask 0 2
+ask 1 1
+ask 1 1
+card staff d FN:Dee
+remove staff d
+ask 0
+ask 1";
+
+/// Two devices ask among commands of other kinds.
+const LATER_DAYS: &str = "ask 0 2
 card staff e FN:Eve
 ask 1
 remove staff c
@@ -21,6 +46,14 @@ ask 1
 report staff http://contacts.invalid/sync/1/8/8
 export staff columns
 get clients a";
+
+/// A book with two cards, of which one was edited, and one that was removed.
+const FEW_CARDS: &str = "create staff
+card staff a FN:Ann
+card staff b FN:Bob
+card staff c FN:Cy
+card staff a FN:Anna
+remove staff b";
 
 /// By these both devices hear of all that is left.
 const LAST_ASKS: &str = "ask 0
@@ -50,15 +83,15 @@ fn events_in(alloc: Global, script: &str) -> Result<Vec<Event>, NoMemory> {
     Ok(events)
 }
 
-/// A filled store, and two devices of its book.
+/// A store, and two devices of its book.
 #[derive(Drop)]
 struct Office<S> {
     store: S,
     devices: Vec<Device>,
 }
 
-fn new_office<K: Stores>(alloc: Global, kind: &K) -> Result<Office<K::Store>, Stop> {
-    let store = filled(alloc, kind)?;
+fn new_office<K: Stores>(alloc: Global, kind: &K, filling: &str) -> Result<Office<K::Store>, Stop> {
+    let store = filled_by(alloc, kind, filling)?;
     let mut devices = Vec::new(alloc);
     devices.push(Device::new(alloc, "staff")?)?;
     devices.push(Device::new(alloc, "staff")?)?;
@@ -112,17 +145,23 @@ fn are_settled_alike<S: BookStore>(
     Ok(books.as_slice() == others.as_slice() && office.devices == twin.devices)
 }
 
-/// Drives the events: those for which memory ran out are as if they hadn't been there, and the
-/// others are done as they are without them.
-pub(crate) fn tell_drive<K: Stores>(desk: &Desk, kind: &K) -> Result<(), Stop> {
+/// Drives the events over a store with this filling: those for which memory ran out are as if they
+/// hadn't been there, and the others are done as they are without them.
+fn tell_driven<K: Stores>(
+    desk: &mut Desk,
+    kind: &K,
+    name: &str,
+    filling: &str,
+    events: &str,
+) -> Result<(), Stop> {
     let alloc = desk.alloc();
-    let name = format!(in alloc; "drive, {}", kind.suffix())?;
+    let name = format!(in alloc; "{name}, {}", kind.suffix())?;
     if !desk.wants(name.as_str()) {
         return Ok(());
     }
-    let mut office = new_office(alloc, kind)?;
-    let mut twin = new_office(alloc, kind)?;
-    let events = events_in(alloc, EVENTS)?;
+    let mut office = new_office(alloc, kind, filling)?;
+    let mut twin = new_office(alloc, kind, filling)?;
+    let events = events_in(alloc, events)?;
     desk.opens(name.as_str())?;
     let answer = driven(alloc, &mut office, events.as_slice());
     desk.closes()?;
@@ -140,20 +179,26 @@ pub(crate) fn tell_drive<K: Stores>(desk: &Desk, kind: &K) -> Result<(), Stop> {
     desk.tells_answer(alike && settled, &answer)
 }
 
-/// Mirrors a book in pages of two entries.
-pub(crate) fn tell_mirror<K: Stores>(desk: &Desk, kind: &K) -> Result<(), Stop> {
+/// Drives lists of events: one from an empty store on, and one over a filled store.
+pub(crate) fn tell_drive<K: Stores>(desk: &mut Desk, kind: &K) -> Result<(), Stop> {
+    tell_driven(desk, kind, "drive, from an empty store", "", FIRST_DAYS)?;
+    tell_driven(desk, kind, "drive", FILLING, LATER_DAYS)
+}
+
+/// Mirrors a book in pages of one entry.
+pub(crate) fn tell_mirror<K: Stores>(desk: &mut Desk, kind: &K) -> Result<(), Stop> {
     let alloc = desk.alloc();
     let name = format!(in alloc; "mirror, {}", kind.suffix())?;
     if !desk.wants(name.as_str()) {
         return Ok(());
     }
-    let mut store = filled(alloc, kind)?;
+    let mut store = filled_by(alloc, kind, FEW_CARDS)?;
     let before = books_of(alloc, &mut store)?;
     desk.opens(name.as_str())?;
-    let answer = mirror(alloc, &mut store, "staff", 2, 10);
+    let answer = mirror(alloc, &mut store, "staff", 1, 10);
     desk.closes()?;
     let left = books_of(alloc, &mut store)?.as_slice() == before.as_slice();
-    let again = mirror(alloc, &mut store, "staff", 2, 10);
+    let again = mirror(alloc, &mut store, "staff", 1, 10);
     if matches!(&answer, Err(Denied::Fault(Fault::Memory))) {
         return desk.tells_no_memory(left, again.is_ok(), &answer);
     }

@@ -1,45 +1,36 @@
-//! Calls of the libraries, each in a window in which a sweep may refuse allocations from outside,
-//! and what stands behind it. Standard input names the case that is run, or `all` of them.
+//! Calls of the libraries, each in a window in which allocations may be refused, and what stands
+//! behind it. Standard input names the case that is run, or `all` of them; or it is `little`: then
+//! all of them are run, and each again with little memory.
 #![tactic(auto)]
 
 mod books;
+mod cases;
 mod desk;
 mod devices;
 mod events;
+mod hoard;
+mod little;
 mod migrating;
 mod opening;
+mod outcome;
 mod requests;
 mod stop;
 mod texts;
 
-use crate::books::{InMemory, OverTables, Stores, tell_commands};
+use crate::cases::tell_cases;
 use crate::desk::Desk;
-use crate::devices::tell_device;
-use crate::events::{tell_drive, tell_mirror};
-use crate::migrating::tell_migrating;
-use crate::opening::tell_opening;
-use crate::requests::tell_feed;
+use crate::little::tell_little;
 use crate::stop::Stop;
-use crate::texts::tell_texts;
 use std::io::Read;
 use std::process::ExitCode;
 
-/// Runs the chosen cases over stores of the kind.
-fn tell_stores<K: Stores>(desk: &Desk, kind: &K) -> Result<(), Stop> {
-    tell_commands(desk, kind)?;
-    tell_drive(desk, kind)?;
-    tell_mirror(desk, kind)?;
-    tell_feed(desk, kind)
-}
-
-/// Runs the chosen cases.
-fn tell_cases(desk: &Desk) -> Result<(), Stop> {
-    tell_texts(desk)?;
-    tell_device(desk)?;
-    tell_stores(desk, &InMemory)?;
-    tell_stores(desk, &OverTables)?;
-    tell_opening(desk)?;
-    tell_migrating(desk)
+/// Does what standard input asks for.
+fn tell(desk: &mut Desk, chosen: &str) -> Result<(), Stop> {
+    if chosen == "little" {
+        return tell_little(desk);
+    }
+    desk.choose(chosen)?;
+    tell_cases(desk)
 }
 
 fn main(rt: HostRuntime) -> ExitCode {
@@ -50,8 +41,8 @@ fn main(rt: HostRuntime) -> ExitCode {
     let Ok(chosen) = str::from_utf8(input.as_slice()) else {
         return ExitCode::FAILURE;
     };
-    let desk = Desk::new(&rt, chosen.trim());
-    match tell_cases(&desk) {
+    let mut desk = Desk::new(&rt);
+    match tell(&mut desk, chosen.trim()) {
         Ok(()) => ExitCode::SUCCESS,
         Err(_) => ExitCode::FAILURE,
     }

@@ -78,7 +78,7 @@ fn carried_books(alloc: Global, connection: Memory) -> Result<Vec<Reply>, Stop> 
 }
 
 /// Carries the tables of the first schema.
-pub(crate) fn tell_migrating(desk: &Desk) -> Result<(), Stop> {
+pub(crate) fn tell_migrating(desk: &mut Desk) -> Result<(), Stop> {
     if !desk.wants("migrate_connection") {
         return Ok(());
     }

@@ -25,7 +25,7 @@ fn opened_books(alloc: Global, opened: Opened) -> Result<Result<Vec<Reply>, Open
     }
 }
 
-fn tell_opened(desk: &Desk, opened: Opened, again: Opened) -> Result<(), Stop> {
+fn tell_opened(desk: &mut Desk, opened: Opened, again: Opened) -> Result<(), Stop> {
     let alloc = desk.alloc();
     let ran_out = matches!(&opened, Err(OpenFault::Memory));
     let answer = opened_books(alloc, opened)?;
@@ -34,7 +34,7 @@ fn tell_opened(desk: &Desk, opened: Opened, again: Opened) -> Result<(), Stop> {
 }
 
 /// Runs the chosen cases of opening.
-pub(crate) fn tell_opening(desk: &Desk) -> Result<(), Stop> {
+pub(crate) fn tell_opening(desk: &mut Desk) -> Result<(), Stop> {
     let alloc = desk.alloc();
     let limits = limits()?;
     if desk.wants("open_in_memory") {

@@ -1,6 +1,6 @@
 //! Requests of one piece over HTTP.
 
-use crate::books::{Stores, books_of, filled};
+use crate::books::{Stores, books_of, limits};
 use crate::desk::Desk;
 use crate::stop::Stop;
 use base_types::NoMemory;
@@ -11,13 +11,14 @@ use http_requests::Session;
 use std::alloc::Global;
 use sync_core::{BookStore, Fault};
 
-/// The requests of the piece.
+/// The requests of the piece: a card is put into a new book, a device asks for its first report,
+/// and the card is removed.
 const REQUESTS: [&str; 4] = [
-    "PUT /books/third HTTP/1.1\r\nHost: office\r\n\r\n",
-    "PUT /books/staff/cards/e HTTP/1.1\r\nHost: office\r\nContent-Length: 52\r\n\r\n\
-     BEGIN:VCARD\r\nVERSION:4.0\r\nUID:e\r\nFN:Eve\r\nEND:VCARD\r\n",
+    "PUT /books/staff HTTP/1.1\r\nHost: office\r\n\r\n",
+    "PUT /books/staff/cards/a HTTP/1.1\r\nHost: office\r\nContent-Length: 52\r\n\r\n\
+     BEGIN:VCARD\r\nVERSION:4.0\r\nUID:a\r\nFN:Ann\r\nEND:VCARD\r\n",
     "GET /books/staff/sync?token= HTTP/1.1\r\nHost: office\r\n\r\n",
-    "DELETE /books/staff/cards/c HTTP/1.1\r\nHost: office\r\n\r\n",
+    "DELETE /books/staff/cards/a HTTP/1.1\r\nHost: office\r\n\r\n",
 ];
 
 /// Which of the requests were done.
@@ -83,7 +84,7 @@ fn came_of<K: Stores>(
     done: Done,
 ) -> Result<bool, Stop> {
     let mut twin = Service {
-        store: filled(alloc, kind)?,
+        store: kind.new_store(alloc, limits()?)?,
     };
     let wanted = replies_where(alloc, &mut twin, done)?;
     let replied = match answer {
@@ -102,14 +103,14 @@ fn came_of<K: Stores>(
 }
 
 /// Feeds a session the piece.
-pub(crate) fn tell_feed<K: Stores>(desk: &Desk, kind: &K) -> Result<(), Stop> {
+pub(crate) fn tell_feed<K: Stores>(desk: &mut Desk, kind: &K) -> Result<(), Stop> {
     let alloc = desk.alloc();
     let name = format!(in alloc; "Session::feed, {}", kind.suffix())?;
     if !desk.wants(name.as_str()) {
         return Ok(());
     }
     let mut service = Service {
-        store: filled(alloc, kind)?,
+        store: kind.new_store(alloc, limits()?)?,
     };
     let mut session = Session::new(alloc);
     let piece = requests_left(alloc, [false; 4])?;

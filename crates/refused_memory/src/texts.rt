@@ -35,7 +35,7 @@ const COLUMNS: &str = "uid,fn,family,given,email,tel,org,note\r\na,Ann,Example,A
 const ROWS: &str = "uid,vcard\na,\"BEGIN:VCARD\nVERSION:4.0\nUID:a\nFN:Ann\nEND:VCARD\n\"\n\
     ,\"BEGIN:VCARD\nVERSION:4.0\nUID:b\nFN:Bob\nEND:VCARD\n\"\n";
 
-fn card_cases(desk: &Desk) -> Result<(), Stop> {
+fn card_cases(desk: &mut Desk) -> Result<(), Stop> {
     let alloc = desk.alloc();
     if desk.wants("read_card") {
         desk.opens("read_card")?;
@@ -56,7 +56,7 @@ fn card_cases(desk: &Desk) -> Result<(), Stop> {
     Ok(())
 }
 
-fn read_rows_case(desk: &Desk, name: &str, rows: &str) -> Result<(), Stop> {
+fn read_rows_case(desk: &mut Desk, name: &str, rows: &str) -> Result<(), Stop> {
     if !desk.wants(name) {
         return Ok(());
     }
@@ -87,7 +87,7 @@ fn group_cards(alloc: Global) -> Result<BTreeMap<String, Card>, Stop> {
     Ok(cards)
 }
 
-fn write_rows_case(desk: &Desk, name: &str, form: Form) -> Result<(), Stop> {
+fn write_rows_case(desk: &mut Desk, name: &str, form: Form) -> Result<(), Stop> {
     if !desk.wants(name) {
         return Ok(());
     }
@@ -100,7 +100,7 @@ fn write_rows_case(desk: &Desk, name: &str, form: Form) -> Result<(), Stop> {
     desk.tells_alone(answer.is_err(), &answer, &again)
 }
 
-fn expand_case(desk: &Desk) -> Result<(), Stop> {
+fn expand_case(desk: &mut Desk) -> Result<(), Stop> {
     if !desk.wants("expand") {
         return Ok(());
     }
@@ -122,7 +122,7 @@ fn some_page(alloc: Global) -> Result<Page, Stop> {
     Ok(store.report("staff", Some(from), None)?)
 }
 
-fn write_report_case(desk: &Desk) -> Result<(), Stop> {
+fn write_report_case(desk: &mut Desk) -> Result<(), Stop> {
     if !desk.wants("write_report") {
         return Ok(());
     }
@@ -135,7 +135,7 @@ fn write_report_case(desk: &Desk) -> Result<(), Stop> {
     desk.tells_alone(answer.is_err(), &answer, &again)
 }
 
-fn read_report_case(desk: &Desk) -> Result<(), Stop> {
+fn read_report_case(desk: &mut Desk) -> Result<(), Stop> {
     if !desk.wants("read_report") {
         return Ok(());
     }
@@ -158,7 +158,7 @@ fn words(alloc: Global) -> Result<Vec<String>, NoMemory> {
     Ok(words)
 }
 
-fn read_order_case(desk: &Desk) -> Result<(), Stop> {
+fn read_order_case(desk: &mut Desk) -> Result<(), Stop> {
     if !desk.wants("read_order") {
         return Ok(());
     }
@@ -173,7 +173,7 @@ fn read_order_case(desk: &Desk) -> Result<(), Stop> {
 }
 
 /// Runs the chosen cases of texts.
-pub(crate) fn tell_texts(desk: &Desk) -> Result<(), Stop> {
+pub(crate) fn tell_texts(desk: &mut Desk) -> Result<(), Stop> {
     card_cases(desk)?;
     read_rows_case(desk, "read_rows, of columns", COLUMNS)?;
     read_rows_case(desk, "read_rows, of cards", ROWS)?;
