@@ -12,6 +12,7 @@ mod run;
 mod sweep;
 mod trouble;
 
+use crate::stops::commands::LISTS;
 use crate::stops::course::Course;
 use crate::stops::disks::{Disks, Place};
 use crate::stops::migrations::{carried_told, first_disks, sweep_carrying};
@@ -52,18 +53,19 @@ impl Telling {
 }
 
 /// Sweeps over the list, for books that remember so many removed members.
-fn tell_list(alloc: Global, keep: u64, telling: &mut Telling) -> Result<(), NoMemory> {
+fn tell_list(telling: &mut Telling, keep: u64, name: &str, list: &str) -> Result<(), NoMemory> {
+    let alloc = telling.alloc;
     let Some(limits) = Limits::standard().with_keep(keep) else {
         return Ok(());
     };
-    let course = Course::of_list(alloc, limits)?;
-    let count = course.steps.len();
-    let title = format!(in alloc; "==== keep {keep}, {count} commands, and the books then\n")?;
+    let course = Course::of_list(alloc, limits, list)?;
+    let (count, refusals) = (course.steps.len(), course.refusals());
+    let title = format!(in alloc;
+        "==== {name}, keep {keep}: {count} commands, {refusals} refused; \
+        the books then\n"
+    )?;
     telling.told.push_str(title.as_str())?;
     telling.told.push_str(course.told_behind(count))?;
-    if course.refusals() > 0 {
-        telling.tell_finding("a command of the list is refused")?;
-    }
     for place in PLACES {
         let sweep = sweep_list(&course, place)?;
         telling.tell(place, &sweep)?;
@@ -98,8 +100,10 @@ pub(crate) fn tell_stops(alloc: Global) -> Result<String, NoMemory> {
         told: String::new(alloc),
         stops: 0,
     };
-    for keep in KEEPS {
-        tell_list(alloc, keep, &mut telling)?;
+    for (name, list) in LISTS {
+        for keep in KEEPS {
+            tell_list(&mut telling, keep, name, list)?;
+        }
     }
     match tell_migration(alloc, &mut telling) {
         Ok(()) => {}

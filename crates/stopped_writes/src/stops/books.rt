@@ -15,6 +15,7 @@ export clients cards
 report staff
 report clients
 import staff k1 nonsense
+import clients k1 nonsense
 import clients k2 nonsense";
 
 /// Each book of the store: its line, its numbers, its live cards, the page of its initial report,

@@ -1,7 +1,7 @@
-//! The list as it is performed over books in memory, where nothing stops: what is to be found.
+//! A list as it is performed over books in memory, where nothing stops: what is to be found.
 
 use crate::stops::books::books_told;
-use crate::stops::commands::{Kind, LIST, kind_of};
+use crate::stops::commands::{Kind, kind_of};
 use book_scripts::command_in;
 use book_service::{Command, Reply, perform};
 use std::alloc::Global;
@@ -16,7 +16,7 @@ pub(crate) struct Step {
     told: String,
 }
 
-/// The list over a store with these limits.
+/// A list over a store with these limits.
 #[derive(Drop)]
 pub(crate) struct Course {
     pub(crate) alloc: Global,
@@ -26,10 +26,10 @@ pub(crate) struct Course {
 
 impl Course {
     /// Performs the list over a store in memory.
-    pub(crate) fn of_list(alloc: Global, limits: Limits) -> Result<Course, NoMemory> {
+    pub(crate) fn of_list(alloc: Global, limits: Limits, list: &str) -> Result<Course, NoMemory> {
         let mut store = PlainStore::new(alloc, limits);
         let mut steps = Vec::new(alloc);
-        for line in LIST.lines() {
+        for line in list.lines() {
             let command = command_in(alloc, line)?;
             let reply = perform(alloc, &mut store, &command);
             let told = books_told(alloc, &mut store)?;
