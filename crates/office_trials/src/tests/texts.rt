@@ -62,32 +62,49 @@ fn listed(alloc: Global, texts: &[&str]) -> Result<Items<Text>, NoMemory> {
     Ok(Items::from_vec(items))
 }
 
-/// The texts of the orders over a book after five changes.
-fn texts(alloc: Global) -> Result<Vec<u8>, Denied> {
-    let mut store = PlainStore::new(alloc, Limits::standard());
-    five_changes(alloc, &mut store)?;
+/// The texts of what is made, imported, forgotten and carried.
+fn change_texts(alloc: Global, out: &mut Vec<u8>) -> Result<(), NoMemory> {
     let imported = ImportTally {
         added: 3,
         edited: 0,
         same: 0,
         number: 5,
     };
-    let mut out = Vec::new(alloc);
     out.extend_from_slice(made_text().as_bytes())?;
     out.extend_from_slice(&book_text(alloc, 1)?)?;
     out.extend_from_slice(&import_text(alloc, &imported)?)?;
     out.extend_from_slice(&forget_text(alloc, 1, 5)?)?;
     out.extend_from_slice(&migrate_text(alloc, 2)?)?;
+    Ok(())
+}
+
+/// The texts of what is told of a book after five changes.
+fn book_texts(alloc: Global, out: &mut Vec<u8>) -> Result<(), Denied> {
+    let mut store = PlainStore::new(alloc, Limits::standard());
+    five_changes(alloc, &mut store)?;
     out.extend_from_slice(&tally_text(alloc, &store.tally("staff")?)?)?;
     for pages in [9, 0] {
         let mirrored = mirror(alloc, &mut store, "staff", 1, pages)?;
         out.extend_from_slice(&mirror_text(alloc, &mirrored)?)?;
     }
+    Ok(())
+}
+
+/// The text of an expansion.
+fn people_text(alloc: Global) -> Result<Vec<u8>, NoMemory> {
     let expansion = Expansion {
         people: listed(alloc, &["a", "c"])?,
         missing: listed(alloc, &["urn:x"])?,
     };
-    out.extend_from_slice(&expand_text(alloc, &expansion)?)?;
+    expand_text(alloc, &expansion)
+}
+
+/// The texts of the orders.
+fn texts(alloc: Global) -> Result<Vec<u8>, Denied> {
+    let mut out = Vec::new(alloc);
+    change_texts(alloc, &mut out)?;
+    book_texts(alloc, &mut out)?;
+    out.extend_from_slice(&people_text(alloc)?)?;
     Ok(out)
 }
 
