@@ -90,7 +90,8 @@ fn reason_in_book<S: Alter>(
     card: &Card,
 ) -> Result<Option<StoreReason>, Denied>
     ensures reason { OverBook (state S.Store conn.old) (state S.Store conn.new) figures
-        (λ book. IfOk result (λ why. why ≡ import_reason card.now (live_at book (uid_of card.now)))) }
+        (λ book. IfOk result (λ why.
+        why ≡ import_reason card.now (live_at book (uid_of card.now)))) }
     ensures fault { IfErr result IsFault }
     ensures unchanged { OverTables (state S.Store conn.old) (state S.Store conn.new)
         (OnOk result (IsUnchanged (state S.Store conn.old) (state S.Store conn.new))) }

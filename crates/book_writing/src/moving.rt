@@ -39,7 +39,8 @@ fn arrive<S: Alter>(
 ) -> Result<(), Denied>
     requires { figures.number < 2 ^ 63 }
     ensures same_reference { tx.new.conn.ghost_name ≡ tx.old.conn.ghost_name }
-    ensures holds { (rows : TableRows) (name : List ℕ) → HasCleanDisk (state S.Store tx.new.conn.now)
+    ensures holds { (rows : TableRows) (name : List ℕ)
+        → HasCleanDisk (state S.Store tx.new.conn.now)
         → IsTrue (state S.Store tx.old.conn.now).in_transaction
         → HasLine (state S.Store tx.old.conn.now).now rows name figures
         → text_card text.now ≡ card.now
@@ -86,7 +87,8 @@ fn leave_whole<S: Alter>(
 ) -> Result<(), Denied>
     requires { figures.number < 2 ^ 63 }
     ensures same_reference { tx.new.conn.ghost_name ≡ tx.old.conn.ghost_name }
-    ensures holds { (rows : TableRows) (name : List ℕ) → HasCleanDisk (state S.Store tx.new.conn.now)
+    ensures holds { (rows : TableRows) (name : List ℕ)
+        → HasCleanDisk (state S.Store tx.new.conn.now)
         → IsTrue (state S.Store tx.old.conn.now).in_transaction
         → HasLine (state S.Store tx.old.conn.now).now rows name figures
         → OnOk result (LeavesInside (state S.Store tx.new.conn.now) (λ db. HoldsChange db rows
@@ -119,7 +121,8 @@ fn leave_dropping<S: Alter>(
 ) -> Result<(), Denied>
     requires { figures.number < 2 ^ 63 }
     ensures same_reference { tx.new.conn.ghost_name ≡ tx.old.conn.ghost_name }
-    ensures holds { (rows : TableRows) (name : List ℕ) → HasCleanDisk (state S.Store tx.new.conn.now)
+    ensures holds { (rows : TableRows) (name : List ℕ)
+        → HasCleanDisk (state S.Store tx.new.conn.now)
         → IsTrue (state S.Store tx.old.conn.now).in_transaction
         → HasLine (state S.Store tx.old.conn.now).now rows name figures
         → OnOk result (LeavesInside (state S.Store tx.new.conn.now) (λ db. HoldsChange db rows
@@ -154,7 +157,8 @@ fn leave<S: Alter>(
 ) -> Result<(), Denied>
     requires { figures.number < 2 ^ 63 }
     ensures same_reference { tx.new.conn.ghost_name ≡ tx.old.conn.ghost_name }
-    ensures holds { (rows : TableRows) (name : List ℕ) → HasCleanDisk (state S.Store tx.new.conn.now)
+    ensures holds { (rows : TableRows) (name : List ℕ)
+        → HasCleanDisk (state S.Store tx.new.conn.now)
         → IsTrue (state S.Store tx.old.conn.now).in_transaction
         → HasLine (state S.Store tx.old.conn.now).now rows name figures
         → OnOk result (LeavesInside (state S.Store tx.new.conn.now) (λ db. HoldsChange db rows

@@ -109,7 +109,8 @@ pub(crate) fn text_of(alloc: Global, card: &Card) -> Result<String, Denied>
 pub(crate) fn columns_after(figures: Figures, change: &Change) -> Result<BookNumbers, Denied>
     requires { figures.number < 2 ^ 63 }
     ensures numbers { IfOk result (λ columns. numbers_of columns
-        ≡ numbers_row (figures.number + 1) figures.horizon (counts_with change.now figures.counts)) }
+        ≡ numbers_row (figures.number + 1) figures.horizon
+        (counts_with change.now figures.counts)) }
     ensures fault { IfErr result IsFault }
 {
     let mut counts = figures.counts();
@@ -131,7 +132,8 @@ pub(crate) fn write_put<S: Alter>(
         → HasLine (state S.Store conn.old).now rows name figures
         → IsDone (state S.Store conn.old) (state S.Store conn.new) result (λ _ db. HoldsBooks db
         (finite.insert (books_of rows) name
-        (with_row (book_of rows (line_row name figures)) (uid_of card.now) (Stores card.now why)))) }
+        (with_row (book_of rows (line_row name figures)) (uid_of card.now)
+        (Stores card.now why)))) }
     ensures fault { IfErr result IsFault }
     ensures settled { conn.new.in_transaction ≡ false }
     ensures survives { Survives (state S.Store conn.old) (state S.Store conn.new) (λ _. ⊤) }
@@ -139,7 +141,8 @@ pub(crate) fn write_put<S: Alter>(
         → HasLine (state S.Store conn.old).now rows name figures
         → Survives (state S.Store conn.old) (state S.Store conn.new) (TreesHold
         (finite.insert (books_of rows) name
-        (with_row (book_of rows (line_row name figures)) (uid_of card.now) (Stores card.now why)))) }
+        (with_row (book_of rows (line_row name figures)) (uid_of card.now)
+        (Stores card.now why)))) }
 {
     let _settled = conn.is_autocommit();
     let text = text_of(alloc, card)?;

@@ -25,7 +25,8 @@ IsJudged wanted declared None told = told ≡ Err NotOurs
 IsJudged wanted declared (Some number) (Ok done) = (number ≡ wanted) × (declared ≡ true)
 IsJudged wanted declared (Some number) (Err Store) = ⊥
 IsJudged wanted declared (Some number) (Err NotOurs) = (number ≡ wanted) × (declared ≡ false)
-IsJudged wanted declared (Some number) (Err (OtherSchema has)) = (number ≡ has) × ¬ (number ≡ wanted)
+IsJudged wanted declared (Some number) (Err (OtherSchema has)) =
+  (number ≡ has) × ¬ (number ≡ wanted)
 IsJudged wanted declared (Some number) (Err Damaged) = ⊥
 IsJudged wanted declared (Some number) (Err NotEmpty) = ⊥
 IsJudged wanted declared (Some number) (Err Memory) = ⊥
