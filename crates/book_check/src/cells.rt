@@ -11,7 +11,7 @@ use sqlite::Row;
 use sqlite::types::ValueRef;
 
 /// The value of the column.
-fn value_at(row: &Row, at: usize) -> ValueRef<'_>
+fn column_at(row: &Row, at: usize) -> ValueRef<'_>
     ensures { owned result ≡ column row.now at }
 {
     match row.get_ref(at) {
@@ -24,7 +24,7 @@ fn value_at(row: &Row, at: usize) -> ValueRef<'_>
 pub fn number_at(row: &Row, at: usize) -> i64
     ensures { result ≡ id_in (column row.now at) }
 {
-    match value_at(row, at) {
+    match column_at(row, at) {
         ValueRef::Int(number) => number,
         _ => 0,
     }
@@ -44,7 +44,7 @@ pub(crate) fn natural_at(row: &Row, at: usize) -> u64
 pub(crate) fn text_at(row: &Row, at: usize) -> &[u8]
     ensures { result.now ≡ text_in (column row.now at) }
 {
-    match value_at(row, at) {
+    match column_at(row, at) {
         ValueRef::Text(text) => text,
         _ => &[],
     }
@@ -54,7 +54,7 @@ pub(crate) fn text_at(row: &Row, at: usize) -> &[u8]
 pub(crate) fn text_if_any_at(row: &Row, at: usize) -> Option<&[u8]>
     ensures { option_map (λ text. text.now) result ≡ text_if_any (column row.now at) }
 {
-    match value_at(row, at) {
+    match column_at(row, at) {
         ValueRef::Text(text) => Some(text),
         _ => None,
     }
@@ -64,14 +64,14 @@ pub(crate) fn text_if_any_at(row: &Row, at: usize) -> Option<&[u8]>
 pub fn has_number(row: &Row, at: usize) -> bool
     ensures { IsTrue result ↔ HasNumber at row.now }
 {
-    matches!(value_at(row, at), ValueRef::Int(_))
+    matches!(column_at(row, at), ValueRef::Int(_))
 }
 
 /// Whether the column has a number that isn't below zero.
 pub(crate) fn has_natural(row: &Row, at: usize) -> bool
     ensures { IsTrue result ↔ HasNatural at row.now }
 {
-    match value_at(row, at) {
+    match column_at(row, at) {
         ValueRef::Int(number) => number >= 0,
         _ => false,
     }
@@ -81,12 +81,12 @@ pub(crate) fn has_natural(row: &Row, at: usize) -> bool
 pub(crate) fn has_text(row: &Row, at: usize) -> bool
     ensures { IsTrue result ↔ HasText at row.now }
 {
-    matches!(value_at(row, at), ValueRef::Text(_))
+    matches!(column_at(row, at), ValueRef::Text(_))
 }
 
 /// Whether the column has a text or a null.
 pub(crate) fn has_text_if_any(row: &Row, at: usize) -> bool
     ensures { IsTrue result ↔ HasTextIfAny at row.now }
 {
-    matches!(value_at(row, at), ValueRef::Text(_) | ValueRef::Null)
+    matches!(column_at(row, at), ValueRef::Text(_) | ValueRef::Null)
 }

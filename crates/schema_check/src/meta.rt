@@ -27,7 +27,7 @@ pub(crate) fn list_meta<S: Alter>(conn: &mut Connection<S>) -> Result<Vec<Row>, 
 }
 
 /// The value of the column.
-fn value_at(row: &Row, at: usize) -> ValueRef<'_>
+fn column_at(row: &Row, at: usize) -> ValueRef<'_>
     ensures { owned result ≡ column row.now at }
 {
     match row.get_ref(at) {
@@ -40,7 +40,7 @@ fn value_at(row: &Row, at: usize) -> ValueRef<'_>
 fn is_of_schema(row: &Row) -> bool
     ensures { IsTrue result ↔ IsOfSchema row.now }
 {
-    match value_at(row, 0) {
+    match column_at(row, 0) {
         ValueRef::Text(name) => name == "schema".as_bytes(),
         _ => false,
     }
@@ -53,7 +53,7 @@ fn number_stated(row: &Row) -> Option<i64>
     if !is_of_schema(row) {
         return None;
     }
-    match value_at(row, 1) {
+    match column_at(row, 1) {
         ValueRef::Int(number) => Some(number),
         _ => None,
     }
