@@ -5,7 +5,7 @@ use crate::memory::NoMemory;
 
 /// A value that can be copied, and compared to the last octet.
 pub trait Part: Sized + Drop {
-    /// A value of its own that is the same. `NoMemory` where a growth was refused.
+    /// A value of its own that is the same. `NoMemory` where an allocation fails.
     fn try_copy(&self) -> Result<Self, NoMemory>
         ensures { IfOk result (λ copy. copy ≡ self.now) };
 

@@ -14,7 +14,7 @@ use sync_core::BookStore;
 /// and body ask for is performed, and its reply is told; a request that asks for nothing is told
 /// its first fault, and changes nothing.
 ///
-/// `NoMemory` where a growth was refused: the request was done wholly or not at all.
+/// `NoMemory` where an allocation fails: the request was done wholly or not at all.
 pub fn answer<S: BookStore>(
     alloc: Global,
     store: &mut S,

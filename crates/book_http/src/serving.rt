@@ -91,7 +91,7 @@ fn serve_in<H: Handler, R: Read, W: Write>(
 /// input, or with the request that closes. A request that isn't whole at the end isn't handled.
 ///
 /// `Read` and `Write` where the reader or the writer fails; `TooManyTurns` after 1,000,000 reads
-/// that met neither end; `Memory` where a growth was refused. Then requests at the front of what
+/// that met neither end; `Memory` where an allocation fails. Then requests at the front of what
 /// was read were handled, each wholly. A read that was interrupted is made again.
 pub fn serve<H: Handler, R: Read, W: Write>(
     alloc: Global,

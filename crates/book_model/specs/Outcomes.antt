@@ -55,7 +55,7 @@ abbrev pub RefusesFirst : {A T : Type 0} → Result A Denied → Result T Refusa
 RefusesFirst result (Ok wanted) = Unit {0}
 RefusesFirst result (Err refusal) = result ≡ Err (Refused refusal)
 
--- a growth was refused
+-- an allocation failed
 abbrev pub IsOutOfMemory : FaultKind → Type 0
 IsOutOfMemory fault = fault ≡ Memory
 

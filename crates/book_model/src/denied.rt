@@ -13,7 +13,7 @@ use vcard_text::{CardFault, NoMemory};
 pub enum Fault {
     /// The database answered an error, or a row read from it isn't well formed.
     Store,
-    /// A growth was refused.
+    /// An allocation failed.
     Memory,
 }
 

@@ -14,7 +14,7 @@ pub enum GroupFault {
     NoSuchCard,
     /// The card's kind isn't group.
     NotGroup,
-    /// A growth was refused.
+    /// An allocation failed.
     Memory,
 }
 

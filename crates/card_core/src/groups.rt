@@ -18,7 +18,7 @@ use vcard_text::Card;
 /// `urn:uuid:` in any case, the card whose UID is the rest.
 ///
 /// `NoSuchCard` where no card has the UID, `NotGroup` where its kind isn't group, and `Memory`
-/// where a growth was refused.
+/// where an allocation fails.
 pub fn expand<C: CardsByUid>(alloc: Global, cards: &C, group: &str) -> Result<Expansion, GroupFault>
     ensures expansion { IfOk result (λ expansion. IsExpansion (C.cards cards.now) group.now
         expansion) }

@@ -113,7 +113,7 @@ order_asked words =
     if is_empty (fault_of contacts_line words)
     then order_in (subcommand_of contacts_line words) else None
 
--- it is what was expected, unless a growth was refused
+-- it is what was expected, unless an allocation failed
 abbrev pub Gives : {A : Type 0} → Option A → Result A LineFault → Type 0
 Gives expected (Ok value) = expected ≡ Some value
 Gives expected (Err (Bad text)) = expected ≡ None

@@ -9,7 +9,7 @@ pub enum LineFault {
     /// The words ask for nothing that the program does, or for help. The text says why, or is the
     /// help.
     Bad { text: Text },
-    /// A growth was refused.
+    /// An allocation failed.
     Memory,
 }
 

@@ -23,7 +23,7 @@ pub enum CsvCause {
     UidMismatch,
     /// A card of an earlier row has the UID.
     DuplicateUid,
-    /// A growth was refused.
+    /// An allocation failed.
     Memory,
 }
 

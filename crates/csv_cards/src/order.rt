@@ -14,8 +14,8 @@ pub trait CardsInOrder {
     /// The lines of each card, by its UID.
     ghost cards: { Self → finite.FinMap text_cmp (List Line) };
 
-    /// The cards, borrowed, in the order of the octets of their UIDs. `NoMemory` where a growth
-    /// was refused.
+    /// The cards, borrowed, in the order of the octets of their UIDs. `NoMemory` where an
+    /// allocation fails.
     fn in_order(&self, alloc: Global) -> Result<Vec<&Card>, NoMemory>
         ensures { IfOk result (λ list. map (λ card. card.now) list.items
             ≡ finite.values (cards self.now)) };

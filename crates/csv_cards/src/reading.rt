@@ -133,7 +133,7 @@ fn read_cards(alloc: Global, form: Form, reader: &mut Reader<&[u8]>) -> Result<V
 /// not be empty. All fields are UTF-8, and no two cards have one UID.
 ///
 /// An `Err` is the first faulty row, with the cause of the least number among those that apply to
-/// it. `Memory` comes in place of any answer where a growth was refused. The work is linear in the
+/// it. `Memory` comes in place of any answer where an allocation fails. The work is linear in the
 /// text but for looking UIDs up, and one row of the text is kept beside the cards at a time.
 pub fn read_rows(alloc: Global, text: &[u8]) -> Result<Vec<Card>, CsvFault>
     // What is read are the cards that the rows stand for.

@@ -14,7 +14,7 @@ use vcard_text::NoMemory;
 
 /// The octets that are sent for a reply of the service: the status line, the fields Content-Type,
 /// Content-Length and Connection, an empty line, and the body. `close` says that the connection is
-/// closed behind the reply. `NoMemory` where a growth was refused.
+/// closed behind the reply. `NoMemory` where an allocation fails.
 pub fn reply_bytes(alloc: Global, reply: Reply, close: bool) -> Result<Vec<u8>, NoMemory>
     ensures { IfOk result (λ octets. octets.items ≡ reply_octets reply close) }
 {
@@ -30,8 +30,8 @@ pub fn reply_bytes(alloc: Global, reply: Reply, close: bool) -> Result<Vec<u8>, 
     message_octets(alloc, &message, close)
 }
 
-/// The octets that are sent for a head's fault, which closes the connection. `NoMemory` where a
-/// growth was refused.
+/// The octets that are sent for a head's fault, which closes the connection. `NoMemory` where an
+/// allocation fails.
 pub fn head_fault_bytes(alloc: Global, fault: HeadFault) -> Result<Vec<u8>, NoMemory>
     ensures { IfOk result (λ octets. octets.items ≡ head_fault_octets fault) }
 {
@@ -49,7 +49,7 @@ pub fn head_fault_bytes(alloc: Global, fault: HeadFault) -> Result<Vec<u8>, NoMe
 }
 
 /// The octets that are sent where a request is no route's, with an Allow field where the route has
-/// other methods (RFC 9110, section 15.5.6). `NoMemory` where a growth was refused.
+/// other methods (RFC 9110, section 15.5.6). `NoMemory` where an allocation fails.
 pub fn route_fault_bytes(alloc: Global, fault: RouteFault, close: bool) -> Result<Vec<u8>, NoMemory>
     ensures { IfOk result (λ octets. octets.items ≡ route_fault_octets fault close) }
 {

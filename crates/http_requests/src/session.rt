@@ -46,7 +46,7 @@ impl Session {
     /// Takes the next piece of the stream, has the requests handled that are whole now, and
     /// answers their replies. A closed session ignores the piece.
     ///
-    /// `NoMemory` where a growth was refused: requests at the front were handled, each wholly,
+    /// `NoMemory` where an allocation fails: requests at the front were handled, each wholly,
     /// their replies are lost, and the session is closed.
     pub fn feed<H: Handler>(
         &mut self,

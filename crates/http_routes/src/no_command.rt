@@ -9,7 +9,7 @@ use std::alloc::AllocError;
 pub enum NoCommand {
     /// The request asks for nothing.
     Fault(RouteFault),
-    /// A growth was refused.
+    /// An allocation failed.
     Memory,
 }
 

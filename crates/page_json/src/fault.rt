@@ -20,7 +20,7 @@ pub enum ReportFault {
     BadCard,
     /// The token's text is of no token.
     BadToken,
-    /// A growth was refused.
+    /// An allocation failed.
     Memory,
 }
 

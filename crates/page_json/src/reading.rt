@@ -75,7 +75,7 @@ fn page_of(alloc: Global, parts: &Parts<'_>) -> Result<Page, ReportFault>
 ///
 /// An `Err` is the text's first fault: `NotJson`; then `BadShape`, wherever it is in the text; then
 /// that of the first member that has one, `BadCard`, or `BadShape` where its UID isn't its card's;
-/// then `BadToken`. `Memory` comes in place of any answer where a growth was refused. The work is
+/// then `BadToken`. `Memory` comes in place of any answer where an allocation fails. The work is
 /// linear in the text.
 pub fn read_report(alloc: Global, text: &[u8]) -> Result<Page, ReportFault>
     // What is read is the page that the text is of.

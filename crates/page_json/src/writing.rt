@@ -72,7 +72,7 @@ fn page_value(alloc: Global, page: &Page) -> Result<Value, NoMemory>
 /// The page as JSON (RFC 8259) in UTF-8, with no space: an object of `members`, `token` and
 /// `truncated`, the names of each object in the order of their octets. A member that is live has
 /// its card's canonical text as `card`, the `status` 200, its `uid` and its `version`; one that is
-/// gone has the `status` 404 and its `uid`. `NoMemory` where a growth was refused.
+/// gone has the `status` 404 and its `uid`. `NoMemory` where an allocation fails.
 pub fn write_report(alloc: Global, page: &Page) -> Result<Vec<u8>, NoMemory>
     ensures text { IfOk result (λ text. text.items ≡ report_text page.now) }
 

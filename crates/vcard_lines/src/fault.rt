@@ -36,7 +36,7 @@ pub enum CardFault {
     Twice,
     /// A line is named MEMBER, and the kind isn't group.
     MemberOutsideGroup,
-    /// A growth was refused.
+    /// An allocation failed.
     Memory,
 }
 

@@ -114,7 +114,7 @@ fn read_text(alloc: Global, text: &[u8]) -> Result<Items<Line>, CardFault>
 /// An `Err` is the text's first fault: `TooLong` or `NotUtf8`, then the first fault of the first
 /// logical line that has one, then that of a text which ends too early (`NoBegin`, `BadVersion` or
 /// `NoEnd`), then `NoName`, `NoUid`, `MemberOutsideGroup`, and then `TooLong` for the canonical
-/// text. `Memory` comes in place of any answer where a growth was refused.
+/// text. `Memory` comes in place of any answer where an allocation fails.
 pub fn read_card(alloc: Global, text: &[u8]) -> Result<Card, CardFault>
     // What is read is the card that the text spells.
     ensures card { IfOk result (λ card. Spells text.now card) }
