@@ -7,12 +7,19 @@ use crate::change::{Change, RemovalReason, StoreReason};
 /// The changes of a book by their reasons.
 #[derive(Clone, Copy, Debug, PartialEq, Eq)]
 pub struct Counts {
+    /// Puts of a card whose UID wasn't live.
     pub created: u64,
+    /// Puts of a card in the place of another of its UID.
     pub edited: u64,
+    /// Cards of imports whose UIDs weren't live.
     pub imported: u64,
+    /// Cards of imports in the places of others of their UIDs.
     pub import_edited: u64,
+    /// Cards that came from another book.
     pub moved_in: u64,
+    /// Cards that were removed.
     pub deleted: u64,
+    /// Cards that went to another book.
     pub moved_out: u64,
 }
 

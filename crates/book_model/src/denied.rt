@@ -55,7 +55,9 @@ impl Error for Fault {}
 /// A refusal or a fault.
 #[derive(Clone, Copy, Debug, PartialEq, Eq)]
 pub enum Denied {
+    /// It isn't done for what it asks.
     Refused(Refusal),
+    /// It isn't done, whatever it asks.
     Fault(Fault),
 }
 

@@ -48,8 +48,11 @@ pub enum Refusal {
     BadCard(CardFault),
     /// The card's UID isn't the one that was named.
     UidMismatch,
-    /// The live card has another version than was expected: this one, or 0 where no card is live.
-    VersionMismatch { has: u64 },
+    /// The live card has another version than was expected.
+    VersionMismatch {
+        /// The version of the live card, or 0 where none is live.
+        has: u64,
+    },
     /// The book that a card was to be moved to has a live card of that UID.
     UidTaken,
     /// A card was to be moved from a book to itself.
@@ -63,8 +66,13 @@ pub enum Refusal {
     BookFull,
     /// The book took as many changes as it may take.
     ChangesSpent,
-    /// The body of an import is wrong in this row.
-    BadImport { row: u64, cause: u8 },
+    /// The body of an import has a bad row.
+    BadImport {
+        /// The first bad row, counted from 1 behind the header, which is row 0.
+        row: u64,
+        /// The number under which the reader of rows reports what is wrong with it.
+        cause: u8,
+    },
     /// An import's key isn't 1 to 64 of letters, digits, dot, underscore and hyphen.
     BadKey,
     /// A book can't forget up to this number.

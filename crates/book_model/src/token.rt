@@ -13,6 +13,8 @@ pub struct Mark {
 /// A mark in the book with this id.
 #[derive(Clone, Copy, Debug, PartialEq, Eq)]
 pub struct Token {
+    /// The id of the book; the token is refused by any other.
     pub book: u64,
+    /// Where the next report of the book goes on.
     pub mark: Mark,
 }

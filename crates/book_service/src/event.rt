@@ -17,9 +17,13 @@ use vcard_text::NoMemory;
 pub enum Event {
     /// A command is performed.
     Do(Command),
-    /// The device with this place in the list, from 0, asks for its next page with at most `limit`
-    /// entries, and applies it.
-    Ask { device: usize, limit: Option<u64> },
+    /// A device asks for its next page, and applies it.
+    Ask {
+        /// The device's place in the list, from 0.
+        device: usize,
+        /// The most entries of the page; with `None` the store's own limit alone holds.
+        limit: Option<u64>,
+    },
 }
 
 impl Event {

@@ -13,12 +13,14 @@ use book_laws::runs::new_tokens_are_taken;
 use std::alloc::Global;
 use sync_core::{BookStore, Denied, Device};
 
-/// A device that asked for page after page, how many pages it applied, and whether the last one
-/// told all that was left.
+/// A device that asked for page after page.
 #[derive(Debug, Drop, PartialEq, Eq)]
 pub struct Mirrored {
+    /// It holds what the pages told.
     pub device: Device,
+    /// How many pages it applied.
     pub pages: u64,
+    /// Whether the last one wasn't truncated; then the device holds what the book does.
     pub done: bool,
 }
 

@@ -9,16 +9,29 @@ use vcard_text::{Card, Items, Text};
 /// What a command is answered. After `Refused` and `Fault` the books are as before.
 #[derive(Debug, Drop, PartialEq, Eq)]
 pub enum Reply {
-    /// The book was made and has this id.
-    Created { id: u64 },
+    /// The book was made.
+    Created {
+        /// The book's id: books of a store are counted from 1 as they are made.
+        id: u64,
+    },
     /// The lines of all books, by the octets of their names.
     Books(Items<BookLine>),
     /// The live card of the UID and its version.
-    Card { uid: Text, version: u64, card: Card },
+    Card {
+        /// The UID that was asked for, which is the card's.
+        uid: Text,
+        /// The number of the change that wrote the card.
+        version: u64,
+        /// The card as it was stored last.
+        card: Card,
+    },
     /// What the put did.
     Put(PutAnswer),
-    /// The card was taken away by the change with this number.
-    Gone { number: u64 },
+    /// The card was taken away.
+    Gone {
+        /// The number of that change of the book.
+        number: u64,
+    },
     /// The card was moved, and these are its numbers.
     Moved(Moved),
     /// The page of the report.
@@ -26,8 +39,13 @@ pub enum Reply {
     /// The cards were imported under the key, now or before: so many were added, edited and the
     /// same, and this was the book's number afterwards.
     Imported(ImportTally),
-    /// So many removed members were forgotten, and the book's horizon is at this number.
-    Forgot { dropped: u64, horizon: u64 },
+    /// Removed members were forgotten.
+    Forgot {
+        /// How many they were.
+        dropped: u64,
+        /// The number up to which the book has forgotten removals.
+        horizon: u64,
+    },
     /// The book in numbers.
     Tally(Tally),
     /// The live cards of the book as rows of CSV, in the order of the octets of their UIDs.

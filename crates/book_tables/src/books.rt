@@ -43,14 +43,23 @@ use sqlite::{Alter, Connection, Error, Row, Transaction, params};
 /// The number of a book's last change, its horizon, and what it counts, as columns keep them.
 #[derive(Clone, Copy, Debug, PartialEq, Eq)]
 pub struct BookNumbers {
+    /// The number of the last change, and 0 where there was none.
     pub number: i64,
+    /// Removals with at most this number are forgotten; 0 at first.
     pub horizon: i64,
+    /// Puts of a card whose UID wasn't live.
     pub created: i64,
+    /// Puts of a card in the place of another of its UID.
     pub edited: i64,
+    /// Cards of imports whose UIDs weren't live.
     pub imported: i64,
+    /// Cards of imports in the places of others of their UIDs.
     pub import_edited: i64,
+    /// Cards that came from another book.
     pub moved_in: i64,
+    /// Cards that were removed.
     pub deleted: i64,
+    /// Cards that went to another book.
     pub moved_out: i64,
 }
 

@@ -6,9 +6,11 @@ use std::alloc::{AllocError, AllocFailed};
 /// Why words were read without an order.
 #[derive(Debug, Drop, PartialEq, Eq)]
 pub enum LineFault {
-    /// The words ask for nothing that the program does, or for help. The text says why, or is the
-    /// help.
-    Bad { text: Text },
+    /// The words ask for nothing that the program does, or for help.
+    Bad {
+        /// Why there is no order, or the help that was asked for, in `clap`'s words.
+        text: Text,
+    },
     /// An allocation failed.
     Memory,
 }

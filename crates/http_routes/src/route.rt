@@ -5,15 +5,25 @@ ghost use Rattle.http_routes.specs.Routes.{allow_of, path_of};
 /// What a path is about.
 #[derive(Clone, Copy, Debug, PartialEq, Eq)]
 pub enum Route {
+    /// All books.
     Books,
+    /// One book, which is made by it.
     Book,
+    /// A book in numbers.
     Tally,
+    /// What changed in a book since a token (RFC 6578, section 3.2).
     Sync,
+    /// Rows of CSV that come into a book.
     Import,
+    /// A book's cards as rows of CSV.
     Export,
+    /// The removed members that a book is no longer to remember.
     Forget,
+    /// The card of a UID in a book.
     Card,
+    /// Taking a card to another book.
     Move,
+    /// Whom a group reaches.
     People,
 }
 

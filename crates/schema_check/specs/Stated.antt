@@ -26,7 +26,7 @@ IsJudged wanted declared (Some number) (Ok done) = (number ≡ wanted) × (decla
 IsJudged wanted declared (Some number) (Err Store) = ⊥
 IsJudged wanted declared (Some number) (Err NotOurs) = (number ≡ wanted) × (declared ≡ false)
 IsJudged wanted declared (Some number) (Err (OtherSchema has)) =
-  (number ≡ has) × ¬ (number ≡ wanted)
+    (number ≡ has) × ¬ (number ≡ wanted)
 IsJudged wanted declared (Some number) (Err Damaged) = ⊥
 IsJudged wanted declared (Some number) (Err NotEmpty) = ⊥
 IsJudged wanted declared (Some number) (Err Memory) = ⊥

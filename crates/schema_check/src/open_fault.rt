@@ -11,8 +11,11 @@ pub enum OpenFault {
     Store,
     /// The tables aren't those of a store of books.
     NotOurs,
-    /// The tables are those of another schema, which has this number.
-    OtherSchema { has: i64 },
+    /// The tables are those of another schema.
+    OtherSchema {
+        /// The number that the file states as its schema's.
+        has: i64,
+    },
     /// The tables hold no well-formed books.
     Damaged,
     /// Tables are there already, where new ones were to be laid.

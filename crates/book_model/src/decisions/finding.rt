@@ -6,12 +6,14 @@ use crate::limits::Limits;
 use crate::refusal::Refusal;
 use vcard_text::Card;
 
-/// The live card of the UID with its version, how many cards are live in the book, and the book's
-/// number.
+/// What is asked of the book before a card of it is changed.
 #[derive(Clone, Copy)]
 pub struct Finding<'a> {
+    /// The version and the card of the UID, where one is live.
     pub live: Option<(u64, &'a Card)>,
+    /// How many cards are live in the book.
     pub cards: u64,
+    /// The number of the book's last change, and 0 where there was none.
     pub number: u64,
 }
 
