@@ -1,11 +1,11 @@
 //! The service over HTTP (RFC 9110, RFC 9112): requests in octets, and replies in octets.
 #![tactic(auto)]
 
-pub mod answering;
+mod answering;
 pub mod laws;
-pub mod serve_fault;
-pub mod service;
-pub mod serving;
+mod serve_fault;
+mod service;
+mod serving;
 
 pub use answering::answer;
 pub use serve_fault::ServeFault;

@@ -1,6 +1,6 @@
 //! Carrying stores in files.
 use crate::migrating::migrate_connection;
-use book_store::files::fault_of_file;
+use book_store::fault_of_file;
 use schema_check::OpenFault;
 use sqlite::Connection;
 use std::fs;

@@ -1,9 +1,9 @@
 //! Carrying tables of the first schema, which have no keeps, into the second.
 #![tactic(auto)]
 
-pub mod files;
+mod files;
 mod first_rows;
-pub mod migrating;
+mod migrating;
 mod planning;
 mod writing;
 

@@ -10,8 +10,7 @@ ghost use Rattle.std.specs.Prelude.{◌≡◌, IfErr, IfOk, IsTrue, OnErr, OnOk,
 use crate::planning::plan;
 use crate::writing::commit_second;
 use book_model::Limits;
-use schema_check::OpenFault;
-use schema_check::open_fault::open_fault_of;
+use schema_check::{OpenFault, open_fault_of};
 use sqlite::{Alter, Connection};
 use std::alloc::Global;
 

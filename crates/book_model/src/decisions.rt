@@ -1,13 +1,13 @@
 //! What a call comes to, by what it finds: decided alike by every store. Nothing here knows where
 //! books are kept, and nothing changes or takes memory.
-pub mod creating;
-pub mod finding;
-pub mod forgetting;
-pub mod importing;
-pub mod moving;
-pub mod putting;
-pub mod removing;
-pub mod reporting;
+mod creating;
+mod finding;
+mod forgetting;
+mod importing;
+mod moving;
+mod putting;
+mod removing;
+mod reporting;
 
 pub use creating::{id_of_new_book, is_book_name};
 pub use finding::{Finding, next_number};

@@ -2,17 +2,17 @@
 //! and what a device makes of its pages (RFC 6578).
 #![tactic(auto)]
 
-pub mod answers;
-pub mod change;
-pub mod counts;
+mod answers;
+mod change;
+mod counts;
 pub mod decisions;
-pub mod denied;
+mod denied;
 pub mod laws;
-pub mod limits;
-pub mod page;
-pub mod refusal;
-pub mod row;
-pub mod token;
+mod limits;
+mod page;
+mod refusal;
+mod row;
+mod token;
 
 pub use answers::{BookLine, ImportTally, Moved, PutAnswer, Stored, Tally};
 pub use change::{Change, RemovalReason, StoreReason};

@@ -20,7 +20,7 @@ pub fn fault_of(error: Error) -> Denied
 
 /// What is answered in place of a stored text that spells no card: `Memory` where memory ran out as
 /// it was read, and else `Store`.
-pub fn fault_of_card(fault: CardFault) -> Denied
+pub(crate) fn fault_of_card(fault: CardFault) -> Denied
     ensures value { result ≡ in_place (card_fault fault) }
     ensures fault { IsFault result }
 {

@@ -124,7 +124,7 @@ fn counts_in(row: &Row) -> Result<Counts, Denied>
 /// The figures of a row that `find_book` of `book_tables` showed: the id, the number, the horizon
 /// and the seven counts. `Store` where a column has no number, the counts don't add up to the
 /// book's number, or the horizon is above it.
-pub fn figures_in(row: &Row) -> Result<Figures, Denied>
+pub(crate) fn figures_in(row: &Row) -> Result<Figures, Denied>
     ensures figures { IfOk result (ShowsBook row.now) }
     ensures fault { IfErr result IsFault }
 {

@@ -2,14 +2,18 @@
 //! or answer is a fault of the store. Nothing here changes a row.
 #![tactic(auto)]
 
-pub mod faults;
-pub mod figures;
+mod faults;
+mod figures;
 mod listing;
-pub mod lookups;
+mod lookups;
 pub mod paging;
-pub mod shown;
+mod shown;
 pub mod telling;
 pub mod telling_all;
-pub mod values;
+mod values;
 
+pub use faults::{column_of, fault_of};
 pub use figures::Figures;
+pub use lookups::{find_figures, find_kept, find_live, keep_of, remembered_of};
+pub use shown::count_in;
+pub use values::number_in;

@@ -16,7 +16,7 @@ const COUNT_END: u64 = 9_223_372_036_854_775_807;
 /// The live card of a row that `find_member` of `book_tables` showed, with its number, and `None`
 /// where the member is removed. `Store` where the row can't be read; `Memory` where memory runs
 /// out.
-pub fn live_in(alloc: Global, row: &Row) -> Result<Option<Stored>, Denied>
+pub(crate) fn live_in(alloc: Global, row: &Row) -> Result<Option<Stored>, Denied>
     ensures live { IfOk result (ShowsLive row.now) }
     ensures fault { IfErr result IsFault }
 {
@@ -30,7 +30,7 @@ pub fn live_in(alloc: Global, row: &Row) -> Result<Option<Stored>, Denied>
 /// The UID of a row that `members_of` or `first_due` of `book_tables` showed, with its number and
 /// its card, none where the member is removed. `Store` where the row can't be read; `Memory` where
 /// memory runs out.
-pub fn member_in(alloc: Global, row: &Row) -> Result<(Text, Kept), Denied>
+pub(crate) fn member_in(alloc: Global, row: &Row) -> Result<(Text, Kept), Denied>
     ensures member { IfOk result (ShowsMember row.now) }
     ensures fault { IfErr result IsFault }
 {
@@ -42,7 +42,7 @@ pub fn member_in(alloc: Global, row: &Row) -> Result<(Text, Kept), Denied>
 
 /// What the import answered whose row `find_import` of `book_tables` showed. `Store` where the row
 /// can't be read.
-pub fn tally_in(row: &Row) -> Result<ImportTally, Denied>
+pub(crate) fn tally_in(row: &Row) -> Result<ImportTally, Denied>
     ensures tally { IfOk result (ShowsTally row.now) }
     ensures fault { IfErr result IsFault }
 {
@@ -69,7 +69,7 @@ pub fn count_in(row: &Row) -> Result<u64, Denied>
 
 /// The line of a row that `all_books` of `book_tables` showed. `Store` where the row can't be read;
 /// `Memory` where memory runs out.
-pub fn line_in(row: &Row) -> Result<BookLine, Denied>
+pub(crate) fn line_in(row: &Row) -> Result<BookLine, Denied>
     ensures line { IfOk result (ShowsLine row.now) }
     ensures fault { IfErr result IsFault }
 {

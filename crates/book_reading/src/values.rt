@@ -28,7 +28,7 @@ pub fn number_in(row: &Row, at: usize) -> Result<u64, Denied>
 
 /// The text of the column, counted from 0. `Store` where the row has no such column, or it has no
 /// text; `Memory` where memory runs out.
-pub fn text_in(row: &Row, at: usize) -> Result<String, Denied>
+pub(crate) fn text_in(row: &Row, at: usize) -> Result<String, Denied>
     ensures text { IfOk result (λ text. column row.now at ≡ Text (string_bytes text)) }
     ensures fault { IfErr result IsFault }
 {
@@ -60,7 +60,7 @@ fn canonical_card(alloc: Global, text: &str) -> Result<Card, Denied>
 
 /// The card of the column, counted from 0, and `None` of a null. `Store` where the row has no such
 /// column, or it has neither a card's canonical text nor a null; `Memory` where memory runs out.
-pub fn card_in(alloc: Global, row: &Row, at: usize) -> Result<Option<Card>, Denied>
+pub(crate) fn card_in(alloc: Global, row: &Row, at: usize) -> Result<Option<Card>, Denied>
     ensures card { IfOk result (ShowsCard at row.now) }
     ensures canonical { IfOk result (ShowsCanonical at row.now) }
     ensures fault { IfErr result IsFault }

@@ -3,17 +3,18 @@
 
 mod asking;
 mod calls;
-pub mod command;
-pub mod event;
+mod command;
+mod event;
 mod importing;
 pub mod laws;
-pub mod mirrored;
-pub mod page_tokens;
-pub mod reply;
+mod mirrored;
+mod page_tokens;
+mod reply;
 mod texts;
 mod whole_books;
 
 pub use command::{Command, perform};
 pub use event::{Event, drive};
 pub use mirrored::{Mirrored, mirror};
+pub use page_tokens::page_tokens_have_texts;
 pub use reply::Reply;

@@ -10,8 +10,7 @@ ghost use Rattle.std.specs.Prelude.{◌≡◌, IfErr, IfOk};
 
 use crate::sql_store::SqlStore;
 use book_model::Limits;
-use schema_check::OpenFault;
-use schema_check::open_fault::open_fault_of;
+use schema_check::{OpenFault, open_fault_of};
 use sqlite::{Connection, Error, ErrorCode, FileStore};
 use sqlite_std_file::{FileFrom, Start, Unknown};
 use std::fs;

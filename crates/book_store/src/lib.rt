@@ -2,12 +2,12 @@
 //! of a store.
 #![tactic(auto)]
 
-pub mod adopting;
-pub mod calls;
-pub mod files;
+mod adopting;
+mod calls;
+mod files;
 mod laying;
-pub mod sql_store;
+mod sql_store;
 
-pub use files::{FileBooks, FileBooksFrom};
+pub use files::{FileBooks, FileBooksFrom, fault_of_file};
 pub use schema_check::OpenFault;
 pub use sql_store::SqlStore;

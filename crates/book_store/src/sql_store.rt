@@ -13,8 +13,7 @@ ghost use Rattle.std.specs.Prelude.{◌≡◌, Err, IfErr, IfOk, OnOk, false};
 
 use crate::laying::{is_bare, lay};
 use book_model::Limits;
-use schema_check::OpenFault;
-use schema_check::open_fault::open_fault_of;
+use schema_check::{OpenFault, open_fault_of};
 use sqlite::{Alter, Connection, MemStore};
 use std::alloc::Global;
 use std::marker::Model;

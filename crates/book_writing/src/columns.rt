@@ -5,7 +5,7 @@ ghost use Rattle.book_tables.specs.Books.{numbers_of};
 ghost use Rattle.std.specs.Prelude.{◌≡◌, IfErr, IfOk};
 
 use book_model::{Counts, Denied};
-use book_reading::faults::column_of;
+use book_reading::column_of;
 use book_tables::books::BookNumbers;
 
 /// `Store` where one is 2^63 or more, which none of a store is.

@@ -17,8 +17,7 @@ ghost use Rattle.std.specs.Prelude.{◌≡◌, IfErr, IfOk, IsTrue, OnOk, false,
 use crate::planning::test_open;
 use book_model::decisions::id_of_new_book;
 use book_model::{Denied, Limits};
-use book_reading::faults::{column_of, fault_of};
-use book_reading::shown::count_in;
+use book_reading::{column_of, count_in, fault_of};
 use book_tables::books::{count_books, find_book, insert_book};
 use book_tables::keeps::insert_keep;
 use sqlite::{Alter, Connection, Error, Transaction};

@@ -7,9 +7,7 @@ ghost use Rattle.sqlite.specs.State.{HasCleanDisk, IsUnchanged};
 ghost use Rattle.std.specs.Prelude.{◌≡◌, IfErr, IsTrue, OnOk};
 
 use book_model::Denied;
-use book_reading::Figures;
-use book_reading::faults::fault_of;
-use book_reading::lookups::find_figures;
+use book_reading::{Figures, fault_of, find_figures};
 use sqlite::{Alter, Connection};
 
 /// A fault where the connection is shut: only an open one prepares a statement. The text is short,

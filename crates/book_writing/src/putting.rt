@@ -20,8 +20,7 @@ ghost use Rattle.vcard_text.specs.Cards.{canonical_text, uid_of};
 
 use crate::columns::columns_of;
 use book_model::{Change, Denied, Fault, StoreReason};
-use book_reading::Figures;
-use book_reading::faults::{column_of, fault_of};
+use book_reading::{Figures, column_of, fault_of};
 use book_tables::books::{BookNumbers, renumber_book};
 use book_tables::members::put_member;
 use sqlite::{Alter, Connection, Error, Transaction};

@@ -21,8 +21,7 @@ ghost use Rattle.std.specs.Prelude.{◌≡◌, ◌+◌, ◌<◌, ◌^◌, IfErr,
 use crate::columns::columns_of;
 use crate::putting::commit_put;
 use book_model::{Change, Denied, RemovalReason};
-use book_reading::Figures;
-use book_reading::faults::{column_of, fault_of};
+use book_reading::{Figures, column_of, fault_of};
 use book_tables::books::{BookNumbers, renumber_book};
 use book_tables::members::{forget_members, put_member};
 use sqlite::{Alter, Connection, Error, Transaction};

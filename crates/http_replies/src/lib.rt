@@ -5,7 +5,7 @@ mod bodies;
 mod lists;
 mod message;
 mod refusals;
-pub mod replies;
+mod replies;
 mod statuses;
 mod values;
 

@@ -3,13 +3,13 @@
 #![tactic(auto)]
 
 mod fields;
-pub mod handler;
-pub mod head;
-pub mod head_fault;
-pub mod head_state;
+mod handler;
+mod head;
+mod head_fault;
+mod head_state;
 pub mod laws;
 mod progress;
-pub mod session;
+mod session;
 
 pub use handler::Handler;
 pub use head::{FoundHead, Head, read_head};

@@ -2,15 +2,15 @@
 //! table of routes.
 #![tactic(auto)]
 
-pub mod ask;
-pub mod fault;
+mod ask;
+mod fault;
 pub mod laws;
 mod method;
-pub mod no_command;
+mod no_command;
 mod path;
 mod query;
-pub mod request;
-pub mod route;
+mod request;
+mod route;
 mod router;
 
 pub use ask::Ask;

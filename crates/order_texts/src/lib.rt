@@ -1,10 +1,10 @@
 //! What the program's orders print.
 #![tactic(auto)]
 
-pub mod expanded;
-pub mod lines;
-pub mod mirrors;
-pub mod tallies;
+mod expanded;
+mod lines;
+mod mirrors;
+mod tallies;
 
 pub use expanded::expand_text;
 pub use lines::{book_text, forget_text, import_text, made_text, migrate_text};

@@ -1,12 +1,12 @@
 //! A page of a report as JSON (RFC 8259), written and read.
 #![tactic(auto)]
 
-pub mod fault;
+mod fault;
 pub mod laws;
 mod member;
 mod parts;
-pub mod reading;
-pub mod writing;
+mod reading;
+mod writing;
 
 pub use fault::ReportFault;
 pub use reading::read_report;

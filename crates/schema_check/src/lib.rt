@@ -3,8 +3,9 @@
 
 mod forms;
 mod meta;
-pub mod open_fault;
+mod open_fault;
 mod schema;
-pub mod testing;
+mod testing;
 
-pub use open_fault::OpenFault;
+pub use open_fault::{OpenFault, open_fault_of};
+pub use testing::{test_first_schema, test_schema};
