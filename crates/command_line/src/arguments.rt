@@ -67,5 +67,9 @@ pub(crate) fn file<'a>(alloc: Global) -> Arg<'a>
 pub(crate) fn book<'a>(alloc: Global) -> Arg<'a>
     ensures { IsWord lines.book result }
 {
-    word(alloc, "BOOK", "The name of a book")
+    word(
+        alloc,
+        "BOOK",
+        "The name of a book: 1 to 40 of a-z, 0-9 and -",
+    )
 }

@@ -36,7 +36,8 @@ fn try_line<'a>(alloc: Global) -> Result<Command<'a>, AllocError>
         "try",
         "Reads one vCard from standard input, puts it into an empty book in memory, and prints the \
          book's initial report",
-        "Example:\n  contacts try < ann.vcf\n\nA card has at most 262,144 octets.",
+        "Example:\n  contacts try < ann.vcf\n\nA card has at most 262,144 octets, and its UID 1 to \
+         255.",
         Vec::new(alloc),
     )
 }
@@ -48,7 +49,7 @@ fn init_line<'a>(alloc: Global) -> Result<Command<'a>, AllocError>
         alloc,
         "init",
         "Makes a file for books; there must be none yet",
-        "Example:\n  contacts init office.db",
+        "Example:\n  contacts init office.db\n\nA file has at most 100 books.",
         Vec::from_array(alloc, [file(alloc)])?,
     )
 }
@@ -60,7 +61,8 @@ fn book_line<'a>(alloc: Global) -> Result<Command<'a>, AllocError>
         alloc,
         "book",
         "Makes an empty book in the file, and prints its number",
-        "Example:\n  contacts book office.db staff",
+        "Example:\n  contacts book office.db staff\n\nA file has at most 100 books, and a book at \
+         most 10,000 cards.",
         Vec::from_array(alloc, [file(alloc), book(alloc)])?,
     )
 }
@@ -90,7 +92,8 @@ fn serve_line<'a>(alloc: Global) -> Result<Command<'a>, AllocError>
         alloc,
         "serve",
         "Serves the file's books over HTTP at 127.0.0.1, one connection after another, and ends",
-        "Example:\n  contacts serve office.db --port 8080 --connections 1000000",
+        "Example:\n  contacts serve office.db --port 8080 --connections 1000000\n\nFirst it prints \
+         the address and the port. A request's body has at most 8,388,608 octets.",
         Vec::from_array(alloc, [file(alloc), port, connections])?,
     )
 }
@@ -101,14 +104,22 @@ fn import_line<'a>(alloc: Global) -> Result<Command<'a>, AllocError>
     let key = word(
         alloc,
         "KEY",
-        "The import's key; a second import under it changes nothing",
+        "The import's key, 1 to 64 of A-Z, a-z, 0-9, . _ -; a second import under it changes \
+         nothing",
     );
-    let csv = word(alloc, "CSV", "A file of rows, of at most 8388608 octets");
+    let csv = word(
+        alloc,
+        "CSV",
+        "A file of rows behind a header, of at most 8,388,608 octets",
+    );
     order_line(
         alloc,
         "import",
         "Imports the cards of a CSV file into the book",
-        "Example:\n  contacts import office.db staff monday people.csv",
+        "Example:\n  contacts import office.db staff monday people.csv\n\nThe header is \
+         `uid,vcard` for UIDs and cards' texts, or `uid,fn,family,given,email,tel,org,note` for \
+         cards' parts. All cards come in or none does. A card has at most 262,144 octets, and a \
+         book at most 10,000 cards.",
         Vec::from_array(alloc, [file(alloc), book(alloc), key, csv])?,
     )
 }
@@ -158,7 +169,9 @@ fn forget_line<'a>(alloc: Global) -> Result<Command<'a>, AllocError>
         alloc,
         "forget",
         "Forgets which cards were removed from the book, up to a number",
-        "Example:\n  contacts forget office.db staff 100",
+        "Example:\n  contacts forget office.db staff 100\n\nThe number is refused below one that \
+         the book has forgotten up to, and above that of its last change. Devices that haven't \
+         heard of what is forgotten start anew.",
         Vec::from_array(alloc, [file(alloc), book(alloc), upto])?,
     )
 }
@@ -173,7 +186,8 @@ fn mirror_line<'a>(alloc: Global) -> Result<Command<'a>, AllocError>
         0,
         MOST_NUMBER,
         "100",
-        "The most entries of a page, 0 to 999999999999999",
+        "The most entries of a page, 0 to 999999999999999; a page has at most 100, and 0 is \
+         refused",
     );
     let pages = amount(
         alloc,
@@ -196,7 +210,7 @@ fn mirror_line<'a>(alloc: Global) -> Result<Command<'a>, AllocError>
 fn expand_line<'a>(alloc: Global) -> Result<Command<'a>, AllocError>
     ensures { IfOk result (IsOrderLine lines.expand_line) }
 {
-    let uid = word(alloc, "UID", "The UID of a group");
+    let uid = word(alloc, "UID", "The UID of a group, 1 to 255 octets");
     order_line(
         alloc,
         "expand",
@@ -212,7 +226,7 @@ fn migrate_line<'a>(alloc: Global) -> Result<Command<'a>, AllocError>
     order_line(
         alloc,
         "migrate",
-        "Brings a file of the first schema to the present one",
+        "Brings a file of the first schema to the present one, and prints how many books it has",
         "Example:\n  contacts migrate office.db",
         Vec::from_array(alloc, [file(alloc)])?,
     )
