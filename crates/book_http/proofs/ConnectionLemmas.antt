@@ -17,7 +17,7 @@ use Rattle.book_http.proofs.OctetRunLemmas.{lost_pieces_run, sessions_run}
 
 module _ {State : Type 0} (does : Doing State) (fault_reply : FaultReplies) where
   -- what a session was fed was handled from the front
-  part_of_fed : (octets replies : List ℕ) (old new : State) (session : Option (List ℕ)) → Feeds does fault_reply octets old replies new session → HandlesPart does fault_reply octets old new
+  pub part_of_fed : (octets replies : List ℕ) (old new : State) (session : Option (List ℕ)) → Feeds does fault_reply octets old replies new session → HandlesPart does fault_reply octets old new
   part_of_fed octets replies old new (Some rest) fed =
       record { replies = replies; ended = false; rest = rest; runs = answered_run does fault_reply octets old replies new false rest fed.0 }
   part_of_fed octets replies old new None stop =
@@ -29,7 +29,7 @@ module _ {State : Type 0} (does : Doing State) (fault_reply : FaultReplies) wher
     pub read : Consumes input left octets
     pub part : HandlesPart does fault_reply octets old new
 
-  handles_read : (why : ServeFault) (input left output written : Option (List ℕ)) (old new : State) → BreaksOff does fault_reply why input left output written old new → HandlesRead input left old new
+  pub handles_read : (why : ServeFault) (input left output written : Option (List ℕ)) (old new : State) → BreaksOff does fault_reply why input left output written old new → HandlesRead input left old new
   handles_read Read input left output written old new broke =
       let s = broke.serves in record { octets = s.octets; read = s.read; part = part_of_fed s.octets s.replies old new (Some broke.held) s.fed }
   handles_read Write input left output written old new broke =

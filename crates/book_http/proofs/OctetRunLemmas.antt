@@ -34,11 +34,30 @@ module _ {S : Type 0} (books : S → Books) (limits : S → Bounds) (premise : S
       asked_premise old.store new.store (asked request.head.method request.head.target request.body) (head_of request.head).close octets replied holds
   found_premise old new request (Some found) octets replied holds = subst (λ (s : Service S). premise s.store) (sym replied.1) holds
 
-  all_premise : (requests : List Request) (old new : Service S) (octets : List ℕ) → Handles (Serving books limits premise may_fault) head_fault_octets old requests octets new → premise new.store → premise old.store
+  pub all_premise : (requests : List Request) (old new : Service S) (octets : List ℕ) → Handles (Serving books limits premise may_fault) head_fault_octets old requests octets new → premise new.store → premise old.store
   unfolding Handles
   all_premise [] old new octets handles holds = subst (λ (s : Service S). premise s.store) (sym handles.1) holds
   all_premise (request ∷ requests) old new octets handles holds =
       found_premise old handles.2 request (fault request.head) handles.0 handles.3 (all_premise requests handles.2 new handles.1 handles.4 holds)
+
+  -- ---- the limits
+
+  asked_limits : (old new : S) (wanted : Result Command RouteFault) (close : Bool) (octets : List ℕ) → AnswersAsked books limits premise may_fault old wanted close octets new → limits new ≡ limits old
+  asked_limits old new (Ok command) close octets answers = answers.1.limits_are
+  asked_limits old new (Err found) close octets answers = ap limits (sym answers.1)
+
+  found_limits : (old new : Service S) (request : Request) (found : Option HeadFault) (octets : List ℕ)
+      → RepliesBy (Serving books limits premise may_fault) head_fault_octets old request octets new found → limits new.store ≡ limits old.store
+  found_limits old new request None octets replied =
+      asked_limits old.store new.store (asked request.head.method request.head.target request.body) (head_of request.head).close octets replied
+  found_limits old new request (Some found) octets replied = ap (λ (s : Service S). limits s.store) (sym replied.1)
+
+  -- requests change no limits
+  pub all_limits : (requests : List Request) (old new : Service S) (octets : List ℕ) → Handles (Serving books limits premise may_fault) head_fault_octets old requests octets new → limits new.store ≡ limits old.store
+  unfolding Handles
+  all_limits [] old new octets handles = ap (λ (s : Service S). limits s.store) (sym handles.1)
+  all_limits (request ∷ requests) old new octets handles =
+      all_limits requests handles.2 new handles.1 handles.4 ∙ found_limits old handles.2 request (fault request.head) handles.0 handles.3
 
   -- ---- one request
 
