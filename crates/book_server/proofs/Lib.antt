@@ -1,1 +1,2 @@
 pub mod ListeningLemmas
+mod ListeningRunLemmas

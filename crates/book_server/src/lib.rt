@@ -1,10 +1,11 @@
 //! The service for whoever connects: a listener's connections, each served in its turn.
 #![tactic(auto)]
 
-pub mod connection;
-pub mod listen_fault;
-pub mod listener;
-pub mod listening;
+mod connection;
+pub mod laws;
+mod listen_fault;
+mod listener;
+mod listening;
 
 pub use connection::Connection;
 pub use listen_fault::ListenFault;

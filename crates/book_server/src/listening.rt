@@ -1,6 +1,6 @@
 //! Connections, accepted and served in turn.
-ghost use Rattle.std.specs.Prelude.{◌≡◌, IfErr, IfOk, None};
-ghost use Rattle.book_server.specs.Listening.{Listens, ServesOne};
+ghost use Rattle.std.specs.Prelude.{◌≡◌, [], ◌∷◌, IfErr, IfOk, None};
+ghost use Rattle.book_server.specs.Listening.{Came, Listens, ServesNext};
 ghost use Rattle.book_server.specs.declared.listen_fault.ListenFault.{ListenFault as TheFault};
 
 use crate::connection::Connection;
@@ -14,14 +14,15 @@ use std::alloc::Global;
 fn serve_next<H: Handler, L: Listener>(
     alloc: Global,
     handler: &mut H,
-    listener: &L,
+    listener: &mut L,
 ) -> Result<Option<ServeFault>, ListenFault>
-    ensures served { IfOk result (λ end. ServesOne H.does H.fault_reply
-        L.Stream.remaining L.Stream.contents (L.accepts listener.now)
+    ensures served { IfOk result (λ end. ServesNext H.does H.fault_reply
+        L.Stream.remaining L.Stream.contents (L.coming listener.old) (L.coming listener.new)
         handler.old end handler.new) }
     ensures device { IfErr result (λ fault. (fault ≡ TheFault.Device)
         × (handler.new ≡ handler.old)) }
-    ensures failed { IfErr result (λ fault. L.accepts listener.now None) }
+    ensures failed { IfErr result (λ fault.
+        Came (L.coming listener.old) (None ∷ []) (L.coming listener.new)) }
 {
     let Ok(mut stream) = listener.accept() else {
         return Err(ListenFault::Device);
@@ -37,19 +38,19 @@ fn serve_next<H: Handler, L: Listener>(
 ///
 /// `Serve` where one was given up, the first of them. `Device` at once where waiting for one fails.
 /// With no connection to serve nothing is accepted.
-pub fn serve_listener<H: Handler, L: Listener>(
+pub fn serve_listener<H: Handler, L: Listener + Drop>(
     alloc: Global,
     handler: &mut H,
-    listener: &L,
+    listener: L,
     connections: u64,
 ) -> Result<(), ListenFault>
-    ensures { Listens H.does H.fault_reply
-        L.Stream.remaining L.Stream.contents (L.accepts listener.now)
-        connections handler.old result handler.new }
+    ensures { Listens H.does H.fault_reply L.Stream.remaining L.Stream.contents
+        connections (L.coming listener) handler.old result handler.new }
 {
+    let mut listener = listener;
     let mut first = None;
     for _connection in 0..connections {
-        let end = serve_next(alloc, handler, listener)?;
+        let end = serve_next(alloc, handler, &mut listener)?;
         first = first.or(end);
     }
     match first {
