@@ -1,5 +1,5 @@
--- What came of all connections of a listener, as one run of the service over a store. This project's
--- own.
+-- What came of all connections of a listener, as one run of the service over a store. This
+-- project's own.
 use Rattle.std.specs.Prelude.{◌≡◌, ◌⊎◌, ℕ, Bool, List, [], ◌∷◌, ◌++◌, Option, None}
 use Rattle.std.specs.Io.KnownBytes.{Appends, Consumes}
 use Rattle.book_http.specs.declared.serve_fault.ServeFault.{ServeFault}
@@ -44,8 +44,8 @@ module _ {S Connection : Type 0} (books : S → Books) (limits : S → Bounds)
     pub whole : end ≡ None → RepliesToAll (contents connection) (contents after)
         octets requests replies ended rest
 
-  -- What happened by connections in turn is one run, each connection's own from where the one before
-  -- left the books. No device is changed, and the store has these rows behind it.
+  -- What happened by connections in turn is one run, each connection's own from where the one
+  -- before left the books. No device is changed, and the store has these rows behind it.
   unfoldable pub RunsInTurn : Moment → List (Turn Connection) → List Happening → Books → Type 0
   RunsInTurn now [] run new = (run ≡ []) × IsAt now now.world.limits new
   RunsInTurn now (turn ∷ turns) run new =

@@ -57,7 +57,7 @@ module _ {S : Type 0} (books : S → Books) (limits : S → Bounds) (premise : S
   -- a mirror's text was written
   pub mirror_printed : (result : Result (Unit {0}) Stop) (old new : S) (book : List ℕ) (limit pages : ℕ) (before after : Option (List ℕ)) (mirrored : Mirrored)
       → (premise new → (now : Moment) → IsAt now (limits old) (books old) → IsMirrored now book limit pages mirrored)
-      → (premise new → (now : Moment) → IsAt now (limits old) (books old) → TakesFewPages now book limit pages mirrored) → OnOk result (Appends before after (mirror_lines mirrored))
+      → (premise new → (now : Moment) → IsAt now (limits old) (books old) → TakesFewPages now book limit pages mirrored) → (premise new → books new ≡ books old) → OnOk result (Appends before after (mirror_lines mirrored))
       → OnOk result (PrintsMirror books limits premise may_fault old book limit pages before after new)
-  mirror_printed (Ok done) old new book limit pages before after mirrored mirrors few written = record { mirrored = mirrored; mirrors = mirrors; few = few; written = written }
-  mirror_printed (Err stop) old new book limit pages before after mirrored mirrors few written = tt
+  mirror_printed (Ok done) old new book limit pages before after mirrored mirrors few kept written = record { mirrored = mirrored; mirrors = mirrors; few = few; kept = kept; written = written }
+  mirror_printed (Err stop) old new book limit pages before after mirrored mirrors few kept written = tt

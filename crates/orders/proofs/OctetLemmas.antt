@@ -1,5 +1,5 @@
 -- Octets that are read and written in several calls.
-use Rattle.std.proofs.Common.{rules, ◌≡◌, ◌<◌, ⊎_elim, IfSome, append-nil, ℕ, ◌+◌, ◌-◌, ◌≤◌, length, subst, List, ◌++◌, Option, Some, None, take, drop, refl, sym, ap, ◌∙◌, append_assoc, arith}
+use Rattle.std.proofs.Common.{rules, ◌≡◌, [], ◌∷◌, zero, suc, ◌<◌, ⊎_elim, IfSome, append-nil, ℕ, ◌+◌, ◌-◌, ◌≤◌, length, subst, List, ◌++◌, Option, Some, None, take, drop, refl, sym, ap, ◌∙◌, append_assoc, arith}
 use Rattle.std.proofs.lemmas.List.{take-append-drop, drop-take, take-take, take_all, take_at, length-drop}
 use Rattle.std.proofs.lemmas.List.{length-take-le}
 use Rattle.std.proofs.lemmas.Slice.{take-put_mid, take-put_mid_below, overwrites}
@@ -111,3 +111,13 @@ front_read (Some x) (Some y) count most room len within p end =
     let whole : x ≡ take count room = p ∙ ap (λ ys. take count room ++ ys) (end less) ∙ append-nil (take count room) in
     sym whole ∙ sym (take_all most x (subst (λ (m : ℕ). m ≤ most) (sym (ap length whole ∙ size)) (omega arith))))
     (eq-or-lt_of_le within)
+
+-- a front that is shorter than it may be is the whole
+take_short : (most : ℕ) (xs : List ℕ) → length (take most xs) < most → take most xs ≡ xs
+take_short zero xs less = absurd (omega (arith, less))
+take_short (suc most) [] less = refl
+take_short (suc most) (x ∷ xs) less = ap (λ rest. x ∷ rest) (take_short most xs (omega (arith, less)))
+
+pub whole_read : (a : Option (List ℕ)) (octets : List ℕ) (most : ℕ) → length octets < most → IfSome a (λ input. octets ≡ take most input) → IfSome a (λ input. octets ≡ input)
+whole_read None octets most less read = tt
+whole_read (Some input) octets most less read = read ∙ take_short most input (subst (λ xs. length xs < most) read less)

@@ -40,30 +40,25 @@ stop_leaves r stop before after (inr cut) = left_by_device stop before after cut
 
 -- ---- of connections
 
-module _ {State Connection : Type 0} (does : Doing State) (fault_reply : FaultReplies) (remaining contents : Connection → Option (List ℕ)) (accepts : Option Connection → Type 0) where
-  abbrev Stopped : ℕ → ℕ → State → Option (List ℕ) → Option (List ℕ) → Stop → State → Type 0
-  Stopped port connections old before after stop new = StopsServing does fault_reply remaining contents accepts port connections old before after stop new
+module _ {State Connection : Type 0} (does : Doing State) (fault_reply : FaultReplies) (remaining contents : Connection → Option (List ℕ)) where
+  abbrev Stopped : ℕ → ℕ → Option (List (Option Connection)) → State → Option (List ℕ) → Option (List ℕ) → Stop → State → Type 0
+  Stopped port connections coming old before after stop new = StopsServing does fault_reply remaining contents port connections coming old before after stop new
 
-  pub stops_unsaid : (port connections : ℕ) (old : State) (w : Option (List ℕ)) (stop : Stop) → stop ≡ no_memory → Stopped port connections old w w stop old
-  stops_unsaid port connections old w stop is = subst (λ (s : Stop). Stopped port connections old w w s old) (sym is) (refl, kept_same w, refl)
+  pub stops_unsaid : (port connections : ℕ) (coming : Option (List (Option Connection))) (old : State) (w : Option (List ℕ)) (stop : Stop) → stop ≡ no_memory → Stopped port connections coming old w w stop old
+  stops_unsaid port connections coming old w stop is = subst (λ (s : Stop). Stopped port connections coming old w w s old) (sym is) (refl, kept_same w, refl)
 
-  pub stops_mute : (port connections : ℕ) (old : State) (before after : Option (List ℕ)) (stop : Stop) → stop ≡ Device → WritesFront (listening_line port) before after
-      → Stopped port connections old before after stop old
-  stops_mute port connections old before after stop is front = subst (λ (s : Stop). Stopped port connections old before after s old) (sym is) (inr (record { front = front; kept = refl }))
+  pub stops_mute : (port connections : ℕ) (coming : Option (List (Option Connection))) (old : State) (before after : Option (List ℕ)) (stop : Stop) → stop ≡ Device → WritesFront (listening_line port) before after
+      → Stopped port connections coming old before after stop old
+  stops_mute port connections coming old before after stop is front = subst (λ (s : Stop). Stopped port connections coming old before after s old) (sym is) (inr (record { front = front; kept = refl }))
 
-  pub stops_listening : (port connections : ℕ) (old new : State) (before after : Option (List ℕ)) (fault : ListenFault) → Appends before after (listening_line port)
-      → Listens does fault_reply remaining contents accepts connections old (Err fault) new → Stopped port connections old before after (stop_of_listening fault) new
-  stops_listening port connections old new before after (GaveUp fault) written listens = record { written = written; listens = listens }
-  stops_listening port connections old new before after NoListener written listens = inl (record { written = written; listens = listens })
+  pub stops_listening : (port connections : ℕ) (coming : Option (List (Option Connection))) (old new : State) (before after : Option (List ℕ)) (fault : ListenFault) → Appends before after (listening_line port)
+      → Listens does fault_reply remaining contents connections coming old (Err fault) new → Stopped port connections coming old before after (stop_of_listening fault) new
+  stops_listening port connections coming old new before after (GaveUp fault) written listens = record { written = written; listens = listens }
+  stops_listening port connections coming old new before after NoListener written listens = inl (record { written = written; listens = listens })
 
-  pub serving_stop_leaves : (port connections : ℕ) (old new : State) (before after : Option (List ℕ)) (stop : Stop) → Stopped port connections old before after stop new → LeavesWriter stop before after
-  serving_stop_leaves port connections old new before after (Refused refusal) s = absurd s
-  serving_stop_leaves port connections old new before after (Fault fault) s = s.1
-  serving_stop_leaves port connections old new before after (Open fault) s = absurd s
-  serving_stop_leaves port connections old new before after (Serve fault) s = tt
-  serving_stop_leaves port connections old new before after Device s = tt
-
-  pub serving_leaves : (result : Result (Unit {0}) Stop) (port connections : ℕ) (old new : State) (before after : Option (List ℕ)) → IfErr result (λ stop. Stopped port connections old before after stop new)
-      → IfErr result (λ stop. LeavesWriter stop before after)
-  serving_leaves (Ok done) port connections old new before after s = tt
-  serving_leaves (Err stop) port connections old new before after s = serving_stop_leaves port connections old new before after stop s
+  pub serving_stop_leaves : (port connections : ℕ) (coming : Option (List (Option Connection))) (old new : State) (before after : Option (List ℕ)) (stop : Stop) → Stopped port connections coming old before after stop new → LeavesWriter stop before after
+  serving_stop_leaves port connections coming old new before after (Refused refusal) s = absurd s
+  serving_stop_leaves port connections coming old new before after (Fault fault) s = s.1
+  serving_stop_leaves port connections coming old new before after (Open fault) s = absurd s
+  serving_stop_leaves port connections coming old new before after (Serve fault) s = tt
+  serving_stop_leaves port connections coming old new before after Device s = tt

@@ -1,5 +1,5 @@
 -- What an order does to a store of books, and what is written of it. This project's own.
-use Rattle.std.specs.Prelude.{ℕ, List, Option}
+use Rattle.std.specs.Prelude.{◌≡◌, ℕ, List, Option}
 use Rattle.std.specs.Io.KnownBytes.{Appends}
 use Rattle.book_http.specs.Performing.{Performs}
 use Rattle.book_model.specs.Bounds.{Bounds}
@@ -14,7 +14,7 @@ use Rattle.book_service.specs.Runs.{IsAt, Moment}
 use Rattle.order_texts.specs.OrderTexts.{mirror_lines}
 use Rattle.orders.specs.declared.stop.Stop.{Stop}
 use Rattle.orders.specs.declared.stop.Stop.TheVariants.{Refused}
-use Rattle.orders.specs.Telling.{IsPrinted, StopsAt}
+use Rattle.orders.specs.Telling.{IsPrinted, LeavesWriter, StopsAt}
 
 -- of a mirror that was refused at this moment
 abbrev pub IsMirrorStop : Moment → List ℕ → ℕ → ℕ → Stop → Type 0
@@ -46,4 +46,14 @@ module _ {S : Type 0} (books : S → Books) (limits : S → Bounds) (premise : S
         → IsMirrored now book limit pages mirrored
     pub few : premise new → (now : Moment) → IsAt now (limits old) (books old)
         → TakesFewPages now book limit pages mirrored
+    pub kept : premise new → books new ≡ books old
     pub written : Appends before after (mirror_lines mirrored)
+
+  -- No mirror is printed: where it was refused, so was its initial report. The books are left, and
+  -- nothing is written unless the writer failed.
+  pub record StopsMirror (old : S) (book : List ℕ) (limit pages : ℕ) (stop : Stop)
+      (before after : Option (List ℕ)) (new : S) : Type 0 where
+    pub stop_is : premise new → (now : Moment) → IsAt now (limits old) (books old)
+        → IsMirrorStop now book limit pages stop
+    pub kept : premise new → books new ≡ books old
+    pub left : LeavesWriter stop before after

@@ -6,3 +6,5 @@ pub mod Doing
 pub mod OrderReplies
 pub mod Serving
 pub mod OnFiles
+pub mod Machines
+pub mod OnMachines

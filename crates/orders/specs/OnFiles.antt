@@ -1,5 +1,5 @@
 -- What is printed of an order that is done on the books in a file. This project's own.
-use Rattle.std.specs.Prelude.{◌≡◌, ℕ, List, Option}
+use Rattle.std.specs.Prelude.{◌≡◌, ◌≢◌, ℕ, List, Option}
 use Rattle.std.specs.Io.KnownBytes.{Appends}
 use Rattle.book_service.specs.declared.mirrored.Mirrored.{Mirrored}
 use Rattle.book_service.specs.declared.reply.Reply.{Reply}
@@ -33,9 +33,11 @@ pub record PrintsCopy (before after : Option (List ℕ)) : Type 0 where
   pub mirrored : Mirrored
   pub written : Appends before after (mirror_lines mirrored)
 
--- the line that says where the service listens, at this port or another
-pub record PrintsPort (before after : Option (List ℕ)) : Type 0 where
+-- The line that says where the service listens: at the port that was asked for, or at any where
+-- none was.
+pub record PrintsPort (asked : ℕ) (before after : Option (List ℕ)) : Type 0 where
   pub port : ℕ
+  pub is_asked : asked ≢ 0 → port ≡ asked
   pub written : Appends before after (listening_line port)
 
 -- how many books a file has that was brought to the newer schema
@@ -47,7 +49,7 @@ pub record PrintsMigrated (before after : Option (List ℕ)) : Type 0 where
 abbrev pub PrintsOrder : Order → Option (List ℕ) → Option (List ℕ) → Type 0
 PrintsOrder Try before after = ⊥
 PrintsOrder (Init file) before after = Appends before after made_line
-PrintsOrder (Serve file port connections) before after = PrintsPort before after
+PrintsOrder (Serve file port connections) before after = PrintsPort port before after
 PrintsOrder (Mirror file book limit pages) before after = PrintsCopy before after
 PrintsOrder (Migrate file) before after = PrintsMigrated before after
 PrintsOrder order before after = PrintsReply before after

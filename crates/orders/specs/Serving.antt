@@ -16,13 +16,14 @@ abbrev pub listening_line : ℕ → List ℕ
 listening_line port = codes "listening 127.0.0.1:" ++ (decimal port ++ line_feed ∷ [])
 
 module _ {State Connection : Type 0} (does : Doing State) (fault_reply : FaultReplies)
-    (remaining contents : Connection → Option (List ℕ)) (accepts : Option Connection → Type 0) where
+    (remaining contents : Connection → Option (List ℕ)) where
   -- the line was written whole, and what came of the connections is told as this
-  pub record Announces (port connections : ℕ) (old : State)
+  pub record Announces
+      (port connections : ℕ) (coming : Option (List (Option Connection))) (old : State)
       (before after : Option (List ℕ)) (end : Result (Unit {0}) ListenFault) (new : State)
       : Type 0 where
     pub written : Appends before after (listening_line port)
-    pub listens : Listens does fault_reply remaining contents accepts connections old end new
+    pub listens : Listens does fault_reply remaining contents connections coming old end new
 
   -- the line wasn't written whole, and so no connection was accepted
   pub record IsMute (port : ℕ) (old : State) (before after : Option (List ℕ)) (new : State)
@@ -31,14 +32,14 @@ module _ {State Connection : Type 0} (does : Doing State) (fault_reply : FaultRe
     pub kept : new ≡ old
 
   -- why not all connections were served to their ends
-  abbrev pub StopsServing : ℕ → ℕ → State → Option (List ℕ) → Option (List ℕ) → Stop → State
-      → Type 0
-  StopsServing port connections old before after (Serve fault) new =
-      Announces port connections old before after (Err (GaveUp fault)) new
-  StopsServing port connections old before after Device new =
-      Announces port connections old before after (Err NoListener) new
+  abbrev pub StopsServing : ℕ → ℕ → Option (List (Option Connection)) → State
+      → Option (List ℕ) → Option (List ℕ) → Stop → State → Type 0
+  StopsServing port connections coming old before after (Serve fault) new =
+      Announces port connections coming old before after (Err (GaveUp fault)) new
+  StopsServing port connections coming old before after Device new =
+      Announces port connections coming old before after (Err NoListener) new
       ⊎ IsMute port old before after new
-  StopsServing port connections old before after (Fault fault) new =
+  StopsServing port connections coming old before after (Fault fault) new =
       (Fault fault ≡ no_memory) × Keeps before after × (new ≡ old)
-  StopsServing port connections old before after (Refused refusal) new = ⊥
-  StopsServing port connections old before after (Open fault) new = ⊥
+  StopsServing port connections coming old before after (Refused refusal) new = ⊥
+  StopsServing port connections coming old before after (Open fault) new = ⊥

@@ -3,18 +3,22 @@ ghost use Rattle.std.specs.Prelude.{◌≡◌, ◌⊎◌, IfErr, IfOk};
 ghost use Rattle.orders.specs.Asking.{IsCommandOf};
 ghost use Rattle.orders.specs.Stops.{no_memory};
 
-use crate::files::read_csv;
+use crate::machine::Machine;
 use crate::stop::Stop;
 use base_types::Items;
 use book_service::Command;
 use command_line::Order;
-use std::rt::HostRuntime;
+use std::alloc::Global;
 
 /// The command that an order is. Of an import, the file of rows is read.
 ///
 /// `Device` where the rows can't be read, or for an order that is no single command.
-pub(crate) fn command_of(rt: &HostRuntime, order: Order) -> Result<Command, Stop>
-    ensures asked { IfOk result (IsCommandOf order) }
+pub(crate) fn command_of<S, L, M: Machine<S, L>>(
+    alloc: Global,
+    machine: &M,
+    order: Order,
+) -> Result<Command, Stop>
+    ensures asked { IfOk result (IsCommandOf (M.reach machine.now).holds order) }
     ensures stop { IfErr result (λ stop. (stop ≡ no_memory) ⊎ (stop ≡ Stop.Device)) }
 {
     match order {
@@ -25,7 +29,7 @@ pub(crate) fn command_of(rt: &HostRuntime, order: Order) -> Result<Command, Stop
             key,
             csv,
         } => {
-            let body = Items::from_vec(read_csv(rt, csv.as_str())?);
+            let body = Items::from_vec(machine.read_rows(alloc, csv.as_str())?);
             Ok(Command::Import { book, key, body })
         }
         Order::Export {

@@ -1,8 +1,7 @@
 //! Orders that need a store of books and a writer, and nothing else.
 ghost use Rattle.std.specs.Prelude.{◌≡◌, IfErr, IfOk, OnOk};
-ghost use Rattle.book_service.specs.Runs.{IsAt, Moment};
-ghost use Rattle.orders.specs.Doing.{IsMirrorStop, Prints, PrintsMirror, Stops};
-ghost use Rattle.orders.specs.Telling.{IsStopOf, IsTextOf, LeavesWriter};
+ghost use Rattle.orders.specs.Doing.{Prints, PrintsMirror, Stops, StopsMirror};
+ghost use Rattle.orders.specs.Telling.{IsStopOf, IsTextOf};
 
 use crate::stop::Stop;
 use crate::writing::write_out;
@@ -72,18 +71,12 @@ pub fn run_mirror<S: BookStore, W: Write>(
     pages: u64,
     writer: &mut W,
 ) -> Result<(), Stop>
-    ensures kept { S.premise store.new → S.books store.new ≡ S.books store.old }
     ensures printed { OnOk result (PrintsMirror S.books S.limits S.premise S.may_fault
         store.old book.now limit pages (W.contents writer.old) (W.contents writer.new) store.new) }
 
-    // A refusal is that of the initial report.
-    ensures stopped { IfErr result (λ stop. S.premise store.new → (now : Moment) →
-        IsAt now (S.limits store.old) (S.books store.old) →
-        IsMirrorStop now book.now limit pages stop) }
-
-    // Where it is refused, or memory runs out, nothing is written.
-    ensures left { IfErr result (λ stop.
-        LeavesWriter stop (W.contents writer.old) (W.contents writer.new)) }
+    ensures stopped { IfErr result (λ stop. StopsMirror S.books S.limits S.premise S.may_fault
+        store.old book.now limit pages stop
+        (W.contents writer.old) (W.contents writer.new) store.new) }
 {
     let mirrored = mirror(alloc, store, book, limit, pages)?;
     let text = mirror_text(alloc, &mirrored)?;

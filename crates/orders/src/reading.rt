@@ -8,6 +8,9 @@ use crate::stop::Stop;
 use std::alloc::Global;
 use std::io::{ErrorKind, Read};
 
+/// The most octets that rows may have.
+const ROWS_OCTETS_MAX: usize = 8_388_608;
+
 /// The most reads of one input. Each but an interrupted one gives an octet or is the last.
 const READS_MAX: u32 = 10_000_000;
 
@@ -58,4 +61,22 @@ pub fn read_at_most<R: Read>(alloc: Global, reader: &mut R, most: usize) -> Resu
     let count = fill(reader, octets.as_mut_slice())?;
     octets.truncate(count);
     Ok(octets)
+}
+
+/// Reads rows to the end of the input.
+///
+/// `Stop::Device` where they have more than 8,388,608 octets or the reader fails, and no memory
+/// where there is no room for so many.
+pub fn read_rows_of<R: Read>(alloc: Global, reader: &mut R) -> Result<Vec<u8>, Stop>
+    ensures whole { IfOk result (λ rows. IfSome (R.remaining reader.old)
+        (λ input. rows.items ≡ input)) }
+    ensures len { IfOk result (λ rows. length rows.items ≤ 8388608) }
+    ensures stop { IfErr result (λ stop. (stop ≡ no_memory) ⊎ (stop ≡ Stop.Device)) }
+{
+    // one more is read, so that longer rows are seen to be too long
+    let rows = read_at_most(alloc, reader, ROWS_OCTETS_MAX + 1)?;
+    if rows.len() > ROWS_OCTETS_MAX {
+        return Err(Stop::Device);
+    }
+    Ok(rows)
 }

@@ -1,41 +1,44 @@
 //! Orders, done.
-ghost use Rattle.std.specs.Prelude.{IfErr, IfSome, OnOk};
-ghost use Rattle.std.specs.Io.KnownBytes.{Appends};
-ghost use Rattle.order_texts.specs.OrderTexts.{made_line};
+ghost use Rattle.std.specs.Prelude.{◌≡◌, None, IfErr, IfSome, OnOk};
+ghost use Rattle.command_line.specs.declared.order.Order.{Order as TheOrder};
 ghost use Rattle.orders.specs.Asking.{DoesOrder, StopsOrder};
-ghost use Rattle.orders.specs.OnFiles.{IsFileOf, PrintsOrder, PrintsPort};
+ghost use Rattle.orders.specs.OnFiles.{IsFileOf, PrintsOrder};
+ghost use Rattle.orders.specs.OnMachines.{CarriesFile, DoesInFile, IsDone, IsStopped, MakesStore, ServesFile, StopsCarrying, StopsInFile, StopsMaking, StopsServe};
 ghost use Rattle.orders.specs.Telling.{LeavesWriter};
 
 use crate::asking::command_of;
 use crate::doing::{run_command, run_mirror};
-use crate::files::{listen, open_books};
-use crate::migrating::run_migrate;
+use crate::machine::Machine;
 use crate::serving::announce_and_serve;
 use crate::stop::Stop;
 use crate::writing::write_out;
 use base_types::Text;
 use book_http::Service;
-use book_store::{FileBooks, SqlStore};
+use book_server::Listener;
 use command_line::Order;
-use order_texts::made_text;
+use order_texts::{made_text, migrate_text};
+use std::alloc::Global;
 use std::io::Write;
 use std::rt::HostRuntime;
-use sync_core::{BookStore, Limits};
+use sync_core::BookStore;
 
 /// Does an order on a store of books, and writes its output: an order that is one command, or a
 /// mirror. The file of an import's rows is read first.
 ///
 /// Stops as `run_command` and `run_mirror` do, and with `Device` where the rows can't be read or
 /// have more than 8,388,608 octets. The other orders aren't done on a store: `Device`.
-pub fn run_on_store<S: BookStore, W: Write>(
-    rt: &HostRuntime,
+pub fn run_on_store<S: BookStore, B, L, M: Machine<B, L>, W: Write>(
+    alloc: Global,
+    machine: &M,
     store: &mut S,
     order: Order,
     writer: &mut W,
 ) -> Result<(), Stop>
-    ensures done { OnOk result (DoesOrder S.books S.limits S.premise S.may_fault order
+    ensures done { OnOk result (DoesOrder S.books S.limits S.premise S.may_fault
+        (M.reach machine.now).holds order
         store.old (W.contents writer.old) (W.contents writer.new) store.new) }
-    ensures stopped { IfErr result (λ stop. StopsOrder S.books S.limits S.premise S.may_fault order
+    ensures stopped { IfErr result (λ stop. StopsOrder S.books S.limits S.premise S.may_fault
+        (M.reach machine.now).holds order
         store.old stop (W.contents writer.old) (W.contents writer.new) store.new) }
     ensures left { IfErr result (λ stop.
         LeavesWriter stop (W.contents writer.old) (W.contents writer.new)) }
@@ -46,17 +49,18 @@ pub fn run_on_store<S: BookStore, W: Write>(
             book,
             limit,
             pages,
-        } => run_mirror(rt.alloc(), store, book.as_str(), limit, pages, writer),
+        } => run_mirror(alloc, store, book.as_str(), limit, pages, writer),
         order => {
-            let command = command_of(rt, order)?;
-            run_command(rt.alloc(), store, &command, writer)
+            let command = command_of(alloc, machine, order)?;
+            run_command(alloc, store, &command, writer)
         }
     }
 }
 
 /// The file that an order names.
 fn file_of(order: &Order) -> Option<&str>
-    ensures { IfSome result (λ name. IsFileOf order.now name.now) }
+    ensures named { IfSome result (λ name. IsFileOf order.now name.now) }
+    ensures unnamed { result ≡ None → order.now ≡ TheOrder.Try }
 {
     match order {
         Order::Try => None,
@@ -74,82 +78,128 @@ fn file_of(order: &Order) -> Option<&str>
 }
 
 /// Makes a store without books in the file, and writes that it is made.
-fn run_init<W: Write>(rt: &HostRuntime, file: Text, writer: &mut W) -> Result<(), Stop>
-    ensures made { OnOk result
-        (Appends (W.contents writer.old) (W.contents writer.new) made_line) }
-    ensures left { IfErr result (λ stop.
-        LeavesWriter stop (W.contents writer.old) (W.contents writer.new)) }
+fn run_init<S: Drop, L, M: Machine<S, L>, W: Write>(
+    machine: &M,
+    file: Text,
+    writer: &mut W,
+) -> Result<(), Stop>
+    ensures done { OnOk result (MakesStore (M.reach machine.now)
+        file (W.contents writer.old) (W.contents writer.new)) }
+    ensures stopped { IfErr result (λ stop. StopsMaking (M.reach machine.now)
+        file stop (W.contents writer.old) (W.contents writer.new)) }
 {
-    let _books: FileBooks = SqlStore::create(rt, file.as_str(), Limits::standard())?;
+    let _books = machine.create(file.as_str())?;
     write_out(writer, made_text().as_bytes())
 }
 
-/// Does an order on the books in its file, as `run_on_store` does.
-fn run_on_file<W: Write>(rt: &HostRuntime, order: Order, writer: &mut W) -> Result<(), Stop>
-    ensures printed { OnOk result
-        (PrintsOrder order (W.contents writer.old) (W.contents writer.new)) }
-    ensures left { IfErr result (λ stop.
-        LeavesWriter stop (W.contents writer.old) (W.contents writer.new)) }
+/// Carries the file to the present schema, and writes how many books it has. What was done stands
+/// where it can't be written.
+fn run_migrate<S, L, M: Machine<S, L>, W: Write>(
+    alloc: Global,
+    machine: &M,
+    file: Text,
+    writer: &mut W,
+) -> Result<(), Stop>
+    ensures done { OnOk result (CarriesFile (M.reach machine.now)
+        file (W.contents writer.old) (W.contents writer.new)) }
+    ensures stopped { IfErr result (λ stop. StopsCarrying (M.reach machine.now)
+        file stop (W.contents writer.old) (W.contents writer.new)) }
 {
-    let Some(file) = file_of(&order) else {
-        return Err(Stop::Device);
-    };
-    let mut store = open_books(rt, file)?;
-    run_on_store(rt, &mut store, order, writer)
+    let books = machine.carry(file.as_str())?;
+    let text = migrate_text(alloc, books)?;
+    write_out(writer, text.as_slice())
 }
 
 /// Serves the books in the file at the port. The store is opened first.
-fn run_serve<W: Write>(
-    rt: &HostRuntime,
+fn run_serve<S: BookStore + Drop, L: Listener + Drop, M: Machine<S, L>, W: Write>(
+    alloc: Global,
+    machine: &M,
     file: Text,
     port: u16,
     connections: u64,
     writer: &mut W,
 ) -> Result<(), Stop>
-    ensures listening { OnOk result
-        (PrintsPort (W.contents writer.old) (W.contents writer.new)) }
-    ensures left { IfErr result (λ stop.
-        LeavesWriter stop (W.contents writer.old) (W.contents writer.new)) }
+    ensures done { OnOk result (ServesFile S.books S.limits S.premise S.may_fault
+        L.Stream.remaining L.Stream.contents L.coming (M.reach machine.now)
+        file port connections (W.contents writer.old) (W.contents writer.new)) }
+    ensures stopped { IfErr result (λ stop. StopsServe S.books S.limits S.premise S.may_fault
+        L.Stream.remaining L.Stream.contents L.coming (M.reach machine.now)
+        file port connections stop (W.contents writer.old) (W.contents writer.new)) }
 {
-    let store = open_books(rt, file.as_str())?;
-    let (listener, port) = listen(rt, port)?;
+    let store = machine.open(file.as_str())?;
+    let (listener, port) = machine.listen(port)?;
     let mut service = Service { store };
-    announce_and_serve(
-        rt.alloc(),
-        &mut service,
-        &listener,
-        port,
-        connections,
-        writer,
-    )
+    announce_and_serve(alloc, &mut service, listener, port, connections, writer)
 }
 
-/// Does an order, and writes its output: the file is opened first, then the rows are read or the
-/// port is bound, then the order is done, and its output is written last, but for the line that
-/// names the port, which is written before the first connection is accepted.
+/// Does an order on the books in its file, as `run_on_store` does.
+fn run_in_file<S: BookStore + Drop, L: Listener + Drop, M: Machine<S, L>, W: Write>(
+    alloc: Global,
+    machine: &M,
+    order: Order,
+    writer: &mut W,
+) -> Result<(), Stop>
+    ensures done { OnOk result (DoesInFile S.books S.limits S.premise S.may_fault
+        L.Stream.remaining L.Stream.contents L.coming (M.reach machine.now)
+        order (W.contents writer.old) (W.contents writer.new)) }
+    ensures stopped { IfErr result (λ stop. StopsInFile S.books S.limits S.premise S.may_fault
+        L.Stream.remaining L.Stream.contents L.coming (M.reach machine.now)
+        order stop (W.contents writer.old) (W.contents writer.new)) }
+{
+    let Some(file) = file_of(&order) else {
+        return Err(Stop::Device);
+    };
+    let mut store = machine.open(file)?;
+    run_on_store(alloc, machine, &mut store, order, writer)
+}
+
+/// Does an order on a machine, and writes its output: the file is opened first, then the rows are
+/// read or the port is bound, then the order is done, and its output is written last, but for the
+/// line that names the port, which is written before the first connection is accepted.
 ///
 /// `Open` where the file can't be opened as a store of books; `Device` where the file of rows can't
 /// be read or has more than 8,388,608 octets, where no listener can be had at the port, or where
 /// the writer fails. What was done stands where it can't be written. `Try` reads standard input,
 /// which isn't had here, and so is `Device`.
+pub fn run_on_machine<S: BookStore + Drop, L: Listener + Drop, M: Machine<S, L>, W: Write>(
+    alloc: Global,
+    machine: &M,
+    order: Order,
+    writer: &mut W,
+) -> Result<(), Stop>
+    ensures done { OnOk result (IsDone S.books S.limits S.premise S.may_fault
+        L.Stream.remaining L.Stream.contents L.coming (M.reach machine.now)
+        order (W.contents writer.old) (W.contents writer.new)) }
+    ensures stopped { IfErr result (λ stop. IsStopped S.books S.limits S.premise S.may_fault
+        L.Stream.remaining L.Stream.contents L.coming (M.reach machine.now)
+        order stop (W.contents writer.old) (W.contents writer.new)) }
+
+    // Where it is refused, comes to a fault, or the file can't be opened, nothing is written.
+    ensures left { IfErr result (λ stop.
+        LeavesWriter stop (W.contents writer.old) (W.contents writer.new)) }
+{
+    match order {
+        Order::Try => Err(Stop::Device),
+        Order::Init { file } => run_init(machine, file, writer),
+        Order::Serve {
+            file,
+            port,
+            connections,
+        } => run_serve(alloc, machine, file, port, connections, writer),
+        Order::Migrate { file } => run_migrate(alloc, machine, file, writer),
+        order => run_in_file(alloc, machine, order, writer),
+    }
+}
+
+/// `run_on_machine`, on the machine that the program runs on.
 ///
-/// What the order makes of the books is said by `run_on_store`: no clause ties a store to the file
-/// at a path.
+/// Of that, no contract tells which store a file holds: what the order makes of the books is said
+/// by `run_on_machine`, whose body is one for all machines.
 pub fn run_order<W: Write>(rt: &HostRuntime, order: Order, writer: &mut W) -> Result<(), Stop>
     ensures printed { OnOk result
         (PrintsOrder order (W.contents writer.old) (W.contents writer.new)) }
     ensures left { IfErr result (λ stop.
         LeavesWriter stop (W.contents writer.old) (W.contents writer.new)) }
 {
-    match order {
-        Order::Try => Err(Stop::Device),
-        Order::Init { file } => run_init(rt, file, writer),
-        Order::Serve {
-            file,
-            port,
-            connections,
-        } => run_serve(rt, file, port, connections, writer),
-        Order::Migrate { file } => run_migrate(rt, file, writer),
-        order => run_on_file(rt, order, writer),
-    }
+    run_on_machine(rt.alloc(), rt, order, writer)
 }

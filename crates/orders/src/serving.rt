@@ -22,22 +22,20 @@ fn listening_text(alloc: Global, port: u16) -> Result<Vec<u8>, NoMemory>
 ///
 /// Stops with no memory, and with `Device` where the writer or the listener fails; and with `Serve`
 /// where a connection was given up.
-pub fn announce_and_serve<H: Handler, L: Listener, W: Write>(
+pub fn announce_and_serve<H: Handler, L: Listener + Drop, W: Write>(
     alloc: Global,
     handler: &mut H,
-    listener: &L,
+    listener: L,
     port: u16,
     connections: u64,
     writer: &mut W,
 ) -> Result<(), Stop>
     ensures served { IfOk result (λ done. Announces H.does H.fault_reply
-        L.Stream.remaining L.Stream.contents (L.accepts listener.now)
-        port connections handler.old (W.contents writer.old) (W.contents writer.new)
-        (Ok done) handler.new) }
+        L.Stream.remaining L.Stream.contents port connections (L.coming listener)
+        handler.old (W.contents writer.old) (W.contents writer.new) (Ok done) handler.new) }
     ensures stopped { IfErr result (λ stop. StopsServing H.does H.fault_reply
-        L.Stream.remaining L.Stream.contents (L.accepts listener.now)
-        port connections handler.old (W.contents writer.old) (W.contents writer.new)
-        stop handler.new) }
+        L.Stream.remaining L.Stream.contents port connections (L.coming listener)
+        handler.old (W.contents writer.old) (W.contents writer.new) stop handler.new) }
 {
     let line = listening_text(alloc, port)?;
     write_out(writer, line.as_slice())?;
