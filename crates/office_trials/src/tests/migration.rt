@@ -2,8 +2,13 @@
 mod carrying;
 mod files;
 
+use book_model::{Entry, Mark, Page, Token};
 use sqlite::{Alter, Connection, params};
+use std::alloc::Global;
+use std::process::Abort;
 use std::test::Fail;
+use sync_core::BookStore;
+use vcard_text::{Items, Text};
 
 const TABLES: &str =
     "CREATE TABLE meta (name TEXT NOT NULL PRIMARY KEY, val INTEGER NOT NULL) STRICT; \
@@ -37,7 +42,7 @@ fn put<S: Alter>(
 
 /// Lays the tables of the first schema, with the book `staff`: nine changes, of which two left live
 /// cards and two are removals that are remembered.
-fn lay<S: Alter>(conn: &mut Connection<S>) -> Result<(), Fail> {
+pub(super) fn lay<S: Alter>(conn: &mut Connection<S>) -> Result<(), Fail> {
     conn.execute_batch(TABLES)?;
     conn.execute_batch(
         "INSERT INTO book VALUES (1, 'staff', 9, 0, 5, 1, 0, 0, 0, 3, 0); \
@@ -46,4 +51,27 @@ fn lay<S: Alter>(conn: &mut Connection<S>) -> Result<(), Fail> {
     )?;
     put(conn, "a", 4, ANNA)?;
     put(conn, "b", 7, BOB)
+}
+
+/// The page that says that `d` went, and nothing else.
+fn page_without_d(alloc: Global) -> Result<Page, Fail> {
+    let uid = Text::copy_of(alloc, "d")?;
+    let mut entries = Items::new(alloc);
+    entries.push(Entry::Removed { uid })?;
+    Ok(Page {
+        book: 1,
+        entries,
+        mark: Mark { at: 9, base: 9 },
+        truncated: false,
+    })
+}
+
+/// A device that heard of all up to the seventh change, before the tables were carried, goes on
+/// with its token.
+fn goes_on<S: BookStore>(rt: &impl Abort, alloc: Global, store: &mut S) -> Result<(), Fail> {
+    let mark = Mark { at: 7, base: 7 };
+    let token = Token { book: 1, mark };
+    let page = store.report("staff", Some(token), None)?;
+    assert_eq!(rt; page, page_without_d(alloc)?);
+    Ok(())
 }

@@ -1,5 +1,6 @@
 //! Rows of words, each with what its order prints or why it stops.
 mod files;
+mod migrated;
 mod served;
 
 use command_line::{LineFault, Order, read_order};
@@ -30,7 +31,8 @@ fn done(rt: &HostRuntime, order: Order) -> (Vec<u8>, Result<(), Stop>) {
     (out, end)
 }
 
-/// What is printed by the order that the line asks for, and behind it why it stops, where it does.
+/// What is printed by the order that the line asks for, and behind it why it stops, where it does,
+/// and with which status.
 fn told(rt: &HostRuntime, line: &str) -> Result<String, Fail> {
     let alloc = rt.alloc();
     let words = words_of(alloc, line)?;
@@ -41,7 +43,7 @@ fn told(rt: &HostRuntime, line: &str) -> Result<String, Fail> {
     let out = str::from_utf8(out.as_slice())?;
     match end {
         Ok(()) => Ok(String::from_str(alloc, out)?),
-        Err(stop) => Ok(format!(in alloc; "{out}{stop}")?),
+        Err(stop) => Ok(format!(in alloc; "{out}{stop}, status {}", stop.status())?),
     }
 }
 

@@ -36,14 +36,20 @@ fn number(conn: &mut Memory, query: &str) -> Result<i64, Fail> {
     Ok(conn.query_row(query, params![])?.get(0)?)
 }
 
-/// The version of the card with the UID, in the store over the tables.
-fn version(alloc: Global, conn: Memory, uid: &str) -> Result<u64, Fail> {
+/// The store over the tables.
+fn adopted(alloc: Global, conn: Memory) -> Result<SqlStore<MemStore>, Fail> {
     if !conn.is_autocommit() {
         return Err(Fail::new("transaction"));
     }
-    let Ok(mut store) = SqlStore::adopt(alloc, conn, Limits::standard()) else {
-        return Err(Fail::new("not adopted"));
-    };
+    match SqlStore::adopt(alloc, conn, Limits::standard()) {
+        Ok(store) => Ok(store),
+        Err(_) => Err(Fail::new("not adopted")),
+    }
+}
+
+/// The version of the card with the UID, in the store over the tables.
+fn version(alloc: Global, conn: Memory, uid: &str) -> Result<u64, Fail> {
+    let mut store = adopted(alloc, conn)?;
     Ok(store.get("staff", uid)?.version)
 }
 
@@ -68,6 +74,15 @@ fn carries_tables_of_the_first_schema(rt: HostRuntime) -> Result<(), Fail> {
     );
     assert_eq!(&rt; version(alloc, conn, "b")?, 7);
     Ok(())
+}
+
+#[test]
+fn carries_tokens(rt: HostRuntime) -> Result<(), Fail> {
+    let alloc = rt.alloc();
+    let mut conn = laid(alloc)?;
+    assert_eq!(&rt; migrated(alloc, &mut conn)?, Ok(1));
+    let mut store = adopted(alloc, conn)?;
+    super::goes_on(&rt, alloc, &mut store)
 }
 
 #[test]

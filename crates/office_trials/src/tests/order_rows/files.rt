@@ -37,16 +37,16 @@ fn change_five_times(rt: &HostRuntime, path: &str) -> Result<(), Fail> {
 fn keeps_books_in_a_file(rt: HostRuntime) -> Result<(), Fail> {
     new_folder(&rt, "orders")?;
     let begin = [
-        ("tally orders/a.db staff", "fault open 1"),
+        ("tally orders/a.db staff", "fault open 1, status 3"),
         ("init orders/a.db", "made\n"),
-        ("init orders/a.db", "fault open 5"),
-        ("tally orders/a.db staff", "refused no-such-book 1"),
+        ("init orders/a.db", "fault open 5, status 3"),
+        ("tally orders/a.db staff", "refused no-such-book 1, status 1"),
         ("book orders/a.db staff", "book 1\n"),
-        ("book orders/a.db staff", "refused book-exists 2"),
+        ("book orders/a.db staff", "refused book-exists 2, status 1"),
         ("book orders/a.db clients", "book 2\n"),
         // the file has the present schema already
-        ("migrate orders/a.db", "fault open 3"),
-        ("migrate orders/b.db", "fault open 1"),
+        ("migrate orders/a.db", "fault open 3, status 3"),
+        ("migrate orders/b.db", "fault open 1, status 3"),
     ];
     assert_eq!(rt; differs(&rt, begin.as_slice())?, None);
     change_five_times(&rt, "orders/a.db")?;
@@ -72,15 +72,15 @@ fn keeps_books_in_a_file(rt: HostRuntime) -> Result<(), Fail> {
         ),
         (
             "mirror orders/a.db staff --limit 0",
-            "refused number-of-matches-within-limits 11",
+            "refused number-of-matches-within-limits 11, status 1",
         ),
-        ("expand orders/a.db staff a", "refused not-group 17"),
+        ("expand orders/a.db staff a", "refused not-group 17, status 1"),
         (
             "export orders/a.db staff --form columns",
             "uid,fn,family,given,email,tel,org,note\na,Anna,,,,,,\nc,Cy,,,,,,\n",
         ),
         ("forget orders/a.db staff 5", "dropped 1 horizon 5\n"),
-        ("forget orders/a.db staff 6", "refused bad-forget 16"),
+        ("forget orders/a.db staff 6", "refused bad-forget 16, status 1"),
     ];
     assert_eq!(rt; differs(&rt, more.as_slice())?, None);
     Ok(())
@@ -110,16 +110,16 @@ fn imports_rows_of_a_file(rt: HostRuntime) -> Result<(), Fail> {
         ),
         (
             "import imports/a.db staff l imports/bad.csv",
-            "refused bad-import 14",
+            "refused bad-import 14, status 1",
         ),
         (
             "import imports/a.db staff l imports/none.csv",
-            "fault device 1",
+            "fault device 1, status 3",
         ),
         // the store is opened before the rows are looked for
         (
             "import imports/none.db staff l imports/none.csv",
-            "fault open 1",
+            "fault open 1, status 3",
         ),
         ("expand imports/a.db staff g", "person p\nmissing q\n"),
     ];
