@@ -1,3 +1,5 @@
+mod reports;
+
 use book_http::{ServeFault, Service};
 use book_model::Limits;
 use book_server::{ListenFault, serve_listener};
