@@ -141,11 +141,45 @@ fn tells_bad_words(rt: HostRuntime) -> Result<(), Fail> {
         ),
         ("forget a.db staff -1", "'-1'"),
         ("--help", "contacts tally office.db staff"),
-        ("help serve", "Usage: contacts serve [OPTIONS] <FILE>"),
         (
             "mirror --help",
             "The most pages, 1 to 1000000 [default: 1000]",
         ),
     ];
     are_bad(&rt, rt.alloc(), rows.as_slice())
+}
+
+/// How each order's words stand in its help.
+const USAGES: [(&str, &str); 11] = [
+    ("help try", "Usage: contacts try\n"),
+    ("help init", "Usage: contacts init <FILE>\n"),
+    ("help book", "Usage: contacts book <FILE> <BOOK>\n"),
+    ("help serve", "Usage: contacts serve [OPTIONS] <FILE>\n"),
+    (
+        "help import",
+        "Usage: contacts import <FILE> <BOOK> <KEY> <CSV>\n",
+    ),
+    (
+        "help export",
+        "Usage: contacts export [OPTIONS] <FILE> <BOOK>\n",
+    ),
+    ("help tally", "Usage: contacts tally <FILE> <BOOK>\n"),
+    (
+        "help forget",
+        "Usage: contacts forget <FILE> <BOOK> <UPTO>\n",
+    ),
+    (
+        "help mirror",
+        "Usage: contacts mirror [OPTIONS] <FILE> <BOOK>\n",
+    ),
+    (
+        "help expand",
+        "Usage: contacts expand <FILE> <BOOK> <UID>\n",
+    ),
+    ("help migrate", "Usage: contacts migrate <FILE>\n"),
+];
+
+#[test]
+fn tells_each_orders_words(rt: HostRuntime) -> Result<(), Fail> {
+    are_bad(&rt, rt.alloc(), &USAGES)
 }

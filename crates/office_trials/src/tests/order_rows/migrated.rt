@@ -45,6 +45,6 @@ fn lay_file(rt: &HostRuntime) -> Result<(), Fail> {
 fn carries_a_file(rt: HostRuntime) -> Result<(), Fail> {
     new_folder(&rt, "migrates")?;
     lay_file(&rt)?;
-    assert_eq!(rt; differs(&rt, ROWS.as_slice())?, None);
+    assert_eq!(rt; differs(&rt, &ROWS)?, None);
     Ok(())
 }
