@@ -3,8 +3,9 @@
 
 From a connection's octets alone it tells each reply: the fault that the request has, or which
 command it is, and whether the connection is closed then. What the store answers to a command it
-doesn't tell, only which kinds of bodies and statuses that command has. It prints each difference
-and fails where there is one."""
+doesn't tell, only which kinds of bodies and statuses that command has. Of each row it tells how
+often its connections came once more, in pieces or from a reader. It prints each difference and
+fails where there is one."""
 
 import json
 import os
@@ -291,6 +292,18 @@ def is_right(reply, read):
     return is_fault(reply, fault, more) if fault else is_answer(reply, more)
 
 
+def once_more(lengths):
+    """What is told of a row with connections of so many octets, where the replies are the same."""
+    if max(lengths, default=0) <= 2_000:
+        halves = sum(max(length, 1) - 1 for length in lengths)
+    else:
+        halves = 2 * sum(2**power < length for length in lengths for power in range(15))
+    drawn = 20 * sum(length > 1 for length in lengths)
+    told = [("cut in two", halves), ("cut into drawn pieces", drawn)]
+    told += [("read and written", len(lengths))]
+    return "".join(f"\n{how} {times} times: the same" for how, times in told).encode()
+
+
 def parts(octets, mark):
     """The parts behind the marks, each as its title and the rest."""
     for part in octets.split(mark)[1:]:
@@ -306,7 +319,7 @@ def main():
         told_rows = list(parts(file.read(), b"\n#### "))
     count = differences = 0
     for (row, text), (_, told_text) in zip(rows, told_rows, strict=True):
-        connections = parts(text, b"\n==== ")
+        connections = list(parts(text, b"\n==== "))
         told = parts(told_text, b"\n==== ")
         for (name, octets), (_, told_replies) in zip(connections, told, strict=True):
             replies, end = replies_in(told_replies)
@@ -318,7 +331,11 @@ def main():
             if not same:
                 differences += 1
                 print(f"{row}: {name}: {octets!r}\n  read {read}\n  told {told_replies!r}")
-    print(f"{count} replies read, {differences} connections differ")
+        wanted = once_more([len(octets) for _, octets in connections])
+        if wanted not in told_text:
+            differences += 1
+            print(f"{row}: not told:{wanted.decode()}")
+    print(f"{count} replies read, {differences} connections or rows differ")
     return differences
 
 

@@ -226,6 +226,7 @@ row(
         request("GET", "books"),
         request("GET", "/books/staff/cards/"),
         request("GET", "*"),
+        request("GET", "/nothing"),
     ),
     connection(
         "other methods",
@@ -233,6 +234,8 @@ row(
         request("GET", "/books/staff"),
         request("PATCH", "/books/staff/cards/a"),
         request("GET", "/books/staff/cards/a/move"),
+        request("DELETE", "/books/staff"),
+        request("POST", "/books/staff/cards/a"),
     ),
     connection(
         "parts that aren't UTF-8",

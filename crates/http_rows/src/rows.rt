@@ -3,7 +3,7 @@
 use crate::cuttings::Cutting;
 use crate::failing_devices::tell_failing_devices;
 use crate::parts::{ROW, Row, first_line, row_in, split_at_mark};
-use crate::serving::{replies_in_memory, replies_to_octets};
+use crate::serving::{Way, replies_in_memory, replies_to_octets};
 use base_types::NoMemory;
 use std::alloc::Global;
 
@@ -23,8 +23,11 @@ struct Comparison {
     other: usize,
 }
 
-/// How many connections of the row are cut.
-fn cut_count(row: &Row, cutting: Cutting) -> usize {
+/// How many connections of the row come in another way than whole.
+fn count_of(row: &Row, way: Way) -> usize {
+    let Way::Fed(cutting) = way else {
+        return row.connections.len();
+    };
     let mut count = 0usize;
     for connection in row.connections.as_slice() {
         if cutting.cuts(connection.octets.len()) {
@@ -34,16 +37,16 @@ fn cut_count(row: &Row, cutting: Cutting) -> usize {
     count
 }
 
-/// Serves the row once more, each connection cut in that way, and counts what came.
+/// Serves the row once more, each connection in that way, and counts what came.
 fn compare(
     alloc: Global,
     row: &Row,
-    cutting: Cutting,
+    way: Way,
     wanted: &[u8],
     comparison: &mut Comparison,
 ) -> Result<(), NoMemory> {
-    let count = cut_count(row, cutting);
-    let replies = replies_in_memory(alloc, row, cutting)?;
+    let count = count_of(row, way);
+    let replies = replies_in_memory(alloc, row, way)?;
     if replies.as_slice() == wanted {
         comparison.same = comparison.same.saturating_add(count);
     } else {
@@ -68,15 +71,16 @@ fn compare_halves(alloc: Global, row: &Row, wanted: &[u8]) -> Result<Comparison,
     let most = longest(row);
     if most <= CUT_EVERYWHERE_MAX {
         for place in 1..most {
-            let cutting = Cutting::Behind(place);
-            compare(alloc, row, cutting, wanted, &mut comparison)?;
+            let way = Way::Fed(Cutting::Behind(place));
+            compare(alloc, row, way, wanted, &mut comparison)?;
         }
         return Ok(comparison);
     }
     for power in 0..POWERS {
         let place = 1usize << power;
-        compare(alloc, row, Cutting::Behind(place), wanted, &mut comparison)?;
-        compare(alloc, row, Cutting::Before(place), wanted, &mut comparison)?;
+        for cutting in [Cutting::Behind(place), Cutting::Before(place)] {
+            compare(alloc, row, Way::Fed(cutting), wanted, &mut comparison)?;
+        }
     }
     Ok(comparison)
 }
@@ -85,9 +89,16 @@ fn compare_halves(alloc: Global, row: &Row, wanted: &[u8]) -> Result<Comparison,
 fn compare_drawn(alloc: Global, row: &Row, wanted: &[u8]) -> Result<Comparison, NoMemory> {
     let mut comparison = Comparison { same: 0, other: 0 };
     for number in 0..DRAWN_CUTTINGS {
-        let cutting = Cutting::Drawn(number);
-        compare(alloc, row, cutting, wanted, &mut comparison)?;
+        let way = Way::Fed(Cutting::Drawn(number));
+        compare(alloc, row, way, wanted, &mut comparison)?;
     }
+    Ok(comparison)
+}
+
+/// The replies compared where each connection is read and the replies to it are written.
+fn compare_read(alloc: Global, row: &Row, wanted: &[u8]) -> Result<Comparison, NoMemory> {
+    let mut comparison = Comparison { same: 0, other: 0 };
+    compare(alloc, row, Way::Read, wanted, &mut comparison)?;
     Ok(comparison)
 }
 
@@ -109,19 +120,26 @@ fn tell(
     Ok(())
 }
 
+/// Serves the row again in all other ways, and tells what came of it.
+fn tell_again(alloc: Global, row: &Row, wanted: &[u8], told: &mut Vec<u8>) -> Result<(), NoMemory> {
+    let halves = compare_halves(alloc, row, wanted)?;
+    tell(alloc, "cut in two", &halves, told)?;
+    let drawn = compare_drawn(alloc, row, wanted)?;
+    tell(alloc, "cut into drawn pieces", &drawn, told)?;
+    let read = compare_read(alloc, row, wanted)?;
+    tell(alloc, "read and written", &read, told)
+}
+
 /// What both stores reply, or that they differ, and what more comes of the row.
 fn add_row(alloc: Global, row: &Row, told: &mut Vec<u8>) -> Result<(), NoMemory> {
-    let wanted = replies_in_memory(alloc, row, Cutting::Whole)?;
+    let wanted = replies_in_memory(alloc, row, Way::Fed(Cutting::Whole))?;
     let by_octets = replies_to_octets(alloc, row)?;
     told.extend_from_slice(wanted.as_slice())?;
     if wanted.as_slice() != by_octets.as_slice() {
         told.extend_from_slice(b"\n** another, over tables and octet by octet **")?;
         told.extend_from_slice(by_octets.as_slice())?;
     }
-    let halves = compare_halves(alloc, row, wanted.as_slice())?;
-    tell(alloc, "cut in two", &halves, told)?;
-    let drawn = compare_drawn(alloc, row, wanted.as_slice())?;
-    tell(alloc, "cut into drawn pieces", &drawn, told)?;
+    tell_again(alloc, row, wanted.as_slice(), told)?;
     if row.setting.from_failing_devices {
         tell_failing_devices(alloc, row, told)?;
     }
