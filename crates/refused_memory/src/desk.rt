@@ -135,17 +135,19 @@ impl<'a> Desk<'a> {
         self.tells_finding(state)
     }
 
-    /// Tells a call that is asked alone: what it answered, and what it answers again.
+    /// Tells a call that is asked alone: what it answers where nothing is refused, what it
+    /// answered, and what it answers again.
     pub(crate) fn tells_alone<T: PartialEq + Debug>(
         &mut self,
+        wanted: &T,
         ran_out: bool,
         answer: &T,
         again: &T,
     ) -> Result<(), Stop> {
         if ran_out {
-            return self.tells_no_memory(true, answer != again, answer);
+            return self.tells_no_memory(true, again == wanted, again);
         }
-        self.tells_answer(answer == again, answer)
+        self.tells_answer(answer == wanted && again == wanted, answer)
     }
 
     fn tells_finding<T: Debug>(&self, found: &T) -> Result<(), Stop> {

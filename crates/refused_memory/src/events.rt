@@ -3,7 +3,7 @@
 use crate::books::{FILLING, Stores, books_of, filled_by, is_no_memory};
 use crate::desk::Desk;
 use crate::stop::Stop;
-use book_scripts::command_in;
+use book_scripts::event_in;
 use book_service::{Event, Reply, drive, mirror};
 use std::alloc::Global;
 use sync_core::{BookStore, Denied, Device, Fault};
@@ -47,6 +47,17 @@ report staff http://contacts.invalid/sync/1/8/8
 export staff columns
 get clients a";
 
+/// A page is cut, the book forgets what was removed, and the page's token leads on, since the page
+/// began with no token after the removal; a token from before it doesn't. Two devices ask meanwhile.
+const FORGETTING_DAYS: &str = "report staff - 1
+ask 0 1
+forget staff 5
+report staff http://contacts.invalid/sync/1/3/5 1
+report staff http://contacts.invalid/sync/1/4/4
+forget staff 4
+ask 0 1
+ask 1";
+
 /// A book with two cards, of which one was edited, and one that was removed.
 const FEW_CARDS: &str = "create staff
 card staff a FN:Ann
@@ -61,24 +72,11 @@ ask 1
 ask 0
 ask 1";
 
-/// `ask DEVICE LIMIT`, where the limit may be left out.
-fn ask_in(words: &str) -> Event {
-    let (device, limit) = words.split_once(' ').unwrap_or((words, ""));
-    Event::Ask {
-        device: device.parse::<usize>().unwrap_or(0),
-        limit: limit.parse::<u64>().ok(),
-    }
-}
-
-/// The events that the lines say: an ask of a device, or a command.
+/// The events that the lines say.
 fn events_in(alloc: Global, script: &str) -> Result<Vec<Event>, NoMemory> {
     let mut events = Vec::new(alloc);
     for line in script.lines() {
-        let event = match line.strip_prefix("ask ") {
-            Some(words) => ask_in(words),
-            None => Event::Do(command_in(alloc, line)?),
-        };
-        events.push(event)?;
+        events.push(event_in(alloc, line)?)?;
     }
     Ok(events)
 }
@@ -112,22 +110,71 @@ fn driven<S: BookStore>(
     drive(alloc, store, devices, events)
 }
 
+/// Whether memory ran out for some events, or before all of them.
+fn ran_out(answer: &Result<Vec<Reply>, NoMemory>) -> bool {
+    match answer {
+        Ok(replies) => replies.iter().any(is_no_memory),
+        Err(NoMemory) => true,
+    }
+}
+
+/// The reply to the event at the place, where memory didn't run out for it.
+fn reply_at(answer: &Result<Vec<Reply>, NoMemory>, place: usize) -> Option<&Reply> {
+    match answer {
+        Ok(replies) => match replies.get(place) {
+            Some(reply) if !is_no_memory(reply) => Some(reply),
+            _ => None,
+        },
+        Err(NoMemory) => None,
+    }
+}
+
 /// Drives in the twin office the events that found memory in the other, and answers whether they
 /// are replied alike.
-fn are_alike<S: BookStore>(
+fn are_replied_alike<S: BookStore>(
     alloc: Global,
     twin: &mut Office<S>,
     events: &[Event],
-    replies: &[Reply],
+    answer: &Result<Vec<Reply>, NoMemory>,
 ) -> Result<bool, Stop> {
-    let mut alike = events.len() == replies.len();
-    for (event, reply) in events.chunks(1).zip(replies) {
-        if !is_no_memory(reply) {
+    let mut alike = true;
+    for (place, event) in events.chunks(1).enumerate() {
+        if let Some(reply) = reply_at(answer, place) {
             let others = driven(alloc, twin, event)?;
             alike = alike && others.first() == Some(reply);
         }
     }
     Ok(alike)
+}
+
+/// Drives again, in both offices, the events that ran out of memory in the one, and answers whether
+/// they are replied alike.
+fn are_replied_alike_again<S: BookStore>(
+    alloc: Global,
+    office: &mut Office<S>,
+    twin: &mut Office<S>,
+    events: &[Event],
+    answer: &Result<Vec<Reply>, NoMemory>,
+) -> Result<bool, Stop> {
+    let mut alike = true;
+    for (place, event) in events.chunks(1).enumerate() {
+        if reply_at(answer, place).is_none() {
+            let replies = driven(alloc, office, event)?;
+            let others = driven(alloc, twin, event)?;
+            alike = alike && replies.as_slice() == others.as_slice();
+        }
+    }
+    Ok(alike)
+}
+
+fn have_same_books<S: BookStore>(
+    alloc: Global,
+    office: &mut Office<S>,
+    twin: &mut Office<S>,
+) -> Result<bool, Stop> {
+    let books = books_of(alloc, &mut office.store)?;
+    let others = books_of(alloc, &mut twin.store)?;
+    Ok(books.as_slice() == others.as_slice())
 }
 
 /// Whether both stores have the same books, and both offices' devices the same copies once they
@@ -140,13 +187,46 @@ fn are_settled_alike<S: BookStore>(
     let asks = events_in(alloc, LAST_ASKS)?;
     driven(alloc, office, asks.as_slice())?;
     driven(alloc, twin, asks.as_slice())?;
-    let books = books_of(alloc, &mut office.store)?;
-    let others = books_of(alloc, &mut twin.store)?;
-    Ok(books.as_slice() == others.as_slice() && office.devices == twin.devices)
+    let same = have_same_books(alloc, office, twin)?;
+    Ok(same && office.devices == twin.devices)
 }
 
-/// Drives the events over a store with this filling: those for which memory ran out are as if they
-/// hadn't been there, and the others are done as they are without them.
+/// Whether there is a reply to each event, or nothing was done.
+fn is_whole<S>(
+    office: &Office<S>,
+    twin: &Office<S>,
+    events: &[Event],
+    answer: &Result<Vec<Reply>, NoMemory>,
+) -> bool {
+    match answer {
+        Ok(replies) => replies.len() == events.len(),
+        Err(NoMemory) => office.devices == twin.devices,
+    }
+}
+
+/// Tells what came of the events in the office, by its twin, where nothing happened yet: those for
+/// which memory ran out are as if they hadn't been there, and the others are done as they are
+/// without them. When those are driven again, in both offices, they are done alike.
+fn tell_answer<S: BookStore>(
+    desk: &mut Desk,
+    office: &mut Office<S>,
+    twin: &mut Office<S>,
+    events: &[Event],
+    answer: &Result<Vec<Reply>, NoMemory>,
+) -> Result<(), Stop> {
+    let alloc = desk.alloc();
+    let whole = is_whole(office, twin, events, answer);
+    let alike = are_replied_alike(alloc, twin, events, answer)?;
+    let left = have_same_books(alloc, office, twin)? && alike && whole;
+    let alike = are_replied_alike_again(alloc, office, twin, events, answer)?;
+    let again = are_settled_alike(alloc, office, twin)? && alike;
+    if ran_out(answer) {
+        return desk.tells_no_memory(left, again, answer);
+    }
+    desk.tells_answer(left && again, answer)
+}
+
+/// Drives the events over a store with this filling.
 fn tell_driven<K: Stores>(
     desk: &mut Desk,
     kind: &K,
@@ -165,24 +245,21 @@ fn tell_driven<K: Stores>(
     desk.opens(name.as_str())?;
     let answer = driven(alloc, &mut office, events.as_slice());
     desk.closes()?;
-    let (ran_out, alike) = match &answer {
-        Ok(replies) => (
-            replies.iter().any(is_no_memory),
-            are_alike(alloc, &mut twin, events.as_slice(), replies.as_slice())?,
-        ),
-        Err(NoMemory) => (true, office.devices == twin.devices),
-    };
-    let settled = are_settled_alike(alloc, &mut office, &mut twin)?;
-    if ran_out {
-        return desk.tells_no_memory(alike, settled, &answer);
-    }
-    desk.tells_answer(alike && settled, &answer)
+    tell_answer(desk, &mut office, &mut twin, events.as_slice(), &answer)
 }
 
-/// Drives lists of events: one from an empty store on, and one over a filled store.
+/// Drives lists of events: one from an empty store on, one over a filled store, and one in which a
+/// book forgets.
 pub(crate) fn tell_drive<K: Stores>(desk: &mut Desk, kind: &K) -> Result<(), Stop> {
     tell_driven(desk, kind, "drive, from an empty store", "", FIRST_DAYS)?;
-    tell_driven(desk, kind, "drive", FILLING, LATER_DAYS)
+    tell_driven(desk, kind, "drive", FILLING, LATER_DAYS)?;
+    tell_driven(
+        desk,
+        kind,
+        "drive, with forgetting",
+        FEW_CARDS,
+        FORGETTING_DAYS,
+    )
 }
 
 /// Mirrors a book in pages of one entry.
@@ -194,13 +271,15 @@ pub(crate) fn tell_mirror<K: Stores>(desk: &mut Desk, kind: &K) -> Result<(), St
     }
     let mut store = filled_by(alloc, kind, FEW_CARDS)?;
     let before = books_of(alloc, &mut store)?;
+    let mut twin = filled_by(alloc, kind, FEW_CARDS)?;
+    let wanted = mirror(alloc, &mut twin, "staff", 1, 10);
     desk.opens(name.as_str())?;
     let answer = mirror(alloc, &mut store, "staff", 1, 10);
     desk.closes()?;
     let left = books_of(alloc, &mut store)?.as_slice() == before.as_slice();
     let again = mirror(alloc, &mut store, "staff", 1, 10);
     if matches!(&answer, Err(Denied::Fault(Fault::Memory))) {
-        return desk.tells_no_memory(left, again.is_ok(), &answer);
+        return desk.tells_no_memory(left, again == wanted, &again);
     }
-    desk.tells_answer(left && answer == again, &answer)
+    desk.tells_answer(left && answer == wanted && again == wanted, &answer)
 }

@@ -12,7 +12,7 @@ use std::alloc::Global;
 type Opened = Result<SqlStore<MemStore>, OpenFault>;
 
 /// What the connection of a filled store is adopted as.
-fn opened_again(alloc: Global) -> Result<Opened, Stop> {
+fn opened_anew(alloc: Global) -> Result<Opened, Stop> {
     let store = filled(alloc, &OverTables)?;
     Ok(SqlStore::adopt(alloc, store.into_connection(), limits()?))
 }
@@ -25,12 +25,14 @@ fn opened_books(alloc: Global, opened: Opened) -> Result<Result<Vec<Reply>, Open
     }
 }
 
-fn tell_opened(desk: &mut Desk, opened: Opened, again: Opened) -> Result<(), Stop> {
+/// Tells what was opened, where one opening before the window and one behind it gave these.
+fn tell_opened(desk: &mut Desk, before: Opened, opened: Opened, again: Opened) -> Result<(), Stop> {
     let alloc = desk.alloc();
     let ran_out = matches!(&opened, Err(OpenFault::Memory));
+    let wanted = opened_books(alloc, before)?;
     let answer = opened_books(alloc, opened)?;
     let again = opened_books(alloc, again)?;
-    desk.tells_alone(ran_out, &answer, &again)
+    desk.tells_alone(&wanted, ran_out, &answer, &again)
 }
 
 /// Runs the chosen cases of opening.
@@ -38,17 +40,20 @@ pub(crate) fn tell_opening(desk: &mut Desk) -> Result<(), Stop> {
     let alloc = desk.alloc();
     let limits = limits()?;
     if desk.wants("open_in_memory") {
+        let before = SqlStore::open_in_memory(alloc, limits);
         desk.opens("open_in_memory")?;
         let opened = SqlStore::open_in_memory(alloc, limits);
         desk.closes()?;
-        tell_opened(desk, opened, SqlStore::open_in_memory(alloc, limits))?;
+        let again = SqlStore::open_in_memory(alloc, limits);
+        tell_opened(desk, before, opened, again)?;
     }
     if desk.wants("adopt") {
+        let before = opened_anew(alloc)?;
         let connection = filled(alloc, &OverTables)?.into_connection();
         desk.opens("adopt")?;
         let opened = SqlStore::adopt(alloc, connection, limits);
         desk.closes()?;
-        tell_opened(desk, opened, opened_again(alloc)?)?;
+        tell_opened(desk, before, opened, opened_anew(alloc)?)?;
     }
     Ok(())
 }

@@ -38,20 +38,22 @@ const ROWS: &str = "uid,vcard\na,\"BEGIN:VCARD\nVERSION:4.0\nUID:a\nFN:Ann\nEND:
 fn card_cases(desk: &mut Desk) -> Result<(), Stop> {
     let alloc = desk.alloc();
     if desk.wants("read_card") {
+        let wanted = read_card(alloc, CARD.as_bytes());
         desk.opens("read_card")?;
         let answer = read_card(alloc, CARD.as_bytes());
         desk.closes()?;
         let again = read_card(alloc, CARD.as_bytes());
         let ran_out = matches!(&answer, Err(CardFault::Memory));
-        desk.tells_alone(ran_out, &answer, &again)?;
+        desk.tells_alone(&wanted, ran_out, &answer, &again)?;
     }
     if desk.wants("write_card") {
         let card = read_card(alloc, CARD.as_bytes())?;
+        let wanted = write_card(alloc, &card);
         desk.opens("write_card")?;
         let answer = write_card(alloc, &card);
         desk.closes()?;
         let again = write_card(alloc, &card);
-        desk.tells_alone(answer.is_err(), &answer, &again)?;
+        desk.tells_alone(&wanted, answer.is_err(), &answer, &again)?;
     }
     Ok(())
 }
@@ -61,12 +63,13 @@ fn read_rows_case(desk: &mut Desk, name: &str, rows: &str) -> Result<(), Stop> {
         return Ok(());
     }
     let alloc = desk.alloc();
+    let wanted = read_rows(alloc, rows.as_bytes());
     desk.opens(name)?;
     let answer = read_rows(alloc, rows.as_bytes());
     desk.closes()?;
     let again = read_rows(alloc, rows.as_bytes());
     let ran_out = is_out_of_memory(&answer);
-    desk.tells_alone(ran_out, &answer, &again)
+    desk.tells_alone(&wanted, ran_out, &answer, &again)
 }
 
 fn is_out_of_memory(read: &Result<Vec<Card>, CsvFault>) -> bool {
@@ -93,11 +96,12 @@ fn write_rows_case(desk: &mut Desk, name: &str, form: Form) -> Result<(), Stop> 
     }
     let alloc = desk.alloc();
     let cards = group_cards(alloc)?;
+    let wanted = write_rows(alloc, &cards, form);
     desk.opens(name)?;
     let answer = write_rows(alloc, &cards, form);
     desk.closes()?;
     let again = write_rows(alloc, &cards, form);
-    desk.tells_alone(answer.is_err(), &answer, &again)
+    desk.tells_alone(&wanted, answer.is_err(), &answer, &again)
 }
 
 fn expand_case(desk: &mut Desk) -> Result<(), Stop> {
@@ -106,12 +110,13 @@ fn expand_case(desk: &mut Desk) -> Result<(), Stop> {
     }
     let alloc = desk.alloc();
     let cards = group_cards(alloc)?;
+    let wanted = expand(alloc, &cards, "g");
     desk.opens("expand")?;
     let answer = expand(alloc, &cards, "g");
     desk.closes()?;
     let again = expand(alloc, &cards, "g");
     let ran_out = matches!(&answer, Err(GroupFault::Memory));
-    desk.tells_alone(ran_out, &answer, &again)
+    desk.tells_alone(&wanted, ran_out, &answer, &again)
 }
 
 /// A page of cards and of one that went.
@@ -128,11 +133,12 @@ fn write_report_case(desk: &mut Desk) -> Result<(), Stop> {
     }
     let alloc = desk.alloc();
     let page = some_page(alloc)?;
+    let wanted = write_report(alloc, &page);
     desk.opens("write_report")?;
     let answer = write_report(alloc, &page);
     desk.closes()?;
     let again = write_report(alloc, &page);
-    desk.tells_alone(answer.is_err(), &answer, &again)
+    desk.tells_alone(&wanted, answer.is_err(), &answer, &again)
 }
 
 fn read_report_case(desk: &mut Desk) -> Result<(), Stop> {
@@ -142,12 +148,13 @@ fn read_report_case(desk: &mut Desk) -> Result<(), Stop> {
     let alloc = desk.alloc();
     let page = some_page(alloc)?;
     let text = write_report(alloc, &page)?;
+    let wanted = read_report(alloc, text.as_slice());
     desk.opens("read_report")?;
     let answer = read_report(alloc, text.as_slice());
     desk.closes()?;
     let again = read_report(alloc, text.as_slice());
     let ran_out = matches!(&answer, Err(ReportFault::Memory));
-    desk.tells_alone(ran_out, &answer, &again)
+    desk.tells_alone(&wanted, ran_out, &answer, &again)
 }
 
 fn words(alloc: Global) -> Result<Vec<String>, NoMemory> {
@@ -164,12 +171,13 @@ fn read_order_case(desk: &mut Desk) -> Result<(), Stop> {
     }
     let alloc = desk.alloc();
     let words = words(alloc)?;
+    let wanted = read_order(alloc, words.as_slice());
     desk.opens("read_order")?;
     let answer = read_order(alloc, words.as_slice());
     desk.closes()?;
     let again = read_order(alloc, words.as_slice());
     let ran_out = matches!(&answer, Err(LineFault::Memory));
-    desk.tells_alone(ran_out, &answer, &again)
+    desk.tells_alone(&wanted, ran_out, &answer, &again)
 }
 
 /// Runs the chosen cases of texts.
