@@ -224,10 +224,44 @@ class Book:
         return sorted(due, key=self.last)
 
 
+class Page:
+    """A page of a report: the numbers of its token, whether there is more, and the entries, each a
+    UID, a version and the card, or no card where the member went."""
+
+    def __init__(self, book, at, base, more, entries):
+        self.numbers, self.more, self.entries = f"{book}/{at}/{base}", more, entries
+
+    def told(self):
+        return f"page {self.numbers}{' and more' if self.more else ''}" + told_cards(self.entries)
+
+
+class Device:
+    """A copy of a book's cards with their versions, and the numbers of the token, or nothing."""
+
+    def __init__(self, book):
+        self.book, self.numbers, self.copy = book, None, {}
+
+    def token(self):
+        return SYNC + self.numbers if self.numbers else ""
+
+    def hear(self, page):
+        if not self.numbers:
+            self.copy = {}
+        for uid, version, card in page.entries:
+            self.copy.pop(uid, None)
+            if card:
+                self.copy[uid] = version, card
+        self.numbers = page.numbers
+
+    def told(self):
+        uids = sorted(self.copy, key=str.encode)
+        return (self.numbers or "none") + told_cards([(uid, *self.copy[uid]) for uid in uids])
+
+
 class Office:
     def __init__(self, page_max, cards_max, changes_max, books_max, keep):
         self.page_max, self.cards_max, self.changes_max = page_max, cards_max, changes_max
-        self.books_max, self.keep, self.books = books_max, keep, {}
+        self.books_max, self.keep, self.books, self.devices = books_max, keep, {}, []
 
     def book(self, name):
         if name not in self.books:
@@ -273,6 +307,10 @@ class Office:
         book = self.book(name)
         card = self.live_card(book, uid)
         return "card " + told_card(uid, book.last(uid), card)
+
+    def do_card(self, name, uid, lines):
+        text = f"BEGIN:VCARD\nVERSION:4.0\nUID:{uid}\n{lines}\nEND:VCARD\n"
+        return self.do_put(name, uid, None, text)
 
     def do_put(self, name, uid, expect, text):
         book = self.book(name)
@@ -338,7 +376,7 @@ class Office:
         book.imports[key] = told
         return told
 
-    def do_report(self, name, token, limit):
+    def page(self, name, token, limit):
         book = self.book(name)
         at, base = 0, book.number
         if token:
@@ -354,13 +392,47 @@ class Office:
             raise Refused(11)
         due = book.due(at, base)
         size = min(self.page_max, self.page_max if limit is None else limit)
-        mark, end = (book.number, book.number), ""
+        entries = [(uid, book.last(uid), book.card(uid)) for uid in due[:size]]
         if len(due) > size:
             at = book.last(due[size - 1])
-            mark, end = (at, max(at, base)), " and more"
-        entries = [f" | {uid} gone" if not book.card(uid) else
-                   " | " + told_card(uid, book.last(uid), book.card(uid)) for uid in due[:size]]
-        return f"page {book.id}/{mark[0]}/{mark[1]}{end}" + "".join(entries)
+            return Page(book.id, at, max(at, base), True, entries)
+        return Page(book.id, book.number, book.number, False, entries)
+
+    def do_report(self, name, token, limit):
+        return self.page(name, token, limit).told()
+
+    def do_device(self, name):
+        self.devices.append(Device(name))
+        return f"device {len(self.devices) - 1}"
+
+    def hears(self, device, limit):
+        """The page that the device asks for, and applies. By a last page it has the book's cards,
+        which is seen to here."""
+        try:
+            page = self.page(device.book, device.token(), limit)
+        except Refused as refusal:
+            if refusal.args[0] == 10:
+                device.numbers = None
+            raise
+        device.hear(page)
+        book = self.books[device.book]
+        if not page.more:
+            live = {uid: (book.last(uid), book.card(uid)) for uid in book.live()}
+            assert device.copy == live, (device.copy, live)
+        return page
+
+    def do_ask(self, place, limit):
+        return self.hears(self.devices[place], limit).told()
+
+    def do_copy(self, place):
+        return "copy " + self.devices[place].told()
+
+    def do_mirror(self, name, limit, pages_max):
+        device, pages, more = Device(name), 0, True
+        while more and pages < pages_max:
+            more = self.hears(device, limit).more
+            pages += 1
+        return f"pages {pages} {'more' if more else 'done'} {device.told()}"
 
     def do_forget(self, name, upto):
         book = self.book(name)
@@ -414,3 +486,8 @@ def in_one_line(text):
 
 def told_card(uid, version, card):
     return f"{uid} {version} {in_one_line(write_card(card))}"
+
+
+def told_cards(entries):
+    return "".join(" | " + (told_card(uid, version, card) if card else f"{uid} gone")
+                   for uid, version, card in entries)

@@ -1,16 +1,18 @@
 #!/usr/bin/env python3
-"""Writes the files stdin and stdout beside it: 2,000 commands, drawn from a fixed seed, and what
-model.py replies to each.
+"""Writes the files stdin and stdout beside it: 2,000 commands, drawn from a fixed seed, and the
+rows of worked.py; and what model.py replies to each.
 
 The program has no part in it. Where it prints another reply, one of the two is wrong."""
 
 import csv
 import io
 import os
+import re
 import sys
 
 sys.dont_write_bytecode = True
-from model import COLUMNS, SYNC, Office
+from model import COLUMNS, SYNC, Office, in_one_line, unescape
+from worked import sections
 
 COMMANDS = 2000
 BETWEEN = 100
@@ -218,13 +220,40 @@ def draw_all():
     del commands[COMMANDS:]
 
 
+def escaped(text):
+    return text.replace("\\", "\\\\").replace("\n", "\\n")
+
+
 def line_of(command):
     kind, *words = command
     words = ["-" if word in (None, "") and (kind, place) != ("put", 3) else str(word)
              for place, word in enumerate(words)]
     if kind in ("put", "import"):
-        words[-1] = command[-1].replace("\\", "\\\\").replace("\n", "\\n")
+        words[-1] = escaped(command[-1])
     return " ".join([kind, *words])
+
+
+# What stands behind the first word of a line: a word, a number, a token, or a text, which may have
+# spaces.
+WORDS = {
+    "create": "w", "books": "", "get": "ww", "put": "wwnt", "card": "wwt", "remove": "wwn",
+    "move": "wwwn", "import": "wwt", "report": "wkn", "forget": "wn", "tally": "w", "export": "ww",
+    "people": "ww", "device": "w", "ask": "nn", "copy": "n", "mirror": "wnn",
+}
+READ = {
+    "w": str,
+    "n": lambda word: int(word) if word.isdigit() else None,
+    "k": lambda word: "" if word == "-" else word,
+    "t": unescape,
+}
+
+
+def command_of(line):
+    """The command that the line says; what is left out is empty or nothing."""
+    kinds = WORDS[line.split(" ")[0]]
+    kind, *words = line.split(" ", len(kinds))
+    words += [""] * (len(kinds) - len(words))
+    return kind, *(READ[it](word) for it, word in zip(kinds, words))
 
 
 def see_that_all_come(told):
@@ -244,12 +273,69 @@ def see_that_all_come(told):
     assert left >= 10, left
 
 
-def replies(keep):
-    """What a new office replies to all commands, where a book remembers so many."""
-    office = Office(*LIMITS, keep)
-    told = [office.reply(command) for command in commands]
-    see_that_all_come(told)
+def replies(limits, lines):
+    """What a new office replies to the lines, and nothing to `again`."""
+    office = Office(*limits)
+    return [None if line == "again" else office.reply(command_of(line)) for line in lines]
+
+
+def told_of(title, limits, lines):
+    """What is to be printed of a section with these limits."""
+    told, place = [f"==== {title}", limits_line(limits)], 0
+    for reply in replies(limits, lines):
+        if reply is None:
+            told.append("-- adopted, and opened")
+        else:
+            place += 1
+            told.append(f"{place}: {reply}")
     return told
+
+
+def limits_line(limits):
+    return " ".join(["limits", *map(str, limits)])
+
+
+def drawn():
+    """The drawn commands as lines, with `again` behind each hundredth."""
+    lines = []
+    for place, command in enumerate(commands, 1):
+        line = line_of(command)
+        assert command_of(line) == command, (line, command)
+        lines += [line, "again"] if place % BETWEEN == 0 else [line]
+    return lines
+
+
+def expanded(text, told):
+    """A line of a script, or what is wanted of it, with what its short forms stand for. The lines
+    of a card are told in a way of their own."""
+    def card(found):
+        uid, name = found.groups()
+        return told(["BEGIN:VCARD", "VERSION:4.0", "UID:" + uid, "FN:" + name, "END:VCARD", ""])
+
+    text = re.sub(r"\[(\S+) ([^]]*)\]", card, text)
+    for short, long in [(".../", SYNC), ("COLUMNS", ",".join(COLUMNS)), ("BOM", "\ufeff")]:
+        text = text.replace(short, long)
+    return text
+
+
+def worked(scripts):
+    """The lines of the scripts, and what is wanted of each, or nothing."""
+    lines, wanted = [], []
+    for script in scripts:
+        if lines:
+            lines.append("again")
+            wanted.append(None)
+        for line in filter(None, script.split("\n")):
+            line, _behind, reply = line.partition(" => ")
+            lines.append(expanded(line, lambda card: escaped("\n".join(card))))
+            wanted.append(expanded(reply, lambda card: in_one_line("\r\n".join(card))))
+    return lines, wanted
+
+
+def see_that_all_are_told(title, limits, lines, wanted):
+    """What was worked out by hand is what the model replies."""
+    for line, want, reply in zip(lines, wanted, replies(limits, lines)):
+        assert not want or want == reply, (title, line, want, reply)
 
 
 def write(name, lines):
@@ -258,12 +344,16 @@ def write(name, lines):
 
 
 draw_all()
-write("stdin", map(line_of, commands))
-lines = []
+lines = drawn()
+given = ["==== drawn", *(limits_line((*LIMITS, keep)) for keep in KEEPS), *lines]
+told = []
 for keep in KEEPS:
-    lines.append(f"==== keep {keep}")
-    for place, reply in enumerate(replies(keep), 1):
-        lines.append(f"{place}: {reply}")
-        if place % BETWEEN == 0:
-            lines.append("-- adopted, and opened")
-write("stdout", lines)
+    see_that_all_come(list(filter(None, replies((*LIMITS, keep), lines))))
+    told += told_of("drawn", (*LIMITS, keep), lines)
+for title, limits, scripts in sections():
+    lines, wanted = worked(scripts)
+    see_that_all_are_told(title, limits, lines, wanted)
+    given += [f"==== {title}", limits_line(limits), *lines]
+    told += told_of(title, limits, lines)
+write("stdin", given)
+write("stdout", told)

@@ -1,12 +1,14 @@
-//! Commands, events and replies as lines of text, for programs that try stores of books.
+//! Commands, events, replies and devices as lines of text, for programs that try stores of books.
 #![tactic(auto)]
 
 mod commands;
+mod devices;
 mod events;
 mod replies;
 mod telling;
 
 pub use commands::command_in;
+pub use devices::device_told;
 pub use events::event_in;
 pub use replies::reply_told;
 pub use telling::replies_told;

@@ -31,7 +31,12 @@ fn octets_told(alloc: Global, octets: &[u8]) -> Result<String, NoMemory> {
 }
 
 /// The card's UID, version and text.
-fn card_told(alloc: Global, uid: &str, version: u64, card: &Card) -> Result<String, NoMemory> {
+pub(crate) fn card_told(
+    alloc: Global,
+    uid: &str,
+    version: u64,
+    card: &Card,
+) -> Result<String, NoMemory> {
     let octets = write_card(alloc, card)?;
     let text = octets_told(alloc, octets.as_slice())?;
     Ok(format!(in alloc; "{uid} {version} {text}")?)

@@ -1,10 +1,14 @@
-//! One list of commands, performed over three stores: one in memory, one over tables in memory, and
-//! one over tables in a file. The replies are printed where all three give the same.
+//! Lists of commands and asks, each done over three new stores: one in memory, one over tables in
+//! memory, and one over tables in a file. What comes of each line is printed once where all three
+//! give the same.
 #![tactic(auto)]
 
+mod office;
+mod offices;
 mod runs;
+mod stop;
 
-use crate::runs::tell_runs;
+use crate::runs::tell_sections;
 use std::io::{Read, Write};
 use std::process::ExitCode;
 
@@ -17,7 +21,7 @@ fn main(rt: HostRuntime) -> ExitCode {
         return ExitCode::FAILURE;
     };
     let mut told = String::new(rt.alloc());
-    let ran = tell_runs(&rt, list, &mut told);
+    let ran = tell_sections(&rt, list, &mut told);
     if rt.stdout().write_all(told.as_bytes()).is_err() {
         return ExitCode::FAILURE;
     }
