@@ -1,7 +1,7 @@
 #!/bin/sh
-# An office's first days with `contacts`, run by hand: a file with two books, an import, a server, cards that come, change, move and
-# go, a phone that follows, an export, and the file as sqlite3 shows it. It needs curl, jq and sqlite3. Each step is checked: the
-# first that goes otherwise ends it, and says which.
+# An office's first days with `contacts`, run by hand: a file with two books, an import, a server, cards that come, are read, change,
+# move and go, a phone that follows, the end of the server behind its last connection, an export, and the file as sqlite3 shows it. It
+# needs curl, jq and sqlite3. Each step is checked: the first that goes otherwise ends it, and says which.
 # Usage: examples/office.sh [PROGRAM]
 set -eu
 here=$(cd "$(dirname "$0")" && pwd)
@@ -32,13 +32,13 @@ ask() {
     cat body
     echo
     [ "$replied" = "$status" ] || { echo "office: status $replied in place of $status"; exit 1; }
-    [ "$(cat body)" = "$wanted" ] || { echo "office: wanted $wanted"; exit 1; }
+    printf '%s' "$wanted" | cmp - body || { printf 'office: wanted %s\n' "$wanted"; exit 1; }
 }
 
-# serve: starts the server at any free port, and waits for the line that names it
+# serve COUNT: starts the server at any free port for so many connections, and waits for the line that names it
 serve() {
-    echo '$ contacts serve office.db --connections 1000 &'
-    "$program" serve office.db --connections 1000 > listening &
+    echo "\$ contacts serve office.db --connections $1 &"
+    "$program" serve office.db --connections "$1" > listening &
     server=$!
     for _ in 1 2 3 4 5 6 7 8 9 10 11 12 13 14 15 16 17 18 19 20; do
         [ -s listening ] && break
@@ -49,11 +49,18 @@ serve() {
     [ -n "$address" ] || { echo 'office: no server'; exit 1; }
 }
 
-# stop: ends it; what was acknowledged stands
-stop() {
-    kill "$server"
-    wait "$server" 2>/dev/null || :
+# served: that the server has ended by itself, with status 0 since no connection was given up
+served() {
+    for _ in 1 2 3 4 5 6 7 8 9 10; do
+        kill -0 "$server" 2>/dev/null || break
+        sleep 0.2
+    done
+    kill -0 "$server" 2>/dev/null && { echo 'office: the server waits for more'; exit 1; }
+    ended=0
+    wait "$server" || ended=$?
     server=
+    echo "the server has ended with status $ended"
+    [ "$ended" = 0 ] || exit 1
 }
 
 # card UID NAME: a card in a file of its name
@@ -80,11 +87,13 @@ expect 0 'book 2' book office.db clients
 expect 0 'new 2 edited 0 same 0 number 2' import office.db clients monday people.csv
 expect 0 'new 2 edited 0 same 0 number 2' import office.db clients monday people.csv
 
-serve
+# 10 connections of curl and 4 of the phone, which asks for pages of two
+serve 14
 books=http://$address/books
 ask 201 '{"put":"created","version":1}' -T a.vcf "$books/staff/cards/a"
 ask 201 '{"put":"created","version":2}' -T b.vcf "$books/staff/cards/b"
 ask 201 '{"put":"created","version":3}' -T c.vcf "$books/staff/cards/c"
+ask 200 '{"card":"BEGIN:VCARD\r\nVERSION:4.0\r\nUID:b\r\nFN:Bob\r\nEND:VCARD\r\n","uid":"b","version":2}' "$books/staff/cards/b"
 phone 'a.vcf b.vcf c.vcf '
 card a Anna
 ask 200 '{"put":"edited","version":4}' -T a.vcf "$books/staff/cards/a?version=1"
@@ -94,10 +103,10 @@ ask 200 '{"from":6,"version":3}' -X POST "$books/staff/cards/a/move?to=clients"
 phone 'c.vcf '
 ask 200 '{"dropped":2,"horizon":6}' -X POST "$books/staff/forget?upto=6"
 ask 201 '{"put":"created","version":7}' -T b.vcf "$books/staff/cards/b"
+expect 3 'fault open 1' tally office.db staff
 # the phone's token is as new as the horizon, so that it is taken
 phone 'b.vcf c.vcf '
-expect 3 'fault open 1' tally office.db staff
-stop
+served
 
 expect 0 'uid,fn,family,given,email,tel,org,note
 a,Anna,,,,,,
