@@ -46,6 +46,11 @@ live_entry member = option_map_or (λ stored. (member.0, stored) ∷ []) (stored
 abbrev pub live_cards : Book → LiveCards
 live_cards book = finite.from_entries (flat_map live_entry (finite.entries book.members))
 
+-- the cards with a member's, where it is live: what loops put together one after another
+abbrev pub with_live : LiveCards → List ℕ × Row → LiveCards
+with_live cards member =
+    option_map_or (λ stored. finite.insert cards member.0 stored) (stored_in member.1) cards
+
 abbrev pub cards_step : Books → List ℕ → Result LiveCards Refusal
 cards_step books name = do
   book ← book_named books name

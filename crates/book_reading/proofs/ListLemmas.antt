@@ -9,7 +9,8 @@ use Rattle.book_model.specs.declared.answers.BookLine.{BookLine}
 use Rattle.book_model.specs.declared.page.Entry.{Entry}
 use Rattle.book_model.specs.Books.{LiveCards}
 use Rattle.book_model.specs.Pages.{Member, entry_in, last_number, number_at}
-use Rattle.book_rows.specs.ReadLaws.{ShowsLine, ShowLines, with_live}
+use Rattle.book_model.specs.Reading.{with_live}
+use Rattle.book_rows.specs.ReadLaws.{ShowsLine, ShowLines}
 use Rattle.book_rows.specs.ShownRows.{ShowsMember, ShowMembers}
 use Rattle.book_reading.specs.Lists.{ShowCards, ShowEntries}
 

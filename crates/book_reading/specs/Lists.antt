@@ -5,7 +5,7 @@ use Rattle.sqlite.specs.Order.{Row}
 use Rattle.book_model.specs.declared.page.Entry.{Entry}
 use Rattle.book_model.specs.Books.{LiveCards}
 use Rattle.book_model.specs.Pages.{Member, entry_in, last_number}
-use Rattle.book_rows.specs.ReadLaws.{with_live}
+use Rattle.book_model.specs.Reading.{with_live}
 use Rattle.book_rows.specs.ShownRows.{ShowMembers}
 
 -- the cards of the live ones of the members that the rows show

@@ -1,6 +1,7 @@
 //! What many rows say, read one after another.
 ghost use Rattle.book_model.specs.Pages.{entry_in};
-ghost use Rattle.book_rows.specs.ReadLaws.{ShowLines, with_live};
+ghost use Rattle.book_model.specs.Reading.{with_live};
+ghost use Rattle.book_rows.specs.ReadLaws.{ShowLines};
 ghost use Rattle.book_reading.specs.Faults.{IsFault};
 ghost use Rattle.book_reading.specs.Lists.{ShowCards, ShowEntries};
 ghost use Rattle.std.specs.Prelude.{◌≡◌, IfErr, IfOk, OnOk};

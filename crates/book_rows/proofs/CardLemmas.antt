@@ -13,12 +13,12 @@ use Rattle.book_model.specs.declared.answers.Stored.{Stored}
 use Rattle.book_model.specs.declared.row.Row.{Row as Kept}
 use Rattle.book_model.specs.Books.{LiveCards, stored_in}
 use Rattle.book_model.specs.Pages.{Member}
-use Rattle.book_model.specs.Reading.{live_entry, live_cards}
+use Rattle.book_model.specs.Reading.{live_entry, live_cards, with_live}
 use Rattle.book_model.proofs.LiveCardLemmas.{find_live}
 use Rattle.book_tables.specs.Members.{MemberRow, AreMembers, is_in, is_at}
 use Rattle.book_rows.specs.TableBooks.{row_of, member_entry, members_in, book_of}
 use Rattle.book_rows.specs.ShownRows.{ShowMembers}
-use Rattle.book_rows.specs.ReadLaws.{MembersAreCards, with_live}
+use Rattle.book_rows.specs.ReadLaws.{MembersAreCards}
 use Rattle.book_rows.proofs.KeyedEntries.{Single, find_moved, single_moved, entries_are, once_single, key_is, text_turned}
 use Rattle.book_rows.proofs.RowLemmas.{once_members, uid_of_row}
 use Rattle.book_rows.proofs.ReportLemmas.{members_are}

@@ -1,14 +1,12 @@
 -- What ordered statements tell of a book's members, and of all books. This project's own.
 use Rattle.std.specs.Prelude.{◌≡◌, ◌<◌, ◌≤◌, ◌+◌, ⊤, ℕ, pos, List, [], ◌∷◌, filter, length, take, fold}
-use Rattle.std.specs.Option.{option_map_or}
 use Rattle.std.specs.FinMap as finite
 use Rattle.sqlite.specs.declared.types.Value.TheVariants.{Int, Text}
 use Rattle.sqlite.specs.Order.{Row, column}
 use Rattle.book_model.specs.declared.answers.BookLine.{BookLine}
 use Rattle.book_model.specs.declared.token.Mark.{Mark}
-use Rattle.book_model.specs.Books.{LiveCards, stored_in}
 use Rattle.book_model.specs.Pages.{Member, Asked, AreFirstOfMore, AreAllDue}
-use Rattle.book_model.specs.Reading.{book_lines, live_cards}
+use Rattle.book_model.specs.Reading.{book_lines, live_cards, with_live}
 use Rattle.book_tables.specs.Answers.{AreInOrder, AreFirstInOrder, count_value}
 use Rattle.book_tables.specs.Books.{BookRow, book_shown, by_name}
 use Rattle.book_tables.specs.Members.{by_changed, due_shown, is_due, is_in}
@@ -45,11 +43,6 @@ NoMoreAreAll = (rows : TableRows) (name : List ℕ) (figures : BookFigures) (mar
     ShowMembers items members → AreAllDue (asked_of rows name figures mark size) members
 
 -- ---- all cards of a book
-
--- the cards with a member's, where it is live
-abbrev pub with_live : LiveCards → Member → LiveCards
-with_live cards member =
-    option_map_or (λ stored. finite.insert cards member.0 stored) (stored_in member.1) cards
 
 -- the live ones of all members, put together one after another, are the book's cards
 abbrev pub MembersAreCards : Type 0

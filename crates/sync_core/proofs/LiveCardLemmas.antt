@@ -11,8 +11,7 @@ use Rattle.base_types.specs.TextMaps.{text_cmp}
 use Rattle.book_model.specs.declared.answers.Stored.{Stored}
 use Rattle.book_model.specs.declared.row.Row.{Row}
 use Rattle.book_model.specs.Books.{stored_in, LiveCards}
-use Rattle.book_model.specs.Reading.{live_entry}
-use Rattle.sync_core.specs.Loops.{with_live}
+use Rattle.book_model.specs.Reading.{live_entry, with_live}
 use Rattle.base_types.proofs.TextLemmas.{text_total, same-equal, same}
 
 abbrev Members : Type 0

@@ -2,7 +2,7 @@ use Rattle.std.proofs.Common.{◌≡◌, map, fold}
 use Rattle.std.specs.FinMap as finite
 use Rattle.std.specs.Map.Iter.{deref_pair}
 use Rattle.base_types.proofs.TextMapLemmas.{octet_entry}
-use Rattle.sync_core.specs.Loops.{with_live}
+use Rattle.book_model.specs.Reading.{with_live}
 use Rattle.sync_core.proofs.book.PlainBook.live_cards.Given as goal
 
 -- the live cards so far are in
