@@ -232,9 +232,9 @@ fn migrate_line<'a>(alloc: Global) -> Result<Command<'a>, AllocError>
     )
 }
 
-/// All orders.
-fn order_lines<'a>(alloc: Global) -> Result<Vec<Command<'a>>, AllocError>
-    ensures { IfOk result (λ made. AreOrderLines lines.order_lines made.items) }
+/// The first six orders.
+fn first_order_lines<'a>(alloc: Global) -> Result<Vec<Command<'a>>, AllocError>
+    ensures { IfOk result (λ made. AreOrderLines lines.first_order_lines made.items) }
 {
     Ok(Vec::from_array(
         alloc,
@@ -245,6 +245,17 @@ fn order_lines<'a>(alloc: Global) -> Result<Vec<Command<'a>>, AllocError>
             serve_line(alloc)?,
             import_line(alloc)?,
             export_line(alloc)?,
+        ],
+    )?)
+}
+
+/// The orders behind them.
+fn last_order_lines<'a>(alloc: Global) -> Result<Vec<Command<'a>>, AllocError>
+    ensures { IfOk result (λ made. AreOrderLines lines.last_order_lines made.items) }
+{
+    Ok(Vec::from_array(
+        alloc,
+        [
             tally_line(alloc)?,
             forget_line(alloc)?,
             mirror_line(alloc)?,
@@ -266,5 +277,6 @@ pub(crate) fn contacts_line<'a>(alloc: Global) -> Result<Command<'a>, AllocError
         )
         .no_binary_name(true)
         .bin_name("contacts")?
-        .subcommands(order_lines(alloc)?)
+        .subcommands(first_order_lines(alloc)?)?
+        .subcommands(last_order_lines(alloc)?)
 }
