@@ -2,13 +2,13 @@
 use Rattle.std.proofs.Common.{◌≡◌, ◌⊎◌, ℕ, List, Option, Some, None, Result, Ok, Err, OnOk, IfErr, IfSome, inl, inr}
 use Rattle.command_line.specs.declared.order.Order.{Order}
 use Rattle.contacts.specs.Endings.{Ends, IsDone, IsOrderDone, IsOrderStopped, IsStopped}
-use Rattle.contacts.specs.Outputs.{LeavesOutput, Prints}
+use Rattle.contacts.specs.Outputs.{LeavesOutput, PrintsPath}
 use Rattle.contacts.specs.Stops.{IsStopFor}
 use Rattle.orders.specs.declared.stop.Stop.{Stop}
 use Rattle.orders.specs.OnFiles.{PrintsOrder}
 use Rattle.orders.specs.Telling.{LeavesWriter}
 
-pub tried_ends : (r : Result (Unit {0}) Stop) (a before after errors_before errors_after : Option (List ℕ)) (status : ℕ) → OnOk r (IfSome a (λ input. Prints input before after))
+pub tried_ends : (r : Result (Unit {0}) Stop) (a before after errors_before errors_after : Option (List ℕ)) (status : ℕ) → OnOk r (IfSome a (λ input. PrintsPath input before after))
     → IfErr r (λ stop. IfSome a (λ input. IsStopFor input stop)) → IfErr r (λ stop. IfSome a (λ input. LeavesOutput stop input before after)) → Ends r errors_before errors_after status
     → IfSome a (λ input. IsDone input before after errors_before errors_after status ⊎ IsStopped input before after errors_before errors_after status)
 tried_ends (Ok done) None before after errors_before errors_after status printed stopped left e = tt

@@ -167,18 +167,18 @@ not_read : (fault : CardFault) (card : List Line) → read_as fault ≡ Ok card 
 not_read fault card e = cc
 
 pub denied_for : (text : List ℕ) (fault : CardFault) → ((fault ≡ NoRoom → ⊥) → IsFirstFault text fault) → IsStopFor text (stop_of (denied_card fault))
-denied_for text TooLong first = record { fault = TooLong; refusal_is = refl; first = first (λ e. cc) }
-denied_for text NotUtf8 first = record { fault = NotUtf8; refusal_is = refl; first = first (λ e. cc) }
-denied_for text BadChar first = record { fault = BadChar; refusal_is = refl; first = first (λ e. cc) }
-denied_for text BadLine first = record { fault = BadLine; refusal_is = refl; first = first (λ e. cc) }
-denied_for text NoBegin first = record { fault = NoBegin; refusal_is = refl; first = first (λ e. cc) }
-denied_for text BadVersion first = record { fault = BadVersion; refusal_is = refl; first = first (λ e. cc) }
-denied_for text NoEnd first = record { fault = NoEnd; refusal_is = refl; first = first (λ e. cc) }
-denied_for text NoName first = record { fault = NoName; refusal_is = refl; first = first (λ e. cc) }
-denied_for text NoUid first = record { fault = NoUid; refusal_is = refl; first = first (λ e. cc) }
-denied_for text BadUid first = record { fault = BadUid; refusal_is = refl; first = first (λ e. cc) }
-denied_for text Twice first = record { fault = Twice; refusal_is = refl; first = first (λ e. cc) }
-denied_for text MemberOutsideGroup first = record { fault = MemberOutsideGroup; refusal_is = refl; first = first (λ e. cc) }
+denied_for text TooLong first = record { fault = TooLong; first = first (λ e. cc); refusal_is = refl }
+denied_for text NotUtf8 first = record { fault = NotUtf8; first = first (λ e. cc); refusal_is = refl }
+denied_for text BadChar first = record { fault = BadChar; first = first (λ e. cc); refusal_is = refl }
+denied_for text BadLine first = record { fault = BadLine; first = first (λ e. cc); refusal_is = refl }
+denied_for text NoBegin first = record { fault = NoBegin; first = first (λ e. cc); refusal_is = refl }
+denied_for text BadVersion first = record { fault = BadVersion; first = first (λ e. cc); refusal_is = refl }
+denied_for text NoEnd first = record { fault = NoEnd; first = first (λ e. cc); refusal_is = refl }
+denied_for text NoName first = record { fault = NoName; first = first (λ e. cc); refusal_is = refl }
+denied_for text NoUid first = record { fault = NoUid; first = first (λ e. cc); refusal_is = refl }
+denied_for text BadUid first = record { fault = BadUid; first = first (λ e. cc); refusal_is = refl }
+denied_for text Twice first = record { fault = Twice; first = first (λ e. cc); refusal_is = refl }
+denied_for text MemberOutsideGroup first = record { fault = MemberOutsideGroup; first = first (λ e. cc); refusal_is = refl }
 denied_for text NoRoom first = refl
 
 -- a text that spells a card is denied for memory alone

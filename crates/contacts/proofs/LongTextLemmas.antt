@@ -14,7 +14,7 @@ use Rattle.orders.specs.declared.stop.Stop.TheVariants.{Refused, Fault, Open, Se
 use Rattle.orders.specs.Streams.{WritesFront}
 use Rattle.contacts.specs.FirstPaths.{IsFirstPath}
 use Rattle.contacts.specs.Inputs.{read_octets_max}
-use Rattle.contacts.specs.Outputs.{Prints, LeavesOutput, path_lines}
+use Rattle.contacts.specs.Outputs.{PrintsPath, LeavesOutput, path_lines}
 use Rattle.contacts.specs.Stops.{IsStopFor}
 
 abbrev front : List ℕ → List ℕ
@@ -83,7 +83,7 @@ stopped_for_input None octets stop is s = tt
 stopped_for_input (Some input) octets stop is s = stop_for_front input stop (subst (λ text. IsStopFor text stop) is s)
 
 pub printed_of_input : {E : Type 0} (r : Result (Unit {0}) E) (a before after : Option (List ℕ)) (octets : List ℕ) (path : FirstPath) → IsFrontOf octets a → IsFirstPath octets path
-    → OnOk r (Appends before after (path_lines path)) → OnOk r (IfSome a (λ input. Prints input before after))
+    → OnOk r (Appends before after (path_lines path)) → OnOk r (IfSome a (λ input. PrintsPath input before after))
 printed_of_input (Err e) a before after octets path is p w = tt
 printed_of_input (Ok x) None before after octets path is p w = tt
 printed_of_input (Ok x) (Some input) before after octets path is p w = record { path = path; is = path_of_front input path (subst (λ text. IsFirstPath text path) is p); written = w }

@@ -3,7 +3,7 @@ use Rattle.std.specs.Prelude.{ℕ, ◌≡◌, ◌⊎◌, ◌∷◌, ◌++◌, []
 use Rattle.std.specs.Io.KnownBytes.{Keeps}
 use Rattle.base_types.specs.Octets.{line_feed}
 use Rattle.command_line.specs.declared.order.Order.{Order}
-use Rattle.contacts.specs.Outputs.{LeavesOutput, Prints}
+use Rattle.contacts.specs.Outputs.{LeavesOutput, PrintsPath}
 use Rattle.contacts.specs.Stops.{IsStopFor}
 use Rattle.orders.specs.declared.stop.Stop.{Stop}
 use Rattle.orders.specs.OnFiles.{PrintsOrder}
@@ -12,8 +12,8 @@ use Rattle.orders.specs.Streams.{WritesFront}
 use Rattle.orders.specs.Telling.{LeavesWriter}
 
 -- a line, ended by a line feed
-abbrev pub ended : List ℕ → List ℕ
-ended line = line ++ line_feed ∷ []
+abbrev pub whole_line : List ℕ → List ℕ
+whole_line line = line ++ line_feed ∷ []
 
 -- Standard error has the line of the stop, or some first octets of it where it failed itself; and
 -- the status is the stop's. Where no memory is left for the line, that is said in its place.
@@ -21,7 +21,7 @@ pub record Says (stop : Stop) (errors_before errors_after : Option (List ℕ)) (
     : Type 0 where
   pub told : Stop
   pub is : (told ≡ stop) ⊎ (told ≡ no_memory)
-  pub said : WritesFront (ended (stop_line told)) errors_before errors_after
+  pub said : WritesFront (whole_line (stop_line told)) errors_before errors_after
   pub status_is : status ≡ status_of told
 
 -- it was done and nothing is said, with status 0, or it is said why it stopped
@@ -38,7 +38,7 @@ pub record SaysBad (text : List ℕ) (errors_before errors_after : Option (List 
 -- it was done: the first path of the input was printed, and nothing else said
 pub record IsDone (input : List ℕ) (before after : Option (List ℕ))
     (errors_before errors_after : Option (List ℕ)) (status : ℕ) : Type 0 where
-  pub printed : Prints input before after
+  pub printed : PrintsPath input before after
   pub silent : Keeps errors_before errors_after
   pub status_is : status ≡ 0
 

@@ -1,16 +1,12 @@
 -- What comes of one card that is put into an empty book. This project's own.
 use Rattle.std.specs.Prelude.{ℕ, ◌≡◌, List, [], ◌∷◌, length}
-use Rattle.vcard_lines.specs.declared.fault.CardFault.{CardFault}
 use Rattle.vcard_lines.specs.declared.line.Line.{Line}
 use Rattle.vcard_text.specs.Cards.{uid_of}
 use Rattle.vcard_text.specs.Spelling.{Spells}
-use Rattle.vcard_text.specs.FirstFaults.{IsFirstFault}
 use Rattle.book_model.specs.declared.answers.PutAnswer.TheVariants.{Created}
 use Rattle.book_model.specs.declared.change.Change.TheVariants.{Stores}
 use Rattle.book_model.specs.declared.change.StoreReason.TheVariants.{Creation}
 use Rattle.book_model.specs.declared.page.Page.{Page}
-use Rattle.book_model.specs.declared.refusal.Refusal.{Refusal}
-use Rattle.book_model.specs.declared.refusal.Refusal.TheVariants.{BadCard}
 use Rattle.book_laws.specs.Histories.{BookEvent}
 use Rattle.book_laws.specs.Reports.{report}
 use Rattle.book_model.specs.Pages.{page_of}
@@ -35,9 +31,3 @@ pub record IsFirstPath (text : List ℕ) (path : FirstPath) : Type 0 where
   pub card : List Line
   pub spelled : Spells text card
   pub taken : IsPathOf card path
-
--- the text is no card, and this refusal says why
-pub record IsRefusedFor (text : List ℕ) (refusal : Refusal) : Type 0 where
-  pub fault : CardFault
-  pub refusal_is : refusal ≡ BadCard fault
-  pub first : IsFirstFault text fault

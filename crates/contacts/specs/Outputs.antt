@@ -1,5 +1,5 @@
 -- The octets that are printed of the first path. This project's own.
-use Rattle.std.specs.Prelude.{ℕ, Bool, List, [], ◌∷◌, ◌++◌, ◌⊎◌, length, flat_map, codes, decimal, Option, if◌then◌else◌}
+use Rattle.std.specs.Prelude.{ℕ, List, [], ◌∷◌, ◌++◌, ◌⊎◌, length, flat_map, codes, decimal, Option}
 use Rattle.std.specs.Io.KnownBytes.{Appends, Keeps}
 use Rattle.vcard_text.specs.Cards.{canonical_text}
 use Rattle.base_types.specs.Octets.{line_feed}
@@ -14,6 +14,7 @@ use Rattle.contacts.specs.FirstPaths.{IsFirstPath}
 use Rattle.orders.specs.declared.stop.Stop.{Stop}
 use Rattle.orders.specs.declared.stop.Stop.TheVariants.{Refused, Fault, Open, Serve, Device}
 use Rattle.orders.specs.Streams.{WritesFront}
+use Rattle.order_texts.specs.OrderTexts.{yes_or_no}
 
 abbrev pub put_line : PutAnswer → List ℕ
 put_line (Created version) = codes "put created " ++ (decimal version ++ line_feed ∷ [])
@@ -31,9 +32,6 @@ entry_lines (Removed uid) = codes "removed " ++ (uid ++ line_feed ∷ [])
 abbrev pub entries_lines : List Entry → List ℕ
 entries_lines entries = flat_map entry_lines entries
 
-abbrev pub yes_or_no : Bool → List ℕ
-yes_or_no holds = if holds then codes "yes" else codes "no"
-
 -- the entries, the token of the page, and whether it is truncated
 abbrev pub page_lines : Page → List ℕ
 page_lines page =
@@ -47,13 +45,13 @@ path_lines path = put_line path.put ++ page_lines path.page
 -- ---- what a writer has of it
 
 -- what was written is the first path of the text
-pub record Prints (text : List ℕ) (before after : Option (List ℕ)) : Type 0 where
+pub record PrintsPath (text : List ℕ) (before after : Option (List ℕ)) : Type 0 where
   pub path : FirstPath
   pub is : IsFirstPath text path
   pub written : Appends before after (path_lines path)
 
 -- what was written is some first octets of the first path of the text
-pub record PrintsFront (text : List ℕ) (before after : Option (List ℕ)) : Type 0 where
+pub record PrintsPathFront (text : List ℕ) (before after : Option (List ℕ)) : Type 0 where
   pub path : FirstPath
   pub is : IsFirstPath text path
   pub front : WritesFront (path_lines path) before after
@@ -65,4 +63,4 @@ LeavesOutput (Refused refusal) text before after = Keeps before after
 LeavesOutput (Fault fault) text before after = Keeps before after
 LeavesOutput (Open fault) text before after = Keeps before after
 LeavesOutput (Serve fault) text before after = Keeps before after
-LeavesOutput Device text before after = Keeps before after ⊎ PrintsFront text before after
+LeavesOutput Device text before after = Keeps before after ⊎ PrintsPathFront text before after

@@ -3,7 +3,7 @@ ghost use Rattle.std.specs.Prelude.{◌≡◌, ◌≢◌, ◌⊎◌, List, ℕ, 
 ghost use Rattle.std.specs.Io.KnownBytes.{Keeps};
 ghost use Rattle.command_line.specs.declared.fault.LineFault.{LineFault as TheFault};
 ghost use Rattle.command_line.specs.declared.order.Order.{Order as TheOrder};
-ghost use Rattle.contacts.specs.Endings.{Ends, IsDone, IsOrderDone, IsOrderStopped, IsStopped, Says, SaysBad, ended};
+ghost use Rattle.contacts.specs.Endings.{Ends, IsDone, IsOrderDone, IsOrderStopped, IsStopped, Says, SaysBad, whole_line};
 ghost use Rattle.orders.specs.Stops.{no_memory, stop_line};
 
 use crate::tried::run_try;
@@ -16,7 +16,7 @@ use vcard_text::NoMemory;
 
 /// The line that is said of a stop.
 fn line_of(alloc: Global, stop: Stop) -> Result<String, NoMemory>
-    ensures { IfOk result (λ line. string_bytes line ≡ ended (stop_line stop)) }
+    ensures { IfOk result (λ line. string_bytes line ≡ whole_line (stop_line stop)) }
 {
     Ok(format!(in alloc; "{stop}\n")?)
 }

@@ -1,6 +1,7 @@
 //! What is printed of the first path.
 ghost use Rattle.std.specs.Prelude.{◌≡◌, ◌++◌, IfOk, OnOk};
-ghost use Rattle.contacts.specs.Outputs.{put_line, entry_lines, entries_lines, yes_or_no, page_lines, path_lines};
+ghost use Rattle.contacts.specs.Outputs.{put_line, entry_lines, entries_lines, page_lines, path_lines};
+ghost use Rattle.order_texts.specs.OrderTexts.{yes_or_no};
 
 use crate::first_path::FirstPath;
 use std::alloc::Global;

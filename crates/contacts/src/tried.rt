@@ -1,7 +1,7 @@
 //! The first path, from the octets of the input to those of the output.
 ghost use Rattle.std.specs.Prelude.{IfErr, IfSome, OnOk};
 ghost use Rattle.contacts.specs.Inputs.{read_octets_max};
-ghost use Rattle.contacts.specs.Outputs.{LeavesOutput, Prints};
+ghost use Rattle.contacts.specs.Outputs.{LeavesOutput, PrintsPath};
 ghost use Rattle.contacts.specs.Stops.{IsStopFor};
 ghost use Rattle.orders.specs.Streams.{ReadsAtMost};
 
@@ -22,7 +22,7 @@ pub(crate) fn run_try<R: Read, W: Write>(
 ) -> Result<(), Stop>
     // What is written is the first path of the input.
     ensures printed { OnOk result (IfSome (R.remaining reader.old)
-        (λ input. Prints input (W.contents writer.old) (W.contents writer.new))) }
+        (λ input. PrintsPath input (W.contents writer.old) (W.contents writer.new))) }
 
     // A refusal is of the input's first fault.
     ensures stopped { IfErr result (λ stop. IfSome (R.remaining reader.old)
