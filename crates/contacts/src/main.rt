@@ -3,17 +3,7 @@
 //! prints the book's initial report.
 #![tactic(auto)]
 
-mod ending;
-mod first_path;
-mod input;
-mod output;
-#[cfg(test)]
-mod tests;
-mod tried;
-mod words;
-
-use crate::ending::run;
-use crate::words::read_words;
+use orders::{read_words, run};
 use std::process::ExitCode;
 
 fn main(rt: HostRuntime) -> ExitCode {

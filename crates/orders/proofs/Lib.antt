@@ -3,3 +3,7 @@ pub mod StopLemmas
 pub mod CommandLemmas
 pub mod ReplyLemmas
 pub mod FileLemmas
+pub mod FirstPathLemmas
+pub mod InputLemmas
+pub mod EndingLemmas
+pub mod LongTextLemmas

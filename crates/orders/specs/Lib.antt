@@ -8,3 +8,8 @@ pub mod Serving
 pub mod OnFiles
 pub mod Machines
 pub mod OnMachines
+pub mod Inputs
+pub mod PathStops
+pub mod FirstPaths
+pub mod PathOutputs
+pub mod Endings

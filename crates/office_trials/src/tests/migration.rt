@@ -6,7 +6,6 @@ use book_model::{Entry, Mark, Page, Token};
 use sqlite::{Alter, Connection, params};
 use std::alloc::Global;
 use std::process::Abort;
-use std::test::Fail;
 use sync_core::BookStore;
 use vcard_text::{Items, Text};
 
@@ -27,51 +26,48 @@ const ANNA: &str = "BEGIN:VCARD\r\nVERSION:4.0\r\nUID:a\r\nFN:Anna\r\nEND:VCARD\
 
 const BOB: &str = "BEGIN:VCARD\r\nVERSION:4.0\r\nUID:b\r\nFN:Bob\r\nEND:VCARD\r\n";
 
-fn put<S: Alter>(
-    conn: &mut Connection<S>,
-    uid: &str,
-    changed: i64,
-    card: &str,
-) -> Result<(), Fail> {
+fn put<S: Alter>(rt: &impl Abort, conn: &mut Connection<S>, uid: &str, changed: i64, card: &str) {
     conn.execute(
         "INSERT INTO member (book, uid, changed, card) VALUES (1, ?1, ?2, ?3)",
         params![uid, changed, card],
-    )?;
-    Ok(())
+    )
+    .expect(rt, "an answer");
 }
 
 /// Lays the tables of the first schema, with the book `staff`: nine changes, of which two left live
 /// cards and two are removals that are remembered.
-pub(super) fn lay<S: Alter>(conn: &mut Connection<S>) -> Result<(), Fail> {
-    conn.execute_batch(TABLES)?;
+pub(super) fn lay<S: Alter>(rt: &impl Abort, conn: &mut Connection<S>) {
+    conn.execute_batch(TABLES).expect(rt, "an answer");
     conn.execute_batch(
         "INSERT INTO book VALUES (1, 'staff', 9, 0, 5, 1, 0, 0, 0, 3, 0); \
          INSERT INTO member VALUES (1, 'c', 6, NULL); \
          INSERT INTO member VALUES (1, 'd', 9, NULL)",
-    )?;
-    put(conn, "a", 4, ANNA)?;
-    put(conn, "b", 7, BOB)
+    )
+    .expect(rt, "an answer");
+    put(rt, conn, "a", 4, ANNA);
+    put(rt, conn, "b", 7, BOB);
 }
 
 /// The page that says that `d` went, and nothing else.
-fn page_without_d(alloc: Global) -> Result<Page, Fail> {
-    let uid = Text::copy_of(alloc, "d")?;
+fn page_without_d(rt: &impl Abort, alloc: Global) -> Page {
+    let uid = Text::copy_of(alloc, "d").expect(rt, "memory");
     let mut entries = Items::new(alloc);
-    entries.push(Entry::Removed { uid })?;
-    Ok(Page {
+    entries.push(Entry::Removed { uid }).expect(rt, "memory");
+    Page {
         book: 1,
         entries,
         mark: Mark { at: 9, base: 9 },
         truncated: false,
-    })
+    }
 }
 
 /// A device that heard of all up to the seventh change, before the tables were carried, goes on
 /// with its token.
-fn goes_on<S: BookStore>(rt: &impl Abort, alloc: Global, store: &mut S) -> Result<(), Fail> {
+fn goes_on<S: BookStore>(rt: &impl Abort, alloc: Global, store: &mut S) {
     let mark = Mark { at: 7, base: 7 };
     let token = Token { book: 1, mark };
-    let page = store.report("staff", Some(token), None)?;
-    assert_eq!(rt; page, page_without_d(alloc)?);
-    Ok(())
+    let page = store
+        .report("staff", Some(token), None)
+        .expect(rt, "an answer");
+    assert_eq!(rt; page, page_without_d(rt, alloc));
 }

@@ -6,8 +6,8 @@ mod served;
 use command_line::{LineFault, Order, read_order};
 use orders::{Stop, run_order};
 use std::alloc::{AllocError, Global};
+use std::process::Abort;
 use std::rt::HostRuntime;
-use std::test::Fail;
 use std::{fs, str};
 
 /// A call without its clauses.
@@ -33,35 +33,36 @@ fn done(rt: &HostRuntime, order: Order) -> (Vec<u8>, Result<(), Stop>) {
 
 /// What is printed by the order that the line asks for, and behind it why it stops, where it does,
 /// and with which status.
-fn told(rt: &HostRuntime, line: &str) -> Result<String, Fail> {
+fn told(test: &impl Abort, rt: &HostRuntime, line: &str) -> String {
     let alloc = rt.alloc();
-    let words = words_of(alloc, line)?;
+    let words = words_of(alloc, line).expect(test, "an answer");
     let Ok(order) = order(alloc, words.as_slice()) else {
-        return Err(Fail::new("no order"));
+        panic!(test; "no order");
     };
     let (out, end) = done(rt, order);
-    let out = str::from_utf8(out.as_slice())?;
+    let out = str::from_utf8(out.as_slice()).expect(test, "an answer");
     match end {
-        Ok(()) => Ok(String::from_str(alloc, out)?),
-        Err(stop) => Ok(format!(in alloc; "{out}{stop}, status {}", stop.status())?),
+        Ok(()) => String::from_str(alloc, out).expect(test, "memory"),
+        Err(stop) => format!(in alloc; "{out}{stop}, status {}", stop.status()).expect(
+            test, "memory",
+        ),
     }
 }
 
 /// The first line whose order isn't answered with what stands behind it, and what it is answered
 /// with. The orders are done one after another.
-fn differs(rt: &HostRuntime, rows: &[(&str, &str)]) -> Result<Option<String>, Fail> {
+fn differs(test: &impl Abort, rt: &HostRuntime, rows: &[(&str, &str)]) -> Option<String> {
     for (line, wanted) in rows {
-        let printed = told(rt, line)?;
+        let printed = told(test, rt, line);
         if printed.as_str() != *wanted {
-            return Ok(Some(format!(in rt.alloc(); "{line}: {printed}")?));
+            return Some(format!(in rt.alloc(); "{line}: {printed}").expect(test, "memory"));
         }
     }
-    Ok(None)
+    None
 }
 
 /// An empty folder.
-fn new_folder(rt: &HostRuntime, folder: &str) -> Result<(), Fail> {
+fn new_folder(test: &impl Abort, rt: &HostRuntime, folder: &str) {
     let _ = fs::remove_dir_all(rt, folder);
-    fs::create_dir(rt, folder)?;
-    Ok(())
+    fs::create_dir(rt, folder).expect(test, "an answer");
 }

@@ -7,7 +7,6 @@ use std::alloc::Global;
 use std::io::{Read, Write};
 use std::net::{Ipv4Addr, Shutdown, SocketAddr, TcpListener, TcpStream};
 use std::rt::HostRuntime;
-use std::test::Fail;
 use std::{io, str};
 use sync_core::{BookStore, PlainStore};
 
@@ -56,13 +55,13 @@ fn told(alloc: Global, stream: &mut TcpStream) -> io::Result<Vec<u8>> {
 }
 
 #[test]
-fn serves_connections_in_turn(rt: HostRuntime) -> Result<(), Fail> {
-    let listener = listen(&rt)?;
+fn serves_connections_in_turn(rt: HostRuntime) {
+    let listener = listen(&rt).expect(&rt, "an answer");
     let mut service = new_service(rt.alloc());
-    let mut first = asks(&rt, &listener, &[MAKE_STAFF, PUT_CARD])?;
+    let mut first = asks(&rt, &listener, &[MAKE_STAFF, PUT_CARD]).expect(&rt, "an answer");
     // a new session takes no rest of the one before: this one leaves half a request
-    let mut half = asks(&rt, &listener, &["PUT /books/half HTTP/1.1\r\n"])?;
-    let mut last = asks(&rt, &listener, &[MAKE_CLIENTS])?;
+    let mut half = asks(&rt, &listener, &["PUT /books/half HTTP/1.1\r\n"]).expect(&rt, "an answer");
+    let mut last = asks(&rt, &listener, &[MAKE_CLIENTS]).expect(&rt, "an answer");
 
     assert_eq!(rt;
         serve_listener(rt.alloc(), &mut service, &listener, 0),
@@ -73,19 +72,22 @@ fn serves_connections_in_turn(rt: HostRuntime) -> Result<(), Fail> {
         serve_listener(rt.alloc(), &mut service, &listener, 2),
         Ok(())
     );
-    let wanted = format!(in rt.alloc(); "{MADE_FIRST}{PUT_FIRST}")?;
-    let replies = told(rt.alloc(), &mut first)?;
+    let wanted = format!(in rt.alloc(); "{MADE_FIRST}{PUT_FIRST}").expect(&rt, "memory");
+    let replies = told(rt.alloc(), &mut first).expect(&rt, "an answer");
     assert_eq!(rt; str::from_utf8(replies.as_slice()), Ok(wanted.as_str()));
-    assert!(rt; told(rt.alloc(), &mut half)?.is_empty());
+    assert!(rt;
+        told(rt.alloc(), &mut half)
+            .expect(&rt, "an answer")
+            .is_empty()
+    );
 
     assert!(rt; service.store.book("clients").is_err());
     assert_eq!(rt;
         serve_listener(rt.alloc(), &mut service, &listener, 1),
         Ok(())
     );
-    let replies = told(rt.alloc(), &mut last)?;
+    let replies = told(rt.alloc(), &mut last).expect(&rt, "an answer");
     assert_eq!(rt; str::from_utf8(replies.as_slice()), Ok(MADE_SECOND));
-    Ok(())
 }
 
 /// A connection that asks for more than one piece, and breaks before anything is replied.
@@ -98,19 +100,18 @@ fn breaks(rt: &HostRuntime, listener: &TcpListener) -> io::Result<()> {
 }
 
 #[test]
-fn serves_others_where_one_breaks(rt: HostRuntime) -> Result<(), Fail> {
-    let listener = listen(&rt)?;
+fn serves_others_where_one_breaks(rt: HostRuntime) {
+    let listener = listen(&rt).expect(&rt, "an answer");
     let mut service = new_service(rt.alloc());
-    breaks(&rt, &listener)?;
-    let mut other = asks(&rt, &listener, &[MAKE_CLIENTS])?;
+    breaks(&rt, &listener).expect(&rt, "an answer");
+    let mut other = asks(&rt, &listener, &[MAKE_CLIENTS]).expect(&rt, "an answer");
     let done = serve_listener(rt.alloc(), &mut service, &listener, 2);
     assert_eq!(rt; done, Err(ListenFault::Serve(ServeFault::Write)));
-    let replies = told(rt.alloc(), &mut other)?;
+    let replies = told(rt.alloc(), &mut other).expect(&rt, "an answer");
     assert_eq!(rt; str::from_utf8(replies.as_slice()), Ok(MADE_SECOND));
 
     // no connection waits, and the listener doesn't
-    listener.set_nonblocking(true)?;
+    listener.set_nonblocking(true).expect(&rt, "an answer");
     let none = serve_listener(rt.alloc(), &mut service, &listener, 1);
     assert_eq!(rt; none, Err(ListenFault::Device));
-    Ok(())
 }

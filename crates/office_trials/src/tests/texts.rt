@@ -8,7 +8,6 @@ use order_texts::{
 use std::alloc::Global;
 use std::rt::HostRuntime;
 use std::str;
-use std::test::Fail;
 use sync_core::{BookStore, Denied, ImportTally, PlainStore};
 use vcard_text::{Items, NoMemory, Text, read_card};
 
@@ -109,8 +108,7 @@ fn texts(alloc: Global) -> Result<Vec<u8>, Denied> {
 }
 
 #[test]
-fn texts_are_as_orders_print_them(rt: HostRuntime) -> Result<(), Fail> {
-    let texts = texts(rt.alloc())?;
+fn texts_are_as_orders_print_them(rt: HostRuntime) {
+    let texts = texts(rt.alloc()).expect(&rt, "an answer");
     assert_eq!(rt; str::from_utf8(texts.as_slice()), Ok(WANTED));
-    Ok(())
 }

@@ -3,7 +3,6 @@ use command_line::{LineFault, Order, read_order};
 use csv_cards::Form;
 use std::alloc::{AllocError, Global};
 use std::process::Abort;
-use std::test::Fail;
 
 /// A call without its clauses.
 fn order(alloc: Global, words: &[String]) -> Result<Order, LineFault> {
@@ -73,15 +72,17 @@ fn asked(alloc: Global, line: &str) -> Result<String, AllocError> {
 }
 
 /// Each line asks for what stands behind it.
-fn ask_for(rt: &impl Abort, alloc: Global, rows: &[(&str, &str)]) -> Result<(), Fail> {
+fn ask_for(rt: &impl Abort, alloc: Global, rows: &[(&str, &str)]) {
     for (line, wanted) in rows {
-        assert_eq!(rt; asked(alloc, line)?.as_str(), *wanted);
+        assert_eq!(rt;
+            asked(alloc, line).expect(rt, "an answer").as_str(),
+            *wanted
+        );
     }
-    Ok(())
 }
 
 #[test]
-fn reads_orders(rt: HostRuntime) -> Result<(), Fail> {
+fn reads_orders(rt: HostRuntime) {
     let rows = [
         ("", "try"),
         ("try", "try"),
@@ -108,23 +109,22 @@ fn reads_orders(rt: HostRuntime) -> Result<(), Fail> {
         ("migrate a.db", "migrate a.db"),
         ("migrate -- --help", "migrate --help"),
     ];
-    ask_for(&rt, rt.alloc(), rows.as_slice())
+    ask_for(&rt, rt.alloc(), rows.as_slice());
 }
 
 /// Each line is bad, and its text has what stands behind it.
-fn are_bad(rt: &impl Abort, alloc: Global, rows: &[(&str, &str)]) -> Result<(), Fail> {
+fn are_bad(rt: &impl Abort, alloc: Global, rows: &[(&str, &str)]) {
     for (line, part) in rows {
-        let text = asked(alloc, line)?;
+        let text = asked(alloc, line).expect(rt, "an answer");
         assert!(rt;
             text.starts_with("bad: ") && text.contains(part),
             "{line}: {text}"
         );
     }
-    Ok(())
 }
 
 #[test]
-fn tells_bad_words(rt: HostRuntime) -> Result<(), Fail> {
+fn tells_bad_words(rt: HostRuntime) {
     let rows = [
         ("tally a.db", "<BOOK>"),
         ("tally a.db staff more", "'more'"),
@@ -146,7 +146,7 @@ fn tells_bad_words(rt: HostRuntime) -> Result<(), Fail> {
             "The most pages, 1 to 1000000 [default: 1000]",
         ),
     ];
-    are_bad(&rt, rt.alloc(), rows.as_slice())
+    are_bad(&rt, rt.alloc(), rows.as_slice());
 }
 
 /// How each order's words stand in its help.
@@ -180,6 +180,6 @@ const USAGES: [(&str, &str); 11] = [
 ];
 
 #[test]
-fn tells_each_orders_words(rt: HostRuntime) -> Result<(), Fail> {
-    are_bad(&rt, rt.alloc(), &USAGES)
+fn tells_each_orders_words(rt: HostRuntime) {
+    are_bad(&rt, rt.alloc(), &USAGES);
 }

@@ -4,102 +4,111 @@ use book_model::Limits;
 use book_store::{OpenFault, SqlStore};
 use sqlite::{Connection, MemStore, params};
 use std::alloc::Global;
-use std::test::Fail;
+use std::process::Abort;
 use sync_core::BookStore;
 
 type Memory = Connection<MemStore>;
 
-fn laid(alloc: Global) -> Result<Memory, Fail> {
-    let mut conn = Connection::open_in_memory(alloc)?;
-    super::lay(&mut conn)?;
-    Ok(conn)
+fn laid(rt: &impl Abort, alloc: Global) -> Memory {
+    let mut conn = Connection::open_in_memory(alloc).expect(rt, "an answer");
+    super::lay(rt, &mut conn);
+    conn
 }
 
 /// What carrying the tables answers.
-fn migrated(alloc: Global, conn: &mut Memory) -> Result<Result<u64, OpenFault>, Fail> {
+fn migrated(rt: &impl Abort, alloc: Global, conn: &mut Memory) -> Result<u64, OpenFault> {
     if !conn.is_autocommit() {
-        return Err(Fail::new("transaction"));
+        panic!(rt; "transaction");
     }
-    Ok(migrate_connection(alloc, conn))
+    migrate_connection(alloc, conn)
 }
 
 /// What carrying the tables answers after the statements, and how many tables there are then.
-fn after(alloc: Global, statements: &str) -> Result<(Result<u64, OpenFault>, usize), Fail> {
-    let mut conn = laid(alloc)?;
-    conn.execute_batch(statements)?;
-    let answer = migrated(alloc, &mut conn)?;
-    Ok((answer, conn.schema().tables.len()))
+fn after(rt: &impl Abort, alloc: Global, statements: &str) -> (Result<u64, OpenFault>, usize) {
+    let mut conn = laid(rt, alloc);
+    conn.execute_batch(statements).expect(rt, "an answer");
+    let answer = migrated(rt, alloc, &mut conn);
+    (answer, conn.schema().tables.len())
 }
 
 /// The number that the query shows alone.
-fn number(conn: &mut Memory, query: &str) -> Result<i64, Fail> {
-    Ok(conn.query_row(query, params![])?.get(0)?)
+fn number(rt: &impl Abort, conn: &mut Memory, query: &str) -> i64 {
+    conn.query_row(query, params![])
+        .expect(rt, "an answer")
+        .get(0)
+        .expect(rt, "something")
 }
 
 /// The store over the tables.
-fn adopted(alloc: Global, conn: Memory) -> Result<SqlStore<MemStore>, Fail> {
+fn adopted(rt: &impl Abort, alloc: Global, conn: Memory) -> SqlStore<MemStore> {
     if !conn.is_autocommit() {
-        return Err(Fail::new("transaction"));
+        panic!(rt; "transaction");
     }
     match SqlStore::adopt(alloc, conn, Limits::standard()) {
-        Ok(store) => Ok(store),
-        Err(_) => Err(Fail::new("not adopted")),
+        Ok(store) => store,
+        Err(_) => panic!(rt; "not adopted"),
     }
 }
 
 /// The version of the card with the UID, in the store over the tables.
-fn version(alloc: Global, conn: Memory, uid: &str) -> Result<u64, Fail> {
-    let mut store = adopted(alloc, conn)?;
-    Ok(store.get("staff", uid)?.version)
+fn version(rt: &impl Abort, alloc: Global, conn: Memory, uid: &str) -> u64 {
+    let mut store = adopted(rt, alloc, conn);
+    store.get("staff", uid).expect(rt, "something").version
 }
 
 #[test]
-fn carries_tables_of_the_first_schema(rt: HostRuntime) -> Result<(), Fail> {
+fn carries_tables_of_the_first_schema(rt: HostRuntime) {
     let alloc = rt.alloc();
-    let mut conn = laid(alloc)?;
-    assert_eq!(&rt; migrated(alloc, &mut conn)?, Ok(1));
-    assert_eq!(&rt; number(&mut conn, "SELECT val FROM meta")?, 2);
+    let mut conn = laid(&rt, alloc);
+    assert_eq!(&rt; migrated(&rt, alloc, &mut conn), Ok(1));
+    assert_eq!(&rt; number(&rt, &mut conn, "SELECT val FROM meta"), 2);
     assert_eq!(&rt;
-        number(&mut conn, "SELECT keep FROM keeping WHERE book = 1")?,
+        number(&rt, &mut conn, "SELECT keep FROM keeping WHERE book = 1"),
         10000
     );
-    assert_eq!(&rt; number(&mut conn, "SELECT COUNT(*) FROM keeping")?, 1);
+    assert_eq!(&rt; number(&rt, &mut conn, "SELECT COUNT(*) FROM keeping"), 1);
     assert_eq!(&rt;
-        number(&mut conn, "SELECT COUNT(*) FROM member WHERE card IS NULL")?,
+        number(
+            &rt,
+            &mut conn,
+            "SELECT COUNT(*) FROM member WHERE card IS NULL"
+        ),
         2
     );
     assert_eq!(&rt;
-        number(&mut conn, "SELECT number FROM book WHERE name = 'staff'")?,
+        number(
+            &rt,
+            &mut conn,
+            "SELECT number FROM book WHERE name = 'staff'"
+        ),
         9
     );
-    assert_eq!(&rt; version(alloc, conn, "b")?, 7);
-    Ok(())
+    assert_eq!(&rt; version(&rt, alloc, conn, "b"), 7);
 }
 
 #[test]
-fn carries_tokens(rt: HostRuntime) -> Result<(), Fail> {
+fn carries_tokens(rt: HostRuntime) {
     let alloc = rt.alloc();
-    let mut conn = laid(alloc)?;
-    assert_eq!(&rt; migrated(alloc, &mut conn)?, Ok(1));
-    let mut store = adopted(alloc, conn)?;
-    super::goes_on(&rt, alloc, &mut store)
+    let mut conn = laid(&rt, alloc);
+    assert_eq!(&rt; migrated(&rt, alloc, &mut conn), Ok(1));
+    let mut store = adopted(&rt, alloc, conn);
+    super::goes_on(&rt, alloc, &mut store);
 }
 
 #[test]
-fn carries_no_tables_twice(rt: HostRuntime) -> Result<(), Fail> {
+fn carries_no_tables_twice(rt: HostRuntime) {
     let alloc = rt.alloc();
-    let mut conn = laid(alloc)?;
-    assert_eq!(&rt; migrated(alloc, &mut conn)?, Ok(1));
+    let mut conn = laid(&rt, alloc);
+    assert_eq!(&rt; migrated(&rt, alloc, &mut conn), Ok(1));
     assert_eq!(&rt;
-        migrated(alloc, &mut conn)?,
+        migrated(&rt, alloc, &mut conn),
         Err(OpenFault::OtherSchema { has: 2 })
     );
-    assert_eq!(&rt; version(alloc, conn, "a")?, 4);
-    Ok(())
+    assert_eq!(&rt; version(&rt, alloc, conn, "a"), 4);
 }
 
 #[test]
-fn changes_nothing_of_damaged_books(rt: HostRuntime) -> Result<(), Fail> {
+fn changes_nothing_of_damaged_books(rt: HostRuntime) {
     let alloc = rt.alloc();
     let statements = [
         "UPDATE book SET number = 10",
@@ -108,21 +117,19 @@ fn changes_nothing_of_damaged_books(rt: HostRuntime) -> Result<(), Fail> {
         "DELETE FROM member WHERE uid = 'b'",
     ];
     for change in statements {
-        assert_eq!(&rt; after(alloc, change)?, (Err(OpenFault::Damaged), 4));
+        assert_eq!(&rt; after(&rt, alloc, change), (Err(OpenFault::Damaged), 4));
     }
-    Ok(())
 }
 
 #[test]
-fn changes_nothing_of_other_tables(rt: HostRuntime) -> Result<(), Fail> {
+fn changes_nothing_of_other_tables(rt: HostRuntime) {
     let alloc = rt.alloc();
-    let seven = after(alloc, "UPDATE meta SET val = 7")?;
+    let seven = after(&rt, alloc, "UPDATE meta SET val = 7");
     assert_eq!(&rt; seven, (Err(OpenFault::OtherSchema { has: 7 }), 4));
-    let two = after(alloc, "UPDATE meta SET val = 2")?;
+    let two = after(&rt, alloc, "UPDATE meta SET val = 2");
     assert_eq!(&rt; two, (Err(OpenFault::OtherSchema { has: 2 }), 4));
-    let none = after(alloc, "DELETE FROM meta")?;
+    let none = after(&rt, alloc, "DELETE FROM meta");
     assert_eq!(&rt; none, (Err(OpenFault::NotOurs), 4));
-    let three = after(alloc, "DROP TABLE import_key")?;
+    let three = after(&rt, alloc, "DROP TABLE import_key");
     assert_eq!(&rt; three, (Err(OpenFault::NotOurs), 3));
-    Ok(())
 }

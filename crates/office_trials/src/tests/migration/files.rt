@@ -4,7 +4,7 @@ use book_model::Limits;
 use book_store::{FileBooks, OpenFault, SqlStore};
 use sqlite::Connection;
 use std::fs;
-use std::test::Fail;
+use std::process::Abort;
 use sync_core::BookStore;
 
 const FOLDER: &str = "migrated_books";
@@ -20,53 +20,52 @@ const LETTER: &str = "other_books/letter.txt";
 const MISSING: &str = "other_books/missing.db";
 
 /// An empty folder.
-fn new_folder(rt: &HostRuntime, folder: &str) -> Result<(), Fail> {
+fn new_folder(test: &impl Abort, rt: &HostRuntime, folder: &str) {
     let _ = fs::remove_dir_all(rt, folder);
-    fs::create_dir(rt, folder)?;
-    Ok(())
+    fs::create_dir(rt, folder).expect(test, "an answer");
 }
 
 /// Makes the file, with the tables of the first schema.
-fn lay(rt: &HostRuntime) -> Result<(), Fail> {
-    let mut conn = Connection::open(rt, FIRST)?;
-    super::lay(&mut conn)
+fn lay(test: &impl Abort, rt: &HostRuntime) {
+    let mut conn = Connection::open(rt, FIRST).expect(test, "an answer");
+    super::lay(test, &mut conn);
 }
 
 /// The store in the file.
-fn opened(rt: &HostRuntime) -> Result<FileBooks, Fail> {
+fn opened(test: &impl Abort, rt: &HostRuntime) -> FileBooks {
     match SqlStore::open(rt, FIRST, Limits::standard()) {
-        Ok(store) => Ok(store),
-        Err(_) => Err(Fail::new("not opened")),
+        Ok(store) => store,
+        Err(_) => panic!(test; "not opened"),
     }
 }
 
-fn version(store: &mut FileBooks) -> Result<u64, Fail> {
-    Ok(store.get("staff", "b")?.version)
+fn version(rt: &impl Abort, store: &mut FileBooks) -> u64 {
+    store.get("staff", "b").expect(rt, "something").version
 }
 
 #[test]
-fn carries_files(rt: HostRuntime) -> Result<(), Fail> {
-    new_folder(&rt, FOLDER)?;
-    lay(&rt)?;
+fn carries_files(rt: HostRuntime) {
+    new_folder(&rt, &rt, FOLDER);
+    lay(&rt, &rt);
     assert_eq!(&rt; migrate(&rt, FIRST), Ok(1));
     assert_eq!(&rt; migrate(&rt, FIRST), Err(OpenFault::OtherSchema { has: 2 }));
-    let mut store = opened(&rt)?;
-    assert_eq!(&rt; version(&mut store)?, 7);
-    super::goes_on(&rt, rt.alloc(), &mut store)
+    let mut store = opened(&rt, &rt);
+    assert_eq!(&rt; version(&rt, &mut store), 7);
+    super::goes_on(&rt, rt.alloc(), &mut store);
 }
 
 /// Makes the file, with the tables of the present schema.
-fn make(rt: &HostRuntime) -> Result<(), Fail> {
+fn make(test: &impl Abort, rt: &HostRuntime) {
     match SqlStore::create(rt, SECOND, Limits::standard()) {
-        Ok(_made) => Ok(()),
-        Err(_) => Err(Fail::new("not made")),
+        Ok(_made) => (),
+        Err(_) => panic!(test; "not made"),
     }
 }
 
 #[test]
-fn carries_no_other_files(rt: HostRuntime) -> Result<(), Fail> {
-    new_folder(&rt, OTHERS)?;
-    make(&rt)?;
+fn carries_no_other_files(rt: HostRuntime) {
+    new_folder(&rt, &rt, OTHERS);
+    make(&rt, &rt);
     assert_eq!(&rt;
         migrate(&rt, SECOND),
         Err(OpenFault::OtherSchema { has: 2 })
@@ -75,9 +74,9 @@ fn carries_no_other_files(rt: HostRuntime) -> Result<(), Fail> {
         &rt,
         LETTER,
         "Dear Ann, this letter is no database of books.",
-    )?;
+    )
+    .expect(&rt, "an answer");
     assert_eq!(&rt; migrate(&rt, LETTER), Err(OpenFault::NotOurs));
     assert_eq!(&rt; migrate(&rt, MISSING), Err(OpenFault::Store));
-    assert!(&rt; !fs::exists(&rt, MISSING)?);
-    Ok(())
+    assert!(&rt; !fs::exists(&rt, MISSING).expect(&rt, "an answer"));
 }

@@ -4,33 +4,36 @@ use super::{differs, new_folder};
 use book_store::{FileBooks, SqlStore};
 use std::alloc::Global;
 use std::fs;
+use std::process::Abort;
 use std::rt::HostRuntime;
-use std::test::Fail;
 use sync_core::{BookStore, Limits};
 use vcard_text::{Card, read_card};
 
 /// A card that a form has no room for: five lines.
-fn card(alloc: Global, uid: &str, name: &str) -> Result<Card, Fail> {
-    let text = format!(in alloc; "BEGIN:VCARD\nVERSION:4.0\nUID:{uid}\nFN:{name}\nEND:VCARD\n")?;
-    Ok(read_card(alloc, text.as_bytes())?)
+fn card(rt: &impl Abort, alloc: Global, uid: &str, name: &str) -> Card {
+    let text = format!(in alloc;
+        "BEGIN:VCARD\nVERSION:4.0\nUID:{uid}\nFN:{name}\nEND:VCARD\n"
+    ).expect(rt, "memory");
+    read_card(alloc, text.as_bytes()).expect(rt, "a card")
 }
 
-fn open(rt: &HostRuntime, path: &str) -> Result<FileBooks, Fail> {
+fn open(test: &impl Abort, rt: &HostRuntime, path: &str) -> FileBooks {
     match SqlStore::open(rt, path, Limits::standard()) {
-        Ok(store) => Ok(store),
-        Err(_) => Err(Fail::new("not opened")),
+        Ok(store) => store,
+        Err(_) => panic!(test; "not opened"),
     }
 }
 
 /// Five changes in the book `staff`: three cards come, one is edited, one goes.
-fn change_five_times(rt: &HostRuntime, path: &str) -> Result<(), Fail> {
+fn change_five_times(test: &impl Abort, rt: &HostRuntime, path: &str) {
     let alloc = rt.alloc();
-    let mut store = open(rt, path)?;
+    let mut store = open(test, rt, path);
     for (uid, name) in [("a", "Ann"), ("b", "Bob"), ("c", "Cy"), ("a", "Anna")] {
-        store.put("staff", &card(alloc, uid, name)?, None)?;
+        store
+            .put("staff", &card(test, alloc, uid, name), None)
+            .expect(test, "an answer");
     }
-    store.remove("staff", "b", None)?;
-    Ok(())
+    store.remove("staff", "b", None).expect(test, "an answer");
 }
 
 /// Orders on a file from its making on, and on one that isn't there.
@@ -97,12 +100,11 @@ const MORE: [(&str, &str); 8] = [
 ];
 
 #[test]
-fn keeps_books_in_a_file(rt: HostRuntime) -> Result<(), Fail> {
-    new_folder(&rt, "orders")?;
-    assert_eq!(rt; differs(&rt, &BEGIN)?, None);
-    change_five_times(&rt, "orders/a.db")?;
-    assert_eq!(rt; differs(&rt, &MORE)?, None);
-    Ok(())
+fn keeps_books_in_a_file(rt: HostRuntime) {
+    new_folder(&rt, &rt, "orders");
+    assert_eq!(rt; differs(&rt, &rt, &BEGIN), None);
+    change_five_times(&rt, &rt, "orders/a.db");
+    assert_eq!(rt; differs(&rt, &rt, &MORE), None);
 }
 
 /// Imports, and whom a group reaches then.
@@ -134,18 +136,18 @@ const IMPORTS: [(&str, &str); 8] = [
 ];
 
 #[test]
-fn imports_rows_of_a_file(rt: HostRuntime) -> Result<(), Fail> {
-    new_folder(&rt, "imports")?;
+fn imports_rows_of_a_file(rt: HostRuntime) {
+    new_folder(&rt, &rt, "imports");
     fs::write(
         &rt,
         "imports/rows.csv",
         "uid,vcard\n\
          g,\"BEGIN:VCARD\nVERSION:4.0\nUID:g\nFN:All\nKIND:group\nMEMBER:p\nMEMBER:q\nEND:VCARD\n\"\n\
          p,\"BEGIN:VCARD\nVERSION:4.0\nUID:p\nFN:Pat\nEND:VCARD\n\"\n",
-    )?;
-    fs::write(&rt, "imports/bad.csv", "uid,vcard\nx,y\n")?;
-    assert_eq!(rt; differs(&rt, &IMPORTS)?, None);
-    Ok(())
+    )
+    .expect(&rt, "an answer");
+    fs::write(&rt, "imports/bad.csv", "uid,vcard\nx,y\n").expect(&rt, "an answer");
+    assert_eq!(rt; differs(&rt, &rt, &IMPORTS), None);
 }
 
 /// The longest file of rows is read, and one that has an octet more isn't.
@@ -163,18 +165,16 @@ const LENGTHS: [(&str, &str); 4] = [
 ];
 
 /// Makes a file of so many octets, which are no rows of cards.
-fn write_octets(rt: &HostRuntime, path: &str, octets: usize) -> Result<(), Fail> {
+fn write_octets(test: &impl Abort, rt: &HostRuntime, path: &str, octets: usize) {
     let mut text = Vec::new(rt.alloc());
-    text.resize(octets, b'x')?;
-    fs::write(rt, path, text.as_slice())?;
-    Ok(())
+    text.resize(octets, b'x').expect(test, "an answer");
+    fs::write(rt, path, text.as_slice()).expect(test, "an answer");
 }
 
 #[test]
-fn imports_at_most_so_many_octets(rt: HostRuntime) -> Result<(), Fail> {
-    new_folder(&rt, "lengths")?;
-    write_octets(&rt, "lengths/most.csv", 8_388_608)?;
-    write_octets(&rt, "lengths/more.csv", 8_388_609)?;
-    assert_eq!(rt; differs(&rt, &LENGTHS)?, None);
-    Ok(())
+fn imports_at_most_so_many_octets(rt: HostRuntime) {
+    new_folder(&rt, &rt, "lengths");
+    write_octets(&rt, &rt, "lengths/most.csv", 8_388_608);
+    write_octets(&rt, &rt, "lengths/more.csv", 8_388_609);
+    assert_eq!(rt; differs(&rt, &rt, &LENGTHS), None);
 }

@@ -3,8 +3,8 @@
 use super::{differs, new_folder};
 use crate::tests::migration::lay;
 use sqlite::Connection;
+use std::process::Abort;
 use std::rt::HostRuntime;
-use std::test::Fail;
 
 const FILE: &str = "migrates/a.db";
 
@@ -36,15 +36,14 @@ const ROWS: [(&str, &str); 5] = [
 ];
 
 /// Makes the file. It is closed then.
-fn lay_file(rt: &HostRuntime) -> Result<(), Fail> {
-    let mut conn = Connection::open(rt, FILE)?;
-    lay(&mut conn)
+fn lay_file(test: &impl Abort, rt: &HostRuntime) {
+    let mut conn = Connection::open(rt, FILE).expect(test, "an answer");
+    lay(test, &mut conn);
 }
 
 #[test]
-fn carries_a_file(rt: HostRuntime) -> Result<(), Fail> {
-    new_folder(&rt, "migrates")?;
-    lay_file(&rt)?;
-    assert_eq!(rt; differs(&rt, &ROWS)?, None);
-    Ok(())
+fn carries_a_file(rt: HostRuntime) {
+    new_folder(&rt, &rt, "migrates");
+    lay_file(&rt, &rt);
+    assert_eq!(rt; differs(&rt, &rt, &ROWS), None);
 }

@@ -4,9 +4,9 @@ use super::{asks, listen, new_service, told};
 use book_http::Service;
 use book_server::serve_listener;
 use std::alloc::Global;
+use std::process::Abort;
 use std::rt::HostRuntime;
 use std::str;
-use std::test::Fail;
 use sync_core::{BookStore, Denied, PlainStore, PutAnswer};
 use vcard_text::read_card;
 
@@ -53,25 +53,24 @@ fn change(
 }
 
 /// The books after the changes.
-fn changed(alloc: Global) -> Result<Service<PlainStore>, Fail> {
+fn changed(rt: &impl Abort, alloc: Global) -> Service<PlainStore> {
     let mut service = new_service(alloc);
-    service.store.create_book("staff")?;
+    service.store.create_book("staff").expect(rt, "an answer");
     for (uid, name, number) in &CHANGES {
-        if change(alloc, &mut service.store, uid, *name)? != *number {
-            return Err(Fail::new("another number"));
+        if change(alloc, &mut service.store, uid, *name).expect(rt, "an answer") != *number {
+            panic!(rt; "another number");
         }
     }
-    Ok(service)
+    service
 }
 
 #[test]
-fn reports_to_a_device_that_wrote_before(rt: HostRuntime) -> Result<(), Fail> {
-    let listener = listen(&rt)?;
-    let mut service = changed(rt.alloc())?;
-    let mut device = asks(&rt, &listener, &[ASKS])?;
+fn reports_to_a_device_that_wrote_before(rt: HostRuntime) {
+    let listener = listen(&rt).expect(&rt, "an answer");
+    let mut service = changed(&rt, rt.alloc());
+    let mut device = asks(&rt, &listener, &[ASKS]).expect(&rt, "an answer");
     let done = serve_listener(rt.alloc(), &mut service, &listener, 1);
     assert_eq!(rt; done, Ok(()));
-    let reply = told(rt.alloc(), &mut device)?;
+    let reply = told(rt.alloc(), &mut device).expect(&rt, "an answer");
     assert_eq!(rt; str::from_utf8(reply.as_slice()), Ok(REPORT));
-    Ok(())
 }

@@ -1,4 +1,0 @@
-pub mod FirstPathLemmas
-pub mod InputLemmas
-pub mod EndingLemmas
-pub mod LongTextLemmas

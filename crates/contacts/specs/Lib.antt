@@ -1,5 +1,0 @@
-pub mod Inputs
-pub mod Stops
-pub mod FirstPaths
-pub mod Outputs
-pub mod Endings
