@@ -4,17 +4,16 @@ mod rows;
 use csv_cards::read_rows;
 use std::alloc::Global;
 use std::process::Abort;
-use std::test::Fail;
 
 /// What a text is read as: the lines of each card, between bars, or the row and the number of its
 /// fault.
-fn told(alloc: Global, text: &[u8]) -> Result<String, Fail> {
+fn told(rt: &impl Abort, alloc: Global, text: &[u8]) -> String {
     let cards = match read_rows(alloc, text) {
         Ok(cards) => cards,
         Err(fault) => {
             let cause = fault.cause.number();
             let row = fault.row;
-            return Ok(format!(in alloc; "row {row} cause {cause}")?);
+            return format!(in alloc; "row {row} cause {cause}").expect(rt, "memory");
         }
     };
     let mut told = String::new(alloc);
@@ -22,15 +21,19 @@ fn told(alloc: Global, text: &[u8]) -> Result<String, Fail> {
         for line in card.lines() {
             let name = &line.name;
             let value = &line.value;
-            told.push_str(format!(in alloc; "{name}:{value}|")?.as_str())?;
+            told.push_str(
+                format!(in alloc; "{name}:{value}|")
+                    .expect(rt, "memory")
+                    .as_str(),
+            )
+            .expect(rt, "memory");
         }
-        told.push_str("\n")?;
+        told.push_str("\n").expect(rt, "memory");
     }
-    Ok(told)
+    told
 }
 
-fn is_read_as(rt: &impl Abort, alloc: Global, text: &[u8], wanted: &str) -> Result<(), Fail> {
-    let told = told(alloc, text)?;
+fn is_read_as(rt: &impl Abort, alloc: Global, text: &[u8], wanted: &str) {
+    let told = told(rt, alloc, text);
     assert_eq!(rt; told.as_str(), wanted);
-    Ok(())
 }

@@ -3,7 +3,6 @@ use book_http::{ServeFault, serve};
 use std::alloc::Global;
 use std::io::{Read, Write};
 use std::rt::HostRuntime;
-use std::test::Fail;
 use std::{io, str};
 use sync_core::BookStore;
 
@@ -44,20 +43,19 @@ impl<'a> Read for SlowReader<'a> {
 }
 
 #[test]
-fn serves_octets_in_memory(rt: HostRuntime) -> Result<(), Fail> {
-    let wanted = replies(rt.alloc())?;
+fn serves_octets_in_memory(rt: HostRuntime) {
+    let wanted = replies(&rt, rt.alloc());
     let mut service = new_service(rt.alloc());
     let mut reader = REQUESTS.as_bytes();
     let mut writer = Vec::new(rt.alloc());
     let done = serve(rt.alloc(), &mut service, &mut reader, &mut writer);
     assert_eq!(rt; done, Ok(()));
     assert_eq!(rt; str::from_utf8(writer.as_slice()), Ok(wanted.as_str()));
-    Ok(())
 }
 
 #[test]
-fn serves_alike_in_reads_of_any_size(rt: HostRuntime) -> Result<(), Fail> {
-    let wanted = replies(rt.alloc())?;
+fn serves_alike_in_reads_of_any_size(rt: HostRuntime) {
+    let wanted = replies(&rt, rt.alloc());
     for size in 1..REQUESTS.len() {
         let mut service = new_service(rt.alloc());
         let mut reader = SlowReader::new(REQUESTS.as_bytes(), size);
@@ -66,12 +64,11 @@ fn serves_alike_in_reads_of_any_size(rt: HostRuntime) -> Result<(), Fail> {
         assert_eq!(rt; done, Ok(()));
         assert!(rt; writer.as_slice() == wanted.as_bytes(), "reads of {size}");
     }
-    Ok(())
 }
 
 #[test]
-fn reads_again_where_it_was_interrupted(rt: HostRuntime) -> Result<(), Fail> {
-    let wanted = replies(rt.alloc())?;
+fn reads_again_where_it_was_interrupted(rt: HostRuntime) {
+    let wanted = replies(&rt, rt.alloc());
     for at in 1..6u64 {
         let mut service = new_service(rt.alloc());
         let mut reader = SlowReader::new(REQUESTS.as_bytes(), 64);
@@ -82,11 +79,10 @@ fn reads_again_where_it_was_interrupted(rt: HostRuntime) -> Result<(), Fail> {
         assert_eq!(rt; done, Ok(()));
         assert_eq!(rt; str::from_utf8(writer.as_slice()), Ok(wanted.as_str()));
     }
-    Ok(())
 }
 
 #[test]
-fn ends_inside_a_body(rt: HostRuntime) -> Result<(), Fail> {
+fn ends_inside_a_body(rt: HostRuntime) {
     let end = REQUESTS.find("UID:a").unwrap_or_default();
     let mut service = new_service(rt.alloc());
     let mut reader = SlowReader::new(REQUESTS.as_bytes().get(..end).unwrap_or_default(), 10);
@@ -95,7 +91,6 @@ fn ends_inside_a_body(rt: HostRuntime) -> Result<(), Fail> {
     assert_eq!(rt; done, Ok(()));
     assert_eq!(rt; str::from_utf8(writer.as_slice()), Ok(MADE));
     assert!(rt; service.store.get("staff", "a").is_err());
-    Ok(())
 }
 
 /// Whether the request to make the book is whole in so many octets.
@@ -104,7 +99,7 @@ fn is_made(octets: usize) -> bool {
 }
 
 #[test]
-fn tells_a_failing_reader(rt: HostRuntime) -> Result<(), Fail> {
+fn tells_a_failing_reader(rt: HostRuntime) {
     for at in 1..6usize {
         let mut service = new_service(rt.alloc());
         let mut reader = SlowReader::new(REQUESTS.as_bytes(), 20);
@@ -120,7 +115,6 @@ fn tells_a_failing_reader(rt: HostRuntime) -> Result<(), Fail> {
         );
         assert!(rt; service.store.book("staff").is_ok() == made);
     }
-    Ok(())
 }
 
 /// An output of which one write fails.
@@ -159,7 +153,7 @@ fn served(alloc: Global, fails_at: u64) -> (Result<(), ServeFault>, Vec<u8>) {
 }
 
 #[test]
-fn tells_a_failing_writer(rt: HostRuntime) -> Result<(), Fail> {
+fn tells_a_failing_writer(rt: HostRuntime) {
     // each reply is written by itself, before more is read
     let (first, nothing) = served(rt.alloc(), 1);
     assert_eq!(rt; first, Err(ServeFault::Write));
@@ -169,9 +163,8 @@ fn tells_a_failing_writer(rt: HostRuntime) -> Result<(), Fail> {
     assert_eq!(rt; str::from_utf8(made.as_slice()), Ok(MADE));
     let (fourth, all) = served(rt.alloc(), 4);
     assert_eq!(rt; fourth, Ok(()));
-    let wanted = replies(rt.alloc())?;
+    let wanted = replies(&rt, rt.alloc());
     assert_eq!(rt; str::from_utf8(all.as_slice()), Ok(wanted.as_str()));
-    Ok(())
 }
 
 /// A body that never ends, an octet a read, behind its head.
@@ -191,7 +184,7 @@ impl<'a> Read for EndlessReader<'a> {
 }
 
 #[test]
-fn gives_up_after_too_many_reads(rt: HostRuntime) -> Result<(), Fail> {
+fn gives_up_after_too_many_reads(rt: HostRuntime) {
     let head = "PUT /books/staff HTTP/1.1\r\nHost: office\r\nContent-Length: 8388608\r\n\r\n";
     let mut service = new_service(rt.alloc());
     let mut reader = EndlessReader {
@@ -202,7 +195,6 @@ fn gives_up_after_too_many_reads(rt: HostRuntime) -> Result<(), Fail> {
     assert_eq!(rt; done, Err(ServeFault::TooManyTurns));
     assert!(rt; writer.is_empty());
     assert!(rt; service.store.book("staff").is_err());
-    Ok(())
 }
 
 #[test]

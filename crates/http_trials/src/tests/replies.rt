@@ -3,21 +3,21 @@ mod faults;
 use std::alloc::Global;
 use std::process::Abort;
 use std::str;
-use std::test::Fail;
 
 /// A whole reply in JSON, with the line of Allow where there is one.
 fn whole(
+    rt: &impl Abort,
     alloc: Global,
     status: &str,
     allow: &str,
     length: u64,
     connection: &str,
     body: &str,
-) -> Result<String, Fail> {
+) -> String {
     let kind = "Content-Type: application/json\r\n";
-    let size = format!(in alloc; "Content-Length: {length}\r\n")?;
-    let end = format!(in alloc; "Connection: {connection}\r\n\r\n")?;
-    Ok(format!(in alloc; "HTTP/1.1 {status}\r\n{kind}{allow}{size}{end}{body}")?)
+    let size = format!(in alloc; "Content-Length: {length}\r\n").expect(rt, "memory");
+    let end = format!(in alloc; "Connection: {connection}\r\n\r\n").expect(rt, "memory");
+    format!(in alloc; "HTTP/1.1 {status}\r\n{kind}{allow}{size}{end}{body}").expect(rt, "memory")
 }
 
 fn is_written(rt: &impl Abort, octets: &[u8], wanted: &str) {
@@ -33,8 +33,7 @@ fn is_whole(
     length: u64,
     connection: &str,
     body: &str,
-) -> Result<(), Fail> {
-    let wanted = whole(alloc, status, "", length, connection, body)?;
+) {
+    let wanted = whole(rt, alloc, status, "", length, connection, body);
     is_written(rt, octets, wanted.as_str());
-    Ok(())
 }

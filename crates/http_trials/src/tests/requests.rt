@@ -5,7 +5,6 @@ use http_requests::laws::{cuts_make_no_difference, pieces_are_fed_as_one, stream
 use http_requests::{Handler, Head, HeadFault, Session};
 use std::alloc::Global;
 use std::process::Abort;
-use std::test::Fail;
 
 /// Replies to each request with its method, its target, whether it closes, and its body; and to a
 /// fault with its text.
@@ -81,47 +80,32 @@ fn replies_to_two(
     pieces: (&[u8], &[u8]),
     wanted: &[u8],
     closed: bool,
-) -> Result<(), Fail> {
+) {
     let cut = pieces.0.len();
-    let (out, out_closed) = in_two(alloc, pieces.0, pieces.1)?;
+    let (out, out_closed) = in_two(alloc, pieces.0, pieces.1).expect(rt, "an answer");
     assert!(rt; out.as_slice() == wanted, "cut at {cut}");
     assert!(rt; out_closed == closed);
-    Ok(())
 }
 
 /// Octet by octet, it is.
-fn replies_to_octets(
-    rt: &impl Abort,
-    alloc: Global,
-    text: &[u8],
-    wanted: &[u8],
-    closed: bool,
-) -> Result<(), Fail> {
-    let (octets, octets_closed) = in_pieces(alloc, text, 1)?;
+fn replies_to_octets(rt: &impl Abort, alloc: Global, text: &[u8], wanted: &[u8], closed: bool) {
+    let (octets, octets_closed) = in_pieces(alloc, text, 1).expect(rt, "an answer");
     assert!(rt; octets.as_slice() == wanted);
     assert!(rt; octets_closed == closed);
-    Ok(())
 }
 
 /// Whole, octet by octet, and cut once behind each octet, a text is replied to as is wanted.
-fn replies(
-    rt: &impl Abort,
-    alloc: Global,
-    text: &[u8],
-    wanted: &[u8],
-    closed: bool,
-) -> Result<(), Fail> {
-    replies_to_two(rt, alloc, (text, b""), wanted, closed)?;
-    replies_to_octets(rt, alloc, text, wanted, closed)?;
+fn replies(rt: &impl Abort, alloc: Global, text: &[u8], wanted: &[u8], closed: bool) {
+    replies_to_two(rt, alloc, (text, b""), wanted, closed);
+    replies_to_octets(rt, alloc, text, wanted, closed);
     for cut in 0..text.len() {
         let pieces = (&text[..cut], &text[cut..]);
-        replies_to_two(rt, alloc, pieces, wanted, closed)?;
+        replies_to_two(rt, alloc, pieces, wanted, closed);
     }
-    Ok(())
 }
 
 #[test]
-fn requests_are_cut_anywhere(rt: HostRuntime) -> Result<(), Fail> {
+fn requests_are_cut_anywhere(rt: HostRuntime) {
     streams_can_be_cut();
     cuts_make_no_difference::<Echo>();
     pieces_are_fed_as_one::<Echo>();
@@ -131,36 +115,35 @@ fn requests_are_cut_anywhere(rt: HostRuntime) -> Result<(), Fail> {
         b"\nPUT /a HTTP/1.1\r\nHost:\ncontent-length:5\r\n\r\nab\n\ncGET /b HTTP/1.1\nhost:\n\nGE",
         b"PUT /a open ab\n\nc;GET /b open ;",
         false,
-    )
+    );
 }
 
 #[test]
-fn nothing_follows_a_closing_request(rt: HostRuntime) -> Result<(), Fail> {
+fn nothing_follows_a_closing_request(rt: HostRuntime) {
     replies(
         &rt,
         rt.alloc(),
         b"GET /b HTTP/1.1\r\nHost:\r\n\r\nGET /b HTTP/1.0\r\n\r\nGET /c HTTP/1.1\r\nHost:\r\n\r\n",
         b"GET /b open ;GET /b close ;",
         true,
-    )?;
+    );
     replies(
         &rt,
         rt.alloc(),
         b"GET / HTTP/1.1\r\nHost: x\r\nConnection: upgrade , CLOSE\r\n\r\nGET / HTTP/1.1\r\n\r\n",
         b"GET / close ;",
         true,
-    )
+    );
 }
 
 #[test]
-fn bodies_are_waited_for(rt: HostRuntime) -> Result<(), Fail> {
+fn bodies_are_waited_for(rt: HostRuntime) {
     for text in [
         "PUT / HTTP/1.1\r\nHost: x\r\nContent-Length: 8388608\r\n\r\n",
         "PUT / HTTP/1.1\r\nHost: x\r\nContent-Length: 000000000000005\r\n\r\nabcd",
     ] {
-        replies(&rt, rt.alloc(), text.as_bytes(), b"", false)?;
+        replies(&rt, rt.alloc(), text.as_bytes(), b"", false);
     }
-    Ok(())
 }
 
 /// Faults of heads, with their numbers and statuses.
@@ -192,41 +175,35 @@ fn filled(alloc: Global, front: &[u8], octet: u8, count: usize) -> Result<Vec<u8
 }
 
 /// Octet by octet, a text is replied to with so many octets.
-fn counts(
-    rt: &impl Abort,
-    alloc: Global,
-    text: &[u8],
-    wanted: usize,
-    closed: bool,
-) -> Result<(), Fail> {
-    let (out, out_closed) = in_pieces(alloc, text, 1)?;
+fn counts(rt: &impl Abort, alloc: Global, text: &[u8], wanted: usize, closed: bool) {
+    let (out, out_closed) = in_pieces(alloc, text, 1).expect(rt, "an answer");
     assert!(rt; out.len() == wanted);
     assert!(rt; out_closed == closed);
-    Ok(())
 }
 
 #[test]
-fn the_longest_head_is_read(rt: HostRuntime) -> Result<(), Fail> {
-    let mut longest = filled(rt.alloc(), b"GET /", b'a', 16_368)?;
-    longest.extend_from_slice(b" HTTP/1.0\n\n")?;
-    counts(&rt, rt.alloc(), &longest, 16_381, true)
+fn the_longest_head_is_read(rt: HostRuntime) {
+    let mut longest = filled(rt.alloc(), b"GET /", b'a', 16_368).expect(&rt, "an answer");
+    longest
+        .extend_from_slice(b" HTTP/1.0\n\n")
+        .expect(&rt, "memory");
+    counts(&rt, rt.alloc(), &longest, 16_381, true);
 }
 
 /// In pieces of the size, the text is replied to with all of its body.
-fn is_whole_at(rt: &impl Abort, alloc: Global, text: &[u8], size: usize) -> Result<(), Fail>
+fn is_whole_at(rt: &impl Abort, alloc: Global, text: &[u8], size: usize)
     requires { 0 < size }
 {
-    let (out, closed) = in_pieces(alloc, text, size)?;
+    let (out, closed) = in_pieces(alloc, text, size).expect(rt, "memory");
     assert!(rt; out.len() == 100_013, "at {size}");
     assert!(rt; closed);
-    Ok(())
 }
 
 #[test]
-fn bodies_come_in_pieces(rt: HostRuntime) -> Result<(), Fail> {
+fn bodies_come_in_pieces(rt: HostRuntime) {
     let head = b"PUT / HTTP/1.0\r\nContent-Length: 100000\r\n\r\n";
-    let text = filled(rt.alloc(), head, b'a', 100_000)?;
-    is_whole_at(&rt, rt.alloc(), &text, 1)?;
-    is_whole_at(&rt, rt.alloc(), &text, 1500)?;
-    is_whole_at(&rt, rt.alloc(), &text, 200_000)
+    let text = filled(rt.alloc(), head, b'a', 100_000).expect(&rt, "an answer");
+    is_whole_at(&rt, rt.alloc(), &text, 1);
+    is_whole_at(&rt, rt.alloc(), &text, 1500);
+    is_whole_at(&rt, rt.alloc(), &text, 200_000);
 }

@@ -4,7 +4,6 @@ use csv_cards::Form;
 use http_routes::{NoCommand, RouteFault, read_request};
 use std::alloc::Global;
 use std::process::Abort;
-use std::test::Fail;
 
 /// A method, a target, and what it asks for, or the number of the fault.
 type Row = (&'static str, &'static str, &'static str);
@@ -167,36 +166,36 @@ const FAULTS: &[Row] = &[
     ("POST", "/books/staff/cards/a/people", "28 GET"),
 ];
 
-fn number_or_none(alloc: Global, number: Option<u64>) -> Result<String, Fail> {
+fn number_or_none(rt: &impl Abort, alloc: Global, number: Option<u64>) -> String {
     match number {
-        Some(number) => Ok(format!(in alloc; "{number}")?),
-        None => Ok(String::from_str(alloc, "none")?),
+        Some(number) => format!(in alloc; "{number}").expect(rt, "memory"),
+        None => String::from_str(alloc, "none").expect(rt, "memory"),
     }
 }
 
-fn octets_of(alloc: Global, octets: &Items<u8>) -> Result<String, Fail> {
-    Ok(String::from_utf8_lossy(alloc, octets.as_slice())?)
+fn octets_of(rt: &impl Abort, alloc: Global, octets: &Items<u8>) -> String {
+    String::from_utf8_lossy(alloc, octets.as_slice()).expect(rt, "an answer")
 }
 
 /// The command in the words of the rows.
-fn spelled(alloc: Global, command: &Command) -> Result<String, Fail> {
+fn spelled(rt: &impl Abort, alloc: Global, command: &Command) -> String {
     match command {
-        Command::CreateBook { book } => Ok(format!(in alloc; "create {book}")?),
-        Command::Books => Ok(String::from_str(alloc, "books")?),
-        Command::Get { book, uid } => Ok(format!(in alloc; "get {book} {uid}")?),
+        Command::CreateBook { book } => format!(in alloc; "create {book}").expect(rt, "memory"),
+        Command::Books => String::from_str(alloc, "books").expect(rt, "memory"),
+        Command::Get { book, uid } => format!(in alloc; "get {book} {uid}").expect(rt, "memory"),
         Command::Put {
             book,
             uid,
             expect,
             text,
         } => {
-            let version = number_or_none(alloc, *expect)?;
-            let text = octets_of(alloc, text)?;
-            Ok(format!(in alloc; "put {book} {uid} {version} [{text}]")?)
+            let version = number_or_none(rt, alloc, *expect);
+            let text = octets_of(rt, alloc, text);
+            format!(in alloc; "put {book} {uid} {version} [{text}]").expect(rt, "memory")
         }
         Command::Remove { book, uid, expect } => {
-            let version = number_or_none(alloc, *expect)?;
-            Ok(format!(in alloc; "remove {book} {uid} {version}")?)
+            let version = number_or_none(rt, alloc, *expect);
+            format!(in alloc; "remove {book} {uid} {version}").expect(rt, "memory")
         }
         Command::MoveCard {
             book,
@@ -204,61 +203,64 @@ fn spelled(alloc: Global, command: &Command) -> Result<String, Fail> {
             to,
             expect,
         } => {
-            let version = number_or_none(alloc, *expect)?;
-            Ok(format!(in alloc; "move {book} {uid} [{to}] {version}")?)
+            let version = number_or_none(rt, alloc, *expect);
+            format!(in alloc; "move {book} {uid} [{to}] {version}").expect(rt, "memory")
         }
         Command::Report { book, token, limit } => {
-            let limit = number_or_none(alloc, *limit)?;
-            Ok(format!(in alloc; "report {book} [{token}] {limit}")?)
+            let limit = number_or_none(rt, alloc, *limit);
+            format!(in alloc; "report {book} [{token}] {limit}").expect(rt, "memory")
         }
         Command::Import { book, key, body } => {
-            let body = octets_of(alloc, body)?;
-            Ok(format!(in alloc; "import {book} [{key}] [{body}]")?)
+            let body = octets_of(rt, alloc, body);
+            format!(in alloc; "import {book} [{key}] [{body}]").expect(rt, "memory")
         }
-        Command::Forget { book, upto } => Ok(format!(in alloc; "forget {book} {upto}")?),
-        Command::TallyOf { book } => Ok(format!(in alloc; "tally {book}")?),
+        Command::Forget { book, upto } => format!(in alloc; "forget {book} {upto}").expect(
+            rt, "memory",
+        ),
+        Command::TallyOf { book } => format!(in alloc; "tally {book}").expect(rt, "memory"),
         Command::Export { book, form } => {
             let form = match form {
                 Form::Cards => "cards",
                 Form::Columns => "columns",
             };
-            Ok(format!(in alloc; "export {book} {form}")?)
+            format!(in alloc; "export {book} {form}").expect(rt, "memory")
         }
-        Command::People { book, uid } => Ok(format!(in alloc; "people {book} {uid}")?),
+        Command::People { book, uid } => format!(in alloc; "people {book} {uid}").expect(
+            rt, "memory",
+        ),
     }
 }
 
 /// The fault's number, and behind it the methods that the reply tells.
-fn number_of(alloc: Global, fault: RouteFault) -> Result<String, Fail> {
+fn number_of(rt: &impl Abort, alloc: Global, fault: RouteFault) -> String {
     let number = fault.number();
     match fault.allow() {
-        Some(methods) => Ok(format!(in alloc; "{number} {methods}")?),
-        None => Ok(format!(in alloc; "{number}")?),
+        Some(methods) => format!(in alloc; "{number} {methods}").expect(rt, "memory"),
+        None => format!(in alloc; "{number}").expect(rt, "memory"),
     }
 }
 
-fn answered(alloc: Global, method: &str, target: &str) -> Result<String, Fail> {
+fn answered(rt: &impl Abort, alloc: Global, method: &str, target: &str) -> String {
     match read_request(alloc, method, target, b"body") {
-        Ok(command) => spelled(alloc, &command),
-        Err(NoCommand::Fault(fault)) => number_of(alloc, fault),
-        Err(NoCommand::Memory) => Ok(String::from_str(alloc, "no memory")?),
+        Ok(command) => spelled(rt, alloc, &command),
+        Err(NoCommand::Fault(fault)) => number_of(rt, alloc, fault),
+        Err(NoCommand::Memory) => String::from_str(alloc, "no memory").expect(rt, "memory"),
     }
 }
 
 /// Each row's request is answered as the row wants it.
-fn are_answered(rt: &impl Abort, alloc: Global, rows: &[Row]) -> Result<(), Fail> {
+fn are_answered(rt: &impl Abort, alloc: Global, rows: &[Row]) {
     for (method, target, wanted) in rows {
-        let answer = answered(alloc, method, target)?;
+        let answer = answered(rt, alloc, method, target);
         assert_eq!(rt; answer.as_str(), *wanted);
     }
-    Ok(())
 }
 
 #[test]
-fn reads_requests(rt: HostRuntime) -> Result<(), Fail> {
-    are_answered(&rt, rt.alloc(), ROUTES)?;
-    are_answered(&rt, rt.alloc(), QUERIES)?;
-    are_answered(&rt, rt.alloc(), NAMES)?;
-    are_answered(&rt, rt.alloc(), PARTS)?;
-    are_answered(&rt, rt.alloc(), FAULTS)
+fn reads_requests(rt: HostRuntime) {
+    are_answered(&rt, rt.alloc(), ROUTES);
+    are_answered(&rt, rt.alloc(), QUERIES);
+    are_answered(&rt, rt.alloc(), NAMES);
+    are_answered(&rt, rt.alloc(), PARTS);
+    are_answered(&rt, rt.alloc(), FAULTS);
 }

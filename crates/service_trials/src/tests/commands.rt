@@ -4,7 +4,6 @@ use super::stores::{InMemory, Stores};
 use super::{driven, forget_rows, import_rows, performed, whole_book_rows};
 use std::alloc::Global;
 use std::process::Abort;
-use std::test::Fail;
 use sync_core::Limits;
 
 /// A script on a new store with these limits: the most entries of a page, live cards of a book,
@@ -257,33 +256,35 @@ number 6 horizon 5 cards 0 created 3 edited 0 imported 0 import-edited 0 moved-i
 
 /// The replies to the last of the scripts, which are performed one after another on a new store.
 fn last_replies<K: Stores>(
+    rt: &impl Abort,
     kind: &K,
     alloc: Global,
     limits: Limits,
     scripts: &[&str],
-) -> Result<String, Fail> {
-    let mut store = kind.new_store(alloc, limits)?;
+) -> String {
+    let mut store = kind.new_store(alloc, limits);
     let mut replies = String::new(alloc);
     for script in scripts {
-        replies = performed(alloc, &mut store, script)?;
+        replies = performed(alloc, &mut store, script).expect(rt, "an answer");
     }
-    Ok(replies)
+    replies
 }
 
 /// The same of scripts that are driven, with no devices.
 fn last_replies_driven<K: Stores>(
+    rt: &impl Abort,
     kind: &K,
     alloc: Global,
     limits: Limits,
     scripts: &[&str],
-) -> Result<String, Fail> {
-    let mut store = kind.new_store(alloc, limits)?;
+) -> String {
+    let mut store = kind.new_store(alloc, limits);
     let mut devices = Vec::new(alloc);
     let mut replies = String::new(alloc);
     for script in scripts {
-        replies = driven(alloc, &mut store, &mut devices, script)?;
+        replies = driven(alloc, &mut store, &mut devices, script).expect(rt, "an answer");
     }
-    Ok(replies)
+    replies
 }
 
 /// The last of the scripts is replied so, whether its commands are performed one by one or driven.
@@ -294,38 +295,35 @@ fn is_replied<K: Stores>(
     limits: Limits,
     scripts: &[&str],
     wanted: &str,
-) -> Result<(), Fail> {
-    let replies = last_replies(kind, alloc, limits, scripts)?;
+) {
+    let replies = last_replies(rt, kind, alloc, limits, scripts);
     assert_eq!(rt; replies.as_str(), wanted, "{scripts:?}");
-    let replies = last_replies_driven(kind, alloc, limits, scripts)?;
+    let replies = last_replies_driven(rt, kind, alloc, limits, scripts);
     assert_eq!(rt; replies.as_str(), wanted, "{scripts:?}, driven");
-    Ok(())
 }
 
 /// All rows are replied as they say.
-fn rows_are_replied<K: Stores>(rt: &impl Abort, kind: &K, alloc: Global) -> Result<(), Fail> {
+fn rows_are_replied<K: Stores>(rt: &impl Abort, kind: &K, alloc: Global) {
     let whole = whole_book_rows::ROWS.iter().chain(import_rows::ROWS.iter());
     let later = forget_rows::ROWS.iter().chain(whole);
     for row in ROWS.iter().chain(later) {
         let limits = Limits::standard();
-        is_replied(rt, kind, alloc, limits, row.scripts, row.wanted)?;
+        is_replied(rt, kind, alloc, limits, row.scripts, row.wanted);
     }
-    Ok(())
 }
 
 /// So are those with limits of their own.
-fn limit_rows_are_replied<K: Stores>(rt: &impl Abort, kind: &K, alloc: Global) -> Result<(), Fail> {
+fn limit_rows_are_replied<K: Stores>(rt: &impl Abort, kind: &K, alloc: Global) {
     for row in &LIMIT_ROWS {
         let [pages, cards, changes, books, keep] = row.limits;
-        let limits = Limits::new(pages, cards, changes, books).ok_or("no legal limits")?;
-        let limits = limits.with_keep(keep).ok_or("no legal keep")?;
-        is_replied(rt, kind, alloc, limits, &[row.script], row.wanted)?;
+        let limits = Limits::new(pages, cards, changes, books).expect(rt, "no legal limits");
+        let limits = limits.with_keep(keep).expect(rt, "no legal keep");
+        is_replied(rt, kind, alloc, limits, &[row.script], row.wanted);
     }
-    Ok(())
 }
 
 #[test]
-fn commands_are_replied_by_books_in_memory(rt: HostRuntime) -> Result<(), Fail> {
-    rows_are_replied(&rt, &InMemory, rt.alloc())?;
-    limit_rows_are_replied(&rt, &InMemory, rt.alloc())
+fn commands_are_replied_by_books_in_memory(rt: HostRuntime) {
+    rows_are_replied(&rt, &InMemory, rt.alloc());
+    limit_rows_are_replied(&rt, &InMemory, rt.alloc());
 }

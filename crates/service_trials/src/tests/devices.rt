@@ -4,7 +4,6 @@ use super::stores::{InMemory, Stores};
 use super::{driven, performed};
 use std::alloc::Global;
 use std::process::Abort;
-use std::test::Fail;
 use sync_core::{BookStore, Device, Limits, Token, token_text};
 use vcard_text::NoMemory;
 
@@ -17,16 +16,19 @@ pub(super) struct Office<S> {
 
 /// Nothing happened, and nobody has heard anything.
 pub(super) fn new_office<K: Stores>(
+    rt: &impl Abort,
     kind: &K,
     alloc: Global,
     limits: Limits,
-) -> Result<Office<K::Store>, Fail> {
-    let store = kind.new_store(alloc, limits)?;
+) -> Office<K::Store> {
+    let store = kind.new_store(alloc, limits);
     let mut devices = Vec::new(alloc);
     for book in ["staff", "clients", "staff"] {
-        devices.push(Device::new(alloc, book)?)?;
+        devices
+            .push(Device::new(alloc, book).expect(rt, "an answer"))
+            .expect(rt, "memory");
     }
-    Ok(Office { store, devices })
+    Office { store, devices }
 }
 
 /// The replies to the script's events.
@@ -390,43 +392,38 @@ http://contacts.invalid/sync/1/6/6",
 
 /// The replies to the last of the scripts, which happen one after another, and then the copy and
 /// token of the device.
-fn last_replies<K: Stores>(kind: &K, alloc: Global, row: &Row) -> Result<String, Fail> {
+fn last_replies<K: Stores>(rt: &impl Abort, kind: &K, alloc: Global, row: &Row) -> String {
     let limits = Limits::standard()
         .with_keep(row.keep)
-        .ok_or("no legal keep")?;
-    let mut office = new_office(kind, alloc, limits)?;
+        .expect(rt, "no legal keep");
+    let mut office = new_office(rt, kind, alloc, limits);
     let mut text = String::new(alloc);
     for script in row.scripts {
-        text = happens(alloc, &mut office, script)?;
+        text = happens(alloc, &mut office, script).expect(rt, "an answer");
     }
-    tell_device(alloc, &mut text, &office, row.device)?;
-    Ok(text)
+    tell_device(alloc, &mut text, &office, row.device).expect(rt, "an answer");
+    text
 }
 
 /// All rows are replied as they say.
-fn rows_are_replied<K: Stores>(rt: &impl Abort, kind: &K, alloc: Global) -> Result<(), Fail> {
+fn rows_are_replied<K: Stores>(rt: &impl Abort, kind: &K, alloc: Global) {
     for row in &ROWS {
-        let replies = last_replies(kind, alloc, row)?;
+        let replies = last_replies(rt, kind, alloc, row);
         assert_eq!(rt; replies.as_str(), row.wanted, "{:?}", row.scripts);
     }
-    Ok(())
 }
 
 /// The device of a book of five changes asks another store, whose book has fewer.
-fn a_refused_token_is_given_up<K: Stores>(
-    rt: &impl Abort,
-    kind: &K,
-    alloc: Global,
-) -> Result<(), Fail> {
-    let mut office = new_office(kind, alloc, Limits::standard())?;
-    happens(alloc, &mut office, FIVE_CHANGES)?;
-    office.store = kind.new_store(alloc, Limits::standard())?;
+fn a_refused_token_is_given_up<K: Stores>(rt: &impl Abort, kind: &K, alloc: Global) {
+    let mut office = new_office(rt, kind, alloc, Limits::standard());
+    happens(alloc, &mut office, FIVE_CHANGES).expect(rt, "an answer");
+    office.store = kind.new_store(alloc, Limits::standard());
     let script = "create staff
 put staff z Zoe
 ask 0
 ask 0";
-    let mut text = happens(alloc, &mut office, script)?;
-    tell_device(alloc, &mut text, &office, 0)?;
+    let mut text = happens(alloc, &mut office, script).expect(rt, "an answer");
+    tell_device(alloc, &mut text, &office, 0).expect(rt, "an answer");
     let wanted = "book 1
 created 1
 refused 10 cause 3
@@ -434,29 +431,23 @@ z 1 Zoe, 1/1/1
 z 1 Zoe
 http://contacts.invalid/sync/1/1/1";
     assert_eq!(rt; text.as_str(), wanted);
-    Ok(())
 }
 
-fn a_restarted_device_hears_an_initial_report<K: Stores>(
-    rt: &impl Abort,
-    kind: &K,
-    alloc: Global,
-) -> Result<(), Fail> {
-    let mut office = new_office(kind, alloc, Limits::standard())?;
-    happens(alloc, &mut office, FIVE_CHANGES)?;
-    performed(alloc, &mut office.store, "remove staff c")?;
+fn a_restarted_device_hears_an_initial_report<K: Stores>(rt: &impl Abort, kind: &K, alloc: Global) {
+    let mut office = new_office(rt, kind, alloc, Limits::standard());
+    happens(alloc, &mut office, FIVE_CHANGES).expect(rt, "an answer");
+    performed(alloc, &mut office.store, "remove staff c").expect(rt, "an answer");
     if let Some(device) = office.devices.get_mut(0) {
         device.restart();
     }
-    let text = happens(alloc, &mut office, "ask 0")?;
+    let text = happens(alloc, &mut office, "ask 0").expect(rt, "an answer");
     assert_eq!(rt; text.as_str(), "a 4 Anna, 1/6/6\n");
-    Ok(())
 }
 
 #[test]
-fn devices_hear_of_books_in_memory(rt: HostRuntime) -> Result<(), Fail> {
+fn devices_hear_of_books_in_memory(rt: HostRuntime) {
     let alloc = rt.alloc();
-    rows_are_replied(&rt, &InMemory, alloc)?;
-    a_refused_token_is_given_up(&rt, &InMemory, alloc)?;
-    a_restarted_device_hears_an_initial_report(&rt, &InMemory, alloc)
+    rows_are_replied(&rt, &InMemory, alloc);
+    a_refused_token_is_given_up(&rt, &InMemory, alloc);
+    a_restarted_device_hears_an_initial_report(&rt, &InMemory, alloc);
 }

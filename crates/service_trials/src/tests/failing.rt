@@ -6,7 +6,7 @@ use super::{driven, performed};
 use book_service::mirror;
 use std::alloc::Global;
 use std::collections::BTreeMap;
-use std::test::Fail;
+use std::process::Abort;
 use sync_core::{
     BookLine, BookStore, Denied, Device, Fault, ImportTally, Limits, Moved, Page, PlainStore,
     PutAnswer, Stored, Tally, Token,
@@ -143,15 +143,15 @@ impl BookStore for FailingStore {
 }
 
 /// A store with the book `staff` and the card `a`, which answers no fault yet.
-fn working_store(alloc: Global) -> Result<FailingStore, Fail> {
+fn working_store(rt: &impl Abort, alloc: Global) -> FailingStore {
     let limits = Limits::standard();
     let mut store = FailingStore {
         inner: PlainStore::new(alloc, limits),
         limits,
         fault: None,
     };
-    performed(alloc, &mut store, "create staff\nput staff a Ann")?;
-    Ok(store)
+    performed(alloc, &mut store, "create staff\nput staff a Ann").expect(rt, "an answer");
+    store
 }
 
 const COMMANDS: &str = "create clients
@@ -170,34 +170,34 @@ people staff a
 report staff -";
 
 #[test]
-fn a_fault_of_the_store_is_replied_as_it_is(rt: HostRuntime) -> Result<(), Fail> {
+fn a_fault_of_the_store_is_replied_as_it_is(rt: HostRuntime) {
     let alloc = rt.alloc();
     for (fault, number) in [(Fault::Store, "fault 19\n"), (Fault::Memory, "fault 20\n")] {
-        let mut store = working_store(alloc)?;
+        let mut store = working_store(&rt, alloc);
         store.answer(Some(fault));
         for command in COMMANDS.lines() {
-            let told = performed(alloc, &mut store, command)?;
+            let told = performed(alloc, &mut store, command).expect(&rt, "an answer");
             assert_eq!(rt; told.as_str(), number, "{command}");
         }
         store.answer(None);
-        let told = performed(alloc, &mut store, "tally staff")?;
+        let told = performed(alloc, &mut store, "tally staff").expect(&rt, "an answer");
         assert_eq!(rt; told.as_str().contains("number 1 "), true);
     }
-    Ok(())
 }
 
 #[test]
-fn devices_and_mirrors_hand_the_fault_on(rt: HostRuntime) -> Result<(), Fail> {
+fn devices_and_mirrors_hand_the_fault_on(rt: HostRuntime) {
     let alloc = rt.alloc();
     for (fault, number) in [(Fault::Store, "fault 19\n"), (Fault::Memory, "fault 20\n")] {
-        let mut store = working_store(alloc)?;
+        let mut store = working_store(&rt, alloc);
         let mut devices = Vec::new(alloc);
-        devices.push(Device::new(alloc, "staff")?)?;
+        devices
+            .push(Device::new(alloc, "staff").expect(&rt, "an answer"))
+            .expect(&rt, "memory");
         store.answer(Some(fault));
-        let told = driven(alloc, &mut store, &mut devices, "ask 0")?;
+        let told = driven(alloc, &mut store, &mut devices, "ask 0").expect(&rt, "an answer");
         assert_eq!(rt; told.as_str(), number);
         let denied = mirror(alloc, &mut store, "staff", 1, 1).err();
         assert_eq!(rt; denied, Some(Denied::Fault(fault)));
     }
-    Ok(())
 }

@@ -5,7 +5,6 @@ use book_service::{Command, Reply, perform};
 use csv_cards::Form;
 use std::alloc::Global;
 use std::process::Abort;
-use std::test::Fail;
 use sync_core::{Limits, PlainStore};
 use vcard_text::{Items, NoMemory, Text};
 
@@ -69,30 +68,32 @@ const ALL_NEW: &str = "added 10000 edited 0 same 0 number 10000\n";
 
 /// The rows of the book in the form are imported into an empty one. Then its cards are the same,
 /// and so are its rows, octet for octet.
-fn comes_again(
-    rt: &impl Abort,
-    alloc: Global,
-    store: &mut PlainStore,
-    form: Form,
-) -> Result<(), Fail> {
-    let rows = exported(alloc, store, form)?;
-    let mut other = empty_book(alloc)?;
-    let reply = imported(alloc, &mut other, copied(alloc, rows.as_slice())?)?;
+fn comes_again(rt: &impl Abort, alloc: Global, store: &mut PlainStore, form: Form) {
+    let rows = exported(alloc, store, form).expect(rt, "an answer");
+    let mut other = empty_book(alloc).expect(rt, "an answer");
+    let reply = imported(
+        alloc,
+        &mut other,
+        copied(alloc, rows.as_slice()).expect(rt, "an answer"),
+    )
+    .expect(rt, "an answer");
     assert_eq!(rt; reply.as_str(), ALL_NEW);
-    let again = exported(alloc, &mut other, form)?;
+    let again = exported(alloc, &mut other, form).expect(rt, "an answer");
     assert_eq!(rt; are_same(again.as_slice(), rows.as_slice()), true);
-    let cards = exported(alloc, store, Form::Cards)?;
-    let others = exported(alloc, &mut other, Form::Cards)?;
+    let cards = exported(alloc, store, Form::Cards).expect(rt, "an answer");
+    let others = exported(alloc, &mut other, Form::Cards).expect(rt, "an answer");
     assert_eq!(rt; are_same(others.as_slice(), cards.as_slice()), true);
-    Ok(())
 }
 
 #[test]
-fn a_large_book_comes_again_from_its_rows(rt: HostRuntime) -> Result<(), Fail> {
+fn a_large_book_comes_again_from_its_rows(rt: HostRuntime) {
     let alloc = rt.alloc();
-    let mut store = empty_book(alloc)?;
-    let reply = imported(alloc, &mut store, columns(alloc)?)?;
+    let mut store = empty_book(alloc).expect(&rt, "an answer");
+    let reply = imported(alloc, &mut store, columns(alloc).expect(&rt, "an answer")).expect(
+        &rt,
+        "an answer",
+    );
     assert_eq!(rt; reply.as_str(), ALL_NEW);
-    comes_again(&rt, alloc, &mut store, Form::Cards)?;
-    comes_again(&rt, alloc, &mut store, Form::Columns)
+    comes_again(&rt, alloc, &mut store, Form::Cards);
+    comes_again(&rt, alloc, &mut store, Form::Columns);
 }

@@ -17,7 +17,6 @@ use super::plain_whole::{FIRST_GROUP, name_word};
 use super::stores::{InMemory, Stores};
 use std::alloc::Global;
 use std::process::Abort;
-use std::test::Fail;
 use sync_core::{BookStore, Device, Limits, Mark};
 use vcard_text::NoMemory;
 
@@ -352,18 +351,18 @@ fn new_devices(alloc: Global) -> Result<Vec<Device>, NoMemory> {
 }
 
 /// Nothing happened yet.
-fn new_run<K: Stores>(kind: &K, alloc: Global) -> Result<LongRun<K::Store>, Fail> {
+fn new_run<K: Stores>(rt: &impl Abort, kind: &K, alloc: Global) -> LongRun<K::Store> {
     let limits = Limits::new(PAGE_MAX, CARDS_MAX, CHANGES_MAX, BOOKS_MAX);
-    let limits = limits.ok_or("no legal limits")?;
-    let devices = new_devices(alloc)?;
-    Ok(LongRun {
+    let limits = limits.expect(rt, "no legal limits");
+    let devices = new_devices(alloc).expect(rt, "an answer");
+    LongRun {
         script: Telling::new(alloc),
-        store: kind.new_store(alloc, limits)?,
+        store: kind.new_store(alloc, limits),
         devices,
         told: Telling::new(alloc),
         office: plain_office(alloc),
         wanted: Telling::new(alloc),
-    })
+    }
 }
 
 /// One more event is drawn, and happens to the second computation.
@@ -465,25 +464,22 @@ fn missing(told: &str, copies: Copies) -> &'static str {
 
 /// The store and devices told what the second computation did, all kinds of replies are in it, and
 /// its copies were whole.
-fn is_as_wanted<S>(rt: &impl Abort, run: &LongRun<S>) -> Result<(), Fail> {
-    let wanted = run.wanted.text()?;
-    let told = run.told.text()?;
+fn is_as_wanted<S>(rt: &impl Abort, run: &LongRun<S>) {
+    let wanted = run.wanted.text().expect(rt, "an answer");
+    let told = run.told.text().expect(rt, "an answer");
     assert_eq!(rt; told, wanted);
     assert_eq!(rt; missing(wanted, run.office.copies), "");
-    Ok(())
 }
 
 /// A long run on a store of the kind.
-fn runs_as_wanted<K: Stores>(rt: &impl Abort, kind: &K, alloc: Global) -> Result<(), Fail> {
-    let mut run = new_run(kind, alloc)?;
-    draw_all(&mut run)?;
-    drive_all(alloc, &mut run)?;
-    is_as_wanted(rt, &run)
+fn runs_as_wanted<K: Stores>(rt: &impl Abort, kind: &K, alloc: Global) {
+    let mut run = new_run(rt, kind, alloc);
+    draw_all(&mut run).expect(rt, "an answer");
+    drive_all(alloc, &mut run).expect(rt, "an answer");
+    is_as_wanted(rt, &run);
 }
 
 #[test]
-fn a_long_run_in_memory_is_replied_as_a_plain_computation_says(
-    rt: HostRuntime,
-) -> Result<(), Fail> {
-    runs_as_wanted(&rt, &InMemory, rt.alloc())
+fn a_long_run_in_memory_is_replied_as_a_plain_computation_says(rt: HostRuntime) {
+    runs_as_wanted(&rt, &InMemory, rt.alloc());
 }

@@ -5,7 +5,6 @@ use super::stores::{InMemory, Stores};
 use book_service::{Mirrored, mirror};
 use std::alloc::Global;
 use std::process::Abort;
-use std::test::Fail;
 use sync_core::{Denied, Limits, Refusal, token_text};
 
 /// Three cards come to the new book `staff`, one is edited and one goes: Anna and Cy are live.
@@ -109,34 +108,41 @@ const LONG_ROWS: [LongRow; 5] = [
 ];
 
 /// The store after five changes.
-fn store_after_five<K: Stores>(kind: &K, alloc: Global) -> Result<K::Store, Fail> {
-    let mut store = kind.new_store(alloc, Limits::standard())?;
-    performed(alloc, &mut store, FIVE_CHANGES)?;
-    Ok(store)
+fn store_after_five<K: Stores>(rt: &impl Abort, kind: &K, alloc: Global) -> K::Store {
+    let mut store = kind.new_store(alloc, Limits::standard());
+    performed(alloc, &mut store, FIVE_CHANGES).expect(rt, "an answer");
+    store
 }
 
 /// How many pages there were, whether that was all, the copy, and the token.
-fn mirrored_told(alloc: Global, mirrored: &Mirrored) -> Result<String, Fail> {
+fn mirrored_told(rt: &impl Abort, alloc: Global, mirrored: &Mirrored) -> String {
     let end = if mirrored.done { "done" } else { "and more" };
-    let mut text = format!(in alloc; "pages {} {end}\n", mirrored.pages)?;
-    text.push_str(device_told(alloc, &mirrored.device)?.as_str())?;
-    Ok(text)
+    let mut text = format!(in alloc; "pages {} {end}\n", mirrored.pages).expect(rt, "memory");
+    text.push_str(
+        device_told(alloc, &mirrored.device)
+            .expect(rt, "an answer")
+            .as_str(),
+    )
+    .expect(rt, "memory");
+    text
 }
 
 /// The mirrors of the rows are told as they say.
-fn rows_are_mirrored<K: Stores>(rt: &impl Abort, kind: &K, alloc: Global) -> Result<(), Fail> {
-    let mut store = store_after_five(kind, alloc)?;
+fn rows_are_mirrored<K: Stores>(rt: &impl Abort, kind: &K, alloc: Global) {
+    let mut store = store_after_five(rt, kind, alloc);
     for row in &ROWS {
-        let mirrored = mirror(alloc, &mut store, row.book, row.limit, row.max_pages)?;
-        let text = mirrored_told(alloc, &mirrored)?;
+        let mirrored = mirror(alloc, &mut store, row.book, row.limit, row.max_pages).expect(
+            rt,
+            "an answer",
+        );
+        let text = mirrored_told(rt, alloc, &mirrored);
         assert_eq!(rt; text.as_str(), row.wanted);
     }
-    Ok(())
 }
 
 /// A mirror is refused as its initial report is.
-fn mirrors_are_refused<K: Stores>(rt: &impl Abort, kind: &K, alloc: Global) -> Result<(), Fail> {
-    let mut store = store_after_five(kind, alloc)?;
+fn mirrors_are_refused<K: Stores>(rt: &impl Abort, kind: &K, alloc: Global) {
+    let mut store = store_after_five(rt, kind, alloc);
     for (book, limit, refusal) in [
         ("staff", 0, Refusal::BadLimit),
         ("nobody", 1, Refusal::NoSuchBook),
@@ -144,46 +150,50 @@ fn mirrors_are_refused<K: Stores>(rt: &impl Abort, kind: &K, alloc: Global) -> R
         let denied = mirror(alloc, &mut store, book, limit, 1).err();
         assert_eq!(rt; denied, Some(Denied::Refused(refusal)), "{book}");
     }
-    Ok(())
 }
 
 /// A store whose book `staff` has so many cards, each put once.
-fn store_of<K: Stores>(kind: &K, alloc: Global, cards: u64) -> Result<K::Store, Fail> {
-    let mut store = kind.new_store(alloc, Limits::standard())?;
-    performed(alloc, &mut store, "create staff")?;
+fn store_of<K: Stores>(rt: &impl Abort, kind: &K, alloc: Global, cards: u64) -> K::Store {
+    let mut store = kind.new_store(alloc, Limits::standard());
+    performed(alloc, &mut store, "create staff").expect(rt, "an answer");
     for card in 0..cards {
-        let line = format!(in alloc; "put staff u{card} Name")?;
-        performed(alloc, &mut store, line.as_str())?;
+        let line = format!(in alloc; "put staff u{card} Name").expect(rt, "memory");
+        performed(alloc, &mut store, line.as_str()).expect(rt, "an answer");
     }
-    Ok(store)
+    store
 }
 
 /// How many pages there were, whether that was all, how many cards the copy has, and the token.
-fn pages_told(alloc: Global, mirrored: &Mirrored) -> Result<String, Fail> {
+fn pages_told(rt: &impl Abort, alloc: Global, mirrored: &Mirrored) -> String {
     let end = if mirrored.done { "done" } else { "and more" };
     let copied = mirrored.device.copy().len();
-    let mut text = format!(in alloc; "pages {} {end}, cards {copied}, ", mirrored.pages)?;
+    let mut text = format!(in alloc; "pages {} {end}, cards {copied}, ", mirrored.pages).expect(
+        rt, "memory",
+    );
     if let Some(token) = mirrored.device.token() {
-        text.push_str(token_text(alloc, &token)?.as_str())?;
+        text.push_str(token_text(alloc, &token).expect(rt, "an answer").as_str())
+            .expect(rt, "memory");
     }
-    Ok(text)
+    text
 }
 
 /// So are those of long books.
-fn long_rows_are_mirrored<K: Stores>(rt: &impl Abort, kind: &K, alloc: Global) -> Result<(), Fail> {
+fn long_rows_are_mirrored<K: Stores>(rt: &impl Abort, kind: &K, alloc: Global) {
     for row in &LONG_ROWS {
-        let mut store = store_of(kind, alloc, row.cards)?;
-        let mirrored = mirror(alloc, &mut store, "staff", 100, row.max_pages)?;
-        let text = pages_told(alloc, &mirrored)?;
+        let mut store = store_of(rt, kind, alloc, row.cards);
+        let mirrored = mirror(alloc, &mut store, "staff", 100, row.max_pages).expect(
+            rt,
+            "an answer",
+        );
+        let text = pages_told(rt, alloc, &mirrored);
         assert_eq!(rt; text.as_str(), row.wanted);
     }
-    Ok(())
 }
 
 #[test]
-fn books_in_memory_are_mirrored(rt: HostRuntime) -> Result<(), Fail> {
+fn books_in_memory_are_mirrored(rt: HostRuntime) {
     let alloc = rt.alloc();
-    rows_are_mirrored(&rt, &InMemory, alloc)?;
-    mirrors_are_refused(&rt, &InMemory, alloc)?;
-    long_rows_are_mirrored(&rt, &InMemory, alloc)
+    rows_are_mirrored(&rt, &InMemory, alloc);
+    mirrors_are_refused(&rt, &InMemory, alloc);
+    long_rows_are_mirrored(&rt, &InMemory, alloc);
 }

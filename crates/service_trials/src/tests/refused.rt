@@ -6,7 +6,6 @@ use super::{events_in, performed};
 use book_service::{Event, Reply, drive, mirror};
 use std::alloc::Global;
 use std::process::Abort;
-use std::test::Fail;
 use sync_core::{BookStore, Denied, Limits};
 use vcard_text::NoMemory;
 
@@ -89,15 +88,15 @@ fn done_at_last<S: BookStore>(
     office: &mut Office<S>,
     twin: &mut S,
     event: &[Event],
-) -> Result<Option<Reply>, Fail> {
+) -> Option<Reply> {
     let reply = reply_to(alloc, office, event);
     if is_done(&reply) {
-        return Ok(reply);
+        return reply;
     }
-    let left = state(alloc, &mut office.store)?;
-    let before = state(alloc, twin)?;
+    let left = state(alloc, &mut office.store).expect(rt, "an answer");
+    let before = state(alloc, twin).expect(rt, "an answer");
     assert_eq!(rt; left.as_str(), before.as_str());
-    Ok(reply_to(alloc, office, event))
+    reply_to(alloc, office, event)
 }
 
 /// Does the event in the twin office too, and compares the replies.
@@ -107,31 +106,29 @@ fn does_the_same<S: BookStore>(
     office: &mut Office<S>,
     twin: &mut Office<S>,
     event: &[Event],
-) -> Result<(), Fail> {
-    let reply = done_at_last(rt, alloc, office, &mut twin.store, event)?;
+) {
+    let reply = done_at_last(rt, alloc, office, &mut twin.store, event);
     let mut wanted = reply_to(alloc, twin, event);
     if !is_done(&wanted) {
         wanted = reply_to(alloc, twin, event);
     }
     assert_eq!(rt; reply, wanted);
-    Ok(())
 }
 
 /// Each event of the script is done alike by two offices of the kind.
-fn events_are_done_alike<K: Stores>(rt: &impl Abort, kind: &K, alloc: Global) -> Result<(), Fail> {
-    let mut office = new_office(kind, alloc, Limits::standard())?;
-    let mut twin = new_office(kind, alloc, Limits::standard())?;
-    let events = events_in(alloc, SCRIPT)?;
+fn events_are_done_alike<K: Stores>(rt: &impl Abort, kind: &K, alloc: Global) {
+    let mut office = new_office(rt, kind, alloc, Limits::standard());
+    let mut twin = new_office(rt, kind, alloc, Limits::standard());
+    let events = events_in(alloc, SCRIPT).expect(rt, "an answer");
     for event in events.chunks(1) {
-        does_the_same(rt, alloc, &mut office, &mut twin, event)?;
+        does_the_same(rt, alloc, &mut office, &mut twin, event);
     }
     assert_eq!(rt; office.devices, twin.devices);
-    Ok(())
 }
 
 #[test]
-fn an_event_that_finds_no_memory_leaves_the_books(rt: HostRuntime) -> Result<(), Fail> {
-    events_are_done_alike(&rt, &InMemory, rt.alloc())
+fn an_event_that_finds_no_memory_leaves_the_books(rt: HostRuntime) {
+    events_are_done_alike(&rt, &InMemory, rt.alloc());
 }
 
 const TWO_CARDS: &str = "create staff
@@ -148,25 +145,20 @@ fn pages_at_last<S: BookStore>(alloc: Global, store: &mut S) -> Result<u64, Deni
 }
 
 /// A mirror leaves the books. Where memory ran out for the two cards, there is nothing to see.
-fn a_mirror_leaves_the_books<K: Stores>(
-    rt: &impl Abort,
-    kind: &K,
-    alloc: Global,
-) -> Result<(), Fail> {
-    let mut office = new_office(kind, alloc, Limits::standard())?;
-    let cards = performed(alloc, &mut office.store, TWO_CARDS)?;
+fn a_mirror_leaves_the_books<K: Stores>(rt: &impl Abort, kind: &K, alloc: Global) {
+    let mut office = new_office(rt, kind, alloc, Limits::standard());
+    let cards = performed(alloc, &mut office.store, TWO_CARDS).expect(rt, "an answer");
     if cards.as_str().contains("fault") {
-        return Ok(());
+        return;
     }
-    let before = state(alloc, &mut office.store)?;
-    let pages = pages_at_last(alloc, &mut office.store)?;
+    let before = state(alloc, &mut office.store).expect(rt, "an answer");
+    let pages = pages_at_last(alloc, &mut office.store).expect(rt, "an answer");
     assert_eq!(rt; pages, 2);
-    let after = state(alloc, &mut office.store)?;
+    let after = state(alloc, &mut office.store).expect(rt, "an answer");
     assert_eq!(rt; before.as_str(), after.as_str());
-    Ok(())
 }
 
 #[test]
-fn a_mirror_that_finds_no_memory_leaves_the_books(rt: HostRuntime) -> Result<(), Fail> {
-    a_mirror_leaves_the_books(&rt, &InMemory, rt.alloc())
+fn a_mirror_that_finds_no_memory_leaves_the_books(rt: HostRuntime) {
+    a_mirror_leaves_the_books(&rt, &InMemory, rt.alloc());
 }

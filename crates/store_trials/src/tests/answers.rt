@@ -4,7 +4,6 @@ use super::card;
 use book_model::{Denied, Moved, Page, PutAnswer, Refusal, Stored, Tally, Token};
 use std::alloc::Global;
 use std::process::Abort;
-use std::test::Fail;
 use sync_core::BookStore;
 
 pub(super) fn is_created<S: BookStore>(rt: &impl Abort, store: &mut S, book: &str, id: u64) {
@@ -20,10 +19,9 @@ pub(super) fn is_put<S: BookStore>(
     uid: &str,
     name: &str,
     answer: PutAnswer,
-) -> Result<(), Fail> {
-    let card = card(alloc, uid, name)?;
+) {
+    let card = card(rt, alloc, uid, name);
     assert_eq!(rt; store.put(book, &card, None), Ok(answer), "{uid} {name}");
-    Ok(())
 }
 
 pub(super) fn is_removed<S: BookStore>(
@@ -73,9 +71,11 @@ pub(super) fn is_reported<S: BookStore>(
     token: Option<Token>,
     limit: Option<u64>,
     page: Page,
-) -> Result<(), Fail> {
-    assert_eq!(rt; store.report(book, token, limit)?, page);
-    Ok(())
+) {
+    assert_eq!(rt;
+        store.report(book, token, limit).expect(rt, "an answer"),
+        page
+    );
 }
 
 pub(super) fn is_no_report<S: BookStore>(

@@ -10,7 +10,6 @@ use book_model::{
 };
 use std::alloc::Global;
 use std::process::Abort;
-use std::test::Fail;
 use sync_core::{BookStore, PlainStore};
 use vcard_text::Text;
 
@@ -57,13 +56,12 @@ const PUTS: &[(&str, &str, PutAnswer)] = &[
 ];
 
 /// The puts come to the new book `staff`, and Bob goes.
-fn five_changes<S: BookStore>(rt: &impl Abort, alloc: Global, store: &mut S) -> Result<(), Fail> {
+fn five_changes<S: BookStore>(rt: &impl Abort, alloc: Global, store: &mut S) {
     is_created(rt, store, "staff", 1);
     for (uid, name, answer) in PUTS {
-        is_put(rt, alloc, store, "staff", uid, name, *answer)?;
+        is_put(rt, alloc, store, "staff", uid, name, *answer);
     }
     is_removed(rt, store, "staff", "b", 5);
-    Ok(())
 }
 
 /// Then Cy moves to the new book `clients`.
@@ -76,75 +74,67 @@ fn a_move<S: BookStore>(rt: &impl Abort, store: &mut S) {
     is_moved(rt, store, ("staff", "clients"), "c", Some(3), moved);
 }
 
-fn stored(alloc: Global, version: u64, uid: &str, name: &str) -> Result<Stored, Fail> {
-    let card = card(alloc, uid, name)?;
-    Ok(Stored { version, card })
+fn stored(rt: &impl Abort, alloc: Global, version: u64, uid: &str, name: &str) -> Stored {
+    let card = card(rt, alloc, uid, name);
+    Stored { version, card }
 }
 
 /// The line of `staff` after five changes.
-fn staff_line(alloc: Global) -> Result<BookLine, Fail> {
-    Ok(BookLine {
-        name: Text::copy_of(alloc, "staff")?,
+fn staff_line(rt: &impl Abort, alloc: Global) -> BookLine {
+    BookLine {
+        name: Text::copy_of(alloc, "staff").expect(rt, "memory"),
         id: 1,
         number: 5,
         horizon: 0,
-    })
+    }
 }
 
 /// What a device that heard of the first four changes is told of the fifth.
-fn last_page(alloc: Global) -> Result<Page, Fail> {
-    page_of_one(alloc, removed(alloc, "b")?, mark(5, 5), false)
+fn last_page(rt: &impl Abort, alloc: Global) -> Page {
+    page_of_one(rt, alloc, removed(rt, alloc, "b"), mark(5, 5), false)
 }
 
 /// All cards after five changes.
-fn all_cards_are_told<S: BookStore>(
-    rt: &impl Abort,
-    alloc: Global,
-    store: &mut S,
-) -> Result<(), Fail> {
-    let anna = stored(alloc, 4, "a", "Anna")?;
-    let cy = stored(alloc, 3, "c", "Cy")?;
-    let cards = store.cards("staff")?;
+fn all_cards_are_told<S: BookStore>(rt: &impl Abort, alloc: Global, store: &mut S) {
+    let anna = stored(rt, alloc, 4, "a", "Anna");
+    let cy = stored(rt, alloc, 3, "c", "Cy");
+    let cards = store.cards("staff").expect(rt, "an answer");
     assert_eq!(rt; cards.len(), 2);
     assert_eq!(rt; cards.get("a"), Some(&anna));
     assert_eq!(rt; cards.get("c"), Some(&cy));
-    Ok(())
 }
 
 /// All books after five changes.
-fn all_books_are_told<S: BookStore>(
-    rt: &impl Abort,
-    alloc: Global,
-    store: &mut S,
-) -> Result<(), Fail> {
-    let lines = store.books()?;
+fn all_books_are_told<S: BookStore>(rt: &impl Abort, alloc: Global, store: &mut S) {
+    let lines = store.books().expect(rt, "an answer");
     assert_eq!(rt; lines.len(), 1);
-    assert_eq!(rt; lines[0], staff_line(alloc)?);
-    Ok(())
+    assert_eq!(rt; lines[0], staff_line(rt, alloc));
 }
 
 /// Each call of a new store is answered.
-fn calls_are_answered<S: BookStore>(
-    rt: &impl Abort,
-    alloc: Global,
-    store: &mut S,
-) -> Result<(), Fail> {
-    five_changes(rt, alloc, store)?;
-    all_cards_are_told(rt, alloc, store)?;
-    is_got(rt, store, "staff", "a", stored(alloc, 4, "a", "Anna")?);
-    is_reported(rt, store, "staff", token(1, 4, 4), None, last_page(alloc)?)?;
-    all_books_are_told(rt, alloc, store)?;
-    assert_eq!(rt; store.book("staff"), Ok(staff_line(alloc)?));
+fn calls_are_answered<S: BookStore>(rt: &impl Abort, alloc: Global, store: &mut S) {
+    five_changes(rt, alloc, store);
+    all_cards_are_told(rt, alloc, store);
+    is_got(rt, store, "staff", "a", stored(rt, alloc, 4, "a", "Anna"));
+    is_reported(
+        rt,
+        store,
+        "staff",
+        token(1, 4, 4),
+        None,
+        last_page(rt, alloc),
+    );
+    all_books_are_told(rt, alloc, store);
+    assert_eq!(rt; store.book("staff"), Ok(staff_line(rt, alloc)));
     is_counted(rt, store, "staff", STAFF);
     a_move(rt, store);
     is_counted(rt, store, "clients", CLIENTS);
-    Ok(())
 }
 
 #[test]
-fn each_call_of_a_store_in_memory_is_answered(rt: HostRuntime) -> Result<(), Fail> {
+fn each_call_of_a_store_in_memory_is_answered(rt: HostRuntime) {
     let mut store = PlainStore::new(rt.alloc(), Limits::standard());
-    calls_are_answered(&rt, rt.alloc(), &mut store)
+    calls_are_answered(&rt, rt.alloc(), &mut store);
 }
 
 /// What no command asks of a new store: a token whose numbers are in the wrong order, and a book by
@@ -196,10 +186,10 @@ fn is_forgotten<S: BookStore>(
 
 /// After five changes what is removed is forgotten, and the horizon only rises, up to the number.
 #[test]
-fn removed_members_are_forgotten(rt: HostRuntime) -> Result<(), Fail> {
+fn removed_members_are_forgotten(rt: HostRuntime) {
     let alloc = rt.alloc();
     let mut store = PlainStore::new(alloc, Limits::standard());
-    five_changes(&rt, alloc, &mut store)?;
+    five_changes(&rt, alloc, &mut store);
     let too_far = Denied::Refused(Refusal::BadForget);
     is_forgotten(&rt, &mut store, 5, Ok(1));
     is_forgotten(&rt, &mut store, 5, Ok(0));
@@ -211,28 +201,36 @@ fn removed_members_are_forgotten(rt: HostRuntime) -> Result<(), Fail> {
         ..STAFF
     };
     is_counted(&rt, &mut store, "staff", forgotten);
-    pages_leave_out_the_forgotten(&rt, alloc, &mut store)
+    pages_leave_out_the_forgotten(&rt, alloc, &mut store);
 }
 
 /// What is reported where all of the five changes that removed a member are forgotten.
-fn pages_leave_out_the_forgotten<S: BookStore>(
-    rt: &impl Abort,
-    alloc: Global,
-    store: &mut S,
-) -> Result<(), Fail> {
+fn pages_leave_out_the_forgotten<S: BookStore>(rt: &impl Abort, alloc: Global, store: &mut S) {
     let too_old = Refusal::BadToken(TokenCause::TooOld);
     is_no_report(rt, store, "staff", token(1, 4, 4), too_old);
-    let cy = page_of_one(alloc, changed(alloc, 3, "c", "Cy")?, mark(3, 5), true)?;
-    is_reported(rt, store, "staff", None, Some(1), cy)?;
-    let anna = page_of_one(alloc, changed(alloc, 4, "a", "Anna")?, mark(5, 5), false)?;
-    is_reported(rt, store, "staff", token(1, 3, 5), None, anna)
+    let cy = page_of_one(
+        rt,
+        alloc,
+        changed(rt, alloc, 3, "c", "Cy"),
+        mark(3, 5),
+        true,
+    );
+    is_reported(rt, store, "staff", None, Some(1), cy);
+    let anna = page_of_one(
+        rt,
+        alloc,
+        changed(rt, alloc, 4, "a", "Anna"),
+        mark(5, 5),
+        false,
+    );
+    is_reported(rt, store, "staff", token(1, 3, 5), None, anna);
 }
 
 /// No book has imports, and a key is letters, digits, dots, underscores and hyphens.
 #[test]
-fn no_import_is_kept(rt: HostRuntime) -> Result<(), Fail> {
+fn no_import_is_kept(rt: HostRuntime) {
     let mut store = PlainStore::new(rt.alloc(), Limits::standard());
-    store.create_book("staff")?;
+    store.create_book("staff").expect(&rt, "an answer");
     assert_eq!(rt; store.kept_import("staff", "k1"), Ok(None));
     assert_eq!(rt;
         store.kept_import("staff", "k/3"),
@@ -242,5 +240,4 @@ fn no_import_is_kept(rt: HostRuntime) -> Result<(), Fail> {
         store.kept_import("clients", "k/3"),
         Err(Denied::Refused(Refusal::NoSuchBook))
     );
-    Ok(())
 }

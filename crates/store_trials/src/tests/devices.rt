@@ -5,7 +5,6 @@ use book_devices::Device;
 use book_model::{Entry, Page};
 use std::alloc::Global;
 use std::process::Abort;
-use std::test::Fail;
 use vcard_text::{Card, Items, Text};
 
 /// What a page says of a member: its UID, and its version and name, or none where it is gone.
@@ -51,31 +50,31 @@ const PAGE_OF_RESTART: Row = Row {
     copy: &[("c", 3, "Cy")],
 };
 
-fn entry(alloc: Global, said: Said) -> Result<Entry, Fail> {
+fn entry(rt: &impl Abort, alloc: Global, said: Said) -> Entry {
     let (uid, stored) = said;
-    let owned = Text::copy_of(alloc, uid)?;
+    let owned = Text::copy_of(alloc, uid).expect(rt, "memory");
     match stored {
-        Some((version, name)) => Ok(Entry::Changed {
+        Some((version, name)) => Entry::Changed {
             uid: owned,
             version,
-            card: card(alloc, uid, name)?,
-        }),
-        None => Ok(Entry::Removed { uid: owned }),
+            card: card(rt, alloc, uid, name),
+        },
+        None => Entry::Removed { uid: owned },
     }
 }
 
 /// A whole page of book 1.
-fn page(alloc: Global, row: &Row) -> Result<Page, Fail> {
+fn page(rt: &impl Abort, alloc: Global, row: &Row) -> Page {
     let mut entries = Items::new(alloc);
     for said in row.said {
-        entries.push(entry(alloc, *said)?)?;
+        entries.push(entry(rt, alloc, *said)).expect(rt, "memory");
     }
-    Ok(Page {
+    Page {
         book: 1,
         entries,
         mark: mark(row.number, row.number),
         truncated: false,
-    })
+    }
 }
 
 /// The value of a card's FN line.
@@ -102,53 +101,49 @@ fn has_copy(rt: &impl Abort, device: &Device, wanted: &[(&str, u64, &str)]) {
 }
 
 /// The device applies the row's page, and has what the row says then.
-fn hears(rt: &impl Abort, alloc: Global, device: &mut Device, row: &Row) -> Result<(), Fail> {
-    device.apply(&page(alloc, row)?)?;
+fn hears(rt: &impl Abort, alloc: Global, device: &mut Device, row: &Row) {
+    device.apply(&page(rt, alloc, row)).expect(rt, "an answer");
     has_copy(rt, device, row.copy);
     assert_eq!(rt; device.token(), token(1, row.number, row.number));
-    Ok(())
 }
 
 #[test]
-fn a_device_writes_pages_over_its_copy(rt: HostRuntime) -> Result<(), Fail> {
+fn a_device_writes_pages_over_its_copy(rt: HostRuntime) {
     let alloc = rt.alloc();
-    let mut device = Device::new(alloc, "staff")?;
+    let mut device = Device::new(alloc, "staff").expect(&rt, "an answer");
     assert_eq!(rt; device.book(), "staff");
     assert_eq!(rt; device.token(), None);
     for row in &PAGES {
-        hears(&rt, alloc, &mut device, row)?;
+        hears(&rt, alloc, &mut device, row);
     }
-    Ok(())
 }
 
 #[test]
-fn without_a_token_a_page_empties_the_copy(rt: HostRuntime) -> Result<(), Fail> {
+fn without_a_token_a_page_empties_the_copy(rt: HostRuntime) {
     let alloc = rt.alloc();
-    let mut device = Device::new(alloc, "staff")?;
+    let mut device = Device::new(alloc, "staff").expect(&rt, "an answer");
     let first = &PAGES[0];
-    hears(&rt, alloc, &mut device, first)?;
+    hears(&rt, alloc, &mut device, first);
     device.restart();
     assert_eq!(rt; device.token(), None);
     has_copy(&rt, &device, first.copy);
-    hears(&rt, alloc, &mut device, &PAGE_OF_RESTART)
+    hears(&rt, alloc, &mut device, &PAGE_OF_RESTART);
 }
 
 /// The device applies the row's page.
-fn apply(alloc: Global, device: &mut Device, row: &Row) -> Result<(), Fail> {
-    device.apply(&page(alloc, row)?)?;
-    Ok(())
+fn apply(rt: &impl Abort, alloc: Global, device: &mut Device, row: &Row) {
+    device.apply(&page(rt, alloc, row)).expect(rt, "an answer");
 }
 
 #[test]
-fn devices_that_heard_the_same_are_equal(rt: HostRuntime) -> Result<(), Fail> {
+fn devices_that_heard_the_same_are_equal(rt: HostRuntime) {
     let alloc = rt.alloc();
-    let mut device = Device::new(alloc, "staff")?;
-    let mut other = Device::new(alloc, "staff")?;
-    apply(alloc, &mut device, &PAGE_OF_RESTART)?;
+    let mut device = Device::new(alloc, "staff").expect(&rt, "an answer");
+    let mut other = Device::new(alloc, "staff").expect(&rt, "an answer");
+    apply(&rt, alloc, &mut device, &PAGE_OF_RESTART);
     assert_eq!(rt; device == other, false);
-    apply(alloc, &mut other, &PAGE_OF_RESTART)?;
+    apply(&rt, alloc, &mut other, &PAGE_OF_RESTART);
     assert_eq!(rt; device, other);
     other.restart();
     assert_eq!(rt; device == other, false);
-    Ok(())
 }

@@ -9,7 +9,6 @@ use super::card;
 use book_model::{Denied, ImportTally, Limits, Refusal, Stored, Tally};
 use std::alloc::Global;
 use std::process::Abort;
-use std::test::Fail;
 use sync_core::{BookStore, PlainStore};
 use vcard_text::Card;
 
@@ -70,27 +69,28 @@ fn have_distinct_uids(cards: &[Card]) -> bool
 
 /// Imports the people into `staff` under the key.
 fn import(
+    rt: &impl Abort,
     alloc: Global,
     store: &mut PlainStore,
     key: &str,
     people: &[(&str, &str)],
-) -> Result<Result<ImportTally, Denied>, Fail> {
+) -> Result<ImportTally, Denied> {
     let mut cards = Vec::new(alloc);
     for (uid, name) in people {
-        cards.push(card(alloc, uid, name)?)?;
+        cards.push(card(rt, alloc, uid, name)).expect(rt, "memory");
     }
     if !have_distinct_uids(cards.as_slice()) {
-        return Err(Fail::from("two cards have one UID"));
+        panic!(rt; "two cards have one UID");
     }
-    Ok(store.import("staff", key, cards.as_slice()))
+    store.import("staff", key, cards.as_slice())
 }
 
 /// A store with the limits and the empty book `staff`.
-fn store_within(alloc: Global, cards_max: u64, changes_max: u64) -> Result<PlainStore, Fail> {
-    let limits = Limits::new(100, cards_max, changes_max, 100).ok_or("no limits")?;
+fn store_within(rt: &impl Abort, alloc: Global, cards_max: u64, changes_max: u64) -> PlainStore {
+    let limits = Limits::new(100, cards_max, changes_max, 100).expect(rt, "no limits");
     let mut store = PlainStore::new(alloc, limits);
-    store.create_book("staff")?;
-    Ok(store)
+    store.create_book("staff").expect(rt, "an answer");
+    store
 }
 
 /// The import of the people is answered so.
@@ -101,9 +101,8 @@ fn is_imported(
     key: &str,
     people: &[(&str, &str)],
     answer: Result<ImportTally, Denied>,
-) -> Result<(), Fail> {
-    assert_eq!(rt; import(alloc, store, key, people)?, answer, "{key}");
-    Ok(())
+) {
+    assert_eq!(rt; import(rt, alloc, store, key, people), answer, "{key}");
 }
 
 fn is_kept(rt: &impl Abort, store: &mut PlainStore, kept: Option<ImportTally>) {
@@ -111,11 +110,11 @@ fn is_kept(rt: &impl Abort, store: &mut PlainStore, kept: Option<ImportTally>) {
 }
 
 #[test]
-fn an_import_under_a_kept_key_acts_once(rt: HostRuntime) -> Result<(), Fail> {
+fn an_import_under_a_kept_key_acts_once(rt: HostRuntime) {
     let alloc = rt.alloc();
-    let mut store = store_within(alloc, 10_000, 1_000)?;
-    is_imported(&rt, alloc, &mut store, "k1", &THREE, Ok(THREE_ADDED))?;
-    is_imported(&rt, alloc, &mut store, "k1", &THREE_MORE, Ok(THREE_ADDED))?;
+    let mut store = store_within(&rt, alloc, 10_000, 1_000);
+    is_imported(&rt, alloc, &mut store, "k1", &THREE, Ok(THREE_ADDED));
+    is_imported(&rt, alloc, &mut store, "k1", &THREE_MORE, Ok(THREE_ADDED));
     is_kept(&rt, &mut store, Some(THREE_ADDED));
     let three = Tally {
         number: 3,
@@ -124,7 +123,6 @@ fn an_import_under_a_kept_key_acts_once(rt: HostRuntime) -> Result<(), Fail> {
         ..NO_CHANGES
     };
     is_counted(&rt, &mut store, "staff", three);
-    Ok(())
 }
 
 /// The card of the UID and name is stored with the version.
@@ -135,24 +133,23 @@ fn is_stored(
     uid: &str,
     name: &str,
     version: u64,
-) -> Result<(), Fail> {
-    let card = card(alloc, uid, name)?;
+) {
+    let card = card(rt, alloc, uid, name);
     is_got(rt, store, "staff", uid, Stored { version, card });
-    Ok(())
 }
 
 #[test]
-fn cards_are_added_edited_or_the_same(rt: HostRuntime) -> Result<(), Fail> {
+fn cards_are_added_edited_or_the_same(rt: HostRuntime) {
     let alloc = rt.alloc();
-    let mut store = store_within(alloc, 10_000, 1_000)?;
-    is_imported(&rt, alloc, &mut store, "k1", &THREE, Ok(THREE_ADDED))?;
+    let mut store = store_within(&rt, alloc, 10_000, 1_000);
+    is_imported(&rt, alloc, &mut store, "k1", &THREE, Ok(THREE_ADDED));
     let one_each = ImportTally {
         added: 1,
         edited: 1,
         same: 1,
         number: 5,
     };
-    is_imported(&rt, alloc, &mut store, "k2", &THREE_MORE, Ok(one_each))?;
+    is_imported(&rt, alloc, &mut store, "k2", &THREE_MORE, Ok(one_each));
     let four = Tally {
         number: 5,
         cards: 4,
@@ -161,77 +158,69 @@ fn cards_are_added_edited_or_the_same(rt: HostRuntime) -> Result<(), Fail> {
         ..NO_CHANGES
     };
     is_counted(&rt, &mut store, "staff", four);
-    is_stored(&rt, alloc, &mut store, "p", "Pat Lee", 1)?;
-    is_stored(&rt, alloc, &mut store, "q", "Quinn", 4)?;
-    is_stored(&rt, alloc, &mut store, "s", "Sy", 5)
+    is_stored(&rt, alloc, &mut store, "p", "Pat Lee", 1);
+    is_stored(&rt, alloc, &mut store, "q", "Quinn", 4);
+    is_stored(&rt, alloc, &mut store, "s", "Sy", 5);
 }
 
 #[test]
-fn an_import_of_no_cards_is_kept_and_takes_no_number(rt: HostRuntime) -> Result<(), Fail> {
+fn an_import_of_no_cards_is_kept_and_takes_no_number(rt: HostRuntime) {
     let alloc = rt.alloc();
-    let mut store = store_within(alloc, 10_000, 1_000)?;
+    let mut store = store_within(&rt, alloc, 10_000, 1_000);
     let nothing = ImportTally {
         added: 0,
         edited: 0,
         same: 0,
         number: 0,
     };
-    is_imported(&rt, alloc, &mut store, "k1", &[], Ok(nothing))?;
+    is_imported(&rt, alloc, &mut store, "k1", &[], Ok(nothing));
     is_counted(&rt, &mut store, "staff", NO_CHANGES);
-    is_imported(&rt, alloc, &mut store, "k1", &THREE, Ok(nothing))
+    is_imported(&rt, alloc, &mut store, "k1", &THREE, Ok(nothing));
 }
 
 /// A refused import changes nothing, and its key isn't kept.
-fn is_beyond(
-    rt: &impl Abort,
-    alloc: Global,
-    cards_max: u64,
-    changes_max: u64,
-    refusal: Refusal,
-) -> Result<(), Fail> {
-    let mut store = store_within(alloc, cards_max, changes_max)?;
+fn is_beyond(rt: &impl Abort, alloc: Global, cards_max: u64, changes_max: u64, refusal: Refusal) {
+    let mut store = store_within(rt, alloc, cards_max, changes_max);
     let refused = Err(Denied::Refused(refusal));
-    is_imported(rt, alloc, &mut store, "k1", &THREE, refused)?;
+    is_imported(rt, alloc, &mut store, "k1", &THREE, refused);
     is_kept(rt, &mut store, None);
     is_counted(rt, &mut store, "staff", NO_CHANGES);
-    Ok(())
 }
 
 #[test]
-fn imports_beyond_a_limit_are_refused(rt: HostRuntime) -> Result<(), Fail> {
-    is_beyond(&rt, rt.alloc(), 2, 2, Refusal::BookFull)?;
-    is_beyond(&rt, rt.alloc(), 2, 3, Refusal::BookFull)?;
-    is_beyond(&rt, rt.alloc(), 3, 2, Refusal::ChangesSpent)
+fn imports_beyond_a_limit_are_refused(rt: HostRuntime) {
+    is_beyond(&rt, rt.alloc(), 2, 2, Refusal::BookFull);
+    is_beyond(&rt, rt.alloc(), 2, 3, Refusal::BookFull);
+    is_beyond(&rt, rt.alloc(), 3, 2, Refusal::ChangesSpent);
 }
 
 /// A full book that took all its changes takes the same cards again.
 #[test]
-fn imports_up_to_the_limits_are_done(rt: HostRuntime) -> Result<(), Fail> {
+fn imports_up_to_the_limits_are_done(rt: HostRuntime) {
     let alloc = rt.alloc();
-    let mut store = store_within(alloc, 3, 3)?;
-    is_imported(&rt, alloc, &mut store, "k1", &THREE, Ok(THREE_ADDED))?;
+    let mut store = store_within(&rt, alloc, 3, 3);
+    is_imported(&rt, alloc, &mut store, "k1", &THREE, Ok(THREE_ADDED));
     let same = ImportTally {
         added: 0,
         edited: 0,
         same: 3,
         number: 3,
     };
-    is_imported(&rt, alloc, &mut store, "k2", &THREE, Ok(same))?;
+    is_imported(&rt, alloc, &mut store, "k2", &THREE, Ok(same));
     let full = Err(Denied::Refused(Refusal::BookFull));
-    is_imported(&rt, alloc, &mut store, "k3", &THREE_MORE, full)?;
+    is_imported(&rt, alloc, &mut store, "k3", &THREE_MORE, full);
     let spent = Err(Denied::Refused(Refusal::ChangesSpent));
-    is_imported(&rt, alloc, &mut store, "k3", &[("p", "Pat")], spent)
+    is_imported(&rt, alloc, &mut store, "k3", &[("p", "Pat")], spent);
 }
 
 #[test]
-fn imports_under_other_words_than_keys_are_refused(rt: HostRuntime) -> Result<(), Fail> {
+fn imports_under_other_words_than_keys_are_refused(rt: HostRuntime) {
     let alloc = rt.alloc();
-    let mut store = store_within(alloc, 2, 2)?;
-    let refused = import(alloc, &mut store, "k/3", &THREE)?;
+    let mut store = store_within(&rt, alloc, 2, 2);
+    let refused = import(&rt, alloc, &mut store, "k/3", &THREE);
     assert_eq!(rt; refused, Err(Denied::Refused(Refusal::BadKey)));
     assert_eq!(rt;
         store.import("clients", "k/3", &[]),
         Err(Denied::Refused(Refusal::NoSuchBook))
     );
-    Ok(())
 }

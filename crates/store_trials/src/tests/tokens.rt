@@ -2,7 +2,6 @@ use book_devices::{read_token, token_text};
 use book_model::{Mark, Token};
 use std::alloc::Global;
 use std::process::Abort;
-use std::test::Fail;
 
 /// Texts of tokens, with the book, the number and the base that they tell.
 const TOKENS: &[(&str, u64, u64, u64)] = &[
@@ -24,23 +23,24 @@ const TOKENS: &[(&str, u64, u64, u64)] = &[
 ];
 
 /// The text is read as the token, and the token is written as the text.
-fn is_token(rt: &impl Abort, alloc: Global, text: &str, token: Token) -> Result<(), Fail> {
+fn is_token(rt: &impl Abort, alloc: Global, text: &str, token: Token) {
     assert_eq!(rt; read_token(text), Some(token), "{text}");
-    assert_eq!(rt; token_text(alloc, &token)?.as_str(), text);
-    Ok(())
+    assert_eq!(rt;
+        token_text(alloc, &token).expect(rt, "an answer").as_str(),
+        text
+    );
 }
 
 #[test]
-fn tokens_are_read_as_they_are_written(rt: HostRuntime) -> Result<(), Fail> {
+fn tokens_are_read_as_they_are_written(rt: HostRuntime) {
     for (text, book, at, base) in TOKENS {
         let mark = Mark {
             at: *at,
             base: *base,
         };
         let token = Token { book: *book, mark };
-        is_token(&rt, rt.alloc(), text, token)?;
+        is_token(&rt, rt.alloc(), text, token);
     }
-    Ok(())
 }
 
 /// Texts of no tokens.

@@ -8,7 +8,6 @@ use book_tables::members::all_members;
 use sqlite::{Connection, MemStore, Transaction, params};
 use std::alloc::Global;
 use std::process::Abort;
-use std::test::Fail;
 
 pub(super) type Memory = Connection<MemStore>;
 
@@ -17,32 +16,33 @@ const ANNA: &str = "BEGIN:VCARD\r\nVERSION:4.0\r\nUID:a\r\nFN:Anna\r\nEND:VCARD\
 const BOB: &str = "BEGIN:VCARD\r\nVERSION:4.0\r\nUID:b\r\nFN:Bob\r\nEND:VCARD\r\n";
 
 /// A call without its clauses.
-pub(super) fn run(conn: &mut Memory, statements: &str) -> Result<(), Fail> {
-    Ok(conn.execute_batch(statements)?)
+pub(super) fn run(rt: &impl Abort, conn: &mut Memory, statements: &str) {
+    conn.execute_batch(statements).expect(rt, "an answer");
 }
 
-fn put(conn: &mut Memory, uid: &str, changed: i64, card: &str) -> Result<(), Fail> {
+fn put(rt: &impl Abort, conn: &mut Memory, uid: &str, changed: i64, card: &str) {
     conn.execute(
         "INSERT INTO member (book, uid, changed, card) VALUES (1, ?1, ?2, ?3)",
         params![uid, changed, card],
-    )?;
-    Ok(())
+    )
+    .expect(rt, "an answer");
 }
 
-fn lay(tx: &mut Transaction<'_, MemStore>) -> Result<(), Fail> {
-    Ok(lay_tables(tx)?)
+fn lay(rt: &impl Abort, tx: &mut Transaction<'_, MemStore>) {
+    lay_tables(tx).expect(rt, "an answer");
 }
 
 /// The book `staff` with nine changes, of which two left live cards and two are removals that are
 /// remembered; and the book `desk`, which is empty.
-pub(super) fn filled(rt: &impl Abort, alloc: Global) -> Result<Memory, Fail> {
-    let mut conn = Connection::open_in_memory(alloc)?;
+pub(super) fn filled(rt: &impl Abort, alloc: Global) -> Memory {
+    let mut conn = Connection::open_in_memory(alloc).expect(rt, "an answer");
     let is_autocommit = conn.is_autocommit();
     assert!(rt; is_autocommit);
     let mut tx = conn.transaction();
-    lay(&mut tx)?;
-    tx.commit()?;
+    lay(rt, &mut tx);
+    tx.commit().expect(rt, "an answer");
     run(
+        rt,
         &mut conn,
         "INSERT INTO book VALUES (1, 'staff', 9, 0, 5, 1, 0, 0, 0, 3, 0); \
          INSERT INTO book VALUES (2, 'desk', 0, 0, 0, 0, 0, 0, 0, 0, 0); \
@@ -50,32 +50,32 @@ pub(super) fn filled(rt: &impl Abort, alloc: Global) -> Result<Memory, Fail> {
          INSERT INTO member VALUES (1, 'c', 6, NULL); \
          INSERT INTO member VALUES (1, 'd', 9, NULL); \
          INSERT INTO import_key VALUES (1, 'k1', 1, 0, 0, 9)",
-    )?;
-    put(&mut conn, "a", 4, ANNA)?;
-    put(&mut conn, "b", 7, BOB)?;
-    Ok(conn)
+    );
+    put(rt, &mut conn, "a", 4, ANNA);
+    put(rt, &mut conn, "b", 7, BOB);
+    conn
 }
 
-fn is_well(alloc: Global, conn: &mut Memory, limits: Limits) -> Result<bool, Fail> {
-    let books = all_books(conn)?;
-    let members = all_members(conn)?;
-    let imports = all_imports(conn)?;
-    let keeps = all_keeps(conn)?;
-    Ok(are_well_stored(alloc, limits, &books, &members, &imports, &keeps)?)
+fn is_well(rt: &impl Abort, alloc: Global, conn: &mut Memory, limits: Limits) -> bool {
+    let books = all_books(conn).expect(rt, "an answer");
+    let members = all_members(conn).expect(rt, "an answer");
+    let imports = all_imports(conn).expect(rt, "an answer");
+    let keeps = all_keeps(conn).expect(rt, "an answer");
+    are_well_stored(alloc, limits, &books, &members, &imports, &keeps).expect(rt, "an answer")
 }
 
 /// What is found after the statements.
-fn after(rt: &impl Abort, alloc: Global, statements: &str) -> Result<bool, Fail> {
-    let mut conn = filled(rt, alloc)?;
-    run(&mut conn, statements)?;
-    is_well(alloc, &mut conn, Limits::standard())
+fn after(rt: &impl Abort, alloc: Global, statements: &str) -> bool {
+    let mut conn = filled(rt, alloc);
+    run(rt, &mut conn, statements);
+    is_well(rt, alloc, &mut conn, Limits::standard())
 }
 
 #[test]
-fn takes_well_formed_books(rt: HostRuntime) -> Result<(), Fail> {
+fn takes_well_formed_books(rt: HostRuntime) {
     let alloc = rt.alloc();
-    let mut conn = filled(&rt, alloc)?;
-    let unharmed = is_well(alloc, &mut conn, Limits::standard())?;
+    let mut conn = filled(&rt, alloc);
+    let unharmed = is_well(&rt, alloc, &mut conn, Limits::standard());
     assert!(&rt; unharmed);
     let statements = [
         "UPDATE book SET horizon = 5 WHERE id = 1",
@@ -85,14 +85,13 @@ fn takes_well_formed_books(rt: HostRuntime) -> Result<(), Fail> {
         "DELETE FROM import_key",
     ];
     for change in statements {
-        let is_well = after(&rt, alloc, change)?;
+        let is_well = after(&rt, alloc, change);
         assert!(&rt; is_well);
     }
-    Ok(())
 }
 
 #[test]
-fn finds_each_damage(rt: HostRuntime) -> Result<(), Fail> {
+fn finds_each_damage(rt: HostRuntime) {
     let alloc = rt.alloc();
     let statements = [
         "UPDATE book SET number = 10 WHERE id = 1",
@@ -118,22 +117,20 @@ fn finds_each_damage(rt: HostRuntime) -> Result<(), Fail> {
         "UPDATE keeping SET keep = 1 WHERE book = 1",
     ];
     for damage in statements {
-        let is_well = after(&rt, alloc, damage)?;
+        let is_well = after(&rt, alloc, damage);
         assert!(&rt; !is_well);
     }
-    Ok(())
 }
 
 #[test]
-fn keeps_to_the_limits(rt: HostRuntime) -> Result<(), Fail> {
+fn keeps_to_the_limits(rt: HostRuntime) {
     let alloc = rt.alloc();
-    let mut conn = filled(&rt, alloc)?;
+    let mut conn = filled(&rt, alloc);
     for limits in [Limits::new(1, 1, 9, 1), Limits::new(1, 1, 8, 2)] {
         let Some(limits) = limits else {
-            return Err(Fail::new("limits"));
+            panic!(&rt; "limits");
         };
-        let is_well = is_well(alloc, &mut conn, limits)?;
+        let is_well = is_well(&rt, alloc, &mut conn, limits);
         assert!(&rt; !is_well);
     }
-    Ok(())
 }

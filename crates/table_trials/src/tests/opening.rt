@@ -5,7 +5,6 @@ use schema_check::OpenFault;
 use sqlite::Connection;
 use std::alloc::Global;
 use std::process::Abort;
-use std::test::Fail;
 
 /// A call without its clauses.
 fn test(alloc: Global, conn: &mut Memory) -> Result<(), OpenFault> {
@@ -13,25 +12,24 @@ fn test(alloc: Global, conn: &mut Memory) -> Result<(), OpenFault> {
 }
 
 /// What opening answers after the statements.
-fn after(rt: &impl Abort, alloc: Global, statements: &str) -> Result<Result<(), OpenFault>, Fail> {
-    let mut conn = filled(rt, alloc)?;
-    run(&mut conn, statements)?;
-    Ok(test(alloc, &mut conn))
+fn after(rt: &impl Abort, alloc: Global, statements: &str) -> Result<(), OpenFault> {
+    let mut conn = filled(rt, alloc);
+    run(rt, &mut conn, statements);
+    test(alloc, &mut conn)
 }
 
 #[test]
-fn opens_well_formed_books(rt: HostRuntime) -> Result<(), Fail> {
+fn opens_well_formed_books(rt: HostRuntime) {
     let alloc = rt.alloc();
-    let mut conn = filled(&rt, alloc)?;
+    let mut conn = filled(&rt, alloc);
     assert_eq!(&rt; test(alloc, &mut conn), Ok(()));
     assert_eq!(&rt; test(alloc, &mut conn), Ok(()));
-    Ok(())
 }
 
 #[test]
-fn opens_no_other_tables(rt: HostRuntime) -> Result<(), Fail> {
+fn opens_no_other_tables(rt: HostRuntime) {
     let alloc = rt.alloc();
-    let mut conn = Connection::open_in_memory(alloc)?;
+    let mut conn = Connection::open_in_memory(alloc).expect(&rt, "an answer");
     assert_eq!(&rt; test(alloc, &mut conn), Err(OpenFault::NotOurs));
     let statements = [
         "DELETE FROM meta",
@@ -45,24 +43,22 @@ fn opens_no_other_tables(rt: HostRuntime) -> Result<(), Fail> {
         "CREATE VIEW gone AS SELECT uid FROM member WHERE card IS NULL",
     ];
     for change in statements {
-        assert_eq!(&rt; after(&rt, alloc, change)?, Err(OpenFault::NotOurs));
+        assert_eq!(&rt; after(&rt, alloc, change), Err(OpenFault::NotOurs));
     }
-    Ok(())
 }
 
 #[test]
-fn tells_another_schema(rt: HostRuntime) -> Result<(), Fail> {
+fn tells_another_schema(rt: HostRuntime) {
     let alloc = rt.alloc();
-    let seven = after(&rt, alloc, "UPDATE meta SET val = 7")?;
+    let seven = after(&rt, alloc, "UPDATE meta SET val = 7");
     assert_eq!(&rt; seven, Err(OpenFault::OtherSchema { has: 7 }));
     // That the books are damaged too isn't looked at.
     let both = after(
         &rt,
         alloc,
         "UPDATE meta SET val = 3; UPDATE book SET number = 6 WHERE id = 1",
-    )?;
+    );
     assert_eq!(&rt; both, Err(OpenFault::OtherSchema { has: 3 }));
-    Ok(())
 }
 
 /// The tables of the first schema, which lacks the keeps.
@@ -79,30 +75,30 @@ const FIRST: &str = "\
       number INTEGER NOT NULL, PRIMARY KEY (book, ikey)) STRICT";
 
 #[test]
-fn tells_the_first_schema(rt: HostRuntime) -> Result<(), Fail> {
+fn tells_the_first_schema(rt: HostRuntime) {
     let alloc = rt.alloc();
-    let mut conn = Connection::open_in_memory(alloc)?;
-    run(&mut conn, FIRST)?;
+    let mut conn = Connection::open_in_memory(alloc).expect(&rt, "an answer");
+    run(&rt, &mut conn, FIRST);
     assert_eq!(&rt; test(alloc, &mut conn), Err(OpenFault::NotOurs));
-    run(&mut conn, "INSERT INTO meta VALUES ('schema', 1)")?;
+    run(&rt, &mut conn, "INSERT INTO meta VALUES ('schema', 1)");
     assert_eq!(&rt;
         test(alloc, &mut conn),
         Err(OpenFault::OtherSchema { has: 1 })
     );
     // The second schema has the keeps.
-    run(&mut conn, "UPDATE meta SET val = 2")?;
+    run(&rt, &mut conn, "UPDATE meta SET val = 2");
     assert_eq!(&rt; test(alloc, &mut conn), Err(OpenFault::NotOurs));
     run(
+        &rt,
         &mut conn,
         "CREATE TABLE keeping (book INTEGER PRIMARY KEY REFERENCES book(id), \
          keep INTEGER NOT NULL) STRICT",
-    )?;
+    );
     assert_eq!(&rt; test(alloc, &mut conn), Ok(()));
-    Ok(())
 }
 
 #[test]
-fn opens_no_damaged_books(rt: HostRuntime) -> Result<(), Fail> {
+fn opens_no_damaged_books(rt: HostRuntime) {
     let alloc = rt.alloc();
     let statements = [
         "UPDATE book SET number = 6 WHERE id = 1",
@@ -110,7 +106,6 @@ fn opens_no_damaged_books(rt: HostRuntime) -> Result<(), Fail> {
         "DELETE FROM keeping WHERE book = 2",
     ];
     for damage in statements {
-        assert_eq!(&rt; after(&rt, alloc, damage)?, Err(OpenFault::Damaged));
+        assert_eq!(&rt; after(&rt, alloc, damage), Err(OpenFault::Damaged));
     }
-    Ok(())
 }

@@ -5,7 +5,7 @@ mod unreadable;
 use book_model::{Entry, Mark, Stored, Token};
 use sqlite::{Connection, MemStore, Transaction};
 use std::alloc::Global;
-use std::test::Fail;
+use std::process::Abort;
 use vcard_text::{Text, read_card};
 
 type Memory = Connection<MemStore>;
@@ -18,42 +18,42 @@ const CY: &str = "BEGIN:VCARD\r\nVERSION:4.0\r\nUID:c\r\nFN:Cy\r\nEND:VCARD\r\n"
 
 /// The first book is `staff`, to which Ann, Bob and Cy came, and which Bob left. The second is
 /// `clients`, into which Ada was imported under the key `k`.
-fn fill(tx: &mut Transaction<'_, MemStore>) -> Result<(), Fail> {
-    calls::lay(tx)?;
-    calls::add_book(tx, 1, "staff", 4, 3, 0, 1)?;
-    calls::put(tx, 1, "a", 1, Some(ANN))?;
-    calls::put(tx, 1, "b", 3, None)?;
-    calls::put(tx, 1, "c", 4, Some(CY))?;
-    calls::add_book(tx, 2, "clients", 1, 0, 1, 0)?;
-    calls::put(tx, 2, "a", 1, Some(ADA))?;
-    calls::add_import(tx, 2, "k", 1)
+fn fill(rt: &impl Abort, tx: &mut Transaction<'_, MemStore>) {
+    calls::lay(rt, tx);
+    calls::add_book(rt, tx, 1, "staff", 4, 3, 0, 1);
+    calls::put(rt, tx, 1, "a", 1, Some(ANN));
+    calls::put(rt, tx, 1, "b", 3, None);
+    calls::put(rt, tx, 1, "c", 4, Some(CY));
+    calls::add_book(rt, tx, 2, "clients", 1, 0, 1, 0);
+    calls::put(rt, tx, 2, "a", 1, Some(ADA));
+    calls::add_import(rt, tx, 2, "k", 1);
 }
 
 /// A connection over memory with these two books.
-fn two_books(alloc: Global) -> Result<Memory, Fail> {
-    let mut conn = Connection::open_in_memory(alloc)?;
+fn two_books(rt: &impl Abort, alloc: Global) -> Memory {
+    let mut conn = Connection::open_in_memory(alloc).expect(rt, "an answer");
     if conn.is_autocommit() {
         let mut tx = conn.transaction();
-        fill(&mut tx)?;
-        tx.commit()?;
+        fill(rt, &mut tx);
+        tx.commit().expect(rt, "an answer");
     }
-    Ok(conn)
+    conn
 }
 
-fn stored(alloc: Global, version: u64, text: &str) -> Result<Stored, Fail> {
-    let card = read_card(alloc, text.as_bytes())?;
-    Ok(Stored { version, card })
+fn stored(rt: &impl Abort, alloc: Global, version: u64, text: &str) -> Stored {
+    let card = read_card(alloc, text.as_bytes()).expect(rt, "a card");
+    Stored { version, card }
 }
 
-fn changed(alloc: Global, uid: &str, version: u64, text: &str) -> Result<Entry, Fail> {
-    let card = read_card(alloc, text.as_bytes())?;
-    let uid = Text::copy_of(alloc, uid)?;
-    Ok(Entry::Changed { uid, version, card })
+fn changed(rt: &impl Abort, alloc: Global, uid: &str, version: u64, text: &str) -> Entry {
+    let card = read_card(alloc, text.as_bytes()).expect(rt, "a card");
+    let uid = Text::copy_of(alloc, uid).expect(rt, "memory");
+    Entry::Changed { uid, version, card }
 }
 
-fn removed(alloc: Global, uid: &str) -> Result<Entry, Fail> {
-    let uid = Text::copy_of(alloc, uid)?;
-    Ok(Entry::Removed { uid })
+fn removed(rt: &impl Abort, alloc: Global, uid: &str) -> Entry {
+    let uid = Text::copy_of(alloc, uid).expect(rt, "memory");
+    Entry::Removed { uid }
 }
 
 fn token(book: u64, at: u64, base: u64) -> Option<Token> {

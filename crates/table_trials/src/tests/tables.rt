@@ -4,42 +4,47 @@ mod statements;
 use sqlite::types::ValueRef;
 use sqlite::{Connection, MemStore, Row};
 use std::alloc::Global;
-use std::test::Fail;
+use std::process::Abort;
 
 /// A connection over memory with the declared tables.
-fn with_tables(alloc: Global) -> Result<Connection<MemStore>, Fail> {
-    let mut conn = Connection::open_in_memory(alloc)?;
+fn with_tables(rt: &impl Abort, alloc: Global) -> Connection<MemStore> {
+    let mut conn = Connection::open_in_memory(alloc).expect(rt, "an answer");
     if conn.is_autocommit() {
         let mut tx = conn.transaction();
-        calls::lay(&mut tx)?;
-        tx.commit()?;
+        calls::lay(rt, &mut tx);
+        tx.commit().expect(rt, "an answer");
     }
-    Ok(conn)
+    conn
 }
 
 /// The columns of a row, between bars, and a hyphen for a null.
-fn told(alloc: Global, row: &Row) -> Result<String, Fail> {
+fn told(rt: &impl Abort, alloc: Global, row: &Row) -> String {
     let mut told = String::new(alloc);
     for at in 0..row.column_count() {
         if at > 0 {
-            told.push_str("|")?;
+            told.push_str("|").expect(rt, "memory");
         }
-        match row.get_ref(at)? {
-            ValueRef::Null => told.push_str("-")?,
-            ValueRef::Int(number) => told.push_str(format!(in alloc; "{number}")?.as_str())?,
-            ValueRef::Text(_) => told.push_str(row.get::<String>(at)?.as_str())?,
-            _ => told.push_str("?")?,
+        match row.get_ref(at).expect(rt, "an answer") {
+            ValueRef::Null => told.push_str("-").expect(rt, "memory"),
+            ValueRef::Int(number) => told
+                .push_str(format!(in alloc; "{number}").expect(rt, "memory").as_str())
+                .expect(rt, "memory"),
+            ValueRef::Text(_) => told
+                .push_str(row.get::<String>(at).expect(rt, "something").as_str())
+                .expect(rt, "memory"),
+            _ => told.push_str("?").expect(rt, "memory"),
         }
     }
-    Ok(told)
+    told
 }
 
 /// The rows, each behind the other.
-fn told_all(alloc: Global, rows: &[Row]) -> Result<String, Fail> {
+fn told_all(rt: &impl Abort, alloc: Global, rows: &[Row]) -> String {
     let mut all = String::new(alloc);
     for row in rows {
-        all.push_str(told(alloc, row)?.as_str())?;
-        all.push_str(" ")?;
+        all.push_str(told(rt, alloc, row).as_str())
+            .expect(rt, "memory");
+        all.push_str(" ").expect(rt, "memory");
     }
-    Ok(all)
+    all
 }

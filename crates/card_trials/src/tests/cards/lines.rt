@@ -1,7 +1,6 @@
 //! Lines that are read, written, folded and joined again.
 use crate::tests::is_text;
 use base_types::{Items, Part, Text};
-use std::test::Fail;
 use vcard_lines::{
     CardFault, Line, Param, continues, folded_len, folded_line_len, has_legal_parts,
     is_permitted_text, join, line_so_far, read_line, write_folded, write_line,
@@ -49,12 +48,15 @@ fn numbers_faults(rt: HostRuntime) {
 }
 
 #[test]
-fn reads_and_writes_lines(rt: HostRuntime) -> Result<(), Fail> {
-    let line = read_line(rt.alloc(), "item1.Tel;TYPE=a,\"b;\";PREF=1:+1;2")?;
+fn reads_and_writes_lines(rt: HostRuntime) {
+    let line = read_line(rt.alloc(), "item1.Tel;TYPE=a,\"b;\";PREF=1:+1;2").expect(
+        &rt,
+        "an answer",
+    );
     is_text(&rt, line.name.as_str(), "TEL", "the name");
     is_text(&rt, line.value.as_str(), "+1;2", "the value");
-    let mut text = String::from_str(rt.alloc(), "before")?;
-    write_line(&mut text, &line)?;
+    let mut text = String::from_str(rt.alloc(), "before").expect(&rt, "memory");
+    write_line(&mut text, &line).expect(&rt, "an answer");
     is_text(
         &rt,
         text.as_str(),
@@ -62,8 +64,7 @@ fn reads_and_writes_lines(rt: HostRuntime) -> Result<(), Fail> {
         "the line",
     );
     assert_eq!(rt; folded_line_len(&line), text.len() + 2);
-    assert_eq!(rt; line.try_copy()?.is_same(&line), true);
-    Ok(())
+    assert_eq!(rt; line.try_copy().expect(&rt, "memory").is_same(&line), true);
 }
 
 #[test]
@@ -74,48 +75,47 @@ fn refuses_lines(rt: HostRuntime) {
 }
 
 #[test]
-fn judges_parts(rt: HostRuntime) -> Result<(), Fail> {
-    let mut line = read_line(rt.alloc(), "TEL:1")?;
+fn judges_parts(rt: HostRuntime) {
+    let mut line = read_line(rt.alloc(), "TEL:1").expect(&rt, "an answer");
     assert_eq!(rt; has_legal_parts(&line), true);
-    line.params.push(Param {
-        name: Text::copy_of(rt.alloc(), "TYPE")?,
-        values: Items::new(rt.alloc()),
-    })?;
+    line.params
+        .push(Param {
+            name: Text::copy_of(rt.alloc(), "TYPE").expect(&rt, "memory"),
+            values: Items::new(rt.alloc()),
+        })
+        .expect(&rt, "memory");
     assert_eq!(rt; has_legal_parts(&line), false);
     let nameless = Line {
         group: None,
-        name: Text::copy_of(rt.alloc(), "")?,
+        name: Text::copy_of(rt.alloc(), "").expect(&rt, "memory"),
         params: Items::new(rt.alloc()),
-        value: Text::copy_of(rt.alloc(), "1")?,
+        value: Text::copy_of(rt.alloc(), "1").expect(&rt, "memory"),
     };
     assert_eq!(rt; has_legal_parts(&nameless), false);
     assert_eq!(rt; is_permitted_text("a\tb"), true);
     assert_eq!(rt; is_permitted_text("a\nb"), false);
-    Ok(())
 }
 
 #[test]
-fn folds(rt: HostRuntime) -> Result<(), Fail> {
+fn folds(rt: HostRuntime) {
     let (line, folded) = LONG;
     let mut text = String::new(rt.alloc());
-    write_folded(&mut text, line)?;
+    write_folded(&mut text, line).expect(&rt, "an answer");
     is_text(&rt, text.as_str(), folded, "the folding");
     assert_eq!(rt; folded_len(line), folded.len());
-    Ok(())
 }
 
 #[test]
-fn joins(rt: HostRuntime) -> Result<(), Fail> {
+fn joins(rt: HostRuntime) {
     let (line, folded) = LONG;
     let mut pieces = folded.lines();
-    let first = pieces.next().ok_or("no line")?;
+    let first = pieces.next().expect(&rt, "no line");
     assert_eq!(rt; first.len(), 75);
     let mut joined = String::new(rt.alloc());
     for piece in pieces {
         if continues(piece) {
-            join(first, &mut joined, piece)?;
+            join(first, &mut joined, piece).expect(&rt, "memory");
         }
     }
     is_text(&rt, line_so_far(first, &joined), line, "the line");
-    Ok(())
 }

@@ -3,7 +3,6 @@ use super::{ann_with, card_with};
 use crate::tests::is_text;
 use std::alloc::Global;
 use std::process::Abort;
-use std::test::Fail;
 use vcard_text::{Card, Kind, read_card, write_card};
 
 /// The value of the first line with the name.
@@ -12,8 +11,8 @@ fn first_value<'a>(card: &'a Card, name: &str) -> Option<&'a str> {
 }
 
 #[test]
-fn reads_parts(rt: HostRuntime) -> Result<(), Fail> {
-    let card = card_with(rt.alloc(), "g.Tel;TYPE=a,\"b\":1\r\nTEL:2\r\n")?;
+fn reads_parts(rt: HostRuntime) {
+    let card = card_with(&rt, rt.alloc(), "g.Tel;TYPE=a,\"b\":1\r\nTEL:2\r\n");
     assert_eq!(rt; card.uid(), "a");
     assert_eq!(rt; card.lines().len(), 4);
     assert_eq!(rt; first_value(&card, "tel"), Some("1"));
@@ -22,38 +21,37 @@ fn reads_parts(rt: HostRuntime) -> Result<(), Fail> {
         true
     );
     assert_eq!(rt; card.first("NOTE").is_none(), true);
-    Ok(())
 }
 
 #[test]
-fn reads_parameters(rt: HostRuntime) -> Result<(), Fail> {
-    let card = card_with(rt.alloc(), "g.Tel;TYPE=a,\"b\":1\r\nTEL:2\r\n")?;
-    let tel = card.first("TEL").ok_or("no TEL")?;
-    let param = tel.params.as_slice().first().ok_or("no parameter")?;
+fn reads_parameters(rt: HostRuntime) {
+    let card = card_with(&rt, rt.alloc(), "g.Tel;TYPE=a,\"b\":1\r\nTEL:2\r\n");
+    let tel = card.first("TEL").expect(&rt, "no TEL");
+    let param = tel.params.as_slice().first().expect(&rt, "no parameter");
     is_text(&rt, param.name.as_str(), "TYPE", "the name");
     let wanted = [(false, "a"), (true, "b")];
     for (value, (quoted, text)) in param.values.as_slice().iter().zip(wanted) {
         assert_eq!(rt; value.quoted, quoted);
         is_text(&rt, value.text.as_str(), text, "a value");
     }
-    Ok(())
 }
 
 /// The members of Ann's card with the lines.
-fn are_members(rt: &impl Abort, alloc: Global, lines: &str, wanted: &[&str]) -> Result<(), Fail> {
-    let members = card_with(alloc, lines)?.members()?;
+fn are_members(rt: &impl Abort, alloc: Global, lines: &str, wanted: &[&str]) {
+    let members = card_with(rt, alloc, lines)
+        .members()
+        .expect(rt, "an answer");
     assert_eq!(rt; members.len(), wanted.len(), "{lines}");
     for (member, wanted) in members.iter().zip(wanted) {
         is_text(rt, member.as_str(), wanted, lines);
     }
-    Ok(())
 }
 
 #[test]
-fn tells_members(rt: HostRuntime) -> Result<(), Fail> {
+fn tells_members(rt: HostRuntime) {
     let lines = "KIND:group\r\nMEMBER:b\r\nNOTE:c\r\nmember:urn:uuid:d\\,\r\nMEMBER:b\r\n";
-    are_members(&rt, rt.alloc(), lines, &["b", "urn:uuid:d\\,", "b"])?;
-    are_members(&rt, rt.alloc(), "", &[])
+    are_members(&rt, rt.alloc(), lines, &["b", "urn:uuid:d\\,", "b"]);
+    are_members(&rt, rt.alloc(), "", &[]);
 }
 
 /// Lines, and the kind of Ann's card with them.
@@ -69,12 +67,11 @@ const KINDS: &[(&str, Kind)] = &[
 ];
 
 #[test]
-fn names_kinds(rt: HostRuntime) -> Result<(), Fail> {
+fn names_kinds(rt: HostRuntime) {
     for (lines, kind) in KINDS {
-        let card = card_with(rt.alloc(), lines)?;
+        let card = card_with(&rt, rt.alloc(), lines);
         assert_eq!(rt; card.kind(), *kind, "{lines}");
     }
-    Ok(())
 }
 
 /// Lines that make another card than the one that is copied.
@@ -87,24 +84,25 @@ const OTHERS: &[&str] = &[
 ];
 
 #[test]
-fn copies_cards(rt: HostRuntime) -> Result<(), Fail> {
-    let text = ann_with(rt.alloc(), "g.TEL;TYPE=a,\"b\";PREF=1:1\r\n")?;
-    let card = read_card(rt.alloc(), text.as_bytes())?;
-    let copy = card.try_copy()?;
+fn copies_cards(rt: HostRuntime) {
+    let text = ann_with(&rt, rt.alloc(), "g.TEL;TYPE=a,\"b\";PREF=1:1\r\n");
+    let card = read_card(rt.alloc(), text.as_bytes()).expect(&rt, "a card");
+    let copy = card.try_copy().expect(&rt, "memory");
     assert_eq!(rt; copy.is_same(&card), true);
     assert_eq!(rt;
-        write_card(rt.alloc(), &copy)?.as_slice() == text.as_bytes(),
+        write_card(rt.alloc(), &copy)
+            .expect(&rt, "memory")
+            .as_slice()
+            == text.as_bytes(),
         true
     );
-    Ok(())
 }
 
 #[test]
-fn tells_cards_apart(rt: HostRuntime) -> Result<(), Fail> {
-    let card = card_with(rt.alloc(), "g.TEL;TYPE=a,\"b\";PREF=1:1\r\n")?;
+fn tells_cards_apart(rt: HostRuntime) {
+    let card = card_with(&rt, rt.alloc(), "g.TEL;TYPE=a,\"b\";PREF=1:1\r\n");
     for lines in OTHERS {
-        let other = card_with(rt.alloc(), lines)?;
+        let other = card_with(&rt, rt.alloc(), lines);
         assert_eq!(rt; card.is_same(&other), false, "{lines}");
     }
-    Ok(())
 }

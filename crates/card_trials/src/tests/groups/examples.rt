@@ -3,7 +3,6 @@ use super::{card_of, cards_of, is_told};
 use crate::tests::is_text;
 use card_core::{GroupFault, expand};
 use std::collections::BTreeMap;
-use std::test::Fail;
 
 /// Why, the cards, and what is told of `g`.
 pub(super) const EXAMPLES: &[(&str, &str, &str)] = &[
@@ -122,12 +121,11 @@ pub(super) const EXAMPLES: &[(&str, &str, &str)] = &[
 ];
 
 #[test]
-fn tells_whom_a_group_reaches(rt: HostRuntime) -> Result<(), Fail> {
+fn tells_whom_a_group_reaches(rt: HostRuntime) {
     for (why, shape, wanted) in EXAMPLES {
-        let cards = cards_of(rt.alloc(), shape)?;
-        is_told(&rt, rt.alloc(), &cards, "g", wanted, why)?;
+        let cards = cards_of(&rt, rt.alloc(), shape);
+        is_told(&rt, rt.alloc(), &cards, "g", wanted, why);
     }
-    Ok(())
 }
 
 /// UIDs that are asked for, and what is told of them.
@@ -141,34 +139,35 @@ const UIDS: &[(&str, &str)] = &[
 
 /// The UID that is asked for is a UID, and not a member's value.
 #[test]
-fn takes_urn_off_members_alone(rt: HostRuntime) -> Result<(), Fail> {
-    let cards = cards_of(rt.alloc(), "g group x; x individual")?;
+fn takes_urn_off_members_alone(rt: HostRuntime) {
+    let cards = cards_of(&rt, rt.alloc(), "g group x; x individual");
     for (uid, wanted) in UIDS {
-        is_told(&rt, rt.alloc(), &cards, uid, wanted, uid)?;
+        is_told(&rt, rt.alloc(), &cards, uid, wanted, uid);
     }
-    Ok(())
 }
 
 #[test]
-fn tells_an_empty_value(rt: HostRuntime) -> Result<(), Fail> {
+fn tells_an_empty_value(rt: HostRuntime) {
     let mut cards = BTreeMap::new(rt.alloc());
-    let group = card_of(rt.alloc(), "g", "group", "MEMBER:\r\nMEMBER:\r\n")?;
-    cards.insert(String::from_str(rt.alloc(), "g")?, group)?;
-    let expansion = expand(rt.alloc(), &cards, "g")?;
+    let group = card_of(&rt, rt.alloc(), "g", "group", "MEMBER:\r\nMEMBER:\r\n");
+    let put: Result<_, _> = cards.insert(
+        String::from_str(rt.alloc(), "g").expect(&rt, "memory"),
+        group,
+    );
+    put.expect(&rt, "memory");
+    let expansion = expand(rt.alloc(), &cards, "g").expect(&rt, "an answer");
     assert_eq!(rt; expansion.people.len(), 0);
     assert_eq!(rt; expansion.missing.len(), 1);
-    Ok(())
 }
 
 #[test]
-fn says_faults(rt: HostRuntime) -> Result<(), Fail> {
+fn says_faults(rt: HostRuntime) {
     for (fault, wanted) in [
         (GroupFault::NoSuchCard, "no card has the UID"),
         (GroupFault::NotGroup, "the card isn't a group"),
         (GroupFault::Memory, "no memory"),
     ] {
-        let text = format!(in rt.alloc(); "{fault}")?;
+        let text = format!(in rt.alloc(); "{fault}").expect(&rt, "memory");
         is_text(&rt, text.as_str(), wanted, "a fault");
     }
-    Ok(())
 }

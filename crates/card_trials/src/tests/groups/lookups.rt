@@ -2,7 +2,6 @@
 use super::{cards_of, is_told};
 use card_core::CardsByUid;
 use std::collections::BTreeMap;
-use std::test::Fail;
 use vcard_text::Card;
 
 /// Cards behind another value.
@@ -22,12 +21,13 @@ impl<'a> CardsByUid for Borrowed<'a> {
 }
 
 #[test]
-fn a_group_is_expanded_over_any_lookup(rt: HostRuntime) -> Result<(), Fail> {
+fn a_group_is_expanded_over_any_lookup(rt: HostRuntime) {
     let alloc = rt.alloc();
     let cards = cards_of(
+        &rt,
         alloc,
         "g group x h nobody; h group y; x individual; y individual",
-    )?;
+    );
     let borrowed = Borrowed { cards: &cards };
     is_told(
         &rt,
@@ -36,5 +36,5 @@ fn a_group_is_expanded_over_any_lookup(rt: HostRuntime) -> Result<(), Fail> {
         "g",
         "people x y, missing nobody",
         "borrowed cards",
-    )
+    );
 }

@@ -5,7 +5,6 @@ use super::{cards_of, is_told};
 use std::alloc::Global;
 use std::collections::{BTreeMap, BTreeSet};
 use std::process::Abort;
-use std::test::Fail;
 use vcard_text::Card;
 
 /// Further cards, with groups at many places.
@@ -23,57 +22,58 @@ const SHAPES: &[&str] = &[
 
 /// The UID of the card that the value names, looked for among all.
 fn named_among_all(
+    rt: &impl Abort,
     alloc: Global,
     cards: &BTreeMap<String, Card>,
     value: &str,
-) -> Result<Option<String>, Fail> {
+) -> Option<String> {
     let mut behind = None;
     for uid in cards.keys() {
         if uid.as_str() == value {
-            return Ok(Some(uid.clone()?));
+            return Some(uid.clone().expect(rt, "memory"));
         }
-        let urn = format!(in alloc; "urn:uuid:{uid}")?;
+        let urn = format!(in alloc; "urn:uuid:{uid}").expect(rt, "memory");
         if value.len() == urn.len()
             && value.ends_with(uid.as_str())
             && value.eq_ignore_ascii_case(urn.as_str())
         {
-            behind = Some(uid.clone()?);
+            behind = Some(uid.clone().expect(rt, "memory"));
         }
     }
-    Ok(behind)
+    behind
 }
 
 /// Adds what the members of the card name, or the values themselves where they name none.
 fn add_members(
+    rt: &impl Abort,
     alloc: Global,
     cards: &BTreeMap<String, Card>,
     card: &Card,
     reached: &mut BTreeSet<String>,
     missing: &mut BTreeSet<String>,
-) -> Result<(), Fail> {
-    for value in card.members()? {
-        match named_among_all(alloc, cards, value.as_str())? {
-            Some(uid) => reached.insert(uid)?,
-            None => missing.insert(value)?,
+) {
+    for value in card.members().expect(rt, "an answer") {
+        match named_among_all(rt, alloc, cards, value.as_str()) {
+            Some(uid) => reached.insert(uid).expect(rt, "memory"),
+            None => missing.insert(value).expect(rt, "memory"),
         };
     }
-    Ok(())
 }
 
 /// One pass over all cards.
 fn pass(
+    rt: &impl Abort,
     alloc: Global,
     cards: &BTreeMap<String, Card>,
     group: &str,
     reached: &mut BTreeSet<String>,
     missing: &mut BTreeSet<String>,
-) -> Result<(), Fail> {
+) {
     for (uid, card) in cards {
         if uid.as_str() == group || reached.contains(uid.as_str()) {
-            add_members(alloc, cards, card, reached, missing)?;
+            add_members(rt, alloc, cards, card, reached, missing);
         }
     }
-    Ok(())
 }
 
 fn is_group_card(card: &Card) -> bool {
@@ -83,38 +83,47 @@ fn is_group_card(card: &Card) -> bool {
 
 /// Those among the UIDs whose cards are no groups, each behind a space.
 fn people_among(
+    rt: &impl Abort,
     alloc: Global,
     cards: &BTreeMap<String, Card>,
     reached: &BTreeSet<String>,
-) -> Result<String, Fail> {
+) -> String {
     let mut people = String::new(alloc);
     for (uid, card) in cards {
         if reached.contains(uid.as_str()) && !is_group_card(card) {
-            people.push_str(format!(in alloc; " {uid}")?.as_str())?;
+            people
+                .push_str(format!(in alloc; " {uid}").expect(rt, "memory").as_str())
+                .expect(rt, "memory");
         }
     }
-    Ok(people)
+    people
 }
 
 /// The texts, each behind a space.
-fn listed(alloc: Global, texts: &BTreeSet<String>) -> Result<String, Fail> {
+fn listed(rt: &impl Abort, alloc: Global, texts: &BTreeSet<String>) -> String {
     let mut list = String::new(alloc);
     for text in texts {
-        list.push_str(format!(in alloc; " {text}")?.as_str())?;
+        list.push_str(format!(in alloc; " {text}").expect(rt, "memory").as_str())
+            .expect(rt, "memory");
     }
-    Ok(list)
+    list
 }
 
 /// What is to be told of a group.
-fn wanted_of(alloc: Global, cards: &BTreeMap<String, Card>, group: &str) -> Result<String, Fail> {
+fn wanted_of(
+    rt: &impl Abort,
+    alloc: Global,
+    cards: &BTreeMap<String, Card>,
+    group: &str,
+) -> String {
     let mut reached = BTreeSet::new(alloc);
     let mut missing = BTreeSet::new(alloc);
     for _ in 0..cards.len() {
-        pass(alloc, cards, group, &mut reached, &mut missing)?;
+        pass(rt, alloc, cards, group, &mut reached, &mut missing);
     }
-    let people = people_among(alloc, cards, &reached)?;
-    let missing = listed(alloc, &missing)?;
-    Ok(format!(in alloc; "people{people}, missing{missing}")?)
+    let people = people_among(rt, alloc, cards, &reached);
+    let missing = listed(rt, alloc, &missing);
+    format!(in alloc; "people{people}, missing{missing}").expect(rt, "memory")
 }
 
 /// The group is told as the passes find.
@@ -124,30 +133,28 @@ fn is_as_found(
     cards: &BTreeMap<String, Card>,
     uid: &str,
     shape: &str,
-) -> Result<(), Fail> {
-    let wanted = wanted_of(alloc, cards, uid)?;
-    let why = format!(in alloc; "{uid} of {shape}")?;
-    is_told(rt, alloc, cards, uid, wanted.as_str(), why.as_str())
+) {
+    let wanted = wanted_of(rt, alloc, cards, uid);
+    let why = format!(in alloc; "{uid} of {shape}").expect(rt, "memory");
+    is_told(rt, alloc, cards, uid, wanted.as_str(), why.as_str());
 }
 
 /// Each group of a shape is told as the passes find.
-fn are_as_found(rt: &impl Abort, alloc: Global, shape: &str) -> Result<(), Fail> {
-    let cards = cards_of(alloc, shape)?;
+fn are_as_found(rt: &impl Abort, alloc: Global, shape: &str) {
+    let cards = cards_of(rt, alloc, shape);
     for (uid, card) in &cards {
         if is_group_card(card) {
-            is_as_found(rt, alloc, &cards, uid.as_str(), shape)?;
+            is_as_found(rt, alloc, &cards, uid.as_str(), shape);
         }
     }
-    Ok(())
 }
 
 #[test]
-fn tells_what_passes_find(rt: HostRuntime) -> Result<(), Fail> {
+fn tells_what_passes_find(rt: HostRuntime) {
     for (_, shape, _) in EXAMPLES {
-        are_as_found(&rt, rt.alloc(), shape)?;
+        are_as_found(&rt, rt.alloc(), shape);
     }
     for shape in SHAPES {
-        are_as_found(&rt, rt.alloc(), shape)?;
+        are_as_found(&rt, rt.alloc(), shape);
     }
-    Ok(())
 }

@@ -3,7 +3,6 @@ use super::{is_read_as, json_card};
 use std::alloc::Global;
 use std::process::Abort;
 use std::rt::HostRuntime;
-use std::test::Fail;
 
 /// A text and the number that the format gives its fault: 1 where it isn't JSON, 2 for its shape,
 /// and 4 for its token.
@@ -76,11 +75,10 @@ const REFUSED: &[(&str, &str)] = &[
 ];
 
 #[test]
-fn texts_are_refused(rt: HostRuntime) -> Result<(), Fail> {
+fn texts_are_refused(rt: HostRuntime) {
     for (text, wanted) in REFUSED {
-        is_read_as(&rt, rt.alloc(), text, wanted)?;
+        is_read_as(&rt, rt.alloc(), text, wanted);
     }
-    Ok(())
 }
 
 /// The members of a page whose token is none, and the number of its fault. A shape counts first,
@@ -132,34 +130,26 @@ const MEMBERS: &[(&str, &str)] = &[
     ),
 ];
 
-fn are_read_as(
-    rt: &impl Abort,
-    alloc: Global,
-    card: &str,
-    members: &str,
-    wanted: &str,
-) -> Result<(), Fail> {
-    let members = members.replace(alloc, "@", card)?;
+fn are_read_as(rt: &impl Abort, alloc: Global, card: &str, members: &str, wanted: &str) {
+    let members = members.replace(alloc, "@", card).expect(rt, "memory");
     let text = format!(in alloc;
         "{{\"members\":[{members}],\"token\":\"x\",\"truncated\":false}}"
-    )?;
-    is_read_as(rt, alloc, text.as_str(), wanted)
+    ).expect(rt, "memory");
+    is_read_as(rt, alloc, text.as_str(), wanted);
 }
 
 #[test]
-fn members_are_refused(rt: HostRuntime) -> Result<(), Fail> {
+fn members_are_refused(rt: HostRuntime) {
     let alloc = rt.alloc();
-    let card = json_card(alloc, "a", "Ann")?;
+    let card = json_card(&rt, alloc, "a", "Ann");
     for (members, wanted) in MEMBERS {
-        are_read_as(&rt, alloc, card.as_str(), members, wanted)?;
+        are_read_as(&rt, alloc, card.as_str(), members, wanted);
     }
-    Ok(())
 }
 
 /// A text that isn't UTF-8 is no JSON.
 #[test]
-fn other_octets_are_no_json(rt: HostRuntime) -> Result<(), Fail> {
-    let told = super::told(rt.alloc(), b"\"\xFF\"")?;
+fn other_octets_are_no_json(rt: HostRuntime) {
+    let told = super::told(&rt, rt.alloc(), b"\"\xFF\"");
     assert_eq!(rt; told.as_str(), "fault 1");
-    Ok(())
 }

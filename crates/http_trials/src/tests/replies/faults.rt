@@ -8,7 +8,6 @@ use http_routes::{Route, RouteFault};
 use std::alloc::Global;
 use std::process::Abort;
 use std::rt::HostRuntime;
-use std::test::Fail;
 use vcard_text::CardFault;
 
 /// Refusals, each with the status, the length of the body and the body.
@@ -241,38 +240,29 @@ fn is_refused(
     status: &str,
     length: u64,
     body: &str,
-) -> Result<(), Fail> {
-    let octets = reply_bytes(alloc, Reply::Refused(refusal), false)?;
-    is_whole(rt, alloc, &octets, status, length, "keep-alive", body)
+) {
+    let octets = reply_bytes(alloc, Reply::Refused(refusal), false).expect(rt, "an answer");
+    is_whole(rt, alloc, &octets, status, length, "keep-alive", body);
 }
 
 #[test]
-fn refusals_are_written(rt: HostRuntime) -> Result<(), Fail> {
+fn refusals_are_written(rt: HostRuntime) {
     for (refusal, status, length, body) in REFUSALS {
-        is_refused(&rt, rt.alloc(), *refusal, status, *length, body)?;
+        is_refused(&rt, rt.alloc(), *refusal, status, *length, body);
     }
-    Ok(())
 }
 
 /// The fault is written to a connection that closes.
-fn is_fault(
-    rt: &impl Abort,
-    alloc: Global,
-    fault: Fault,
-    status: &str,
-    length: u64,
-    body: &str,
-) -> Result<(), Fail> {
-    let octets = reply_bytes(alloc, Reply::Fault(fault), true)?;
-    is_whole(rt, alloc, &octets, status, length, "close", body)
+fn is_fault(rt: &impl Abort, alloc: Global, fault: Fault, status: &str, length: u64, body: &str) {
+    let octets = reply_bytes(alloc, Reply::Fault(fault), true).expect(rt, "an answer");
+    is_whole(rt, alloc, &octets, status, length, "close", body);
 }
 
 #[test]
-fn faults_of_the_service_are_written(rt: HostRuntime) -> Result<(), Fail> {
+fn faults_of_the_service_are_written(rt: HostRuntime) {
     for (fault, status, length, body) in FAULTS {
-        is_fault(&rt, rt.alloc(), *fault, status, *length, body)?;
+        is_fault(&rt, rt.alloc(), *fault, status, *length, body);
     }
-    Ok(())
 }
 
 fn is_head_fault(
@@ -282,35 +272,27 @@ fn is_head_fault(
     status: &str,
     length: u64,
     body: &str,
-) -> Result<(), Fail> {
-    let octets = head_fault_bytes(alloc, fault)?;
-    is_whole(rt, alloc, &octets, status, length, "close", body)
+) {
+    let octets = head_fault_bytes(alloc, fault).expect(rt, "an answer");
+    is_whole(rt, alloc, &octets, status, length, "close", body);
 }
 
 #[test]
-fn faults_of_heads_are_written(rt: HostRuntime) -> Result<(), Fail> {
+fn faults_of_heads_are_written(rt: HostRuntime) {
     for (fault, status, length, body) in HEAD_FAULTS {
-        is_head_fault(&rt, rt.alloc(), *fault, status, *length, body)?;
+        is_head_fault(&rt, rt.alloc(), *fault, status, *length, body);
     }
-    Ok(())
 }
 
-fn is_route_fault(
-    rt: &impl Abort,
-    alloc: Global,
-    fault: RouteFault,
-    wanted: &str,
-) -> Result<(), Fail> {
-    let octets = route_fault_bytes(alloc, fault, false)?;
+fn is_route_fault(rt: &impl Abort, alloc: Global, fault: RouteFault, wanted: &str) {
+    let octets = route_fault_bytes(alloc, fault, false).expect(rt, "an answer");
     is_written(rt, &octets, wanted);
-    Ok(())
 }
 
 #[test]
-fn faults_of_routes_are_written(rt: HostRuntime) -> Result<(), Fail> {
+fn faults_of_routes_are_written(rt: HostRuntime) {
     for (fault, status, allow, length, body) in ROUTE_FAULTS {
-        let wanted = whole(rt.alloc(), status, allow, *length, "keep-alive", body)?;
-        is_route_fault(&rt, rt.alloc(), *fault, wanted.as_str())?;
+        let wanted = whole(&rt, rt.alloc(), status, allow, *length, "keep-alive", body);
+        is_route_fault(&rt, rt.alloc(), *fault, wanted.as_str());
     }
-    Ok(())
 }

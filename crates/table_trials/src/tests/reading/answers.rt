@@ -3,7 +3,6 @@ use super::{ADA, ANN, CY, Memory, calls, changed, removed, stored, token, two_bo
 use book_model::{BookLine, Denied, Entry, ImportTally, Mark, Page, Refusal, Tally};
 use std::alloc::Global;
 use std::process::Abort;
-use std::test::Fail;
 use vcard_text::{Items, Text};
 
 /// `staff` in numbers.
@@ -28,13 +27,13 @@ const ADDED_ADA: ImportTally = ImportTally {
     number: 1,
 };
 
-fn line_of(alloc: Global, name: &str, id: u64, number: u64) -> Result<BookLine, Fail> {
-    Ok(BookLine {
-        name: Text::copy_of(alloc, name)?,
+fn line_of(rt: &impl Abort, alloc: Global, name: &str, id: u64, number: u64) -> BookLine {
+    BookLine {
+        name: Text::copy_of(alloc, name).expect(rt, "memory"),
         id,
         number,
         horizon: 0,
-    })
+    }
 }
 
 fn page_of(entries: Vec<Entry>, at: u64, truncated: bool) -> Page {
@@ -46,31 +45,29 @@ fn page_of(entries: Vec<Entry>, at: u64, truncated: bool) -> Page {
     }
 }
 
-fn books_are_told(rt: &impl Abort, alloc: Global, conn: &mut Memory) -> Result<(), Fail> {
-    let staff = line_of(alloc, "staff", 1, 4)?;
-    let lines = calls::lines(alloc, conn)?;
+fn books_are_told(rt: &impl Abort, alloc: Global, conn: &mut Memory) {
+    let staff = line_of(rt, alloc, "staff", 1, 4);
+    let lines = calls::lines(alloc, conn).expect(rt, "an answer");
     assert_eq!(rt; lines.len(), 2);
-    assert_eq!(rt; lines[0], line_of(alloc, "clients", 2, 1)?);
+    assert_eq!(rt; lines[0], line_of(rt, alloc, "clients", 2, 1));
     assert_eq!(rt; lines[1], staff);
     assert_eq!(rt; calls::line(alloc, conn, "staff"), Ok(staff));
     let no_book = Denied::Refused(Refusal::NoSuchBook);
     assert_eq!(rt; calls::line(alloc, conn, "shelf"), Err(no_book));
     assert_eq!(rt; calls::tally(conn, "staff"), Ok(STAFF));
-    Ok(())
 }
 
-fn cards_are_told(rt: &impl Abort, alloc: Global, conn: &mut Memory) -> Result<(), Fail> {
-    let ann = stored(alloc, 1, ANN)?;
-    let cy = stored(alloc, 4, CY)?;
-    let cards = calls::cards(alloc, conn, "staff")?;
+fn cards_are_told(rt: &impl Abort, alloc: Global, conn: &mut Memory) {
+    let ann = stored(rt, alloc, 1, ANN);
+    let cy = stored(rt, alloc, 4, CY);
+    let cards = calls::cards(alloc, conn, "staff").expect(rt, "an answer");
     assert_eq!(rt; cards.len(), 2);
     assert_eq!(rt; cards.get("a"), Some(&ann));
     assert_eq!(rt; cards.get("c"), Some(&cy));
-    let ada = stored(alloc, 1, ADA)?;
+    let ada = stored(rt, alloc, 1, ADA);
     assert_eq!(rt; calls::get(alloc, conn, "clients", "a"), Ok(ada));
     let no_card = Denied::Refused(Refusal::NoSuchCard);
     assert_eq!(rt; calls::get(alloc, conn, "staff", "b"), Err(no_card));
-    Ok(())
 }
 
 fn imports_are_told(rt: &impl Abort, conn: &mut Memory) {
@@ -81,32 +78,34 @@ fn imports_are_told(rt: &impl Abort, conn: &mut Memory) {
 }
 
 /// Two pages of one entry each after the first change, and an initial report.
-fn pages_are_told(rt: &impl Abort, alloc: Global, conn: &mut Memory) -> Result<(), Fail> {
-    let bob = Vec::from_array(alloc, [removed(alloc, "b")?])?;
+fn pages_are_told(rt: &impl Abort, alloc: Global, conn: &mut Memory) {
+    let bob = Vec::from_array(alloc, [removed(rt, alloc, "b")]).expect(rt, "an answer");
     assert_eq!(rt;
         calls::page(alloc, conn, "staff", token(1, 1, 1), Some(1)),
         Ok(page_of(bob, 3, true))
     );
-    let cy = Vec::from_array(alloc, [changed(alloc, "c", 4, CY)?])?;
+    let cy = Vec::from_array(alloc, [changed(rt, alloc, "c", 4, CY)]).expect(rt, "an answer");
     assert_eq!(rt;
         calls::page(alloc, conn, "staff", token(1, 3, 3), Some(1)),
         Ok(page_of(cy, 4, false))
     );
-    let first = [changed(alloc, "a", 1, ANN)?, changed(alloc, "c", 4, CY)?];
-    let both = Vec::from_array(alloc, first)?;
+    let first = [
+        changed(rt, alloc, "a", 1, ANN),
+        changed(rt, alloc, "c", 4, CY),
+    ];
+    let both = Vec::from_array(alloc, first).expect(rt, "an answer");
     assert_eq!(rt;
         calls::page(alloc, conn, "staff", None, None),
         Ok(page_of(both, 4, false))
     );
-    Ok(())
 }
 
 #[test]
-fn each_call_answers(rt: HostRuntime) -> Result<(), Fail> {
+fn each_call_answers(rt: HostRuntime) {
     let alloc = rt.alloc();
-    let mut conn = two_books(alloc)?;
-    books_are_told(&rt, alloc, &mut conn)?;
-    cards_are_told(&rt, alloc, &mut conn)?;
+    let mut conn = two_books(&rt, alloc);
+    books_are_told(&rt, alloc, &mut conn);
+    cards_are_told(&rt, alloc, &mut conn);
     imports_are_told(&rt, &mut conn);
-    pages_are_told(&rt, alloc, &mut conn)
+    pages_are_told(&rt, alloc, &mut conn);
 }

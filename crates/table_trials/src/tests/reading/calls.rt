@@ -12,7 +12,7 @@ use book_tables::members::put_member;
 use sqlite::{MemStore, Transaction};
 use std::alloc::Global;
 use std::collections::BTreeMap;
-use std::test::Fail;
+use std::process::Abort;
 
 pub(super) fn line(alloc: Global, conn: &mut Memory, name: &str) -> Result<BookLine, Denied> {
     line_of_book(alloc, conn, name)
@@ -61,12 +61,13 @@ pub(super) fn page(
     page_of_book(alloc, conn, Limits::standard(), name, token, limit)
 }
 
-pub(super) fn lay(tx: &mut Transaction<'_, MemStore>) -> Result<(), Fail> {
-    Ok(lay_tables(tx)?)
+pub(super) fn lay(rt: &impl Abort, tx: &mut Transaction<'_, MemStore>) {
+    lay_tables(tx).expect(rt, "an answer");
 }
 
 /// A book with so many creations, imports and deletions.
 pub(super) fn add_book(
+    rt: &impl Abort,
     tx: &mut Transaction<'_, MemStore>,
     id: i64,
     name: &str,
@@ -74,7 +75,7 @@ pub(super) fn add_book(
     created: i64,
     imported: i64,
     deleted: i64,
-) -> Result<(), Fail> {
+) {
     let numbers = BookNumbers {
         number,
         horizon: 0,
@@ -86,29 +87,28 @@ pub(super) fn add_book(
         deleted,
         moved_out: 0,
     };
-    insert_book(tx, id, name)?;
-    renumber_book(tx, id, numbers)?;
-    Ok(())
+    insert_book(tx, id, name).expect(rt, "an answer");
+    renumber_book(tx, id, numbers).expect(rt, "an answer");
 }
 
 pub(super) fn put(
+    rt: &impl Abort,
     tx: &mut Transaction<'_, MemStore>,
     book: i64,
     uid: &str,
     changed: i64,
     card: Option<&str>,
-) -> Result<(), Fail> {
-    put_member(tx, book, uid, changed, card)?;
-    Ok(())
+) {
+    put_member(tx, book, uid, changed, card).expect(rt, "an answer");
 }
 
 /// An import that added one card by the change with the number.
 pub(super) fn add_import(
+    rt: &impl Abort,
     tx: &mut Transaction<'_, MemStore>,
     book: i64,
     key: &str,
     number: i64,
-) -> Result<(), Fail> {
-    insert_import(tx, book, key, 1, 0, 0, number)?;
-    Ok(())
+) {
+    insert_import(tx, book, key, 1, 0, 0, number).expect(rt, "an answer");
 }

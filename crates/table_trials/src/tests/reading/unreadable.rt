@@ -4,59 +4,57 @@ use book_model::{Denied, Fault};
 use sqlite::{MemStore, Transaction};
 use std::alloc::Global;
 use std::process::Abort;
-use std::test::Fail;
 
 const FAULT: Denied = Denied::Fault(Fault::Store);
 
 /// The book `desk` has a text that is a card's but isn't canonical, and keeps an import under `k`
 /// whose number is below zero; the counts of `shelf` aren't as many as its number.
-fn spoil(tx: &mut Transaction<'_, MemStore>) -> Result<(), Fail> {
-    calls::add_book(tx, 3, "desk", 2, 2, 0, 0)?;
-    calls::put(tx, 3, "a", 1, Some(ANN))?;
+fn spoil(rt: &impl Abort, tx: &mut Transaction<'_, MemStore>) {
+    calls::add_book(rt, tx, 3, "desk", 2, 2, 0, 0);
+    calls::put(rt, tx, 3, "a", 1, Some(ANN));
     calls::put(
+        rt,
         tx,
         3,
         "b",
         2,
         Some("BEGIN:VCARD\nVERSION:4.0\nUID:b\nFN:Bob\nEND:VCARD\n"),
-    )?;
-    calls::add_import(tx, 3, "k", -1)?;
-    calls::add_book(tx, 4, "shelf", 2, 1, 0, 0)
+    );
+    calls::add_import(rt, tx, 3, "k", -1);
+    calls::add_book(rt, tx, 4, "shelf", 2, 1, 0, 0);
 }
 
-fn spoiled(alloc: Global) -> Result<Memory, Fail> {
-    let mut conn = two_books(alloc)?;
+fn spoiled(rt: &impl Abort, alloc: Global) -> Memory {
+    let mut conn = two_books(rt, alloc);
     if conn.is_autocommit() {
         let mut tx = conn.transaction();
-        spoil(&mut tx)?;
-        tx.commit()?;
+        spoil(rt, &mut tx);
+        tx.commit().expect(rt, "an answer");
     }
-    Ok(conn)
+    conn
 }
 
-fn faults_are_told(rt: &impl Abort, alloc: Global, conn: &mut Memory) -> Result<(), Fail> {
+fn faults_are_told(rt: &impl Abort, alloc: Global, conn: &mut Memory) {
     assert_eq!(rt; calls::get(alloc, conn, "desk", "b"), Err(FAULT));
     assert_eq!(rt; calls::cards(alloc, conn, "desk").err(), Some(FAULT));
     assert_eq!(rt; calls::page(alloc, conn, "desk", None, None), Err(FAULT));
     assert_eq!(rt; calls::kept(conn, "desk", "k"), Err(FAULT));
     assert_eq!(rt; calls::line(alloc, conn, "shelf"), Err(FAULT));
-    Ok(())
 }
 
 /// What these calls read can be read, whatever stands beside it.
-fn others_are_told(rt: &impl Abort, alloc: Global, conn: &mut Memory) -> Result<(), Fail> {
-    let ann = calls::get(alloc, conn, "desk", "a")?;
+fn others_are_told(rt: &impl Abort, alloc: Global, conn: &mut Memory) {
+    let ann = calls::get(alloc, conn, "desk", "a").expect(rt, "something");
     assert_eq!(rt; ann.version, 1);
     let page = calls::page(alloc, conn, "desk", None, Some(1)).err();
     assert_eq!(rt; page, None);
     assert_eq!(rt; calls::kept(conn, "desk", "j"), Ok(None));
-    Ok(())
 }
 
 #[test]
-fn a_row_that_cannot_be_read_is_the_stores_fault(rt: HostRuntime) -> Result<(), Fail> {
+fn a_row_that_cannot_be_read_is_the_stores_fault(rt: HostRuntime) {
     let alloc = rt.alloc();
-    let mut conn = spoiled(alloc)?;
-    faults_are_told(&rt, alloc, &mut conn)?;
-    others_are_told(&rt, alloc, &mut conn)
+    let mut conn = spoiled(&rt, alloc);
+    faults_are_told(&rt, alloc, &mut conn);
+    others_are_told(&rt, alloc, &mut conn);
 }

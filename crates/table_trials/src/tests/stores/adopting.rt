@@ -2,113 +2,122 @@ use book_model::{Limits, PutAnswer};
 use book_store::{OpenFault, SqlStore};
 use sqlite::{Connection, MemStore};
 use std::alloc::Global;
-use std::test::Fail;
+use std::process::Abort;
 use sync_core::BookStore;
 use vcard_text::read_card;
 
 type MemoryStore = SqlStore<MemStore>;
 
 /// A call without its clauses.
-fn open(alloc: Global) -> Result<MemoryStore, Fail> {
+fn open(rt: &impl Abort, alloc: Global) -> MemoryStore {
     match SqlStore::open_in_memory(alloc, Limits::standard()) {
-        Ok(store) => Ok(store),
-        Err(_) => Err(Fail::new("open")),
+        Ok(store) => store,
+        Err(_) => panic!(rt; "open"),
     }
 }
 
 /// The tables of a store, after the statements.
-fn after(alloc: Global, statements: &str) -> Result<Connection<MemStore>, Fail> {
-    let mut conn = open(alloc)?.into_connection();
-    conn.execute_batch(statements)?;
-    Ok(conn)
+fn after(rt: &impl Abort, alloc: Global, statements: &str) -> Connection<MemStore> {
+    let mut conn = open(rt, alloc).into_connection();
+    conn.execute_batch(statements).expect(rt, "an answer");
+    conn
 }
 
 /// Why the tables can't be adopted, and `None` where they can.
-fn fault_of(alloc: Global, conn: Connection<MemStore>) -> Result<Option<OpenFault>, Fail> {
+fn fault_of(rt: &impl Abort, alloc: Global, conn: Connection<MemStore>) -> Option<OpenFault> {
     if !conn.is_autocommit() {
-        return Err(Fail::new("transaction"));
+        panic!(rt; "transaction");
     }
     match SqlStore::adopt(alloc, conn, Limits::standard()) {
-        Ok(_) => Ok(None),
-        Err(fault) => Ok(Some(fault)),
+        Ok(_) => None,
+        Err(fault) => Some(fault),
     }
 }
 
 /// What a put into the adopted tables answers.
-fn put(alloc: Global, conn: Connection<MemStore>) -> Result<Option<PutAnswer>, Fail> {
+fn put(rt: &impl Abort, alloc: Global, conn: Connection<MemStore>) -> Option<PutAnswer> {
     if !conn.is_autocommit() {
-        return Err(Fail::new("transaction"));
+        panic!(rt; "transaction");
     }
     let text = "BEGIN:VCARD\r\nVERSION:4.0\r\nUID:n\r\nFN:Ann\r\nEND:VCARD\r\n";
     let Ok(card) = read_card(alloc, text.as_bytes()) else {
-        return Err(Fail::new("card"));
+        panic!(rt; "card");
     };
     let Ok(mut store) = SqlStore::adopt(alloc, conn, Limits::standard()) else {
-        return Ok(None);
+        return None;
     };
     match store.put("staff", &card, None) {
-        Ok(answer) => Ok(Some(answer)),
-        Err(_) => Ok(None),
+        Ok(answer) => Some(answer),
+        Err(_) => None,
     }
 }
 
 #[test]
-fn adopts_the_tables_of_a_store(rt: HostRuntime) -> Result<(), Fail> {
+fn adopts_the_tables_of_a_store(rt: HostRuntime) {
     let alloc = rt.alloc();
-    let fault = fault_of(alloc, open(alloc)?.into_connection())?;
+    let fault = fault_of(&rt, alloc, open(&rt, alloc).into_connection());
     assert!(&rt; fault.is_none());
-    Ok(())
 }
 
 #[test]
-fn goes_on_where_the_tables_stand(rt: HostRuntime) -> Result<(), Fail> {
+fn goes_on_where_the_tables_stand(rt: HostRuntime) {
     let alloc = rt.alloc();
     let conn = after(
+        &rt,
         alloc,
         "INSERT INTO book VALUES (1, 'staff', 3, 0, 1, 1, 0, 0, 0, 1, 0); \
          INSERT INTO keeping VALUES (1, 10); INSERT INTO member VALUES (1, 'c', 3, NULL)",
-    )?;
-    assert_eq!(&rt; put(alloc, conn)?, Some(PutAnswer::Created { version: 4 }));
-    Ok(())
+    );
+    assert_eq!(&rt;
+        put(&rt, alloc, conn),
+        Some(PutAnswer::Created { version: 4 })
+    );
 }
 
 #[test]
-fn adopts_no_other_tables(rt: HostRuntime) -> Result<(), Fail> {
+fn adopts_no_other_tables(rt: HostRuntime) {
     let alloc = rt.alloc();
-    let bare = fault_of(alloc, Connection::open_in_memory(alloc)?)?;
+    let bare = fault_of(
+        &rt,
+        alloc,
+        Connection::open_in_memory(alloc).expect(&rt, "an answer"),
+    );
     assert_eq!(&rt; bare, Some(OpenFault::NotOurs));
-    let seven = fault_of(alloc, after(alloc, "UPDATE meta SET val = 7")?)?;
+    let seven = fault_of(&rt, alloc, after(&rt, alloc, "UPDATE meta SET val = 7"));
     assert_eq!(&rt; seven, Some(OpenFault::OtherSchema { has: 7 }));
     // The tables of the first schema.
     let first = fault_of(
+        &rt,
         alloc,
-        after(alloc, "DROP TABLE keeping; UPDATE meta SET val = 1")?,
-    )?;
+        after(&rt, alloc, "DROP TABLE keeping; UPDATE meta SET val = 1"),
+    );
     assert_eq!(&rt; first, Some(OpenFault::OtherSchema { has: 1 }));
-    Ok(())
 }
 
 #[test]
-fn adopts_no_damaged_books(rt: HostRuntime) -> Result<(), Fail> {
+fn adopts_no_damaged_books(rt: HostRuntime) {
     let alloc = rt.alloc();
     let six = fault_of(
+        &rt,
         alloc,
         after(
+            &rt,
             alloc,
             "INSERT INTO book VALUES (1, 'staff', 6, 0, 1, 1, 0, 0, 0, 1, 0); \
              INSERT INTO keeping VALUES (1, 10); INSERT INTO member VALUES (1, 'c', 3, NULL)",
-        )?,
-    )?;
+        ),
+    );
     assert_eq!(&rt; six, Some(OpenFault::Damaged));
     // No keep says how many removed members the book remembers.
     let kept = fault_of(
+        &rt,
         alloc,
         after(
+            &rt,
             alloc,
             "INSERT INTO book VALUES (1, 'staff', 3, 0, 1, 1, 0, 0, 0, 1, 0); \
              INSERT INTO member VALUES (1, 'c', 3, NULL)",
-        )?,
-    )?;
+        ),
+    );
     assert_eq!(&rt; kept, Some(OpenFault::Damaged));
-    Ok(())
 }

@@ -13,116 +13,116 @@ use book_tables::members::{
 use book_tables::meta::all_meta;
 use sqlite::{Connection, Error, MemStore, Row, Transaction};
 use std::alloc::Global;
-use std::test::Fail;
+use std::process::Abort;
 
 type Memory = Connection<MemStore>;
 
 /// A row, or `none`.
-fn told_of(alloc: Global, answer: Result<Row, Error>) -> Result<String, Fail> {
+fn told_of(rt: &impl Abort, alloc: Global, answer: Result<Row, Error>) -> String {
     match answer {
-        Ok(row) => told(alloc, &row),
-        Err(Error::QueryReturnedNoRows) => Ok(String::from_str(alloc, "none")?),
-        Err(error) => Err(Fail::from(error)),
+        Ok(row) => told(rt, alloc, &row),
+        Err(Error::QueryReturnedNoRows) => String::from_str(alloc, "none").expect(rt, "memory"),
+        Err(error) => panic!(rt; "{:?}", error),
     }
 }
 
-pub(super) fn books(alloc: Global, conn: &mut Memory) -> Result<String, Fail> {
-    told_of(alloc, count_books(conn))
+pub(super) fn books(rt: &impl Abort, alloc: Global, conn: &mut Memory) -> String {
+    told_of(rt, alloc, count_books(conn))
 }
 
-pub(super) fn book(alloc: Global, conn: &mut Memory, name: &str) -> Result<String, Fail> {
-    told_of(alloc, find_book(conn, name))
+pub(super) fn book(rt: &impl Abort, alloc: Global, conn: &mut Memory, name: &str) -> String {
+    told_of(rt, alloc, find_book(conn, name))
 }
 
 pub(super) fn member(
+    rt: &impl Abort,
     alloc: Global,
     conn: &mut Memory,
     book: i64,
     uid: &str,
-) -> Result<String, Fail> {
-    told_of(alloc, find_member(conn, book, uid))
+) -> String {
+    told_of(rt, alloc, find_member(conn, book, uid))
 }
 
 pub(super) fn removed(
+    rt: &impl Abort,
     alloc: Global,
     conn: &mut Memory,
     book: i64,
     horizon: i64,
-) -> Result<String, Fail> {
-    told_of(alloc, count_removed(conn, book, horizon))
+) -> String {
+    told_of(rt, alloc, count_removed(conn, book, horizon))
 }
 
 pub(super) fn least(
+    rt: &impl Abort,
     alloc: Global,
     conn: &mut Memory,
     book: i64,
     horizon: i64,
-) -> Result<String, Fail> {
-    told_of(alloc, first_removed(conn, book, horizon))
+) -> String {
+    told_of(rt, alloc, first_removed(conn, book, horizon))
 }
 
-pub(super) fn import(alloc: Global, conn: &mut Memory, key: &str) -> Result<String, Fail> {
-    told_of(alloc, find_import(conn, 1, key))
+pub(super) fn import(rt: &impl Abort, alloc: Global, conn: &mut Memory, key: &str) -> String {
+    told_of(rt, alloc, find_import(conn, 1, key))
 }
 
-pub(super) fn keep(alloc: Global, conn: &mut Memory, book: i64) -> Result<String, Fail> {
-    told_of(alloc, find_keep(conn, book))
+pub(super) fn keep(rt: &impl Abort, alloc: Global, conn: &mut Memory, book: i64) -> String {
+    told_of(rt, alloc, find_keep(conn, book))
 }
 
-pub(super) fn members(alloc: Global, conn: &mut Memory, book: i64) -> Result<String, Fail> {
-    let rows = members_of(conn, book)?;
-    told_all(alloc, rows.as_slice())
+pub(super) fn members(rt: &impl Abort, alloc: Global, conn: &mut Memory, book: i64) -> String {
+    let rows = members_of(conn, book).expect(rt, "an answer");
+    told_all(rt, alloc, rows.as_slice())
 }
 
 pub(super) fn due(
+    rt: &impl Abort,
     alloc: Global,
     conn: &mut Memory,
     at: i64,
     base: i64,
     most: usize,
-) -> Result<String, Fail> {
-    let rows = first_due(alloc, conn, 1, at, base, most)?;
-    told_all(alloc, rows.as_slice())
+) -> String {
+    let rows = first_due(alloc, conn, 1, at, base, most).expect(rt, "an answer");
+    told_all(rt, alloc, rows.as_slice())
 }
 
-pub(super) fn schema(alloc: Global, conn: &mut Memory) -> Result<String, Fail> {
-    let rows = all_meta(conn)?;
-    told_all(alloc, rows.as_slice())
+pub(super) fn schema(rt: &impl Abort, alloc: Global, conn: &mut Memory) -> String {
+    let rows = all_meta(conn).expect(rt, "an answer");
+    told_all(rt, alloc, rows.as_slice())
 }
 
-pub(super) fn lay(tx: &mut Transaction<'_, MemStore>) -> Result<(), Fail> {
-    Ok(lay_tables(tx)?)
+pub(super) fn lay(rt: &impl Abort, tx: &mut Transaction<'_, MemStore>) {
+    lay_tables(tx).expect(rt, "an answer");
 }
 
-pub(super) fn add_book(
-    tx: &mut Transaction<'_, MemStore>,
-    id: i64,
-    name: &str,
-) -> Result<(), Fail> {
-    insert_book(tx, id, name)?;
-    Ok(())
+pub(super) fn add_book(rt: &impl Abort, tx: &mut Transaction<'_, MemStore>, id: i64, name: &str) {
+    insert_book(tx, id, name).expect(rt, "an answer");
 }
 
 pub(super) fn put(
+    rt: &impl Abort,
     tx: &mut Transaction<'_, MemStore>,
     book: i64,
     uid: &str,
     changed: i64,
     card: Option<&str>,
-) -> Result<(), Fail> {
-    put_member(tx, book, uid, changed, card)?;
-    Ok(())
+) {
+    put_member(tx, book, uid, changed, card).expect(rt, "an answer");
 }
 
 pub(super) fn forget(
+    rt: &impl Abort,
     tx: &mut Transaction<'_, MemStore>,
     book: i64,
     upto: i64,
-) -> Result<usize, Fail> {
-    Ok(forget_members(tx, book, upto)?)
+) -> usize {
+    forget_members(tx, book, upto).expect(rt, "an answer")
 }
 
-pub(super) fn renumber(tx: &mut Transaction<'_, MemStore>, id: i64) -> Result<(), Fail> {
+pub(super) fn renumber(rt: &impl Abort, tx: &mut Transaction<'_, MemStore>, id: i64) {
     let numbers = BookNumbers {
         number: 1,
         horizon: 2,
@@ -134,24 +134,18 @@ pub(super) fn renumber(tx: &mut Transaction<'_, MemStore>, id: i64) -> Result<()
         deleted: 8,
         moved_out: 9,
     };
-    renumber_book(tx, id, numbers)?;
-    Ok(())
+    renumber_book(tx, id, numbers).expect(rt, "an answer");
 }
 
 pub(super) fn add_import(
+    rt: &impl Abort,
     tx: &mut Transaction<'_, MemStore>,
     book: i64,
     added: i64,
-) -> Result<(), Fail> {
-    insert_import(tx, book, "k", added, 2, 3, 4)?;
-    Ok(())
+) {
+    insert_import(tx, book, "k", added, 2, 3, 4).expect(rt, "an answer");
 }
 
-pub(super) fn add_keep(
-    tx: &mut Transaction<'_, MemStore>,
-    book: i64,
-    keep: i64,
-) -> Result<(), Fail> {
-    insert_keep(tx, book, keep)?;
-    Ok(())
+pub(super) fn add_keep(rt: &impl Abort, tx: &mut Transaction<'_, MemStore>, book: i64, keep: i64) {
+    insert_keep(tx, book, keep).expect(rt, "an answer");
 }
