@@ -78,7 +78,7 @@ import staff k2
 import clients k";
 
 /// The cases: a name, and the command whose growths are refused.
-const CASES: [(&str, &str); 20] = [
+const CASES: &[(&str, &str)] = &[
     ("create_book", "create third"),
     (
         "put, created",
@@ -161,6 +161,58 @@ pub(crate) fn is_no_memory(reply: &Reply) -> bool {
     matches!(reply, Reply::Fault(Fault::Memory))
 }
 
+/// What a command is replied where memory doesn't run out, and the books before and after it.
+#[derive(Drop)]
+struct Wanted {
+    before: Vec<Reply>,
+    reply: Reply,
+    after: Vec<Reply>,
+}
+
+fn wanted_of<K: Stores>(alloc: Global, kind: &K, command: &Command) -> Result<Wanted, Stop> {
+    let mut twin = filled(alloc, kind)?;
+    let before = books_of(alloc, &mut twin)?;
+    let reply = perform(alloc, &mut twin, command);
+    let after = books_of(alloc, &mut twin)?;
+    Ok(Wanted {
+        before,
+        reply,
+        after,
+    })
+}
+
+/// Whether the command gives what is wanted when it is performed again.
+fn does_again<S: BookStore>(
+    alloc: Global,
+    store: &mut S,
+    command: &Command,
+    wanted: &Wanted,
+) -> Result<bool, Stop> {
+    let again = perform(alloc, store, command);
+    let then = books_of(alloc, store)?;
+    Ok(again == wanted.reply && then.as_slice() == wanted.after.as_slice())
+}
+
+/// Tells what came of the command, which was replied this.
+fn tell_reply<S: BookStore>(
+    desk: &mut Desk,
+    store: &mut S,
+    command: &Command,
+    wanted: &Wanted,
+    reply: &Reply,
+) -> Result<(), Stop> {
+    let alloc = desk.alloc();
+    let left = books_of(alloc, store)?;
+    if !is_no_memory(reply) {
+        let same = *reply == wanted.reply && left.as_slice() == wanted.after.as_slice();
+        desk.tells_answer(same, reply);
+        return Ok(());
+    }
+    let again = does_again(alloc, store, command, wanted)?;
+    desk.tells_no_memory(left.as_slice() == wanted.before.as_slice(), again, &left);
+    Ok(())
+}
+
 /// Performs the command over a filled store, and tells what came of it.
 fn tell_command<K: Stores>(
     desk: &mut Desk,
@@ -169,23 +221,21 @@ fn tell_command<K: Stores>(
     command: &Command,
 ) -> Result<(), Stop> {
     let alloc = desk.alloc();
+    let wanted = wanted_of(alloc, kind, command)?;
     let mut store = filled(alloc, kind)?;
-    let mut twin = filled(alloc, kind)?;
-    let before = books_of(alloc, &mut twin)?;
-    let wanted = perform(alloc, &mut twin, command);
-    let after = books_of(alloc, &mut twin)?;
-    desk.opens(name)?;
+    desk.opens(name);
     let reply = perform(alloc, &mut store, command);
-    desk.closes()?;
-    let left = books_of(alloc, &mut store)?;
-    if !is_no_memory(&reply) {
-        let same = reply == wanted && left.as_slice() == after.as_slice();
-        return desk.tells_answer(same, &reply);
+    desk.closes();
+    tell_reply(desk, &mut store, command, &wanted, &reply)
+}
+
+/// Performs the command that the line says over stores of the kind, if it is chosen.
+fn tell_line<K: Stores>(desk: &mut Desk, kind: &K, name: &str, line: &str) -> Result<(), Stop> {
+    if !desk.wants(name) {
+        return Ok(());
     }
-    let again = perform(alloc, &mut store, command);
-    let then = books_of(alloc, &mut store)?;
-    let does_again = again == wanted && then.as_slice() == after.as_slice();
-    desk.tells_no_memory(left.as_slice() == before.as_slice(), does_again, &left)
+    let command = command_in(desk.alloc(), line)?;
+    tell_command(desk, kind, name, &command)
 }
 
 /// Runs the chosen commands over stores of the kind.
@@ -193,10 +243,7 @@ pub(crate) fn tell_commands<K: Stores>(desk: &mut Desk, kind: &K) -> Result<(), 
     let alloc = desk.alloc();
     for (name, line) in CASES {
         let name = format!(in alloc; "{name}, {}", kind.suffix())?;
-        if desk.wants(name.as_str()) {
-            let command = command_in(alloc, line)?;
-            tell_command(desk, kind, name.as_str(), &command)?;
-        }
+        tell_line(desk, kind, name.as_str(), line)?;
     }
     Ok(())
 }

@@ -25,5 +25,6 @@ pub(crate) fn tell_cases(desk: &mut Desk) -> Result<(), Stop> {
     tell_stores(desk, &InMemory)?;
     tell_stores(desk, &OverTables)?;
     tell_opening(desk)?;
-    tell_migrating(desk)
+    tell_migrating(desk)?;
+    desk.told()
 }

@@ -25,6 +25,8 @@ pub(crate) struct Desk<'a> {
     hoard: Option<Hoard>,
     /// How many octets the hoard leaves in a window.
     left: usize,
+    /// Whether a window couldn't be opened, or something couldn't be told.
+    stopped: bool,
 }
 
 impl<'a> Desk<'a> {
@@ -37,6 +39,7 @@ impl<'a> Desk<'a> {
             outcome: Outcome::Same,
             hoard: None,
             left: 0,
+            stopped: false,
         }
     }
 
@@ -75,8 +78,25 @@ impl<'a> Desk<'a> {
         self.outcome
     }
 
+    /// Remembers what failed, so that a case needs no way out of its own for it.
+    fn notes(&mut self, done: Result<(), Stop>) {
+        if done.is_err() {
+            self.stopped = true;
+        }
+    }
+
+    /// Whether all windows were opened, and all was told.
+    pub(crate) fn told(&self) -> Result<(), Stop> {
+        if self.stopped { Err(Stop) } else { Ok(()) }
+    }
+
     /// Opens the window of the case. From now on allocations may be refused.
-    pub(crate) fn opens(&mut self, name: &str) -> Result<(), Stop> {
+    pub(crate) fn opens(&mut self, name: &str) {
+        let opened = self.opens_window(name);
+        self.notes(opened);
+    }
+
+    fn opens_window(&mut self, name: &str) -> Result<(), Stop> {
         if let Some(hoard) = &mut self.hoard {
             return hoard.leave(self.left);
         }
@@ -85,12 +105,13 @@ impl<'a> Desk<'a> {
     }
 
     /// From now on nothing is refused.
-    pub(crate) fn closes(&mut self) -> Result<(), Stop> {
+    pub(crate) fn closes(&mut self) {
         if let Some(hoard) = &mut self.hoard {
             hoard.give_back();
-            return Ok(());
+            return;
         }
-        self.write(": ")
+        let closed = self.write(": ");
+        self.notes(closed);
     }
 
     pub(crate) fn write(&self, text: &str) -> Result<(), Stop> {
@@ -98,41 +119,36 @@ impl<'a> Desk<'a> {
         Ok(())
     }
 
-    fn ends(&mut self, outcome: Outcome) -> Result<(), Stop> {
+    fn ends(&mut self, outcome: Outcome) {
         self.outcome = outcome;
-        if self.hoard.is_some() {
-            return Ok(());
+        if self.hoard.is_none() {
+            let told = self.write(outcome.line());
+            self.notes(told);
         }
-        self.write(outcome.line())
     }
 
     /// Tells a call that didn't run out of memory, and gave what it gives where nothing is refused,
     /// or something else.
-    pub(crate) fn tells_answer<T: Debug>(&mut self, same: bool, answer: &T) -> Result<(), Stop> {
+    pub(crate) fn tells_answer<T: Debug>(&mut self, same: bool, answer: &T) {
         if same {
             return self.ends(Outcome::Same);
         }
-        self.ends(Outcome::AnotherAnswer)?;
-        self.tells_finding(answer)
+        self.ends(Outcome::AnotherAnswer);
+        self.tells_finding(answer);
     }
 
     /// Tells a call that ran out of memory: whether all was left as it was, and whether it answered
     /// and left the same when it was asked again.
-    pub(crate) fn tells_no_memory<T: Debug>(
-        &mut self,
-        left: bool,
-        again: bool,
-        state: &T,
-    ) -> Result<(), Stop> {
+    pub(crate) fn tells_no_memory<T: Debug>(&mut self, left: bool, again: bool, state: &T) {
         if left && again {
             return self.ends(Outcome::OutOfMemory);
         }
         if left {
-            self.ends(Outcome::AnotherThen)?;
+            self.ends(Outcome::AnotherThen);
         } else {
-            self.ends(Outcome::Changed)?;
+            self.ends(Outcome::Changed);
         }
-        self.tells_finding(state)
+        self.tells_finding(state);
     }
 
     /// Tells a call that is asked alone: what it answers where nothing is refused, what it
@@ -143,14 +159,19 @@ impl<'a> Desk<'a> {
         ran_out: bool,
         answer: &T,
         again: &T,
-    ) -> Result<(), Stop> {
+    ) {
         if ran_out {
             return self.tells_no_memory(true, again == wanted, again);
         }
-        self.tells_answer(answer == wanted && again == wanted, answer)
+        self.tells_answer(answer == wanted && again == wanted, answer);
     }
 
-    fn tells_finding<T: Debug>(&self, found: &T) -> Result<(), Stop> {
+    fn tells_finding<T: Debug>(&mut self, found: &T) {
+        let told = self.writes_finding(found);
+        self.notes(told);
+    }
+
+    fn writes_finding<T: Debug>(&self, found: &T) -> Result<(), Stop> {
         let line = format!(in self.alloc(); "** {found:?}\n")?;
         self.write(line.as_str())
     }

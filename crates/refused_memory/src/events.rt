@@ -4,7 +4,7 @@ use crate::books::{FILLING, Stores, books_of, filled_by, is_no_memory};
 use crate::desk::Desk;
 use crate::stop::Stop;
 use book_scripts::event_in;
-use book_service::{Event, Reply, drive, mirror};
+use book_service::{Event, Mirrored, Reply, drive, mirror};
 use std::alloc::Global;
 use sync_core::{BookStore, Denied, Device, Fault};
 use vcard_text::NoMemory;
@@ -221,9 +221,11 @@ fn tell_answer<S: BookStore>(
     let alike = are_replied_alike_again(alloc, office, twin, events, answer)?;
     let again = are_settled_alike(alloc, office, twin)? && alike;
     if ran_out(answer) {
-        return desk.tells_no_memory(left, again, answer);
+        desk.tells_no_memory(left, again, answer);
+        return Ok(());
     }
-    desk.tells_answer(left && again, answer)
+    desk.tells_answer(left && again, answer);
+    Ok(())
 }
 
 /// Drives the events over a store with this filling.
@@ -242,9 +244,9 @@ fn tell_driven<K: Stores>(
     let mut office = new_office(alloc, kind, filling)?;
     let mut twin = new_office(alloc, kind, filling)?;
     let events = events_in(alloc, events)?;
-    desk.opens(name.as_str())?;
+    desk.opens(name.as_str());
     let answer = driven(alloc, &mut office, events.as_slice());
-    desk.closes()?;
+    desk.closes();
     tell_answer(desk, &mut office, &mut twin, events.as_slice(), &answer)
 }
 
@@ -262,24 +264,52 @@ pub(crate) fn tell_drive<K: Stores>(desk: &mut Desk, kind: &K) -> Result<(), Sto
     )
 }
 
-/// Mirrors a book in pages of one entry.
+/// What a mirror answers.
+type Answer = Result<Mirrored, Denied>;
+
+/// A mirror of a book, in pages of one entry.
+fn mirrored<S: BookStore>(alloc: Global, store: &mut S) -> Answer {
+    mirror(alloc, store, "staff", 1, 10)
+}
+
+/// Tells what a mirror answered, where `wanted` is what one answers that finds memory. It leaves
+/// the books as they were.
+fn tell_answered<S: BookStore>(
+    desk: &mut Desk,
+    store: &mut S,
+    before: &[Reply],
+    wanted: &Answer,
+    answer: &Answer,
+) -> Result<(), Stop> {
+    let alloc = desk.alloc();
+    let left = books_of(alloc, store)?.as_slice() == before;
+    let again = mirrored(alloc, store);
+    if matches!(answer, Err(Denied::Fault(Fault::Memory))) {
+        desk.tells_no_memory(left, again == *wanted, &again);
+    } else {
+        desk.tells_answer(left && answer == wanted && again == *wanted, answer);
+    }
+    Ok(())
+}
+
+/// What a mirror of the few cards answers, and the books.
+fn mirror_wanted<K: Stores>(alloc: Global, kind: &K) -> Result<(Answer, Vec<Reply>), Stop> {
+    let mut twin = filled_by(alloc, kind, FEW_CARDS)?;
+    let before = books_of(alloc, &mut twin)?;
+    Ok((mirrored(alloc, &mut twin), before))
+}
+
+/// Mirrors a book.
 pub(crate) fn tell_mirror<K: Stores>(desk: &mut Desk, kind: &K) -> Result<(), Stop> {
     let alloc = desk.alloc();
     let name = format!(in alloc; "mirror, {}", kind.suffix())?;
     if !desk.wants(name.as_str()) {
         return Ok(());
     }
+    let (wanted, before) = mirror_wanted(alloc, kind)?;
     let mut store = filled_by(alloc, kind, FEW_CARDS)?;
-    let before = books_of(alloc, &mut store)?;
-    let mut twin = filled_by(alloc, kind, FEW_CARDS)?;
-    let wanted = mirror(alloc, &mut twin, "staff", 1, 10);
-    desk.opens(name.as_str())?;
-    let answer = mirror(alloc, &mut store, "staff", 1, 10);
-    desk.closes()?;
-    let left = books_of(alloc, &mut store)?.as_slice() == before.as_slice();
-    let again = mirror(alloc, &mut store, "staff", 1, 10);
-    if matches!(&answer, Err(Denied::Fault(Fault::Memory))) {
-        return desk.tells_no_memory(left, again == wanted, &again);
-    }
-    desk.tells_answer(left && answer == wanted && again == wanted, &answer)
+    desk.opens(name.as_str());
+    let answer = mirrored(alloc, &mut store);
+    desk.closes();
+    tell_answered(desk, &mut store, before.as_slice(), &wanted, &answer)
 }

@@ -114,17 +114,20 @@ pub(crate) fn tell_feed<K: Stores>(desk: &mut Desk, kind: &K) -> Result<(), Stop
     };
     let mut session = Session::new(alloc);
     let piece = requests_left(alloc, [false; 4])?;
-    desk.opens(name.as_str())?;
+    desk.opens(name.as_str());
     let answer = session.feed(alloc, &mut service, piece.as_bytes());
-    desk.closes()?;
+    desk.closes();
     let ends_rightly = session.closed() == answer.is_err();
     for place in 0..WAYS {
         if came_of(alloc, kind, &mut service, &answer, way(place))? {
             if place == 0 && answer.is_ok() {
-                return desk.tells_answer(ends_rightly, &answer);
+                desk.tells_answer(ends_rightly, &answer);
+                return Ok(());
             }
-            return desk.tells_no_memory(ends_rightly, true, &answer);
+            desk.tells_no_memory(ends_rightly, true, &answer);
+            return Ok(());
         }
     }
-    desk.tells_no_memory(false, false, &answer)
+    desk.tells_no_memory(false, false, &answer);
+    Ok(())
 }

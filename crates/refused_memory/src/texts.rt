@@ -35,41 +35,47 @@ const COLUMNS: &str = "uid,fn,family,given,email,tel,org,note\r\na,Ann,Example,A
 const ROWS: &str = "uid,vcard\na,\"BEGIN:VCARD\nVERSION:4.0\nUID:a\nFN:Ann\nEND:VCARD\n\"\n\
     ,\"BEGIN:VCARD\nVERSION:4.0\nUID:b\nFN:Bob\nEND:VCARD\n\"\n";
 
-fn card_cases(desk: &mut Desk) -> Result<(), Stop> {
+fn read_card_case(desk: &mut Desk) {
+    if !desk.wants("read_card") {
+        return;
+    }
     let alloc = desk.alloc();
-    if desk.wants("read_card") {
-        let wanted = read_card(alloc, CARD.as_bytes());
-        desk.opens("read_card")?;
-        let answer = read_card(alloc, CARD.as_bytes());
-        desk.closes()?;
-        let again = read_card(alloc, CARD.as_bytes());
-        let ran_out = matches!(&answer, Err(CardFault::Memory));
-        desk.tells_alone(&wanted, ran_out, &answer, &again)?;
-    }
-    if desk.wants("write_card") {
-        let card = read_card(alloc, CARD.as_bytes())?;
-        let wanted = write_card(alloc, &card);
-        desk.opens("write_card")?;
-        let answer = write_card(alloc, &card);
-        desk.closes()?;
-        let again = write_card(alloc, &card);
-        desk.tells_alone(&wanted, answer.is_err(), &answer, &again)?;
-    }
-    Ok(())
+    let wanted = read_card(alloc, CARD.as_bytes());
+    desk.opens("read_card");
+    let answer = read_card(alloc, CARD.as_bytes());
+    desk.closes();
+    let again = read_card(alloc, CARD.as_bytes());
+    let ran_out = matches!(&answer, Err(CardFault::Memory));
+    desk.tells_alone(&wanted, ran_out, &answer, &again);
 }
 
-fn read_rows_case(desk: &mut Desk, name: &str, rows: &str) -> Result<(), Stop> {
-    if !desk.wants(name) {
+fn write_card_case(desk: &mut Desk) -> Result<(), Stop> {
+    if !desk.wants("write_card") {
         return Ok(());
     }
     let alloc = desk.alloc();
+    let card = read_card(alloc, CARD.as_bytes())?;
+    let wanted = write_card(alloc, &card);
+    desk.opens("write_card");
+    let answer = write_card(alloc, &card);
+    desk.closes();
+    let again = write_card(alloc, &card);
+    desk.tells_alone(&wanted, answer.is_err(), &answer, &again);
+    Ok(())
+}
+
+fn read_rows_case(desk: &mut Desk, name: &str, rows: &str) {
+    if !desk.wants(name) {
+        return;
+    }
+    let alloc = desk.alloc();
     let wanted = read_rows(alloc, rows.as_bytes());
-    desk.opens(name)?;
+    desk.opens(name);
     let answer = read_rows(alloc, rows.as_bytes());
-    desk.closes()?;
+    desk.closes();
     let again = read_rows(alloc, rows.as_bytes());
     let ran_out = is_out_of_memory(&answer);
-    desk.tells_alone(&wanted, ran_out, &answer, &again)
+    desk.tells_alone(&wanted, ran_out, &answer, &again);
 }
 
 fn is_out_of_memory(read: &Result<Vec<Card>, CsvFault>) -> bool {
@@ -97,11 +103,12 @@ fn write_rows_case(desk: &mut Desk, name: &str, form: Form) -> Result<(), Stop> 
     let alloc = desk.alloc();
     let cards = group_cards(alloc)?;
     let wanted = write_rows(alloc, &cards, form);
-    desk.opens(name)?;
+    desk.opens(name);
     let answer = write_rows(alloc, &cards, form);
-    desk.closes()?;
+    desk.closes();
     let again = write_rows(alloc, &cards, form);
-    desk.tells_alone(&wanted, answer.is_err(), &answer, &again)
+    desk.tells_alone(&wanted, answer.is_err(), &answer, &again);
+    Ok(())
 }
 
 fn expand_case(desk: &mut Desk) -> Result<(), Stop> {
@@ -111,12 +118,13 @@ fn expand_case(desk: &mut Desk) -> Result<(), Stop> {
     let alloc = desk.alloc();
     let cards = group_cards(alloc)?;
     let wanted = expand(alloc, &cards, "g");
-    desk.opens("expand")?;
+    desk.opens("expand");
     let answer = expand(alloc, &cards, "g");
-    desk.closes()?;
+    desk.closes();
     let again = expand(alloc, &cards, "g");
     let ran_out = matches!(&answer, Err(GroupFault::Memory));
-    desk.tells_alone(&wanted, ran_out, &answer, &again)
+    desk.tells_alone(&wanted, ran_out, &answer, &again);
+    Ok(())
 }
 
 /// A page of cards and of one that went.
@@ -134,11 +142,12 @@ fn write_report_case(desk: &mut Desk) -> Result<(), Stop> {
     let alloc = desk.alloc();
     let page = some_page(alloc)?;
     let wanted = write_report(alloc, &page);
-    desk.opens("write_report")?;
+    desk.opens("write_report");
     let answer = write_report(alloc, &page);
-    desk.closes()?;
+    desk.closes();
     let again = write_report(alloc, &page);
-    desk.tells_alone(&wanted, answer.is_err(), &answer, &again)
+    desk.tells_alone(&wanted, answer.is_err(), &answer, &again);
+    Ok(())
 }
 
 fn read_report_case(desk: &mut Desk) -> Result<(), Stop> {
@@ -149,12 +158,13 @@ fn read_report_case(desk: &mut Desk) -> Result<(), Stop> {
     let page = some_page(alloc)?;
     let text = write_report(alloc, &page)?;
     let wanted = read_report(alloc, text.as_slice());
-    desk.opens("read_report")?;
+    desk.opens("read_report");
     let answer = read_report(alloc, text.as_slice());
-    desk.closes()?;
+    desk.closes();
     let again = read_report(alloc, text.as_slice());
     let ran_out = matches!(&answer, Err(ReportFault::Memory));
-    desk.tells_alone(&wanted, ran_out, &answer, &again)
+    desk.tells_alone(&wanted, ran_out, &answer, &again);
+    Ok(())
 }
 
 fn words(alloc: Global) -> Result<Vec<String>, NoMemory> {
@@ -172,19 +182,21 @@ fn read_order_case(desk: &mut Desk) -> Result<(), Stop> {
     let alloc = desk.alloc();
     let words = words(alloc)?;
     let wanted = read_order(alloc, words.as_slice());
-    desk.opens("read_order")?;
+    desk.opens("read_order");
     let answer = read_order(alloc, words.as_slice());
-    desk.closes()?;
+    desk.closes();
     let again = read_order(alloc, words.as_slice());
     let ran_out = matches!(&answer, Err(LineFault::Memory));
-    desk.tells_alone(&wanted, ran_out, &answer, &again)
+    desk.tells_alone(&wanted, ran_out, &answer, &again);
+    Ok(())
 }
 
 /// Runs the chosen cases of texts.
 pub(crate) fn tell_texts(desk: &mut Desk) -> Result<(), Stop> {
-    card_cases(desk)?;
-    read_rows_case(desk, "read_rows, of columns", COLUMNS)?;
-    read_rows_case(desk, "read_rows, of cards", ROWS)?;
+    read_card_case(desk);
+    write_card_case(desk)?;
+    read_rows_case(desk, "read_rows, of columns", COLUMNS);
+    read_rows_case(desk, "read_rows, of cards", ROWS);
     write_rows_case(desk, "write_rows, as columns", Form::Columns)?;
     write_rows_case(desk, "write_rows, as cards", Form::Cards)?;
     expand_case(desk)?;
