@@ -12,7 +12,6 @@ mod run;
 mod sweep;
 mod trouble;
 
-use crate::stops::commands::LISTS;
 use crate::stops::course::Course;
 use crate::stops::disks::{Disks, Place};
 use crate::stops::migrations::{carried_told, first_disks, sweep_carrying};
@@ -93,18 +92,27 @@ fn tell_migration(alloc: Global, telling: &mut Telling) -> Result<(), Trouble> {
     tell_carrying(alloc, &first, telling)
 }
 
-/// What all sweeps come to.
-pub(crate) fn tell_stops(alloc: Global) -> Result<String, NoMemory> {
+/// Sweeps over each of the lists, which stand in the text one behind the other, each below a line
+/// with its name.
+fn tell_lists(telling: &mut Telling, lists: &str) -> Result<(), NoMemory> {
+    for part in lists.split("==== ") {
+        if let Some((name, list)) = part.split_once('\n') {
+            for keep in KEEPS {
+                tell_list(telling, keep, name, list)?;
+            }
+        }
+    }
+    Ok(())
+}
+
+/// What all sweeps come to: those over the lists, and those over carrying.
+pub(crate) fn tell_stops(alloc: Global, lists: &str) -> Result<String, NoMemory> {
     let mut telling = Telling {
         alloc,
         told: String::new(alloc),
         stops: 0,
     };
-    for (name, list) in LISTS {
-        for keep in KEEPS {
-            tell_list(&mut telling, keep, name, list)?;
-        }
-    }
+    tell_lists(&mut telling, lists)?;
     match tell_migration(alloc, &mut telling) {
         Ok(()) => {}
         Err(Trouble::Memory) => return Err(NoMemory),
