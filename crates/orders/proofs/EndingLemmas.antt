@@ -1,5 +1,5 @@
 -- How what was done, or why it stopped, ends the program.
-use Rattle.std.proofs.Common.{◌≡◌, ◌⊎◌, ℕ, List, Option, Some, None, Result, Ok, Err, OnOk, IfErr, IfSome, inl, inr}
+use Rattle.std.proofs.Common.{◌⊎◌, ℕ, List, Option, Some, None, Result, Ok, Err, OnOk, IfErr, IfSome, inl, inr}
 use Rattle.command_line.specs.declared.order.Order.{Order}
 use Rattle.orders.specs.Endings.{Ends, IsPathDone, IsOrderDone, IsOrderStopped, IsPathStopped}
 use Rattle.orders.specs.PathOutputs.{LeavesOutput, PrintsPath}

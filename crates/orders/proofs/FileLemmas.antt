@@ -1,5 +1,5 @@
 -- What orders come to, on a store of books and on a machine.
-use Rattle.std.proofs.Common.{◌≡◌, ℕ, List, Option, Result, Ok, Err, IfErr, IfOk, OnOk, inl, inr}
+use Rattle.std.proofs.Common.{ℕ, List, Option, Result, Ok, Err, IfErr, IfOk, OnOk, inl, inr}
 use Rattle.book_http.specs.OctetPromise.{Serving}
 use Rattle.book_model.specs.Bounds.{Bounds}
 use Rattle.book_model.specs.Books.{Books}

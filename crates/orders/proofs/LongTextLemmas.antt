@@ -1,12 +1,11 @@
 -- A text that is longer than what is read of it.
-use Rattle.std.proofs.Common.{◌≡◌, ℕ, ◌≤◌, ◌<◌, false, cond, nat_le, List, length, take, Some, None, Option, IfSome, Result, Ok, Err, sym, ap, subst, ◌∙◌, ⊎_elim, inr, OnOk, IfErr, arith}
-use Rattle.std.specs.Str.{is_utf8}
+use Rattle.std.proofs.Common.{◌≡◌, ℕ, ◌≤◌, ◌<◌, false, nat_le, List, length, take, Some, None, Option, IfSome, Result, Ok, Err, sym, subst, ⊎_elim, inr, OnOk, IfErr, arith}
 use Rattle.std.specs.Io.KnownBytes.{Appends}
-use Rattle.std.proofs.lemmas.Bool.{cases_Bool, leb-true, leb-false, lt-leb}
+use Rattle.std.proofs.lemmas.Bool.{cases_Bool, leb-true, leb-false}
 use Rattle.std.proofs.lemmas.List.{take_all, length-take-le}
 use Rattle.vcard_text.specs.Bounds.{text_octets_max}
 use Rattle.vcard_lines.specs.declared.fault.CardFault.{CardFault}
-use Rattle.vcard_lines.specs.declared.fault.CardFault.TheVariants.{TooLong, NotUtf8}
+use Rattle.vcard_lines.specs.declared.fault.CardFault.TheVariants.{TooLong}
 use Rattle.vcard_text.specs.FirstFaults.{IsFirstFault, of_length, of_encoding, of_line, of_whole, of_canonical}
 use Rattle.orders.specs.declared.card_path.FirstPath.{FirstPath}
 use Rattle.orders.specs.declared.stop.Stop.{Stop}

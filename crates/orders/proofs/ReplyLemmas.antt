@@ -1,5 +1,5 @@
 -- What comes of each command of an order.
-use Rattle.std.proofs.Common.{◌≡◌, ℕ, List, Option, Some, None, Result, Ok, Err, inl, inr, subst, sym}
+use Rattle.std.proofs.Common.{ℕ, List, Option, Some, None, Result, Ok, Err, inl, inr, subst, sym}
 use Rattle.std.specs.Prelude.{Bool, true, false}
 use Rattle.vcard_lines.specs.declared.line.Line.{Line}
 use Rattle.vcard_text.specs.Cards.{kind_of}
@@ -16,10 +16,8 @@ use Rattle.book_laws.specs.Worlds.{Stories, World}
 use Rattle.book_laws.specs.WorldSteps.{create_meaning}
 use Rattle.book_service.specs.Commands.{ComesOf, Meaning, Performs, Means, MeansImport, meaning_of_body}
 use Rattle.book_service.specs.Replies.{TellsReturned}
-use Rattle.book_service.specs.Runs.{Moment, Step}
 use Rattle.book_service.specs.declared.command.Command.{Command}
 use Rattle.book_service.specs.declared.command.Command.TheVariants.{CreateBook, Books, Get, Put, Remove, MoveCard, Report, Import, Forget, TallyOf, Export, People}
-use Rattle.book_service.specs.declared.event.Event.TheVariants.{Do}
 use Rattle.book_service.specs.declared.reply.Reply.{Reply}
 use Rattle.orders.specs.OrderReplies.{IsOfOrder, IsToOrder, OrdersAreReplied}
 

@@ -1,5 +1,5 @@
 -- Why an order stops, and what is written then.
-use Rattle.std.proofs.Common.{◌≡◌, ℕ, List, Option, Some, None, Result, Ok, Err, IfErr, inl, inr, refl, subst, sym}
+use Rattle.std.proofs.Common.{◌≡◌, ℕ, List, Option, Some, None, Err, inl, inr, refl, subst, sym}
 use Rattle.std.specs.Io.KnownBytes.{Appends, Keeps}
 use Rattle.book_server.specs.Listening.{Listens}
 use Rattle.book_server.specs.declared.listen_fault.ListenFault.{ListenFault}

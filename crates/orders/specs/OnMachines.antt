@@ -1,8 +1,7 @@
 -- What comes of an order on a machine: which of its files and ports the order reaches, what it does
 -- there, and what it prints. This project's own.
-use Rattle.std.specs.Prelude.{◌≡◌, ◌⊎◌, ℕ, List, [], ◌∷◌, Option, Result, Ok, Err}
+use Rattle.std.specs.Prelude.{◌≡◌, ◌⊎◌, ℕ, List, Option, Ok, Err}
 use Rattle.std.specs.Io.KnownBytes.{Appends, Keeps}
-use Rattle.book_http.specs.declared.service.Service.{Service}
 use Rattle.book_http.specs.OctetPromise.{Serving}
 use Rattle.book_model.specs.Bounds.{Bounds}
 use Rattle.book_model.specs.Books.{Books}

@@ -1,5 +1,5 @@
 -- What the commands of orders are replied. This project's own.
-use Rattle.std.specs.Prelude.{List, ⊤}
+use Rattle.std.specs.Prelude.{⊤}
 use Rattle.book_service.specs.declared.command.Command.{Command}
 use Rattle.book_service.specs.declared.command.Command.TheVariants.{CreateBook, Import, Forget, TallyOf, Export, People}
 use Rattle.book_service.specs.declared.event.Event.TheVariants.{Do}

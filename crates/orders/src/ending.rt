@@ -68,8 +68,8 @@ fn end_with_path<R: Read, W: Write, E: Write>(
     ensures { IfSome (R.remaining reader.old) (λ input.
         IsPathDone input (W.contents writer.old) (W.contents writer.new) (E.contents errors.old)
         (E.contents errors.new) result
-        ⊎ IsPathStopped input (W.contents writer.old) (W.contents writer.new) (E.contents errors.old)
-        (E.contents errors.new) result) }
+        ⊎ IsPathStopped input (W.contents writer.old) (W.contents writer.new)
+        (E.contents errors.old) (E.contents errors.new) result) }
 {
     let done = run_try(alloc, reader, writer);
     tell_end(alloc, errors, done)
@@ -105,8 +105,8 @@ pub fn run<R: Read, W: Write, E: Write>(
     ensures tried { order ≡ Ok TheOrder.Try → IfSome (R.remaining reader.old) (λ input.
         IsPathDone input (W.contents writer.old) (W.contents writer.new) (E.contents errors.old)
         (E.contents errors.new) result
-        ⊎ IsPathStopped input (W.contents writer.old) (W.contents writer.new) (E.contents errors.old)
-        (E.contents errors.new) result) }
+        ⊎ IsPathStopped input (W.contents writer.old) (W.contents writer.new)
+        (E.contents errors.old) (E.contents errors.new) result) }
 
     // The output of another order is printed and nothing is said, or it is said why not.
     ensures ran { (other : TheOrder) → order ≡ Ok other → other ≢ TheOrder.Try →

@@ -1,4 +1,4 @@
-//! What the program's orders do, and what they print.
+//! What the program's words make it do, what it prints, and how it ends.
 #![tactic(auto)]
 
 mod asking;

@@ -48,7 +48,8 @@ export staff columns
 get clients a";
 
 /// A page is cut, the book forgets what was removed, and the page's token leads on, since the page
-/// began with no token after the removal; a token from before it doesn't. Two devices ask meanwhile.
+/// began with no token after the removal; a token from before it doesn't. Two devices ask
+/// meanwhile.
 const FORGETTING_DAYS: &str = "report staff - 1
 ask 0 1
 forget staff 5

@@ -1,7 +1,7 @@
 //! A stop at each call of a disk: a list of commands is performed over tables on disks in memory,
 //! of which one fails at its n-th call and at each later one, for each n until none fails. What is
-//! left is opened anew, and must be the books before the stopped command or those after it. Standard
-//! input has the lists.
+//! left is opened anew, and must be the books before the stopped command or those after it.
+//! Standard input has the lists.
 #![tactic(auto)]
 
 mod stops;

@@ -5,10 +5,11 @@ use Rattle.std.specs.Char.{len_utf8}
 use Rattle.std.proofs.lemmas.Bool.Decides.{nat_tests}
 use Rattle.std.proofs.lemmas.List.{append-nil, length-append}
 use Rattle.std.proofs.lemmas.List.Sums.{fold-append}
-use Rattle.std.proofs.lemmas.Str.{IsUtf8-nil, IsUtf8-append, chars-append, chars-nil, length-encode, len_utf8_ascii}
+use Rattle.std.proofs.lemmas.Str.{IsUtf8-nil, IsUtf8-append, chars-append, chars-nil, encodes-chars, length-encode, len_utf8_ascii, len_utf8_bounds}
 use Rattle.vcard_lines.specs.declared.folded_count.FoldedCount.{FoldedCount}
-use Rattle.vcard_lines.specs.FoldingLoop.{FoldedPart, folded_part, fold_char, folded_so_far, IsCount, CountsOn, IsLineCount, CountsLine}
-use Rattle.vcard_lines.proofs.FoldingLoopLemmas.{fold_by}
+use Rattle.vcard_lines.specs.FoldingLoop.{FoldedPart, folded_part, fold_char, folded_so_far, folded_from, IsCount, CountsOn, IsLineCount, CountsLine}
+use Rattle.vcard_lines.proofs.FoldingLoopLemmas.{fold_by, fold-front, folded_is}
+use Rattle.vcard_lines.specs.Folding.{folded}
 
 step_fit : (part : FoldedPart) (c : ℕ) → len_utf8 c ≤ part.room → fold_char part c ≡ folded_part (part.octets ++ encode_utf8 c) (part.room - len_utf8 c)
 step_fit part c l =
@@ -39,6 +40,67 @@ fits (c ∷ cs) part l =
       octets_are = omega (arith, others.octets_are, whole, size, more);
       room_is = omega (arith, others.room_is, l, whole, size);
     })
+
+-- characters that fit are written as they are
+pub fits_whole : (cs : List ℕ) (part : FoldedPart) → length (encode_utf8_all cs) ≤ part.room → (fold fold_char part cs).octets ≡ part.octets ++ encode_utf8_all cs
+fits_whole [] part l = sym (append-nil part.octets)
+fits_whole (c ∷ cs) part l =
+    let whole = length-append (encode_utf8 c) (encode_utf8_all cs) in
+    let size = length-encode c in
+    let next = folded_part (part.octets ++ encode_utf8 c) (part.room - len_utf8 c) in
+    ap (λ p. (fold fold_char p cs).octets) (step_fit part c (omega (arith, l, whole, size)))
+    ∙ fits_whole cs next (omega (arith, l, whole, size))
+    ∙ append_assoc part.octets (encode_utf8 c) (encode_utf8_all cs)
+
+-- ---- a text that fills the physical line, before others
+
+-- a next character begins a further line, whether its space is written yet or not
+next_line : (octets : List ℕ) (room c : ℕ) → room < len_utf8 c → fold_char (folded_part octets room) c ≡ fold_char (folded_part (octets ++ 13 ∷ 10 ∷ 32 ∷ []) 74) c
+next_line octets room c l =
+    step_next (folded_part octets room) c l
+    ∙ ap (λ os. folded_part os (74 - len_utf8 c)) (sym (append_assoc octets (13 ∷ 10 ∷ 32 ∷ []) (encode_utf8 c)))
+    ∙ sym (step_fit (folded_part (octets ++ 13 ∷ 10 ∷ 32 ∷ []) 74) c (omega (arith, len_utf8_bounds c)))
+
+next_lines : (cs octets : List ℕ) → 0 < length cs → fold fold_char (folded_part octets 0) cs ≡ fold fold_char (folded_part (octets ++ 13 ∷ 10 ∷ 32 ∷ []) 74) cs
+next_lines [] octets l = absurd (omega (arith, l))
+next_lines (c ∷ cs) octets l = ap (λ p. fold fold_char p cs) (next_line octets 0 c (omega (arith, len_utf8_bounds c)))
+
+filled : (cs : List ℕ) (octets : List ℕ) (room : ℕ) → length (encode_utf8_all cs) ≡ room → fold fold_char (folded_part octets room) cs ≡ folded_part (octets ++ encode_utf8_all cs) 0
+filled cs octets room e =
+    let part = folded_part octets room in
+    let added = fits cs part (omega (arith, e)) in
+    let none : (fold fold_char part cs).room ≡ 0 = omega (arith, added.room_is, e) in
+    ap (λ os. folded_part os (fold fold_char part cs).room) (fits_whole cs part (omega (arith, e)))
+    ∙ ap (λ r. folded_part (octets ++ encode_utf8_all cs) r) none
+
+some_chars : (text : List ℕ) → IsUtf8 text → 0 < length text → 0 < length (chars text)
+some_chars text u l =
+    elim (chars text) as (λ cs. encode_utf8_all cs ≡ text → 0 < length cs) [
+      | [] ↦ λ e. absurd (omega (arith, ap length e, l))
+      | c ∷ cs ↦ λ e. omega arith
+    ] (encodes-chars text u)
+
+-- a piece that fills the physical line is written whole, and its end and the next line's space
+pub cut_behind : (octets piece behind : List ℕ) (room : ℕ) → IsUtf8 piece → IsUtf8 behind → length piece ≡ room → 0 < length behind → fold fold_char (folded_part octets room) (chars (piece ++ behind)) ≡ fold fold_char (folded_part ((octets ++ piece) ++ 13 ∷ 10 ∷ 32 ∷ []) 74) (chars behind)
+cut_behind octets piece behind room u v e l =
+    let same = encodes-chars piece u in
+    ap (fold fold_char (folded_part octets room)) (chars-append piece behind u)
+    ∙ fold-append fold_char (folded_part octets room) (chars piece) (chars behind)
+    ∙ ap (λ p. fold fold_char p (chars behind)) (filled (chars piece) octets room (ap length same ∙ e) ∙ ap (λ os. folded_part (octets ++ os) 0) same)
+    ∙ next_lines (chars behind) (octets ++ piece) (some_chars behind v l)
+
+-- behind what was there, a line is folded from its beginning
+pub folded_behind : (before line : List ℕ) → folded_from before 75 line ≡ before ++ folded line
+folded_behind before line =
+    ap (λ os. os ++ 13 ∷ 10 ∷ []) (ap (λ os. (fold fold_char (folded_part os 75) (chars line)).octets) (sym (append-nil before)) ∙ fold-front (chars line) before [] 75)
+    ∙ append_assoc before _ (13 ∷ 10 ∷ [])
+    ∙ ap (λ os. before ++ os) (folded_is line)
+
+-- what fits is written as it is, and ended
+pub fits_from : (octets rest : List ℕ) (room : ℕ) → IsUtf8 rest → length rest ≤ room → folded_from octets room rest ≡ (octets ++ rest) ++ 13 ∷ 10 ∷ []
+fits_from octets rest room u l =
+    let same = encodes-chars rest u in
+    ap (λ os. os ++ 13 ∷ 10 ∷ []) (fits_whole (chars rest) (folded_part octets room) (omega (arith, ap length same, l)) ∙ ap (λ os. octets ++ os) same)
 
 -- ---- a text of single octets
 

@@ -27,6 +27,12 @@ fold_char part c =
 abbrev pub folded_so_far : List ℕ → FoldedPart
 folded_so_far line = fold fold_char (folded_part [] 75) (chars line)
 
+-- Behind these octets, where so many still fit into the physical line, what is left of a logical
+-- line is folded and ended.
+abbrev pub folded_from : List ℕ → ℕ → List ℕ → List ℕ
+folded_from octets room rest =
+    (fold fold_char (folded_part octets room) (chars rest)).octets ++ carriage_return ∷ line_feed ∷ []
+
 -- The count says how many octets are folded, up to a greatest number, and how many still fit.
 pub record IsCount (count : FoldedCount) (part : FoldedPart) : Type 0 where
   pub octets_are : count.octets ≡ min COUNT_MAX (length part.octets)

@@ -61,7 +61,7 @@ fn take_piece<'a>(
 fn read_lines(alloc: Global, text: &str) -> Result<Items<Line>, CardFault>
     ensures { Gives (λ lines. lines) result (card_of_texts (logical_lines text.now)) }
 {
-    let mut scan = Scan::start(alloc);
+    let mut scan = Scan::start(alloc)?;
     let mut pieces = text.lines();
     let Some(mut first) = pieces.next() else {
         return scan.finish();

@@ -30,7 +30,7 @@ fn told(rt: &impl Abort, alloc: Global, row: &Row) -> String {
                 .push_str(format!(in alloc; "{number}").expect(rt, "memory").as_str())
                 .expect(rt, "memory"),
             ValueRef::Text(_) => told
-                .push_str(row.get::<String>(at).expect(rt, "something").as_str())
+                .push_str(row.get::<String>(at).expect(rt, "a text").as_str())
                 .expect(rt, "memory"),
             _ => told.push_str("?").expect(rt, "memory"),
         }

@@ -178,8 +178,8 @@ const HEAD_FAULTS: &[(HeadFault, &str, u64, &str)] = &[
     ),
 ];
 
-/// Faults of requests, each with the status, the line of Allow where there is one, the length of the
-/// body and the body.
+/// Faults of requests, each with the status, the line of Allow where there is one, the length of
+/// the body and the body.
 const ROUTE_FAULTS: &[(RouteFault, &str, &str, u64, &str)] = &[
     (
         RouteFault::NoRoute,

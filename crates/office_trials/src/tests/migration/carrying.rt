@@ -36,7 +36,7 @@ fn number(rt: &impl Abort, conn: &mut Memory, query: &str) -> i64 {
     conn.query_row(query, params![])
         .expect(rt, "an answer")
         .get(0)
-        .expect(rt, "something")
+        .expect(rt, "a card")
 }
 
 /// The store over the tables.
@@ -53,7 +53,7 @@ fn adopted(rt: &impl Abort, alloc: Global, conn: Memory) -> SqlStore<MemStore> {
 /// The version of the card with the UID, in the store over the tables.
 fn version(rt: &impl Abort, alloc: Global, conn: Memory, uid: &str) -> u64 {
     let mut store = adopted(rt, alloc, conn);
-    store.get("staff", uid).expect(rt, "something").version
+    store.get("staff", uid).expect(rt, "a card").version
 }
 
 #[test]

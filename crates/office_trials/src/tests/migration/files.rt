@@ -40,7 +40,7 @@ fn opened(test: &impl Abort, rt: &HostRuntime) -> FileBooks {
 }
 
 fn version(rt: &impl Abort, store: &mut FileBooks) -> u64 {
-    store.get("staff", "b").expect(rt, "something").version
+    store.get("staff", "b").expect(rt, "a card").version
 }
 
 #[test]

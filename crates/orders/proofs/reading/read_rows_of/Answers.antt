@@ -1,4 +1,4 @@
-use Rattle.std.proofs.Common.{arith, length}
+use Rattle.std.proofs.Common.{arith}
 use Rattle.orders.proofs.OctetLemmas.{whole_read}
 use Rattle.orders.proofs.reading.read_rows_of.Goals as goal
 

@@ -44,7 +44,7 @@ fn faults_are_told(rt: &impl Abort, alloc: Global, conn: &mut Memory) {
 
 /// What these calls read can be read, whatever stands beside it.
 fn others_are_told(rt: &impl Abort, alloc: Global, conn: &mut Memory) {
-    let ann = calls::get(alloc, conn, "desk", "a").expect(rt, "something");
+    let ann = calls::get(alloc, conn, "desk", "a").expect(rt, "a card");
     assert_eq!(rt; ann.version, 1);
     let page = calls::page(alloc, conn, "desk", None, Some(1)).err();
     assert_eq!(rt; page, None);

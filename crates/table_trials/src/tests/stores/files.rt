@@ -38,7 +38,7 @@ fn fill(test: &impl Abort, rt: &HostRuntime, store: &mut FileBooks) {
 }
 
 fn version_of_card(rt: &impl Abort, store: &mut FileBooks) -> u64 {
-    store.get("staff", "n").expect(rt, "something").version
+    store.get("staff", "n").expect(rt, "a card").version
 }
 
 /// The number of the fault with which the file is refused, and 0 where it is opened.

@@ -1,12 +1,14 @@
-use Rattle.std.proofs.Common.{◌≡◌, ◌≤◌, fold, string_bytes}
+use Rattle.std.proofs.Common.{◌≡◌, ◌≤◌, fold, length, chars, IsUtf8, string_bytes}
 use Rattle.vcard_lines.specs.FoldingLoop.{fold_char, folded_part}
 use Rattle.vcard_lines.proofs.folding.write_folded.Given as goal
 
--- the characters so far are written behind what was there
-abbrev pub invariant-loop-c : goal.invariant-loop-c
-invariant-loop-c l = record {
-  can : (goal.iterator-loop-c).can_next l.c-iterator;
-  ends : (goal.iterator-loop-c).is_finite l.c-iterator;
-  room : l.room ≤ 75;
-  so_far : folded_part (string_bytes l.out) l.room ≡ fold fold_char (folded_part (string_bytes l.fn.out) 75) l.yielded;
+-- what is left is folded behind what is written as the whole line would be behind what was there
+abbrev pub invariant-loop-room : goal.invariant-loop-room
+invariant-loop-room l = record {
+  utf8 : IsUtf8 l.rest;
+  room : (74 ≤ l.room) × (l.room ≤ 75);
+  so_far : fold fold_char (folded_part (string_bytes l.out) l.room) (chars l.rest) ≡ fold fold_char (folded_part (string_bytes l.fn.out) 75) (chars l.line);
 }
+
+abbrev pub decreases-loop-room : goal.decreases-loop-room
+decreases-loop-room l = length l.rest
