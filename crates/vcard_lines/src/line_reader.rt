@@ -35,13 +35,19 @@ fn past_octet(text: &str, octet: u8) -> Result<&str, CardFault>
 pub(crate) fn is_name_octet(octet: u8) -> bool
     ensures { result ≡ is_name_octet octet }
 {
-    matches!(octet, b'A'..=b'Z' | b'a'..=b'z' | b'0'..=b'9' | b'-')
+    // Most octets of a name are letters, and stand behind the others.
+    if octet >= b'A' {
+        matches!(octet, b'A'..=b'Z' | b'a'..=b'z')
+    } else {
+        matches!(octet, b'0'..=b'9' | b'-')
+    }
 }
 
 pub(crate) fn is_value_octet(octet: u8, quoted: bool) -> bool
     ensures { result ≡ is_value_octet quoted octet }
 {
-    !(octet == b'"' || !quoted && matches!(octet, b';' | b':' | b','))
+    // Most octets stand behind all that end a value, and are known by one test.
+    octet > b';' || !(octet == b'"' || !quoted && matches!(octet, b';' | b':' | b','))
 }
 
 fn is_permitted(octet: u8) -> bool
