@@ -16,9 +16,11 @@ use sync_core::{BookStore, Denied, Limits, Page, PlainStore, PutAnswer};
 use vcard_text::{Card, read_card};
 
 /// What the put answered, and the initial report after it.
-#[derive(Debug, Drop)]
+#[derive(Debug, Drop, PartialEq, Eq)]
 pub struct FirstPath {
+    /// What putting the card answered.
     pub put: PutAnswer,
+    /// The book's initial report behind it.
     pub page: Page,
 }
 

@@ -7,10 +7,11 @@ use base_types::NoMemory;
 use card_core::{GroupFault, expand};
 use command_line::{LineFault, read_order};
 use csv_cards::{CsvCause, CsvFault, Form, read_rows, write_rows};
+use orders::first_path;
 use page_json::{ReportFault, read_report, write_report};
 use std::alloc::Global;
 use std::collections::BTreeMap;
-use sync_core::{BookStore, Page};
+use sync_core::{BookStore, Denied, Fault, Page};
 use vcard_text::{Card, CardFault, read_card, write_card};
 
 /// A card with a fold, a group, parameters in quotes and without, and a line that is to be folded.
@@ -62,6 +63,20 @@ fn write_card_case(desk: &mut Desk) -> Result<(), Stop> {
     let again = write_card(alloc, &card);
     desk.tells_alone(&wanted, answer.is_err(), &answer, &again);
     Ok(())
+}
+
+fn first_path_case(desk: &mut Desk) {
+    if !desk.wants("first_path") {
+        return;
+    }
+    let alloc = desk.alloc();
+    let wanted = first_path(alloc, CARD.as_bytes());
+    desk.opens("first_path");
+    let answer = first_path(alloc, CARD.as_bytes());
+    desk.closes();
+    let again = first_path(alloc, CARD.as_bytes());
+    let ran_out = matches!(&answer, Err(Denied::Fault(Fault::Memory)));
+    desk.tells_alone(&wanted, ran_out, &answer, &again);
 }
 
 fn read_rows_case(desk: &mut Desk, name: &str, rows: &str) {
@@ -195,6 +210,7 @@ fn read_order_case(desk: &mut Desk) -> Result<(), Stop> {
 pub(crate) fn tell_texts(desk: &mut Desk) -> Result<(), Stop> {
     read_card_case(desk);
     write_card_case(desk)?;
+    first_path_case(desk);
     read_rows_case(desk, "read_rows, of columns", COLUMNS);
     read_rows_case(desk, "read_rows, of cards", ROWS);
     write_rows_case(desk, "write_rows, as columns", Form::Columns)?;
