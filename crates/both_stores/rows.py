@@ -1,6 +1,6 @@
 #!/usr/bin/env python3
-"""Writes the files stdin and stdout beside it: 2,000 commands, drawn from a fixed seed, and the
-rows of worked.py; and what model.py replies to each.
+"""Writes the files stdin and stdout beside it: 2,000 commands, drawn from a fixed seed, 1,000 more
+among asks of devices, and the rows of worked.py; and what model.py replies to each.
 
 The program has no part in it. Where it prints another reply, one of the two is wrong."""
 
@@ -15,6 +15,7 @@ from model import COLUMNS, SYNC, Office, in_one_line, unescape
 from worked import sections
 
 COMMANDS = 2000
+EVENTS = 1000
 BETWEEN = 100
 KEEPS = [10_000, 3]
 LIMITS = 5, 8, 300, 4
@@ -70,154 +71,161 @@ class Dice:
         return things[self.roll(len(things))]
 
 
-dice = Dice(2000)
-office = Office(*LIMITS, KEEPS[0])
-devices = {name: "" for name in BOOKS}
-commands = []
+class Drawing:
+    """Commands that are drawn one after another, each done over an office of the model, so that
+    later ones are drawn from what is there."""
 
+    def __init__(self, seed, devices=()):
+        self.dice = Dice(seed)
+        self.office = Office(*LIMITS, KEEPS[0])
+        self.tokens = {name: "" for name in BOOKS}
+        self.devices = devices
+        self.commands = []
+        for name in devices:
+            self.do("device", name)
 
-def do(*command):
-    """Adds a command, and has it done, so that later ones are drawn from what is there."""
-    commands.append(command)
-    return office.reply(command)
+    def do(self, *command):
+        """Adds a command, and has it done."""
+        self.commands.append(command)
+        return self.office.reply(command)
 
+    def some_book(self):
+        """Mostly `staff`, which takes all the changes that it may."""
+        if self.dice.roll(60) == 0:
+            return "none"
+        return "staff" if self.dice.roll(2) else self.dice.of(*BOOKS)
 
-def some_book():
-    """Mostly `staff`, which takes all the changes that it may."""
-    return "none" if dice.roll(60) == 0 else "staff" if dice.roll(2) else dice.of(*BOOKS)
+    def some_uid(self, name):
+        """Mostly one that is live in the book."""
+        live = self.office.books[name].live() if name in self.office.books else []
+        return self.dice.of(*live) if live and self.dice.roll(10) < 7 else self.dice.of(*UIDS)
 
+    def card_text(self, uid):
+        if self.dice.roll(30) == 0:
+            return self.dice.of(*NO_CARDS).replace("{0}", uid)
+        lines = GROUPS[uid == "half"] if uid in ("team", "half") else self.dice.of(*NAMES)
+        lines = ["BEGIN:VCARD", "VERSION:4.0", "UID:" + uid, *lines, "END:VCARD"]
+        return "".join(line + "\n" for line in lines)
 
-def number_of(name):
-    return office.books[name].number if name in office.books else 0
+    def expected(self, name, uid):
+        there = self.office.books[name].version(uid) if name in self.office.books else 0
+        return self.dice.of(*[None] * 7, there, there, 0, there + 1)
 
+    def put(self, name):
+        uid = self.some_uid(name)
+        named = "other" if self.dice.roll(30) == 0 else uid
+        return self.do("put", name, named, self.expected(name, uid), self.card_text(uid))
 
-def some_uid(name):
-    """Mostly one that is live in the book."""
-    live = office.books[name].live() if name in office.books else []
-    return dice.of(*live) if live and dice.roll(10) < 7 else dice.of(*UIDS)
+    def remove(self, name):
+        uid = self.some_uid(name)
+        return self.do("remove", name, uid, self.expected(name, uid))
 
+    def move(self, name):
+        uid = self.some_uid(name)
+        to = self.dice.of(*BOOKS, *BOOKS, "none")
+        return self.do("move", name, uid, to, self.expected(name, uid))
 
-def card_text(uid):
-    if dice.roll(30) == 0:
-        return dice.of(*NO_CARDS).replace("{0}", uid)
-    lines = GROUPS[uid == "half"] if uid in ("team", "half") else dice.of(*NAMES)
-    lines = ["BEGIN:VCARD", "VERSION:4.0", "UID:" + uid, *lines, "END:VCARD"]
-    return "".join(line + "\n" for line in lines)
+    def body_row(self, columns):
+        uid = self.dice.of(*UIDS)
+        fault = self.dice.roll(30)
+        if columns:
+            row = [uid, *self.dice.of(*ROWS)]
+            return row[:7] if fault == 0 else [uid, ""] + row[2:] if fault == 1 else row
+        return ["other" if fault == 0 else self.dice.of(uid, ""), self.card_text(uid)]
 
+    def import_rows(self, name):
+        columns = self.dice.roll(3) > 0
+        rows = [COLUMNS if columns else ["uid", "vcard"]]
+        rows += [self.body_row(columns) for _row in range(self.dice.of(0, 1, 2, 2, 3, 4))]
+        if self.dice.roll(20) == 0:
+            rows[0] = ["uid", "name"]
+        out = io.StringIO(newline="")
+        csv.writer(out, lineterminator="\n").writerows(rows)
+        key = "k/3" if self.dice.roll(25) == 0 else f"k{self.dice.roll(60)}"
+        return self.do("import", name, key, out.getvalue())
 
-def expected(name, uid):
-    there = office.books[name].version(uid) if name in office.books else 0
-    return dice.of(*[None] * 7, there, there, 0, there + 1)
+    def some_token(self, name):
+        number = self.office.books[name].number if name in self.office.books else 0
+        book = self.office.books[name].id if name in self.office.books else 1
+        base = self.dice.roll(number + 1)
+        at = self.dice.roll(base + 1)
+        kind = self.dice.roll(12)
+        if kind == 0:
+            return ""
+        if kind == 1:
+            return self.dice.of("x", SYNC, f"{SYNC}{book}/07/{base + 7}",
+                                f"{SYNC}{book}/{base + 1}/{base}",
+                                f"{SYNC}{book}/{at}/99999999999999")
+        if kind == 2:
+            return f"{SYNC}{book % 4 + 1}/{at}/{base}"
+        if kind == 3:
+            return f"{SYNC}{book}/{at}/{number + 1 + self.dice.roll(3)}"
+        return f"{SYNC}{book}/{at}/{base}"
 
+    def report(self, name):
+        """A page for whoever follows the book, mostly, and often a write before it goes on."""
+        limit = self.dice.of(None, None, 1, 1, 1, 2, 2, 3, 5, 7, 1000, 0)
+        if self.dice.roll(3) == 0 or name not in self.tokens:
+            return self.do("report", name, self.some_token(name), limit)
+        reply = self.do("report", name, self.tokens[name], limit)
+        if reply.startswith("page"):
+            self.tokens[name] = SYNC + reply.split()[1]
+        elif reply.startswith("refused 10"):
+            self.tokens[name] = ""
+        if " and more" in reply and (limit == 1 or self.dice.roll(2) == 0):
+            self.put(name)
+        return reply
 
-def put(name):
-    uid = some_uid(name)
-    named = "other" if dice.roll(30) == 0 else uid
-    return do("put", name, named, expected(name, uid), card_text(uid))
+    def ask(self, _name):
+        """An ask of some device, and often a write before it goes on."""
+        place = self.dice.roll(len(self.devices))
+        reply = self.do("ask", place, self.dice.of(None, 1, 1, 2, 2, 3, 1000, 0))
+        if " and more" in reply and self.dice.roll(2) == 0:
+            self.put(self.devices[place])
+        return reply
 
+    def forget(self, name):
+        book = self.office.books.get(name)
+        if not book:
+            return self.do("forget", name, 0)
+        room = book.number - book.horizon
+        upto = self.dice.of(book.number + 1, max(book.horizon, 1) - 1, book.horizon, book.number,
+                            book.horizon + self.dice.roll(room // 2 + 1),
+                            book.horizon + self.dice.roll(room // 4 + 1))
+        return self.do("forget", name, upto)
 
-def remove(name):
-    uid = some_uid(name)
-    return do("remove", name, uid, expected(name, uid))
+    def create(self, _name):
+        more = ["fifth"] if len(self.office.books) == LIMITS[3] else []
+        return self.do("create",
+                       self.dice.of("staff", "Staff", "a" * 41, "no_such", "clients", *more))
 
+    def people(self, name):
+        return self.do("people", name, self.dice.of("team", "half", "team", "half", *UIDS))
 
-def move(name):
-    uid = some_uid(name)
-    return do("move", name, uid, dice.of(*BOOKS, *BOOKS, "none"), expected(name, uid))
+    def draw(self):
+        """One command of some kind, or a report or an ask and a put behind it."""
+        kinds = [self.put] * 34 + [self.remove] * 9 + [self.move] * 10 + [self.import_rows] * 7
+        kinds += [self.report] * 18 + [self.forget] * 2 + [self.create]
+        kinds += [lambda name: self.do("get", name, self.some_uid(name))] * 6
+        kinds += [self.people] * 4
+        kinds += [lambda name: self.do("export", name, self.dice.of("cards", "columns"))] * 2
+        kinds += [lambda name: self.do("tally", name)] * 5 + [lambda _name: self.do("books")] * 2
+        if self.devices:
+            kinds += [self.ask] * 40 + [self.forget] * 8
+        self.dice.of(*kinds)(self.some_book())
 
-
-def body_row(columns):
-    uid = dice.of(*UIDS)
-    fault = dice.roll(30)
-    if columns:
-        row = [uid, *dice.of(*ROWS)]
-        return row[:7] if fault == 0 else [uid, ""] + row[2:] if fault == 1 else row
-    return ["other" if fault == 0 else dice.of(uid, ""), card_text(uid)]
-
-
-def import_rows(name):
-    columns = dice.roll(3) > 0
-    rows = [COLUMNS if columns else ["uid", "vcard"]]
-    rows += [body_row(columns) for _row in range(dice.of(0, 1, 2, 2, 3, 4))]
-    if dice.roll(20) == 0:
-        rows[0] = ["uid", "name"]
-    out = io.StringIO(newline="")
-    csv.writer(out, lineterminator="\n").writerows(rows)
-    key = "k/3" if dice.roll(25) == 0 else f"k{dice.roll(60)}"
-    return do("import", name, key, out.getvalue())
-
-
-def some_token(name):
-    number = number_of(name)
-    book = office.books[name].id if name in office.books else 1
-    base = dice.roll(number + 1)
-    at = dice.roll(base + 1)
-    kind = dice.roll(12)
-    if kind == 0:
-        return ""
-    if kind == 1:
-        return dice.of("x", SYNC, f"{SYNC}{book}/07/{base + 7}", f"{SYNC}{book}/{base + 1}/{base}",
-                       f"{SYNC}{book}/{at}/99999999999999")
-    if kind == 2:
-        return f"{SYNC}{book % 4 + 1}/{at}/{base}"
-    if kind == 3:
-        return f"{SYNC}{book}/{at}/{number + 1 + dice.roll(3)}"
-    return f"{SYNC}{book}/{at}/{base}"
-
-
-def report(name):
-    """A page for the book's device, mostly, and often a write before it goes on."""
-    limit = dice.of(None, None, 1, 1, 1, 2, 2, 3, 5, 7, 1000, 0)
-    if dice.roll(3) == 0 or name not in devices:
-        return do("report", name, some_token(name), limit)
-    reply = do("report", name, devices[name], limit)
-    if reply.startswith("page"):
-        devices[name] = SYNC + reply.split()[1]
-    elif reply.startswith("refused 10"):
-        devices[name] = ""
-    if " and more" in reply and (limit == 1 or dice.roll(2) == 0):
-        put(name)
-    return reply
-
-
-def forget(name):
-    book = office.books.get(name)
-    if not book:
-        return do("forget", name, 0)
-    room = book.number - book.horizon
-    upto = dice.of(book.number + 1, max(book.horizon, 1) - 1, book.horizon, book.number,
-                   book.horizon + dice.roll(room // 2 + 1), book.horizon + dice.roll(room // 4 + 1))
-    return do("forget", name, upto)
-
-
-def create(_name):
-    more = ["fifth"] if len(office.books) == LIMITS[3] else []
-    return do("create", dice.of("staff", "Staff", "a" * 41, "no_such", "clients", *more))
-
-
-def draw():
-    """One command of some kind, or a report and a put behind it."""
-    kinds = [put] * 34 + [remove] * 9 + [move] * 10 + [import_rows] * 7 + [report] * 18
-    kinds += [forget] * 2 + [create]
-    kinds += [lambda name: do("get", name, some_uid(name))] * 6
-    kinds += [lambda name: do("people", name, dice.of("team", "half", "team", "half", *UIDS))] * 4
-    kinds += [lambda name: do("export", name, dice.of("cards", "columns"))] * 2
-    kinds += [lambda name: do("tally", name)] * 5 + [lambda _name: do("books")] * 2
-    dice.of(*kinds)(some_book())
-
-
-def draw_all():
-    do("books")
-    do("create", "staff")
-    do("report", "staff", "", None)
-    do("create", "clients")
-    while len(commands) < COMMANDS - 1:
-        for name, at in [("friends", 100), ("old-times", 250)]:
-            if name not in office.books and len(commands) >= at:
-                do("create", name)
-        draw()
-    do("books")
-    del commands[COMMANDS:]
+    def draw_all(self, count):
+        self.do("books")
+        self.do("create", "staff")
+        self.do("report", "staff", "", None)
+        self.do("create", "clients")
+        while len(self.commands) < count - 1:
+            for name, at in [("friends", 100), ("old-times", 250)]:
+                if name not in self.office.books and len(self.commands) >= at:
+                    self.do("create", name)
+            self.draw()
+        self.do("books")
+        del self.commands[count:]
 
 
 def escaped(text):
@@ -256,7 +264,7 @@ def command_of(line):
     return kind, *(READ[it](word) for it, word in zip(kinds, words))
 
 
-def see_that_all_come(told):
+def see_that_all_come(commands, told):
     """Each refusal, each cause of a refused token, each kind of answer, writes between pages."""
     refused = {int(reply.split()[1]) for reply in told if reply.startswith("refused")}
     assert refused == set(range(1, 19)), refused
@@ -295,14 +303,22 @@ def limits_line(limits):
     return " ".join(["limits", *map(str, limits)])
 
 
-def drawn():
-    """The drawn commands as lines, with `again` behind each hundredth."""
+def lines_of(commands):
+    """The commands as lines, with `again` behind each hundredth."""
     lines = []
     for place, command in enumerate(commands, 1):
         line = line_of(command)
         assert command_of(line) == command, (line, command)
         lines += [line, "again"] if place % BETWEEN == 0 else [line]
     return lines
+
+
+def see_that_devices_hear(commands, told):
+    """Pages with more to come and writes between them, tokens that are given up, and whole copies."""
+    asks = [reply for asked, reply in zip(commands, told) if asked[0] == "ask"]
+    assert sum(" and more" in reply for reply in asks) >= 50
+    assert sum(" gone" in reply for reply in asks) >= 20
+    assert sum(reply.startswith("refused 10") for reply in asks) >= 2
 
 
 def expanded(text, told):
@@ -343,13 +359,26 @@ def write(name, lines):
         file.write("".join(line + "\n" for line in lines).encode())
 
 
-draw_all()
-lines = drawn()
-given = ["==== drawn", *(limits_line((*LIMITS, keep)) for keep in KEEPS), *lines]
-told = []
-for keep in KEEPS:
-    see_that_all_come(list(filter(None, replies((*LIMITS, keep), lines))))
-    told += told_of("drawn", (*LIMITS, keep), lines)
+given, told = [], []
+
+
+def add_drawn(title, drawing, sees):
+    """The drawn commands, done over books that remember many removed members, and few."""
+    lines = lines_of(drawing.commands)
+    given.extend([f"==== {title}", *(limits_line((*LIMITS, keep)) for keep in KEEPS), *lines])
+    for keep in KEEPS:
+        sees(drawing.commands, list(filter(None, replies((*LIMITS, keep), lines))))
+        told.extend(told_of(title, (*LIMITS, keep), lines))
+
+
+commands = Drawing(2000)
+commands.draw_all(COMMANDS)
+add_drawn("drawn", commands, see_that_all_come)
+events = Drawing(6578, devices=["staff", "staff", "friends", "clients"])
+events.draw_all(EVENTS)
+for place in range(len(events.devices)):
+    events.do("copy", place)
+add_drawn("drawn, with devices", events, see_that_devices_hear)
 for title, limits, scripts in sections():
     lines, wanted = worked(scripts)
     see_that_all_are_told(title, limits, lines, wanted)

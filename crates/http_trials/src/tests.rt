@@ -3,4 +3,3 @@ mod pages;
 mod replies;
 mod requests;
 mod routes;
-mod sessions;

@@ -2,7 +2,6 @@ mod answers;
 mod calls;
 mod devices;
 mod imports;
-mod keeping;
 mod limits;
 mod numbers;
 mod tokens;
@@ -27,13 +26,6 @@ fn mark(at: u64, base: u64) -> Mark {
 fn token(book: u64, at: u64, base: u64) -> Option<Token> {
     let mark = mark(at, base);
     Some(Token { book, mark })
-}
-
-/// An entry of a member whose card has the UID and name.
-fn changed(rt: &impl Abort, alloc: Global, version: u64, uid: &str, name: &str) -> Entry {
-    let card = card(rt, alloc, uid, name);
-    let uid = Text::copy_of(alloc, uid).expect(rt, "memory");
-    Entry::Changed { uid, version, card }
 }
 
 /// An entry of a member that was removed.

@@ -1,6 +1,5 @@
 mod faults;
 mod pages;
-mod refused;
 
 use book_devices::token_text;
 use book_model::Entry;

@@ -2,14 +2,15 @@
 ghost use Rattle.std.specs.Prelude.{◌≡◌};
 ghost use Rattle.book_model.specs.Bounds.{IsInRange};
 
-use super::{driven, performed};
+use super::{devices_of, driven};
+use book_scripts::replies_told;
 use book_service::mirror;
 use std::alloc::Global;
 use std::collections::BTreeMap;
 use std::process::Abort;
 use sync_core::{
-    BookLine, BookStore, Denied, Device, Fault, ImportTally, Limits, Moved, Page, PlainStore,
-    PutAnswer, Stored, Tally, Token,
+    BookLine, BookStore, Denied, Fault, ImportTally, Limits, Moved, Page, PlainStore, PutAnswer,
+    Stored, Tally, Token,
 };
 use vcard_text::Card;
 
@@ -150,20 +151,20 @@ fn working_store(rt: &impl Abort, alloc: Global) -> FailingStore {
         limits,
         fault: None,
     };
-    performed(alloc, &mut store, "create staff\nput staff a Ann").expect(rt, "an answer");
+    replies_told(alloc, &mut store, "create staff\ncard staff a FN:Ann").expect(rt, "replies");
     store
 }
 
 const COMMANDS: &str = "create clients
-put staff b Bob
-garble staff b
+card staff b FN:Bob
+put staff b - BEGIN:VCARD
 remove staff a
 move staff a staff
 get staff a
 books
 tally staff
 forget staff 0
-import staff k columns;b,Bob,,,,,,
+import staff k uid,fn,family,given,email,tel,org,note\\nb,Bob,,,,,,
 export staff cards
 export staff columns
 people staff a
@@ -176,11 +177,11 @@ fn a_fault_of_the_store_is_replied_as_it_is(rt: HostRuntime) {
         let mut store = working_store(&rt, alloc);
         store.answer(Some(fault));
         for command in COMMANDS.lines() {
-            let told = performed(alloc, &mut store, command).expect(&rt, "an answer");
+            let told = replies_told(alloc, &mut store, command).expect(&rt, "a reply");
             assert_eq!(rt; told.as_str(), number, "{command}");
         }
         store.answer(None);
-        let told = performed(alloc, &mut store, "tally staff").expect(&rt, "an answer");
+        let told = replies_told(alloc, &mut store, "tally staff").expect(&rt, "a reply");
         assert_eq!(rt; told.as_str().contains("number 1 "), true);
     }
 }
@@ -190,12 +191,9 @@ fn devices_and_mirrors_hand_the_fault_on(rt: HostRuntime) {
     let alloc = rt.alloc();
     for (fault, number) in [(Fault::Store, "fault 19\n"), (Fault::Memory, "fault 20\n")] {
         let mut store = working_store(&rt, alloc);
-        let mut devices = Vec::new(alloc);
-        devices
-            .push(Device::new(alloc, "staff").expect(&rt, "an answer"))
-            .expect(&rt, "memory");
+        let mut devices = devices_of(&rt, alloc, &["staff"]);
         store.answer(Some(fault));
-        let told = driven(alloc, &mut store, &mut devices, "ask 0").expect(&rt, "an answer");
+        let told = driven(&rt, alloc, &mut store, &mut devices, "ask 0");
         assert_eq!(rt; told.as_str(), number);
         let denied = mirror(alloc, &mut store, "staff", 1, 1).err();
         assert_eq!(rt; denied, Some(Denied::Fault(fault)));

@@ -1,6 +1,5 @@
 //! A book as large as may be, told as rows and imported from them.
-use super::performed;
-use super::replies::told;
+use book_scripts::{replies_told, reply_told};
 use book_service::{Command, Reply, perform};
 use csv_cards::Form;
 use std::alloc::Global;
@@ -30,7 +29,7 @@ fn columns(alloc: Global) -> Result<Vec<u8>, NoMemory> {
 /// A store whose book `staff` has no cards.
 fn empty_book(alloc: Global) -> Result<PlainStore, NoMemory> {
     let mut store = PlainStore::new(alloc, Limits::standard());
-    performed(alloc, &mut store, "create staff")?;
+    replies_told(alloc, &mut store, "create staff")?;
     Ok(store)
 }
 
@@ -41,7 +40,7 @@ fn imported(alloc: Global, store: &mut PlainStore, body: Vec<u8>) -> Result<Stri
         key: Text::copy_of(alloc, "all")?,
         body: Items::from_vec(body),
     };
-    told(alloc, &perform(alloc, store, &command))
+    reply_told(alloc, &perform(alloc, store, &command))
 }
 
 /// The octets of the rows of the book, and none where they aren't replied.
@@ -64,7 +63,7 @@ fn are_same(a: &[u8], b: &[u8]) -> bool {
     a == b
 }
 
-const ALL_NEW: &str = "added 10000 edited 0 same 0 number 10000\n";
+const ALL_NEW: &str = "added 10000 edited 0 same 0 number 10000";
 
 /// The rows of the book in the form are imported into an empty one. Then its cards are the same,
 /// and so are its rows, octet for octet.

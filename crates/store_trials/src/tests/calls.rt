@@ -1,9 +1,9 @@
 //! Each call of a store in memory once, where there is memory enough. What calls answer in which
-//! order is tried by the scripts of `book_service`.
+//! order is tried by the lists of `both_stores`.
 use super::answers::{
     is_counted, is_created, is_got, is_moved, is_no_report, is_put, is_removed, is_reported,
 };
-use super::{card, changed, mark, page_of_one, removed, token};
+use super::{card, mark, page_of_one, removed, token};
 use book_model::decisions::is_book_name;
 use book_model::{
     BookLine, Denied, Limits, Moved, Page, PutAnswer, Refusal, Stored, Tally, TokenCause,
@@ -172,58 +172,6 @@ fn names_are_1_to_40_small_letters_digits_and_hyphens(rt: HostRuntime) {
     for (name, is_name) in NAMES {
         assert_eq!(rt; is_book_name(name), *is_name, "{name}");
     }
-}
-
-/// What is removed is forgotten up to a number, which isn't below the horizon nor past the changes.
-fn is_forgotten<S: BookStore>(
-    rt: &impl Abort,
-    store: &mut S,
-    upto: u64,
-    dropped: Result<u64, Denied>,
-) {
-    assert_eq!(rt; store.forget("staff", upto), dropped, "{upto}");
-}
-
-/// After five changes what is removed is forgotten, and the horizon only rises, up to the number.
-#[test]
-fn removed_members_are_forgotten(rt: HostRuntime) {
-    let alloc = rt.alloc();
-    let mut store = PlainStore::new(alloc, Limits::standard());
-    five_changes(&rt, alloc, &mut store);
-    let too_far = Denied::Refused(Refusal::BadForget);
-    is_forgotten(&rt, &mut store, 5, Ok(1));
-    is_forgotten(&rt, &mut store, 5, Ok(0));
-    is_forgotten(&rt, &mut store, 6, Err(too_far));
-    is_forgotten(&rt, &mut store, 4, Err(too_far));
-    let forgotten = Tally {
-        horizon: 5,
-        remembered: 0,
-        ..STAFF
-    };
-    is_counted(&rt, &mut store, "staff", forgotten);
-    pages_leave_out_the_forgotten(&rt, alloc, &mut store);
-}
-
-/// What is reported where all of the five changes that removed a member are forgotten.
-fn pages_leave_out_the_forgotten<S: BookStore>(rt: &impl Abort, alloc: Global, store: &mut S) {
-    let too_old = Refusal::BadToken(TokenCause::TooOld);
-    is_no_report(rt, store, "staff", token(1, 4, 4), too_old);
-    let cy = page_of_one(
-        rt,
-        alloc,
-        changed(rt, alloc, 3, "c", "Cy"),
-        mark(3, 5),
-        true,
-    );
-    is_reported(rt, store, "staff", None, Some(1), cy);
-    let anna = page_of_one(
-        rt,
-        alloc,
-        changed(rt, alloc, 4, "a", "Anna"),
-        mark(5, 5),
-        false,
-    );
-    is_reported(rt, store, "staff", token(1, 3, 5), None, anna);
 }
 
 /// No book has imports, and a key is letters, digits, dots, underscores and hyphens.

@@ -1,5 +1,5 @@
-//! What a device makes of pages. What devices hear of stores is tried by the scripts of
-//! `book_service`.
+//! What a device makes of pages. What devices hear of stores is tried by the lists of
+//! `both_stores`.
 use super::{card, mark, token};
 use book_devices::Device;
 use book_model::{Entry, Page};

@@ -1,12 +1,13 @@
-//! Imports into a book in memory: what they count, that they act once, and the limits.
+//! Imports into a book in memory: that they act once, and under which keys. What they count, and the
+//! limits, are tried by the lists of `both_stores`.
 ghost use Rattle.std.specs.Prelude.{◌≡◌, IsTrue, bytes_eq, not};
 ghost use Rattle.std.specs.List.{list_all};
 ghost use Rattle.vcard_text.specs.Cards.{uid_of};
 ghost use Rattle.book_model.specs.ImportLaws.{HaveDistinctUids};
 
-use super::answers::{is_counted, is_got};
+use super::answers::is_counted;
 use super::card;
-use book_model::{Denied, ImportTally, Limits, Refusal, Stored, Tally};
+use book_model::{Denied, ImportTally, Limits, Refusal, Tally};
 use std::alloc::Global;
 use std::process::Abort;
 use sync_core::{BookStore, PlainStore};
@@ -85,10 +86,9 @@ fn import(
     store.import("staff", key, cards.as_slice())
 }
 
-/// A store with the limits and the empty book `staff`.
-fn store_within(rt: &impl Abort, alloc: Global, cards_max: u64, changes_max: u64) -> PlainStore {
-    let limits = Limits::new(100, cards_max, changes_max, 100).expect(rt, "no limits");
-    let mut store = PlainStore::new(alloc, limits);
+/// A store with the empty book `staff`.
+fn new_store(rt: &impl Abort, alloc: Global) -> PlainStore {
+    let mut store = PlainStore::new(alloc, Limits::standard());
     store.create_book("staff").expect(rt, "an answer");
     store
 }
@@ -105,17 +105,13 @@ fn is_imported(
     assert_eq!(rt; import(rt, alloc, store, key, people), answer, "{key}");
 }
 
-fn is_kept(rt: &impl Abort, store: &mut PlainStore, kept: Option<ImportTally>) {
-    assert_eq!(rt; store.kept_import("staff", "k1"), Ok(kept));
-}
-
 #[test]
 fn an_import_under_a_kept_key_acts_once(rt: HostRuntime) {
     let alloc = rt.alloc();
-    let mut store = store_within(&rt, alloc, 10_000, 1_000);
+    let mut store = new_store(&rt, alloc);
     is_imported(&rt, alloc, &mut store, "k1", &THREE, Ok(THREE_ADDED));
     is_imported(&rt, alloc, &mut store, "k1", &THREE_MORE, Ok(THREE_ADDED));
-    is_kept(&rt, &mut store, Some(THREE_ADDED));
+    assert_eq!(rt; store.kept_import("staff", "k1"), Ok(Some(THREE_ADDED)));
     let three = Tally {
         number: 3,
         cards: 3,
@@ -125,98 +121,10 @@ fn an_import_under_a_kept_key_acts_once(rt: HostRuntime) {
     is_counted(&rt, &mut store, "staff", three);
 }
 
-/// The card of the UID and name is stored with the version.
-fn is_stored(
-    rt: &impl Abort,
-    alloc: Global,
-    store: &mut PlainStore,
-    uid: &str,
-    name: &str,
-    version: u64,
-) {
-    let card = card(rt, alloc, uid, name);
-    is_got(rt, store, "staff", uid, Stored { version, card });
-}
-
-#[test]
-fn cards_are_added_edited_or_the_same(rt: HostRuntime) {
-    let alloc = rt.alloc();
-    let mut store = store_within(&rt, alloc, 10_000, 1_000);
-    is_imported(&rt, alloc, &mut store, "k1", &THREE, Ok(THREE_ADDED));
-    let one_each = ImportTally {
-        added: 1,
-        edited: 1,
-        same: 1,
-        number: 5,
-    };
-    is_imported(&rt, alloc, &mut store, "k2", &THREE_MORE, Ok(one_each));
-    let four = Tally {
-        number: 5,
-        cards: 4,
-        imported: 4,
-        import_edited: 1,
-        ..NO_CHANGES
-    };
-    is_counted(&rt, &mut store, "staff", four);
-    is_stored(&rt, alloc, &mut store, "p", "Pat Lee", 1);
-    is_stored(&rt, alloc, &mut store, "q", "Quinn", 4);
-    is_stored(&rt, alloc, &mut store, "s", "Sy", 5);
-}
-
-#[test]
-fn an_import_of_no_cards_is_kept_and_takes_no_number(rt: HostRuntime) {
-    let alloc = rt.alloc();
-    let mut store = store_within(&rt, alloc, 10_000, 1_000);
-    let nothing = ImportTally {
-        added: 0,
-        edited: 0,
-        same: 0,
-        number: 0,
-    };
-    is_imported(&rt, alloc, &mut store, "k1", &[], Ok(nothing));
-    is_counted(&rt, &mut store, "staff", NO_CHANGES);
-    is_imported(&rt, alloc, &mut store, "k1", &THREE, Ok(nothing));
-}
-
-/// A refused import changes nothing, and its key isn't kept.
-fn is_beyond(rt: &impl Abort, alloc: Global, cards_max: u64, changes_max: u64, refusal: Refusal) {
-    let mut store = store_within(rt, alloc, cards_max, changes_max);
-    let refused = Err(Denied::Refused(refusal));
-    is_imported(rt, alloc, &mut store, "k1", &THREE, refused);
-    is_kept(rt, &mut store, None);
-    is_counted(rt, &mut store, "staff", NO_CHANGES);
-}
-
-#[test]
-fn imports_beyond_a_limit_are_refused(rt: HostRuntime) {
-    is_beyond(&rt, rt.alloc(), 2, 2, Refusal::BookFull);
-    is_beyond(&rt, rt.alloc(), 2, 3, Refusal::BookFull);
-    is_beyond(&rt, rt.alloc(), 3, 2, Refusal::ChangesSpent);
-}
-
-/// A full book that took all its changes takes the same cards again.
-#[test]
-fn imports_up_to_the_limits_are_done(rt: HostRuntime) {
-    let alloc = rt.alloc();
-    let mut store = store_within(&rt, alloc, 3, 3);
-    is_imported(&rt, alloc, &mut store, "k1", &THREE, Ok(THREE_ADDED));
-    let same = ImportTally {
-        added: 0,
-        edited: 0,
-        same: 3,
-        number: 3,
-    };
-    is_imported(&rt, alloc, &mut store, "k2", &THREE, Ok(same));
-    let full = Err(Denied::Refused(Refusal::BookFull));
-    is_imported(&rt, alloc, &mut store, "k3", &THREE_MORE, full);
-    let spent = Err(Denied::Refused(Refusal::ChangesSpent));
-    is_imported(&rt, alloc, &mut store, "k3", &[("p", "Pat")], spent);
-}
-
 #[test]
 fn imports_under_other_words_than_keys_are_refused(rt: HostRuntime) {
     let alloc = rt.alloc();
-    let mut store = store_within(&rt, alloc, 2, 2);
+    let mut store = new_store(&rt, alloc);
     let refused = import(&rt, alloc, &mut store, "k/3", &THREE);
     assert_eq!(rt; refused, Err(Denied::Refused(Refusal::BadKey)));
     assert_eq!(rt;

@@ -1,6 +1,8 @@
 //! Lines that are read, written, folded and joined again.
 use crate::tests::is_text;
 use base_types::{Items, Part, Text};
+use std::alloc::Global;
+use std::process::Abort;
 use vcard_lines::{
     CardFault, Line, Param, continues, folded_len, folded_line_len, has_legal_parts,
     is_permitted_text, join, line_so_far, read_line, write_folded, write_line,
@@ -47,24 +49,34 @@ fn numbers_faults(rt: HostRuntime) {
     }
 }
 
+/// A line with a group, two parameters and a quoted value, as it is written again.
+const PHONE: &str = "item1.TEL;TYPE=a,\"b;\";PREF=1:+1;2";
+
+fn phone(rt: &impl Abort, alloc: Global) -> Line {
+    read_line(alloc, "item1.Tel;TYPE=a,\"b;\";PREF=1:+1;2").expect(rt, "an answer")
+}
+
 #[test]
-fn reads_and_writes_lines(rt: HostRuntime) {
-    let line = read_line(rt.alloc(), "item1.Tel;TYPE=a,\"b;\";PREF=1:+1;2").expect(
-        &rt,
-        "an answer",
-    );
+fn reads_lines(rt: HostRuntime) {
+    let line = phone(&rt, rt.alloc());
     is_text(&rt, line.name.as_str(), "TEL", "the name");
     is_text(&rt, line.value.as_str(), "+1;2", "the value");
+}
+
+#[test]
+fn writes_lines(rt: HostRuntime) {
+    let line = phone(&rt, rt.alloc());
     let mut text = String::from_str(rt.alloc(), "before").expect(&rt, "memory");
     write_line(&mut text, &line).expect(&rt, "an answer");
-    is_text(
-        &rt,
-        text.as_str(),
-        "item1.TEL;TYPE=a,\"b;\";PREF=1:+1;2",
-        "the line",
-    );
-    assert_eq!(rt; folded_line_len(&line), text.len() + 2);
-    assert_eq!(rt; line.try_copy().expect(&rt, "memory").is_same(&line), true);
+    is_text(&rt, text.as_str(), PHONE, "the line");
+    assert!(rt; folded_line_len(&line) == text.len() + 2);
+}
+
+#[test]
+fn copies_lines(rt: HostRuntime) {
+    let line = phone(&rt, rt.alloc());
+    let copy = line.try_copy().expect(&rt, "memory");
+    assert!(rt; copy.is_same(&line));
 }
 
 #[test]
@@ -74,26 +86,42 @@ fn refuses_lines(rt: HostRuntime) {
     }
 }
 
-#[test]
-fn judges_parts(rt: HostRuntime) {
-    let mut line = read_line(rt.alloc(), "TEL:1").expect(&rt, "an answer");
-    assert_eq!(rt; has_legal_parts(&line), true);
-    line.params
-        .push(Param {
-            name: Text::copy_of(rt.alloc(), "TYPE").expect(&rt, "memory"),
-            values: Items::new(rt.alloc()),
-        })
-        .expect(&rt, "memory");
-    assert_eq!(rt; has_legal_parts(&line), false);
-    let nameless = Line {
+/// A parameter that has no value.
+fn without_values(rt: &impl Abort, alloc: Global) -> Param {
+    Param {
+        name: Text::copy_of(alloc, "TYPE").expect(rt, "memory"),
+        values: Items::new(alloc),
+    }
+}
+
+/// A line that has no name.
+fn nameless(rt: &impl Abort, alloc: Global) -> Line {
+    Line {
         group: None,
-        name: Text::copy_of(rt.alloc(), "").expect(&rt, "memory"),
-        params: Items::new(rt.alloc()),
-        value: Text::copy_of(rt.alloc(), "1").expect(&rt, "memory"),
-    };
-    assert_eq!(rt; has_legal_parts(&nameless), false);
-    assert_eq!(rt; is_permitted_text("a\tb"), true);
-    assert_eq!(rt; is_permitted_text("a\nb"), false);
+        name: Text::copy_of(alloc, "").expect(rt, "memory"),
+        params: Items::new(alloc),
+        value: Text::copy_of(alloc, "1").expect(rt, "memory"),
+    }
+}
+
+#[test]
+fn judges_parameters(rt: HostRuntime) {
+    let mut line = read_line(rt.alloc(), "TEL:1").expect(&rt, "an answer");
+    assert!(rt; has_legal_parts(&line));
+    let empty = without_values(&rt, rt.alloc());
+    line.params.push(empty).expect(&rt, "memory");
+    assert!(rt; !has_legal_parts(&line));
+}
+
+#[test]
+fn judges_names(rt: HostRuntime) {
+    assert!(rt; !has_legal_parts(&nameless(&rt, rt.alloc())));
+}
+
+#[test]
+fn judges_texts(rt: HostRuntime) {
+    assert!(rt; is_permitted_text("a\tb"));
+    assert!(rt; !is_permitted_text("a\nb"));
 }
 
 #[test]
