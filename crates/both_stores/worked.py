@@ -697,7 +697,17 @@ tally desk => number 6 horizon 0 cards 2 created 4 edited 0 imported 0 import-ed
 """),
 ]
 
+# A book of 250 cards, as a mirror by pages of 100 has it.
+LONG_BOOK = [f"u{place:03}" for place in range(250)]
+LONG_BODY = "".join(f"{uid},Name,,,,,,\\n" for uid in LONG_BOOK)
+LONG_COPY = "".join(f" | {uid} {number} [{uid} Name]" for number, uid in enumerate(LONG_BOOK, 1))
+
 MORE_ROWS = [
+    ("A book of 250 cards is copied in three pages of at most 100", f"""
+create staff => book 1
+import staff k COLUMNS\\n{LONG_BODY} => added 250 edited 0 same 0 number 250
+mirror staff 100 10 => pages 3 done 1/250/250{LONG_COPY}
+"""),
     ("A book is copied whole, page by page, or until there were so many pages", FIVE_CHANGES, """
 mirror staff 1 10 => pages 2 done 1/5/5 | a 4 [a Anna] | c 3 [c Cy]
 mirror staff 2 1 => pages 1 done 1/5/5 | a 4 [a Anna] | c 3 [c Cy]
