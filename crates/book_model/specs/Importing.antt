@@ -90,6 +90,10 @@ import_tally limits state cards number = do
 abbrev pub storing_in : Book → List Line → StoreReason → Book
 storing_in book card why = with_change book (uid_of card) (Stores card why)
 
+-- what an import answers that left the book so
+abbrev pub tally_after : Bounds → Importing Book → Result ImportTally Refusal
+tally_after limits done = import_tally limits done (live_count done.book.counts) done.book.number
+
 -- the book keeps the import's answer under its key
 abbrev pub with_kept_import : Book → List ℕ → ImportTally → Book
 with_kept_import book key tally = record book { imports = finite.insert book.imports key tally }
@@ -99,9 +103,7 @@ abbrev pub import_under : Bounds → Books → List ℕ → Book → List ℕ �
     → Option ImportTally → Result (ImportTally × Books) Refusal
 import_under limits books name book key cards (Some kept) = Ok (kept, books)
 import_under limits books name book key cards None = do
-  tally ← import_tally limits (import_cards live_at storing_in book cards)
-      (live_count (import_cards live_at storing_in book cards).book.counts)
-      (import_cards live_at storing_in book cards).book.number
+  tally ← tally_after limits (import_cards live_at storing_in book cards)
   Ok (
     tally,
     finite.insert books name (with_kept_import (import_cards live_at storing_in book cards).book

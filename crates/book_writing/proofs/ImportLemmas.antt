@@ -25,10 +25,9 @@ use Rattle.book_model.specs.Books.{Book, Books, same_name, stored_in, live_at}
 use Rattle.book_model.specs.Outcomes.{Does, ◌>>=◌, provided}
 use Rattle.book_model.specs.Counting.{arrivals, departures, live_count}
 use Rattle.book_model.specs.declared.counts.Counts.{Counts}
-use Rattle.book_model.specs.Importing.{Importing, import_card, import_cards, import_for, import_reason, import_state, import_step, import_tally, import_under, imported_so_far, is_legal_key, storing_in, with_kept_import}
+use Rattle.book_model.specs.Importing.{Importing, import_card, import_cards, import_for, import_reason, import_state, import_step, import_tally, import_under, imported_so_far, is_legal_key, storing_in, tally_after, with_kept_import}
 use Rattle.book_model.specs.ImportLaws.{HaveDistinctUids}
 use Rattle.book_model.proofs.ImportCountLemmas.{apart_turned, imports_take_numbers}
-use Rattle.sync_core.specs.ImportedRows.{tally_after}
 use Rattle.book_model.specs.declared.denied.Denied.{Denied}
 use Rattle.book_model.specs.declared.denied.Denied.TheVariants.{Refused, Fault}
 use Rattle.book_reading.specs.Answers.{Answers, IsTold}

@@ -12,7 +12,7 @@ use Rattle.book_model.specs.declared.denied.Denied.TheVariants.{Refused, Fault}
 use Rattle.book_model.specs.declared.refusal.Refusal.{Refusal}
 use Rattle.book_model.specs.Bounds.{Bounds}
 use Rattle.book_model.specs.Books.{Book, Books, live_at}
-use Rattle.book_model.specs.Importing.{Importing, import_cards, import_for, import_reason, import_state, import_step, is_legal_key, storing_in, with_kept_import}
+use Rattle.book_model.specs.Importing.{Importing, import_cards, import_for, import_reason, import_state, import_step, is_legal_key, storing_in, tally_after, with_kept_import}
 use Rattle.book_rows.specs.ChangeLaws.{WritesWithin}
 use Rattle.book_rows.specs.LookupLaws.{IsBookNamed}
 use Rattle.book_rows.specs.SoundTables.{AreSound}
@@ -22,7 +22,6 @@ use Rattle.sqlite.specs.Effect.{Database}
 use Rattle.sqlite.specs.State.{State, HasCleanDisk}
 use Rattle.sqlite_rules.specs.Lists.{Has}
 use Rattle.book_writing.specs.Changing.{HasLine}
-use Rattle.sync_core.specs.ImportedRows.{tally_after}
 use Rattle.book_writing.specs.declared.import_plan.ImportOrder.{ImportOrder}
 use Rattle.book_writing.specs.declared.import_plan.ImportOrder.TheVariants.{Kept, New}
 use Rattle.book_writing.specs.declared.import_plan.ImportPlan.{ImportPlan}

@@ -1,18 +1,15 @@
 -- How the store in memory takes an import, and takes it back. This project's own.
-use Rattle.std.specs.Prelude.{ℕ, ◌+◌, ◌-◌, ◌<◌, ◌≤◌, ◌^◌, List, [], ◌∷◌, Option, Some, None, Result, min}
+use Rattle.std.specs.Prelude.{ℕ, ◌+◌, ◌-◌, ◌<◌, ◌≤◌, ◌^◌, List, [], ◌∷◌, Option, Some, None, min}
 use Rattle.std.specs.Option.{option_map_or}
 use Rattle.std.specs.FinMap as finite
 use Rattle.base_types.specs.TextMaps.{text_cmp}
 use Rattle.vcard_lines.specs.declared.line.Line.{Line}
 use Rattle.vcard_text.specs.Cards.{uid_of}
-use Rattle.book_model.specs.declared.answers.ImportTally.{ImportTally}
 use Rattle.book_model.specs.declared.counts.Counts.{Counts}
-use Rattle.book_model.specs.declared.refusal.Refusal.{Refusal}
 use Rattle.book_model.specs.declared.row.Row.{Row}
-use Rattle.book_model.specs.Bounds.{Bounds}
 use Rattle.book_model.specs.Books.{Book, live_at}
-use Rattle.book_model.specs.Counting.{arrivals, departures, live_count}
-use Rattle.book_model.specs.Importing.{Importing, import_reason, import_tally, storing_in}
+use Rattle.book_model.specs.Counting.{arrivals, departures}
+use Rattle.book_model.specs.Importing.{import_reason, storing_in}
 use Rattle.sync_core.specs.declared.book.importing.RowBefore.{RowBefore}
 
 -- ---- forth
@@ -25,10 +22,6 @@ with_imported book card =
 -- the numbers that were taken between the one book and the other are small
 abbrev pub HasRoom : Book → Book → Type 0
 HasRoom before after = before.number < after.number → after.number ≤ 2 ^ 63
-
--- what an import answers that left this
-abbrev pub tally_after : Bounds → Importing Book → Result ImportTally Refusal
-tally_after limits done = import_tally limits done (live_count done.book.counts) done.book.number
 
 -- how many cards are live after so many more were added, as far as 64 bits hold it
 abbrev pub capped_count : Counts → ℕ → ℕ

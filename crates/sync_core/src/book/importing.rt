@@ -3,10 +3,10 @@ ghost use Rattle.std.specs.Prelude.{◌≡◌, ◌+◌, ◌<◌, ◌≤◌, ◌^
 ghost use Rattle.std.specs.FinMap as finite;
 ghost use Rattle.book_model.specs.Books.{live_at};
 ghost use Rattle.book_model.specs.Changing.{card_after};
-ghost use Rattle.book_model.specs.Importing.{import_cards, import_state, import_tally, storing_in, with_kept_import};
+ghost use Rattle.book_model.specs.Importing.{import_cards, import_state, import_tally, storing_in, tally_after, with_kept_import};
 ghost use Rattle.book_model.specs.ImportLaws.{CountsCards, HaveDistinctUids};
 ghost use Rattle.book_model.specs.Counting.{live_count, total};
-ghost use Rattle.sync_core.specs.ImportedRows.{HasRoom, capped_count, row_put_back, rows_before, tally_after, with_imported};
+ghost use Rattle.sync_core.specs.ImportedRows.{HasRoom, capped_count, row_put_back, rows_before, with_imported};
 
 use super::PlainBook;
 use book_model::decisions::{reason_to_import, tally_of_import};

@@ -2,9 +2,8 @@ use Rattle.std.proofs.Common.{rules, ◌≡◌, ◌+◌, length, Ok, Err, sym, a
 use Rattle.std.proofs.lemmas.List.{length-map}
 use Rattle.sqlite.specs.Held.{state}
 use Rattle.sqlite.specs.State.{HasCleanDisk}
-use Rattle.book_model.specs.Importing.{import_cards, storing_in}
+use Rattle.book_model.specs.Importing.{import_cards, storing_in, tally_after}
 use Rattle.book_model.specs.Books.{live_at}
-use Rattle.sync_core.specs.ImportedRows.{tally_after}
 use Rattle.book_rows.specs.TableBooks.{book_of, line_row}
 use Rattle.book_writing.specs.Importing.{IsPlanned, IsRefused, plan_of}
 use Rattle.book_writing.proofs.ImportLemmas.{planned_book, planned_tally, refused_tally, told_tally}
