@@ -8,3 +8,4 @@ pub mod StoredLemmas
 pub mod MovedLemmas
 pub mod ShownLemmas
 pub mod OpenLemmas
+pub mod GreatestLemmas

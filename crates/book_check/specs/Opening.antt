@@ -2,7 +2,7 @@
 use Rattle.std.specs.Prelude.{⊤, List, Result, Ok, Err}
 use Rattle.sqlite.specs.Effect.{Database}
 use Rattle.sqlite.specs.Order.{Row}
-use Rattle.book_model.specs.Bounds.{Bounds}
+use Rattle.book_model.specs.Bounds.{Bounds, bounds_of}
 use Rattle.book_rows.specs.SoundTables.{HoldsWellFormed}
 use Rattle.schema_check.specs.StoredSchema.{IsOurs, TellsSchema}
 use Rattle.schema_check.specs.declared.open_fault.OpenFault.{OpenFault}
@@ -33,3 +33,7 @@ Opens limits db (Err (OtherSchema has)) = TellsSchema db (Err (OtherSchema has))
 Opens limits db (Err Damaged) = IsOurs db × ¬ HoldsWellFormed limits db
 Opens limits db (Err NotEmpty) = ⊥
 Opens limits db (Err Memory) = ⊤
+
+-- the limits that a store's rows are tested against, with the greatest of cards, changes and books
+abbrev pub greatest : Bounds
+greatest = bounds_of 100 10000 1000000000000 100

@@ -1,7 +1,6 @@
 //! Carrying stores in files.
 use crate::migrating::migrate_connection;
-use book_store::fault_of_file;
-use schema_check::OpenFault;
+use schema_check::{OpenFault, fault_of_file};
 use sqlite::Connection;
 use std::fs;
 

@@ -1,7 +1,7 @@
 //! Carrying tables of the first schema into the second.
+ghost use Rattle.book_check.specs.Opening.{greatest};
 ghost use Rattle.book_migration.specs.Migration.{CommitsMigration, IsDue, IsMigrated};
 ghost use Rattle.book_rows.specs.SoundTables.{HoldsWellFormed};
-ghost use Rattle.book_store.specs.Opening.{greatest};
 ghost use Rattle.schema_check.specs.FirstSchema.{IsFirst};
 ghost use Rattle.sqlite.specs.Held.{state};
 ghost use Rattle.sqlite.specs.State.{HasCleanDisk, Survives};

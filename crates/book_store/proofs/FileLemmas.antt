@@ -1,21 +1,14 @@
 -- What opening files comes to.
-use Rattle.std.proofs.Common.{◌≡◌, inl, inr, Result, Ok, Err, IfOk, ap, ◌∙◌, sym, subst}
+use Rattle.std.proofs.Common.{◌≡◌, Result, Ok, Err, IfOk, ap, ◌∙◌, sym, subst}
 use Rattle.sqlite.specs.Effect.{Database}
 use Rattle.sqlite.specs.Files.{AreFoundIn}
 use Rattle.sqlite.specs.Start.{FindsIn}
 use Rattle.sqlite.specs.State.{State, HasCleanDisk, IsLive, Opens}
 use Rattle.sqlite.specs.Recovery.{Image}
-use Rattle.schema_check.specs.OpenFaults.{IsErrorFault}
 use Rattle.schema_check.specs.StoredSchema.{ChangesNothing}
-use Rattle.schema_check.specs.declared.open_fault.OpenFault.{OpenFault}
 use Rattle.book_rows.specs.SoundTables.{HoldsWellFormed}
-use Rattle.book_store.specs.Opening.{IsFaultOfCreating, greatest}
+use Rattle.book_check.specs.Opening.{greatest}
 use Rattle.book_writing.specs.StoredBooks.{IsInOrder}
-
--- an error of the database may come of creating a store
-pub error_of_creating : (fault : OpenFault) → IsErrorFault fault → IsFaultOfCreating fault
-error_of_creating fault (inl store) = subst IsFaultOfCreating (sym store) tt
-error_of_creating fault (inr memory) = subst IsFaultOfCreating (sym memory) tt
 
 -- a connection that was just opened, and that a test left as it was, holds what was found
 pub found_well_formed : (old new : State) → ChangesNothing old new → (HasCleanDisk old → Opens old × IsLive old) → (IsInOrder new → IsInOrder old) → (IsInOrder new → HoldsWellFormed greatest old.now)

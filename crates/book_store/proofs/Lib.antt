@@ -1,4 +1,3 @@
 pub mod LayLemmas
 pub mod StoreLemmas
-pub mod AdoptLemmas
 pub mod FileLemmas

@@ -1,16 +1,14 @@
 -- What opening a store comes to. This project's own.
-use Rattle.std.specs.Prelude.{◌≡◌, ⊤, Err}
+use Rattle.std.specs.Prelude.{◌≡◌, Err}
 use Rattle.sqlite.specs.Held.{Held, state}
 use Rattle.sqlite.specs.State.{State, HasCleanDisk}
 use Rattle.sqlite.specs.Tree.{Trees}
 use Rattle.sqlite_trees.specs.declared.store.Store.{Ghosts}
-use Rattle.book_model.specs.Bounds.{Bounds, bounds_of}
 use Rattle.book_tables.specs.Meta.{IsLaid, schema_number}
 use Rattle.book_tables.specs.Tables.{book_schema}
 use Rattle.schema_check.specs.StoredSchema.{ChangesNothing}
 use Rattle.schema_check.specs.declared.open_fault.OpenFault.{OpenFault}
-use Rattle.schema_check.specs.declared.open_fault.OpenFault.TheVariants.{Store, NotOurs, OtherSchema, Damaged, NotEmpty, Memory}
-use Rattle.book_check.specs.Opening.{Opens}
+use Rattle.book_check.specs.Opening.{Opens, greatest}
 
 -- ---- new stores
 
@@ -23,20 +21,7 @@ pub record StandsLaid (s : State) : Type 0 where
 abbrev pub IsLaidIn : Trees → Type 0
 IsLaidIn trees = IsLaid schema_number (record { schema = book_schema; trees = trees })
 
--- what a new store may be refused with
-abbrev pub IsFaultOfCreating : OpenFault → Type 0
-IsFaultOfCreating Store = ⊤
-IsFaultOfCreating NotOurs = ⊤
-IsFaultOfCreating (OtherSchema has) = ⊥
-IsFaultOfCreating Damaged = ⊥
-IsFaultOfCreating NotEmpty = ⊤
-IsFaultOfCreating Memory = ⊤
-
 -- ---- tables that are there
-
--- the limits that stored books are tested against, with the greatest of cards, changes and books
-abbrev pub greatest : Bounds
-greatest = bounds_of 100 10000 1000000000000 100
 
 -- The connection was left as it was, and was dropped as `end`. If the disk had returned what was
 -- written until then, the fault is the one that the tables call for.

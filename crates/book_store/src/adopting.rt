@@ -1,6 +1,7 @@
 //! Opening a store over tables that are there.
 ghost use Rattle.book_rows.specs.SoundTables.{HoldsWellFormed};
-ghost use Rattle.book_store.specs.Opening.{IsRefused, greatest};
+ghost use Rattle.book_check.specs.Opening.{greatest};
+ghost use Rattle.book_store.specs.Opening.{IsRefused};
 ghost use Rattle.book_writing.specs.StoredBooks.{IsInOrder, stored_books};
 ghost use Rattle.schema_check.specs.StoredSchema.{ChangesNothing};
 ghost use Rattle.sqlite.specs.Held.{state};

@@ -1,7 +1,8 @@
 //! Stores in files.
+ghost use Rattle.book_check.specs.Opening.{greatest};
 ghost use Rattle.book_rows.specs.SoundTables.{HoldsWellFormed};
-ghost use Rattle.book_store.specs.Opening.{IsFaultOfCreating, greatest};
 ghost use Rattle.book_writing.specs.StoredBooks.{IsInOrder, stored_books};
+ghost use Rattle.schema_check.specs.OpenFaults.{IsFaultOfCreating};
 ghost use Rattle.sqlite.specs.Files.{file_state};
 ghost use Rattle.sqlite.specs.Start.{FindsIn};
 ghost use Rattle.sqlite.specs.WalFiles.{image_at};
@@ -10,8 +11,8 @@ ghost use Rattle.std.specs.Prelude.{◌≡◌, IfErr, IfOk};
 
 use crate::sql_store::SqlStore;
 use book_model::Limits;
-use schema_check::{OpenFault, open_fault_of};
-use sqlite::{Connection, Error, ErrorCode, FileStore};
+use schema_check::{OpenFault, fault_of_file};
+use sqlite::{Connection, FileStore};
 use sqlite_std_file::{FileFrom, Start, Unknown};
 use std::fs;
 
@@ -21,16 +22,6 @@ pub type FileBooksFrom<S> = SqlStore<FileStore<FileFrom<S>>>;
 
 /// A store of books in a file, as a program names it.
 pub type FileBooks = FileBooksFrom<Unknown>;
-
-/// What a file is refused with, that can't be opened as a database. A file that is none isn't ours.
-pub fn fault_of_file(error: Error) -> OpenFault
-    ensures { IsFaultOfCreating result }
-{
-    match error {
-        Error::SqliteFailure(ErrorCode::NotADatabase) => OpenFault::NotOurs,
-        error => open_fault_of(error),
-    }
-}
 
 impl<S: Start> SqlStore<FileStore<FileFrom<S>>> {
     /// A new store without books in the file at the path, which is made where there is none, and

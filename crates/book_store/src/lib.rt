@@ -8,6 +8,6 @@ mod files;
 mod laying;
 mod sql_store;
 
-pub use files::{FileBooks, FileBooksFrom, fault_of_file};
+pub use files::{FileBooks, FileBooksFrom};
 pub use schema_check::OpenFault;
 pub use sql_store::SqlStore;

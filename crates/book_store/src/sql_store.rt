@@ -1,9 +1,9 @@
 //! A store of books over the tables of a connection.
-ghost use Rattle.book_store.specs.Opening.{IsFaultOfCreating, IsLaidIn};
+ghost use Rattle.book_store.specs.Opening.{IsLaidIn};
 ghost use Rattle.book_store.specs.StoreViews.{IsStore};
 ghost use Rattle.book_writing.specs.StoredBooks.{IsInOrder, stored_books};
 ghost use Rattle.book_tables.specs.Laying.{no_schema};
-ghost use Rattle.schema_check.specs.OpenFaults.{IsErrorFault};
+ghost use Rattle.schema_check.specs.OpenFaults.{IsErrorFault, IsFaultOfCreating};
 ghost use Rattle.schema_check.specs.declared.open_fault.OpenFault.TheVariants.{NotEmpty};
 ghost use Rattle.sqlite.specs.Held.{state};
 ghost use Rattle.sqlite.specs.State.{Survives};

@@ -1,3 +1,4 @@
 pub mod SchemaLemmas
 pub mod MetaLemmas
 pub mod AnswerLemmas
+pub mod FaultLemmas

@@ -1,8 +1,8 @@
 -- Why stored tables can't be opened, or can't be laid. This project's own.
-use Rattle.std.specs.Prelude.{◌≡◌, ◌⊎◌, ℕ}
+use Rattle.std.specs.Prelude.{◌≡◌, ◌⊎◌, ⊤, ℕ}
 use Rattle.sqlite.specs.declared.error.Error.{Error}
 use Rattle.sqlite.specs.declared.error.Error.TheVariants.{SqliteFailure}
-use Rattle.sqlite.specs.declared.error.ErrorCode.TheVariants.{OutOfMemory}
+use Rattle.sqlite.specs.declared.error.ErrorCode.TheVariants.{NotADatabase, OutOfMemory}
 use Rattle.schema_check.specs.declared.open_fault.OpenFault.{OpenFault}
 use Rattle.schema_check.specs.declared.open_fault.OpenFault.TheVariants.{Store, NotOurs, OtherSchema, Damaged, NotEmpty, Memory}
 
@@ -23,3 +23,17 @@ open_error error = Store
 -- it is one of these two
 abbrev pub IsErrorFault : OpenFault → Type 0
 IsErrorFault fault = (fault ≡ Store) ⊎ (fault ≡ Memory)
+
+-- where a file is opened, it may also be that the file is no database, which isn't ours
+abbrev pub file_error : Error → OpenFault
+file_error (SqliteFailure NotADatabase) = NotOurs
+file_error error = open_error error
+
+-- what a new store may be refused with
+abbrev pub IsFaultOfCreating : OpenFault → Type 0
+IsFaultOfCreating Store = ⊤
+IsFaultOfCreating NotOurs = ⊤
+IsFaultOfCreating (OtherSchema has) = ⊥
+IsFaultOfCreating Damaged = ⊥
+IsFaultOfCreating NotEmpty = ⊤
+IsFaultOfCreating Memory = ⊤

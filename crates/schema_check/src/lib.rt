@@ -7,5 +7,5 @@ mod open_fault;
 mod schema;
 mod testing;
 
-pub use open_fault::{OpenFault, open_fault_of};
+pub use open_fault::{OpenFault, fault_of_file, open_fault_of};
 pub use testing::{test_first_schema, test_schema};

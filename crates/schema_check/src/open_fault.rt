@@ -1,5 +1,5 @@
 //! Why a store can't be opened.
-ghost use Rattle.schema_check.specs.OpenFaults.{IsErrorFault, open_error, open_fault_number};
+ghost use Rattle.schema_check.specs.OpenFaults.{IsErrorFault, IsFaultOfCreating, file_error, open_error, open_fault_number};
 ghost use Rattle.std.specs.Prelude.{◌≡◌};
 
 use sqlite::{Error, ErrorCode};
@@ -48,5 +48,17 @@ pub fn open_fault_of(error: Error) -> OpenFault
     match error {
         Error::SqliteFailure(ErrorCode::OutOfMemory) => OpenFault::Memory,
         _ => OpenFault::Store,
+    }
+}
+
+/// What a file is refused with, that can't be opened as a database: `NotOurs` where it is none, and
+/// else as [`open_fault_of`] says.
+pub fn fault_of_file(error: Error) -> OpenFault
+    ensures value { result ≡ file_error error }
+    ensures kind { IsFaultOfCreating result }
+{
+    match error {
+        Error::SqliteFailure(ErrorCode::NotADatabase) => OpenFault::NotOurs,
+        error => open_fault_of(error),
     }
 }

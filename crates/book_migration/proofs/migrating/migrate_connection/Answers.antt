@@ -1,8 +1,8 @@
 use Rattle.std.proofs.Common.{subst, ◌∙◌}
 use Rattle.sqlite.specs.Held.{state}
 use Rattle.sqlite.specs.State.{HasCleanDisk}
-use Rattle.book_store.specs.Opening.{greatest}
-use Rattle.book_store.proofs.AdoptLemmas.{are_greatest}
+use Rattle.book_check.specs.Opening.{greatest}
+use Rattle.book_check.proofs.GreatestLemmas.{are_greatest}
 use Rattle.book_tables.proofs.LaidLemmas.{clean_before}
 use Rattle.book_migration.specs.Planning.{IsPlanned}
 use Rattle.book_migration.proofs.MigrateLemmas.{first_with, is_migrated, survives_migration}

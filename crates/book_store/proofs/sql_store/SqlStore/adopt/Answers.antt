@@ -1,7 +1,7 @@
 use Rattle.std.proofs.Common.{Err, subst}
 use Rattle.sqlite.specs.Held.{state}
 use Rattle.book_check.specs.Opening.{Opens}
-use Rattle.book_store.proofs.AdoptLemmas.{are_greatest}
+use Rattle.book_check.proofs.GreatestLemmas.{are_greatest}
 use Rattle.book_store.proofs.sql_store.SqlStore.adopt.Goals as goal
 
 pub returns-in-Err-clause-refused : goal.returns-in-Err-clause-refused
