@@ -43,3 +43,12 @@ lines-added a (line ∷ lines) old (command ∷ commands) new was are adds =
     let is : shape_of command ≡ line = ap (λ (b : App). b.top) are.0.0 in
     let next : app_of adds.0 ≡ with_subcommand a line = adds.1.shape are.0.1 ∙ ap₂ with_subcommand was is in
     lines-added (with_subcommand a line) lines adds.0 commands new next are.1 adds.2
+
+-- one more order
+pub one-more : (lines : List Shape) (line : Shape) (commands : List Command) (command : Command)
+    → AreOrderLines lines commands → IsOrderLine line command
+    → AreOrderLines (lines ++ line ∷ []) (commands ++ command ∷ [])
+one-more [] line [] command are is = (is, tt)
+one-more [] line (other ∷ commands) command are is = absurd are
+one-more (other ∷ lines) line [] command are is = absurd are
+one-more (other ∷ lines) line (made ∷ commands) command are is = (are.0, one-more lines line commands command are.1 is)

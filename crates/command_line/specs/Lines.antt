@@ -1,5 +1,5 @@
 -- The command line, in the words of `clap`'s definitions. This project's own.
-use Rattle.std.specs.Prelude.{ℕ, ◌≡◌, ⊤, true, false, List, [], ◌∷◌, ◌++◌, Some, codes}
+use Rattle.std.specs.Prelude.{ℕ, ◌≡◌, ⊤, true, false, List, [], ◌∷◌, Some, codes}
 use Rattle.clap.specs.Walk.{Rule, Text, rule_of}
 use Rattle.clap.specs.Simple.{App, Shape, app_of, new_rule, new_shape}
 use Rattle.clap.specs.declared.builder.arg.Arg.{Arg}
@@ -81,15 +81,9 @@ abbrev pub migrate_line : Shape
 migrate_line = order_line (codes "migrate") (file ∷ [])
 
 -- the orders, in the order in which help lists them
-abbrev pub first_order_lines : List Shape
-first_order_lines =
-    try_line ∷ init_line ∷ book_line ∷ serve_line ∷ import_line ∷ export_line ∷ []
-
-abbrev pub last_order_lines : List Shape
-last_order_lines = tally_line ∷ forget_line ∷ mirror_line ∷ expand_line ∷ migrate_line ∷ []
-
 abbrev pub order_lines : List Shape
-order_lines = first_order_lines ++ last_order_lines
+order_lines = try_line ∷ init_line ∷ book_line ∷ serve_line ∷ import_line ∷ export_line ∷ tally_line
+    ∷ forget_line ∷ mirror_line ∷ expand_line ∷ migrate_line ∷ []
 
 -- the words behind the program's name
 abbrev pub contacts_line : App

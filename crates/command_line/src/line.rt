@@ -1,5 +1,6 @@
 //! The command line as `clap` reads it, with what help says of each order.
-ghost use Rattle.std.specs.Prelude.{◌≡◌, IfOk, List};
+ghost use Rattle.std.specs.Prelude.{[], ◌≡◌, ◌∷◌, ◌++◌, IfOk, List};
+ghost use Rattle.clap.specs.Simple.{Shape};
 ghost use Rattle.clap.specs.Words.{Rule, app_of};
 ghost use Rattle.command_line.specs.Lines as lines;
 ghost use Rattle.command_line.specs.Lines.{AreOrderLines, AreWords, IsOrderLine};
@@ -232,37 +233,37 @@ fn migrate_line<'a>(alloc: Global) -> Result<Command<'a>, AllocError>
     )
 }
 
-/// The first six orders.
-fn first_order_lines<'a>(alloc: Global) -> Result<Vec<Command<'a>>, AllocError>
-    ensures { IfOk result (λ made. AreOrderLines lines.first_order_lines made.items) }
+/// The orders with one more behind them, if it was made. (A list of all of them at once would have
+/// to be dropped from each place at which one isn't made, which the prover goes through one by one.)
+fn with_line<'a>(
+    lines: Vec<Command<'a>>,
+    line: Result<Command<'a>, AllocError>,
+) -> Result<Vec<Command<'a>>, AllocError>
+    ensures { (shapes : List Shape) (shape : Shape) → AreOrderLines shapes lines.entry.items
+        → IfOk line.entry (IsOrderLine shape)
+        → IfOk result (λ made. AreOrderLines (shapes ++ shape ∷ []) made.items) }
 {
-    Ok(Vec::from_array(
-        alloc,
-        [
-            try_line(alloc)?,
-            init_line(alloc)?,
-            book_line(alloc)?,
-            serve_line(alloc)?,
-            import_line(alloc)?,
-            export_line(alloc)?,
-        ],
-    )?)
+    let mut lines = lines;
+    let line = line?;
+    lines.push(line)?;
+    Ok(lines)
 }
 
-/// The orders behind them.
-fn last_order_lines<'a>(alloc: Global) -> Result<Vec<Command<'a>>, AllocError>
-    ensures { IfOk result (λ made. AreOrderLines lines.last_order_lines made.items) }
+/// All orders, as help lists them.
+fn order_lines<'a>(alloc: Global) -> Result<Vec<Command<'a>>, AllocError>
+    ensures { IfOk result (λ made. AreOrderLines lines.order_lines made.items) }
 {
-    Ok(Vec::from_array(
-        alloc,
-        [
-            tally_line(alloc)?,
-            forget_line(alloc)?,
-            mirror_line(alloc)?,
-            expand_line(alloc)?,
-            migrate_line(alloc)?,
-        ],
-    )?)
+    let lines = with_line(Vec::new(alloc), try_line(alloc))?;
+    let lines = with_line(lines, init_line(alloc))?;
+    let lines = with_line(lines, book_line(alloc))?;
+    let lines = with_line(lines, serve_line(alloc))?;
+    let lines = with_line(lines, import_line(alloc))?;
+    let lines = with_line(lines, export_line(alloc))?;
+    let lines = with_line(lines, tally_line(alloc))?;
+    let lines = with_line(lines, forget_line(alloc))?;
+    let lines = with_line(lines, mirror_line(alloc))?;
+    let lines = with_line(lines, expand_line(alloc))?;
+    with_line(lines, migrate_line(alloc))
 }
 
 /// The words behind the program's name.
@@ -277,6 +278,5 @@ pub(crate) fn contacts_line<'a>(alloc: Global) -> Result<Command<'a>, AllocError
         )
         .no_binary_name(true)
         .bin_name("contacts")?
-        .subcommands(first_order_lines(alloc)?)?
-        .subcommands(last_order_lines(alloc)?)
+        .subcommands(order_lines(alloc)?)
 }
