@@ -1,6 +1,11 @@
+mod checking;
 mod migration;
+mod opening;
 mod order_rows;
+mod reading;
 mod sockets;
+mod stores;
+mod tables;
 mod texts;
 mod tried;
 mod words;

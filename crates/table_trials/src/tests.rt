@@ -1,5 +1,0 @@
-mod checking;
-mod opening;
-mod reading;
-mod stores;
-mod tables;
