@@ -1,7 +1,7 @@
 """Refuses the growths of memory of built programs, each in turn, and looks at what comes of it.
 
     memory.py [PROGRAM]            the cases of crates/refused_memory, whose program is
-                                   crates/refused_memory/out/refused_memory
+                                   crates/row_trials/out/row_trials
     memory.py --program CONTACTS   orders of the built program `contacts` over files
     --short                        each 50th growth alone
     --jobs N                       processes at a time; else as many as there are processors
@@ -36,7 +36,7 @@ sys.dont_write_bytecode = True
 from programs import Cases, Orders  # noqa: E402
 
 HERE = pathlib.Path(__file__).resolve().parent
-PROGRAM = HERE.parent / "crates/refused_memory/out/refused_memory"
+PROGRAM = HERE.parent / "crates/row_trials/out/row_trials"
 SHOWN = 5
 KEPT = None
 

@@ -1,5 +1,5 @@
 #!/usr/bin/env python3
-"""Writes the files stdin and stdout beside it: 2,000 commands, drawn from a fixed seed, 1,000 more
+"""Writes the part `commands` of row_trials: 2,000 commands, drawn from a fixed seed, 1,000 more
 among asks of devices, and the rows of worked.py; and what model.py replies to each.
 
 The program has no part in it. Where it prints another reply, one of the two is wrong."""
@@ -11,6 +11,8 @@ import re
 import sys
 
 sys.dont_write_bytecode = True
+sys.path.append(os.path.join(os.path.dirname(os.path.abspath(__file__)), "..", "row_trials"))
+import parts
 from model import COLUMNS, SYNC, Office, in_one_line, unescape
 from worked import sections
 
@@ -354,9 +356,8 @@ def see_that_all_are_told(title, limits, lines, wanted):
         assert not want or want == reply, (title, line, want, reply)
 
 
-def write(name, lines):
-    with open(os.path.join(os.path.dirname(os.path.abspath(__file__)), name), "wb") as file:
-        file.write("".join(line + "\n" for line in lines).encode())
+def octets_of(lines):
+    return "".join(line + "\n" for line in lines).encode()
 
 
 given, told = [], []
@@ -384,5 +385,5 @@ for title, limits, scripts in sections():
     see_that_all_are_told(title, limits, lines, wanted)
     given += [f"==== {title}", limits_line(limits), *lines]
     told += told_of(title, limits, lines)
-write("stdin", given)
-write("stdout", told)
+parts.write_rows("commands", octets_of(given))
+parts.write_told("commands", octets_of(told))

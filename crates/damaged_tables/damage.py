@@ -2,15 +2,16 @@
 
 It keeps the same small tables in sqlite3, runs the same statements over them, and then asks of the
 rows what docs/MODEL.md says of them. It shares nothing with the code. Cards are read as the model
-of both_stores reads them. Run it by hand: it writes `stdin` and `stdout`."""
+of both_stores reads them. Run it by hand: it writes the part `damage` of row_trials."""
 
 import pathlib
 import sqlite3
 import sys
 
 HERE = pathlib.Path(__file__).parent
-sys.path.append(str(HERE.parent / "both_stores"))
+sys.path += [str(HERE.parent / "both_stores"), str(HERE.parent / "row_trials")]
 
+import parts  # noqa: E402
 from books import adopted, migrated  # noqa: E402
 from calls import answers  # noqa: E402
 from tables import (NUMBERS, TABLES, Tables, card, first_tables, rows_told,  # noqa: E402
@@ -229,8 +230,8 @@ def main():
     for kind, label, statements in lines():
         given.append(f"{kind}\t{label}\t{statements}\n")
         told.append(f"{kind} {label}: {outcome(kind, statements)}\n")
-    (HERE / "stdin").write_text("".join(given))
-    (HERE / "stdout").write_text("".join(told))
+    parts.write_rows("damage", "".join(given).encode())
+    parts.write_told("damage", "".join(told).encode())
 
 
 main()

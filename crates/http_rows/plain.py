@@ -1,5 +1,6 @@
 #!/usr/bin/env python3
-"""Reads the octets of stdin a second time, plainly, and compares with the replies in stdout.
+"""Reads the octets of the part `connections` of row_trials a second time, plainly, and compares with
+the replies that the program is to print.
 
 From a connection's octets alone it tells each reply: the fault that the request has, or which
 command it is, and whether the connection is closed then. What the store answers to a command it
@@ -12,6 +13,10 @@ import os
 import re
 import sys
 from urllib.parse import unquote_to_bytes
+
+sys.dont_write_bytecode = True
+sys.path.append(os.path.join(os.path.dirname(os.path.abspath(__file__)), "..", "row_trials"))
+import parts as trials
 
 HEAD_MAX = 16_384
 BODY_MAX = 8_388_608
@@ -312,11 +317,8 @@ def parts(octets, mark):
 
 
 def main():
-    folder = os.path.dirname(os.path.abspath(__file__))
-    with open(os.path.join(folder, "stdin"), "rb") as file:
-        rows = list(parts(file.read(), b"\n#### "))
-    with open(sys.argv[1] if len(sys.argv) > 1 else os.path.join(folder, "stdout"), "rb") as file:
-        told_rows = list(parts(file.read(), b"\n#### "))
+    rows = list(parts(trials.rows("connections"), b"\n#### "))
+    told_rows = list(parts(trials.told("connections"), b"\n#### "))
     count = differences = 0
     for (row, text), (_, told_text) in zip(rows, told_rows, strict=True):
         connections = list(parts(text, b"\n==== "))

@@ -1,10 +1,15 @@
 #!/usr/bin/env python3
-"""Writes the file stdin beside it: rows of connections, with the line ends of HTTP.
+"""Writes the rows of the part `connections` of row_trials, with the line ends of HTTP.
 
-What the program prints for it belongs into the file stdout, once each reply was found right."""
+What the program prints of them belongs into its file stdout, once each reply was found right."""
 
 import os
+import sys
 from urllib.parse import quote
+
+sys.dont_write_bytecode = True
+sys.path.append(os.path.join(os.path.dirname(os.path.abspath(__file__)), "..", "row_trials"))
+import parts
 
 SYNC = "http://contacts.invalid/sync/"
 ROWS = "uid,fn,family,given,email,tel,org,note\n"
@@ -481,5 +486,4 @@ for part in range(1, 9):
     )
 
 out += b"\n#### end\n"
-with open(os.path.join(os.path.dirname(os.path.abspath(__file__)), "stdin"), "wb") as file:
-    file.write(out)
+parts.write_rows("connections", out)

@@ -3,7 +3,7 @@
 use crate::stop::Stop;
 use base_types::NoMemory;
 use book_scripts::{device_told, event_in, reply_told};
-use book_service::{Event, Mirrored, Reply, drive, mirror, perform};
+use book_service::{Command, Event, Mirrored, Reply, drive, mirror, perform};
 use std::alloc::Global;
 use sync_core::{BookStore, Denied, Device};
 
@@ -38,6 +38,15 @@ fn mirrored_told(alloc: Global, mirrored: &Mirrored) -> Result<String, NoMemory>
     Ok(format!(in alloc; "pages {} {end} {}", mirrored.pages, told.as_str())?)
 }
 
+/// Why there is no mirror.
+fn denied_told(alloc: Global, denied: Denied) -> Result<String, NoMemory> {
+    let reply = match denied {
+        Denied::Refused(refusal) => Reply::Refused(refusal),
+        Denied::Fault(fault) => Reply::Fault(fault),
+    };
+    reply_told(alloc, &reply)
+}
+
 /// `mirror BOOK LIMIT PAGES` copies the book.
 fn mirror_told<S: BookStore>(
     alloc: Global,
@@ -49,11 +58,10 @@ fn mirror_told<S: BookStore>(
     let limit = limit.parse::<u64>().unwrap_or(0);
     let pages = pages.parse::<u64>().unwrap_or(0);
     let told = match mirror(alloc, &mut office.store, book, limit, pages) {
-        Ok(mirrored) => mirrored_told(alloc, &mirrored)?,
-        Err(Denied::Refused(refusal)) => reply_told(alloc, &Reply::Refused(refusal))?,
-        Err(Denied::Fault(fault)) => reply_told(alloc, &Reply::Fault(fault))?,
+        Ok(mirrored) => mirrored_told(alloc, &mirrored),
+        Err(denied) => denied_told(alloc, denied),
     };
-    Ok(told)
+    Ok(told?)
 }
 
 /// Drives the one event.
@@ -76,6 +84,16 @@ fn driven_told<S: BookStore>(
     }
 }
 
+/// Performs the command.
+fn performed_told<S: BookStore>(
+    alloc: Global,
+    office: &mut Office<S>,
+    command: &Command,
+) -> Result<String, NoMemory> {
+    let reply = perform(alloc, &mut office.store, command);
+    reply_told(alloc, &reply)
+}
+
 /// A command is performed, and an ask of a device driven.
 fn event_told<S: BookStore>(
     alloc: Global,
@@ -84,8 +102,9 @@ fn event_told<S: BookStore>(
 ) -> Result<String, Stop> {
     match event_in(alloc, line)? {
         Event::Do(command) => {
-            let reply = perform(alloc, &mut office.store, &command);
-            Ok(reply_told(alloc, &reply)?)
+            let told = performed_told(alloc, office, &command);
+            drop(command);
+            Ok(told?)
         }
         ask => driven_told(alloc, office, ask),
     }

@@ -71,7 +71,7 @@ fn tell_section(rt: &HostRuntime, section: &str, told: &mut String) -> Result<()
 }
 
 /// Tells what comes of the list's sections.
-pub(crate) fn tell_sections(rt: &HostRuntime, list: &str, told: &mut String) -> Result<(), Stop> {
+pub fn tell_sections(rt: &HostRuntime, list: &str, told: &mut String) -> Result<(), Stop> {
     for section in list.split("==== ") {
         tell_section(rt, section, told)?;
     }

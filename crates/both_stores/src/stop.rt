@@ -7,7 +7,7 @@ use std::io;
 
 /// Why the list wasn't run to its end.
 #[derive(Debug, Drop)]
-pub(crate) enum Stop {
+pub enum Stop {
     /// Memory ran out.
     Memory,
     /// The folder of the file can't be used.

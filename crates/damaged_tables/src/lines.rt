@@ -32,7 +32,7 @@ fn tell_line(alloc: Global, script: &str, line: &str, told: &mut String) -> Resu
 }
 
 /// Tells the rows of the store that is damaged, and then what comes of each line.
-pub(crate) fn tell_lines(alloc: Global, list: &str, told: &mut String) -> Result<(), Stop> {
+pub fn tell_lines(alloc: Global, list: &str, told: &mut String) -> Result<(), Stop> {
     let mut conn = laid(alloc)?;
     told.push_str(rows_told(alloc, &mut conn, &TABLES)?.as_str())?;
     let script = script_of(alloc, &mut conn)?;

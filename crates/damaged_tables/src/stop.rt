@@ -5,7 +5,7 @@ use vcard_text::NoMemory;
 
 /// Why the list isn't told to its end. None of these is an answer of a store.
 #[derive(Debug, Drop)]
-pub(crate) enum Stop {
+pub enum Stop {
     /// Memory ran out.
     Memory,
     /// The store that is to be damaged couldn't be laid.

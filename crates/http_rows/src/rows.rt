@@ -147,7 +147,7 @@ fn add_row(alloc: Global, row: &Row, told: &mut Vec<u8>) -> Result<(), NoMemory>
 }
 
 /// The replies to all rows, under their titles.
-pub(crate) fn told_rows(alloc: Global, input: &[u8]) -> Result<Vec<u8>, NoMemory> {
+pub fn told_rows(alloc: Global, input: &[u8]) -> Result<Vec<u8>, NoMemory> {
     let mut told = Vec::new(alloc);
     let (_, mut left) = split_at_mark(input, ROW);
     for _row in 0..input.len() {

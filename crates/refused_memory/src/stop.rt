@@ -10,7 +10,7 @@ use vcard_text::CardFault;
 
 /// What prepares or checks a case failed, where nothing is refused.
 #[derive(Clone, Copy, Debug)]
-pub(crate) struct Stop;
+pub struct Stop;
 
 impl From<NoMemory> for Stop {
     fn from(_error: NoMemory) -> Stop {

@@ -106,7 +106,7 @@ fn tell_lists(telling: &mut Telling, lists: &str) -> Result<(), NoMemory> {
 }
 
 /// What all sweeps come to: those over the lists, and those over carrying.
-pub(crate) fn tell_stops(alloc: Global, lists: &str) -> Result<String, NoMemory> {
+pub fn tell_stops(alloc: Global, lists: &str) -> Result<String, NoMemory> {
     let mut telling = Telling {
         alloc,
         told: String::new(alloc),

@@ -24,6 +24,17 @@ pub(crate) struct Course {
     pub(crate) steps: Vec<Step>,
 }
 
+/// Performs the command over a store in memory.
+fn step_of(alloc: Global, store: &mut PlainStore, command: Command) -> Result<Step, NoMemory> {
+    let reply = perform(alloc, store, &command);
+    let told = books_told(alloc, store)?;
+    Ok(Step {
+        command,
+        reply,
+        told,
+    })
+}
+
 impl Course {
     /// Performs the list over a store in memory.
     pub(crate) fn of_list(alloc: Global, limits: Limits, list: &str) -> Result<Course, NoMemory> {
@@ -31,13 +42,7 @@ impl Course {
         let mut steps = Vec::new(alloc);
         for line in list.lines() {
             let command = command_in(alloc, line)?;
-            let reply = perform(alloc, &mut store, &command);
-            let told = books_told(alloc, &mut store)?;
-            steps.push(Step {
-                command,
-                reply,
-                told,
-            })?;
+            steps.push(step_of(alloc, &mut store, command)?)?;
         }
         Ok(Course {
             alloc,

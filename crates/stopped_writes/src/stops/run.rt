@@ -1,6 +1,6 @@
 //! The list performed over disks of which one fails.
 
-use crate::stops::course::Course;
+use crate::stops::course::{Course, Step};
 use crate::stops::disks::{Disks, FuseAt, Tables, empty_disks, given_up, opened};
 use crate::stops::followers::Followers;
 use book_service::{Reply, perform};
@@ -90,6 +90,19 @@ fn disks_of_laying(alloc: Global, fuse: FuseAt) -> Disks {
     }
 }
 
+/// Performs the command, and counts a reply that is another than it should be. The answer says
+/// whether the store was at fault.
+fn has_fault<S: BookStore>(course: &Course, store: &mut S, step: &Step, others: &mut u64) -> bool {
+    let reply = perform(course.alloc, store, &step.command);
+    if reply == Reply::Fault(Fault::Store) {
+        return true;
+    }
+    if reply != step.reply {
+        *others = others.saturating_add(1);
+    }
+    false
+}
+
 /// Performs the list, and lets the devices ask for a page behind each command, until a fault of the
 /// store comes.
 fn run_over<S: BookStore>(
@@ -99,12 +112,8 @@ fn run_over<S: BookStore>(
     others: &mut u64,
 ) -> Result<Ending, NoMemory> {
     for (place, step) in course.steps.as_slice().iter().enumerate() {
-        let reply = perform(course.alloc, store, &step.command);
-        if reply == Reply::Fault(Fault::Store) {
+        if has_fault(course, store, step, others) {
             return Ok(Ending::Command(place));
-        }
-        if reply != step.reply {
-            *others = others.saturating_add(1);
         }
         if followers.ask(store)? {
             return Ok(Ending::Page(place));

@@ -39,6 +39,14 @@ impl Sweep {
         Ok(())
     }
 
+    /// Writes that so many replies before the stop were others, if any was.
+    fn see_others(&mut self, alloc: Global, calls: u64, others: u64) -> Result<(), NoMemory> {
+        if others > 0 {
+            self.find(alloc, calls, "another reply before the stop")?;
+        }
+        Ok(())
+    }
+
     /// The counts and what is wrong, a line each.
     pub(crate) fn told(&self, alloc: Global, title: &str) -> Result<String, NoMemory> {
         let stops = self.stops;
@@ -108,19 +116,19 @@ fn check_both(course: &Course, run: Run, calls: u64, sweep: &mut Sweep) -> Resul
 /// Runs the list with this fuse, and checks what is left. The answer says whether it was stopped.
 fn stop_at(course: &Course, fuse: FuseAt, sweep: &mut Sweep) -> Result<bool, NoMemory> {
     let mut run = run_list(course, fuse)?;
-    if run.others > 0 {
-        sweep.find(course.alloc, fuse.calls, "another reply before the stop")?;
+    let seen = sweep.see_others(course.alloc, fuse.calls, run.others);
+    let ending = run.ending;
+    if is_burnt(&mut run.disks, fuse.place) {
+        sweep.stops.add(kind_of_ending(course, ending));
+        check_both(course, run, fuse.calls, sweep)?;
+        return seen.and(Ok(true));
     }
-    let is_stopped = !matches!(run.ending, Ending::End);
-    if !is_burnt(&mut run.disks, fuse.place) {
-        if is_stopped {
-            sweep.find(course.alloc, fuse.calls, "a fault without a stop")?;
-        }
-        return Ok(is_stopped);
+    drop(run);
+    let is_stopped = !matches!(ending, Ending::End);
+    if is_stopped {
+        sweep.find(course.alloc, fuse.calls, "a fault without a stop")?;
     }
-    sweep.stops.add(kind_of_ending(course, run.ending));
-    check_both(course, run, fuse.calls, sweep)?;
-    Ok(true)
+    seen.and(Ok(is_stopped))
 }
 
 /// Stops the list at each call of the file's disk in turn, until it isn't stopped any more.

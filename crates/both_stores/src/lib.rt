@@ -1,0 +1,12 @@
+//! Lists of commands and asks, each done over three new stores: one in memory, one over tables in
+//! memory, and one over tables in a file. What comes of each line is printed once where all three
+//! give the same.
+#![tactic(auto)]
+
+mod office;
+mod offices;
+mod runs;
+mod stop;
+
+pub use runs::tell_sections;
+pub use stop::Stop;

@@ -1,0 +1,32 @@
+"""The parts of the program: the rows of each in the folder data, and what it is to print of them, in
+the file stdout, below the part's name. The scripts that draw rows write them by this."""
+
+import pathlib
+import re
+
+HERE = pathlib.Path(__file__).resolve().parent
+TITLE = re.compile(rb"^######## ([a-z]+)\n", re.MULTILINE)
+
+
+def told_parts():
+    """What the program is to print of each part, by the parts' names, in their order."""
+    pieces = TITLE.split((HERE / "stdout").read_bytes())[1:]
+    return {name.decode(): told[:-1] for name, told in zip(pieces[::2], pieces[1::2])}
+
+
+def rows(part):
+    return (HERE / "data" / part).read_bytes()
+
+
+def told(part):
+    return told_parts()[part]
+
+
+def write_rows(part, octets):
+    (HERE / "data" / part).write_bytes(octets)
+
+
+def write_told(part, octets):
+    parts = {**told_parts(), part: octets}
+    whole = b"".join(b"######## %s\n%s\n" % (name.encode(), octets) for name, octets in parts.items())
+    (HERE / "stdout").write_bytes(whole)
