@@ -13,10 +13,12 @@ mod sweep;
 mod trouble;
 
 use crate::stops::course::Course;
-use crate::stops::disks::{Disks, Place};
+use crate::stops::disks::{Place, Stopping};
 use crate::stops::migrations::{carried_told, first_disks, sweep_carrying};
 use crate::stops::sweep::{Sweep, sweep_list};
 use crate::stops::trouble::Trouble;
+use sqlite::Files;
+use sqlite_disk::{Fuse, Memory};
 use std::alloc::Global;
 use sync_core::Limits;
 use vcard_text::NoMemory;
@@ -52,7 +54,12 @@ impl Telling {
 }
 
 /// Sweeps over the list, for books that remember so many removed members.
-fn tell_list(telling: &mut Telling, keep: u64, name: &str, list: &str) -> Result<(), NoMemory> {
+fn tell_list<D: Stopping>(
+    telling: &mut Telling,
+    keep: u64,
+    name: &str,
+    list: &str,
+) -> Result<(), NoMemory> {
     let alloc = telling.alloc;
     let Some(limits) = Limits::standard().with_keep(keep) else {
         return Ok(());
@@ -66,14 +73,18 @@ fn tell_list(telling: &mut Telling, keep: u64, name: &str, list: &str) -> Result
     telling.told.push_str(title.as_str())?;
     telling.told.push_str(course.told_behind(count))?;
     for place in PLACES {
-        let sweep = sweep_list(&course, place)?;
+        let sweep = sweep_list::<D>(&course, place)?;
         telling.tell(place, &sweep)?;
     }
     Ok(())
 }
 
 /// Sweeps over the carrying of the tables that the disks have.
-fn tell_carrying(alloc: Global, first: &Disks, telling: &mut Telling) -> Result<(), Trouble> {
+fn tell_carrying<D: Stopping>(
+    alloc: Global,
+    first: &Files<D>,
+    telling: &mut Telling,
+) -> Result<(), Trouble> {
     let wanted = carried_told(alloc, first)?;
     telling
         .told
@@ -87,18 +98,18 @@ fn tell_carrying(alloc: Global, first: &Disks, telling: &mut Telling) -> Result<
 }
 
 /// Lays tables of the first schema, and sweeps over their carrying.
-fn tell_migration(alloc: Global, telling: &mut Telling) -> Result<(), Trouble> {
-    let first = first_disks(alloc)?;
+fn tell_migration<D: Stopping>(alloc: Global, telling: &mut Telling) -> Result<(), Trouble> {
+    let first = first_disks::<D>(alloc)?;
     tell_carrying(alloc, &first, telling)
 }
 
 /// Sweeps over each of the lists, which stand in the text one behind the other, each below a line
 /// with its name.
-fn tell_lists(telling: &mut Telling, lists: &str) -> Result<(), NoMemory> {
+fn tell_lists<D: Stopping>(telling: &mut Telling, lists: &str) -> Result<(), NoMemory> {
     for part in lists.split("==== ") {
         if let Some((name, list)) = part.split_once('\n') {
             for keep in KEEPS {
-                tell_list(telling, keep, name, list)?;
+                tell_list::<D>(telling, keep, name, list)?;
             }
         }
     }
@@ -112,8 +123,8 @@ pub fn tell_stops(alloc: Global, lists: &str) -> Result<String, NoMemory> {
         told: String::new(alloc),
         stops: 0,
     };
-    tell_lists(&mut telling, lists)?;
-    match tell_migration(alloc, &mut telling) {
+    tell_lists::<Fuse<Memory>>(&mut telling, lists)?;
+    match tell_migration::<Fuse<Memory>>(alloc, &mut telling) {
         Ok(()) => {}
         Err(Trouble::Memory) => return Err(NoMemory),
         Err(Trouble::Finding(what)) => telling.tell_finding(what)?,

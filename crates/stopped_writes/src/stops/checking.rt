@@ -3,10 +3,13 @@
 use crate::stops::books::books_told;
 use crate::stops::counts::Left;
 use crate::stops::course::Course;
-use crate::stops::disks::{Disks, Tables, opened};
+use crate::stops::disks::{Stopping, opened};
 use crate::stops::followers::Followers;
-use crate::stops::run::{Ending, StoredBooks, new_store, run_rest, store_over};
+use crate::stops::run::{Ending, new_store, run_rest, store_over};
 use crate::stops::trouble::Trouble;
+use book_store::SqlStore;
+use sqlite::{Alter, Connection, Files};
+use sync_core::BookStore;
 
 /// For the log's salts.
 const NEXT_SEED: u64 = 8;
@@ -22,17 +25,17 @@ fn done_at(course: &Course, ending: Ending) -> (usize, usize) {
 }
 
 /// Whether no table is there.
-fn is_bare(tables: &Tables) -> bool {
+fn is_bare<S: Alter>(tables: &Connection<S>) -> bool {
     tables.schema().tables.is_empty()
 }
 
 /// The store over what was laid, and `After`; or a new one where nothing was, and `Before`, which
 /// may be only where laying was stopped.
-fn store_left(
+fn store_left<S: Alter + Drop>(
     course: &Course,
     ending: Ending,
-    tables: Tables,
-) -> Result<(StoredBooks, Left), Trouble> {
+    tables: Connection<S>,
+) -> Result<(SqlStore<S>, Left), Trouble> {
     let may_be_bare = matches!(ending, Ending::Laying);
     if may_be_bare && is_bare(&tables) {
         return match new_store(course.alloc, tables, course.limits) {
@@ -47,10 +50,10 @@ fn store_left(
 }
 
 /// Which books the store has, and how many commands are done then.
-fn books_left(
+fn books_left<B: BookStore>(
     course: &Course,
     ending: Ending,
-    store: &mut StoredBooks,
+    store: &mut B,
 ) -> Result<(Left, usize), Trouble> {
     let told = books_told(course.alloc, store)?;
     let (before, after) = done_at(course, ending);
@@ -64,7 +67,7 @@ fn books_left(
 }
 
 /// Performs what is left of the list, which must come to its end as if nothing had stopped it.
-fn finish(course: &Course, store: &mut StoredBooks, done: usize) -> Result<(), Trouble> {
+fn finish<B: BookStore>(course: &Course, store: &mut B, done: usize) -> Result<(), Trouble> {
     if run_rest(course, store, done) > 0 {
         return Err(Trouble::Finding("another reply behind the stop"));
     }
@@ -77,16 +80,27 @@ fn finish(course: &Course, store: &mut StoredBooks, done: usize) -> Result<(), T
 
 /// Opens what is left of a run, and answers what the stopped call left there. The devices go on,
 /// and so does the list; tokens that are refused as too old are counted.
-pub(crate) fn check_left(
+pub(crate) fn check_left<D: Stopping>(
     course: &Course,
     ending: Ending,
     followers: &Followers,
-    disks: Disks,
+    disks: Files<D>,
     anew: &mut u64,
 ) -> Result<Left, Trouble> {
-    let Ok(tables) = opened(course.alloc, disks, NEXT_SEED) else {
-        return Err(Trouble::Finding("the files aren't opened"));
-    };
+    match opened(course.alloc, disks, NEXT_SEED) {
+        Ok(tables) => check_tables(course, ending, followers, tables, anew),
+        Err(_) => Err(Trouble::Finding("the files aren't opened")),
+    }
+}
+
+/// The same of the tables.
+fn check_tables<S: Alter + Drop>(
+    course: &Course,
+    ending: Ending,
+    followers: &Followers,
+    tables: Connection<S>,
+    anew: &mut u64,
+) -> Result<Left, Trouble> {
     let (mut store, laid) = store_left(course, ending, tables)?;
     let (left, done) = books_left(course, ending, &mut store)?;
     followers.go_on_over(course.alloc, &mut store, anew)?;

@@ -27,12 +27,18 @@ pub(crate) struct Course {
 /// Performs the command over a store in memory.
 fn step_of(alloc: Global, store: &mut PlainStore, command: Command) -> Result<Step, NoMemory> {
     let reply = perform(alloc, store, &command);
-    let told = books_told(alloc, store)?;
-    Ok(Step {
-        command,
-        reply,
-        told,
-    })
+    match books_told(alloc, store) {
+        Ok(told) => Ok(Step {
+            command,
+            reply,
+            told,
+        }),
+        Err(error) => {
+            drop(command);
+            drop(reply);
+            Err(error)
+        }
+    }
 }
 
 impl Course {

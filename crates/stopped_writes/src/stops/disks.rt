@@ -1,16 +1,13 @@
 //! Disks in memory of which one has a fuse, and what is left of them after a stop.
+//!
+//! What runs over them knows nothing but the trait `Stopping`: where a function names a database
+//! over just these disks, by its whole type, its check takes half a minute and more.
 
 use sqlite::{Connection, FileStore, Files, Options};
 use sqlite_disk::{Crash, Disk, Fuse, Memory};
 use std::alloc::Global;
 use std::io;
 use vcard_text::NoMemory;
-
-/// The database file and its log.
-pub(crate) type Disks = Files<Fuse<Memory>>;
-
-/// A connection over them.
-pub(crate) type Tables = Connection<FileStore<Fuse<Memory>>>;
 
 /// A file of the two.
 #[derive(Clone, Copy, PartialEq)]
@@ -69,6 +66,19 @@ impl Way {
     }
 }
 
+/// A disk that passes so many calls on and fails at each later one. Where the power goes, and comes
+/// again, it has what was synced (`Crash`).
+pub(crate) trait Stopping: Crash + Drop {
+    /// An empty disk that passes so many calls on.
+    fn empty(alloc: Global, calls: u64) -> Self;
+
+    /// A disk with what is written on this one, all of it synced, that passes so many calls on.
+    fn copied(&self, alloc: Global, calls: u64) -> Result<Self, NoMemory>;
+
+    /// Whether it has failed, or would at the next call.
+    fn is_stopped(&mut self) -> bool;
+}
+
 fn filled_memory(alloc: Global, octets: &[u8]) -> io::Result<Memory> {
     let mut memory = Memory::new(alloc);
     memory.write_at(0, octets)?;
@@ -76,34 +86,48 @@ fn filled_memory(alloc: Global, octets: &[u8]) -> io::Result<Memory> {
     Ok(memory)
 }
 
-/// A disk with these octets, which are synced, that passes so many calls on.
-fn disk_with(alloc: Global, octets: &[u8], calls: u64) -> Result<Fuse<Memory>, NoMemory> {
-    match filled_memory(alloc, octets) {
-        Ok(memory) => Ok(Fuse::new(memory, calls)),
-        Err(_) => Err(NoMemory),
+impl Stopping for Fuse<Memory> {
+    fn empty(alloc: Global, calls: u64) -> Fuse<Memory> {
+        Fuse::new(Memory::new(alloc), calls)
+    }
+
+    fn copied(&self, alloc: Global, calls: u64) -> Result<Fuse<Memory>, NoMemory> {
+        match filled_memory(alloc, self.inner().bytes()) {
+            Ok(memory) => Ok(Fuse::new(memory, calls)),
+            Err(_) => Err(NoMemory),
+        }
+    }
+
+    fn is_stopped(&mut self) -> bool {
+        if !self.may_be_used() {
+            return true;
+        }
+        self.len().is_err()
     }
 }
 
 /// Disks with what is written on these, all of it synced, and with this fuse.
-pub(crate) fn copied(alloc: Global, disks: &Disks, fuse: FuseAt) -> Result<Disks, NoMemory> {
-    let log = disks.log.inner().bytes();
-    let db = disks.db.inner().bytes();
+pub(crate) fn copied<D: Stopping>(
+    alloc: Global,
+    disks: &Files<D>,
+    fuse: FuseAt,
+) -> Result<Files<D>, NoMemory> {
     Ok(Files {
-        log: disk_with(alloc, log, fuse.calls_of(Place::Log))?,
-        db: disk_with(alloc, db, fuse.calls_of(Place::Database))?,
+        log: disks.log.copied(alloc, fuse.calls_of(Place::Log))?,
+        db: disks.db.copied(alloc, fuse.calls_of(Place::Database))?,
     })
 }
 
 /// Empty disks with this fuse.
-pub(crate) fn empty_disks(alloc: Global, fuse: FuseAt) -> Disks {
+pub(crate) fn empty_disks<D: Stopping>(alloc: Global, fuse: FuseAt) -> Files<D> {
     Files {
-        log: Fuse::new(Memory::new(alloc), fuse.calls_of(Place::Log)),
-        db: Fuse::new(Memory::new(alloc), fuse.calls_of(Place::Database)),
+        log: D::empty(alloc, fuse.calls_of(Place::Log)),
+        db: D::empty(alloc, fuse.calls_of(Place::Database)),
     }
 }
 
 /// The same disks after the power went and came again, where no fuse burns.
-pub(crate) fn crashed(disks: Disks) -> Disks {
+pub(crate) fn crashed<D: Stopping>(disks: Files<D>) -> Files<D> {
     let mut disks = disks;
     disks.log.crash();
     disks.db.crash();
@@ -111,7 +135,11 @@ pub(crate) fn crashed(disks: Disks) -> Disks {
 }
 
 /// A connection over the disks. An `Err` has the disks as the failing open left them.
-pub(crate) fn opened(alloc: Global, disks: Disks, seed: u64) -> Result<Tables, Disks> {
+pub(crate) fn opened<D: Disk + Drop>(
+    alloc: Global,
+    disks: Files<D>,
+    seed: u64,
+) -> Result<Connection<FileStore<D>>, Files<D>> {
     if !disks.may_be_used() {
         return Err(disks);
     }
@@ -129,21 +157,14 @@ pub(crate) fn opened(alloc: Global, disks: Disks, seed: u64) -> Result<Tables, D
 }
 
 /// The disks of a connection that is given up, without a call to them.
-pub(crate) fn given_up(tables: Tables) -> Disks {
+pub(crate) fn given_up<D: Disk + Drop>(tables: Connection<FileStore<D>>) -> Files<D> {
     tables.into_store().close()
 }
 
-fn disk_is_burnt(disk: &mut Fuse<Memory>) -> bool {
-    if !disk.may_be_used() {
-        return true;
-    }
-    disk.len().is_err()
-}
-
 /// Whether the fuse has burnt, or would at the next call.
-pub(crate) fn is_burnt(disks: &mut Disks, place: Place) -> bool {
+pub(crate) fn is_burnt<D: Stopping>(disks: &mut Files<D>, place: Place) -> bool {
     match place {
-        Place::Database => disk_is_burnt(&mut disks.db),
-        Place::Log => disk_is_burnt(&mut disks.log),
+        Place::Database => disks.db.is_stopped(),
+        Place::Log => disks.log.is_stopped(),
     }
 }

@@ -4,15 +4,14 @@ use crate::stops::books::books_told;
 use crate::stops::commands::Kind;
 use crate::stops::counts::Left;
 use crate::stops::disks::{
-    Disks, FuseAt, NO_FUSE, Place, Tables, Way, copied, crashed, empty_disks, given_up, is_burnt,
-    opened,
+    FuseAt, NO_FUSE, Place, Stopping, Way, copied, crashed, empty_disks, given_up, is_burnt, opened,
 };
 use crate::stops::run::store_over;
 use crate::stops::sweep::Sweep;
 use crate::stops::trouble::Trouble;
 use book_migration::migrate_connection;
 use book_store::OpenFault;
-use sqlite::{Alter, Connection, Error, params};
+use sqlite::{Alter, Connection, Error, Files, params};
 use std::alloc::Global;
 use sync_core::Limits;
 use vcard_text::NoMemory;
@@ -69,19 +68,21 @@ fn lay_first<S: Alter>(conn: &mut Connection<S>) -> Result<(), Error> {
 }
 
 /// Disks with tables of the first schema, all of which is synced.
-pub(crate) fn first_disks(alloc: Global) -> Result<Disks, Trouble> {
+pub(crate) fn first_disks<D: Stopping>(alloc: Global) -> Result<Files<D>, Trouble> {
     let disks = empty_disks(alloc, NO_FUSE);
     let Ok(mut tables) = opened(alloc, disks, SEEDS[0]) else {
         return Err(Trouble::Finding("new files aren't opened"));
     };
-    if lay_first(&mut tables).is_err() {
-        return Err(Trouble::Finding("the first schema isn't laid"));
+    let laid = lay_first(&mut tables);
+    let disks = given_up(tables);
+    match laid {
+        Ok(()) => Ok(disks),
+        Err(_) => Err(Trouble::Finding("the first schema isn't laid")),
     }
-    Ok(given_up(tables))
 }
 
 /// What carrying the tables answers. A connection in a transaction, which none is here, isn't ours.
-fn migrated(alloc: Global, tables: &mut Tables) -> Result<u64, OpenFault> {
+fn migrated<S: Alter>(alloc: Global, tables: &mut Connection<S>) -> Result<u64, OpenFault> {
     if !tables.is_autocommit() {
         return Err(OpenFault::NotOurs);
     }
@@ -89,7 +90,7 @@ fn migrated(alloc: Global, tables: &mut Tables) -> Result<u64, OpenFault> {
 }
 
 /// The books of the tables, which are of the second schema.
-fn second_told(alloc: Global, tables: Tables) -> Result<String, Trouble> {
+fn second_told<S: Alter + Drop>(alloc: Global, tables: Connection<S>) -> Result<String, Trouble> {
     let Ok(mut store) = store_over(alloc, tables, Limits::standard()) else {
         return Err(Trouble::Finding("the tables aren't taken"));
     };
@@ -98,10 +99,24 @@ fn second_told(alloc: Global, tables: Tables) -> Result<String, Trouble> {
 
 /// Opens what is left, which is still of the first schema, and is carried then, or already of the
 /// second. The books must be those that are wanted.
-fn check_carried(alloc: Global, disks: Disks, wanted: &str) -> Result<Left, Trouble> {
-    let Ok(mut tables) = opened(alloc, disks, SEEDS[2]) else {
-        return Err(Trouble::Finding("the files aren't opened"));
-    };
+fn check_carried<D: Stopping>(
+    alloc: Global,
+    disks: Files<D>,
+    wanted: &str,
+) -> Result<Left, Trouble> {
+    match opened(alloc, disks, SEEDS[2]) {
+        Ok(tables) => check_tables(alloc, tables, wanted),
+        Err(_) => Err(Trouble::Finding("the files aren't opened")),
+    }
+}
+
+/// The same of the tables.
+fn check_tables<S: Alter + Drop>(
+    alloc: Global,
+    tables: Connection<S>,
+    wanted: &str,
+) -> Result<Left, Trouble> {
+    let mut tables = tables;
     let left = match migrated(alloc, &mut tables) {
         Ok(BOOKS) => Left::Before,
         Err(OpenFault::OtherSchema { has: 2 }) => Left::After,
@@ -116,14 +131,14 @@ fn check_carried(alloc: Global, disks: Disks, wanted: &str) -> Result<Left, Trou
 
 /// What came of carrying with a fuse.
 #[derive(Drop)]
-struct Carried {
+struct Carried<D: Stopping> {
     kind: Kind,
     is_carried: bool,
-    disks: Disks,
+    disks: Files<D>,
 }
 
 /// Opens the disks and carries their tables.
-fn carry(alloc: Global, disks: Disks) -> Carried {
+fn carry<D: Stopping>(alloc: Global, disks: Files<D>) -> Carried<D> {
     let mut tables = match opened(alloc, disks, SEEDS[1]) {
         Ok(tables) => tables,
         Err(disks) => {
@@ -147,9 +162,9 @@ fn carry(alloc: Global, disks: Disks) -> Carried {
 }
 
 /// Checks what is left of the disks, in both ways.
-fn check_both(
+fn check_both<D: Stopping>(
     alloc: Global,
-    disks: Disks,
+    disks: Files<D>,
     wanted: &str,
     calls: u64,
     sweep: &mut Sweep,
@@ -163,9 +178,9 @@ fn check_both(
 
 /// Carries a copy of the disks with this fuse, and checks what is left. The answer says whether it
 /// was stopped.
-fn stop_at(
+fn stop_at<D: Stopping>(
     alloc: Global,
-    first: &Disks,
+    first: &Files<D>,
     wanted: &str,
     fuse: FuseAt,
     sweep: &mut Sweep,
@@ -182,22 +197,31 @@ fn stop_at(
     Ok(true)
 }
 
-/// The books that the tables hold where nothing stops.
-pub(crate) fn carried_told(alloc: Global, first: &Disks) -> Result<String, Trouble> {
-    let disks = copied(alloc, first, NO_FUSE)?;
-    let Ok(mut tables) = opened(alloc, disks, SEEDS[1]) else {
-        return Err(Trouble::Finding("the files aren't opened"));
-    };
+/// Carries the tables, and tells their books.
+fn carried_books<S: Alter + Drop>(alloc: Global, tables: Connection<S>) -> Result<String, Trouble> {
+    let mut tables = tables;
     if migrated(alloc, &mut tables) != Ok(BOOKS) {
         return Err(Trouble::Finding("the tables aren't carried"));
     }
     second_told(alloc, tables)
 }
 
-/// Stops the carrying at each call of the file's disk in turn, until it isn't stopped any more.
-pub(crate) fn sweep_carrying(
+/// The books that the tables hold where nothing stops.
+pub(crate) fn carried_told<D: Stopping>(
     alloc: Global,
-    first: &Disks,
+    first: &Files<D>,
+) -> Result<String, Trouble> {
+    let disks = copied(alloc, first, NO_FUSE)?;
+    match opened(alloc, disks, SEEDS[1]) {
+        Ok(tables) => carried_books(alloc, tables),
+        Err(_) => Err(Trouble::Finding("the files aren't opened")),
+    }
+}
+
+/// Stops the carrying at each call of the file's disk in turn, until it isn't stopped any more.
+pub(crate) fn sweep_carrying<D: Stopping>(
+    alloc: Global,
+    first: &Files<D>,
     wanted: &str,
     place: Place,
 ) -> Result<Sweep, NoMemory> {

@@ -1,19 +1,15 @@
 //! The list performed over disks of which one fails.
 
 use crate::stops::course::{Course, Step};
-use crate::stops::disks::{Disks, FuseAt, Tables, empty_disks, given_up, opened};
+use crate::stops::disks::{FuseAt, Stopping, empty_disks, given_up, opened};
 use crate::stops::followers::Followers;
 use book_service::{Reply, perform};
 use book_store::{OpenFault, SqlStore};
 use book_tables::laying::lay_tables;
-use sqlite::{Error, FileStore};
-use sqlite_disk::{Fuse, Memory};
+use sqlite::{Alter, Connection, Error, FileStore, Files};
 use std::alloc::Global;
 use sync_core::{BookStore, Fault, Limits};
 use vcard_text::NoMemory;
-
-/// A store over the disks.
-pub(crate) type StoredBooks = SqlStore<FileStore<Fuse<Memory>>>;
 
 /// For the log's salts: files that are opened again have other ones.
 const FIRST_SEED: u64 = 7;
@@ -33,9 +29,9 @@ pub(crate) enum Ending {
 
 /// What came of the list.
 #[derive(Drop)]
-pub(crate) struct Run {
+pub(crate) struct Run<D: Stopping> {
     pub(crate) ending: Ending,
-    pub(crate) disks: Disks,
+    pub(crate) disks: Files<D>,
     pub(crate) followers: Followers,
     /// How many replies were others than they should be.
     pub(crate) others: u64,
@@ -43,11 +39,11 @@ pub(crate) struct Run {
 
 /// A new store over the connection, or why there is none. A connection that is in a transaction,
 /// which none is here, is no store's.
-pub(crate) fn new_store(
+pub(crate) fn new_store<S: Alter + Drop>(
     alloc: Global,
-    tables: Tables,
+    tables: Connection<S>,
     limits: Limits,
-) -> Result<StoredBooks, OpenFault> {
+) -> Result<SqlStore<S>, OpenFault> {
     if !tables.is_autocommit() {
         return Err(OpenFault::NotOurs);
     }
@@ -55,11 +51,11 @@ pub(crate) fn new_store(
 }
 
 /// The store over the tables of the connection, or why there is none.
-pub(crate) fn store_over(
+pub(crate) fn store_over<S: Alter + Drop>(
     alloc: Global,
-    tables: Tables,
+    tables: Connection<S>,
     limits: Limits,
-) -> Result<StoredBooks, OpenFault> {
+) -> Result<SqlStore<S>, OpenFault> {
     if !tables.is_autocommit() {
         return Err(OpenFault::NotOurs);
     }
@@ -67,7 +63,7 @@ pub(crate) fn store_over(
 }
 
 /// Lays the tables as a new store does.
-fn lay(tables: &mut Tables) -> Result<(), Error> {
+fn lay<S: Alter>(tables: &mut Connection<S>) -> Result<(), Error> {
     if !tables.is_autocommit() {
         return Ok(());
     }
@@ -78,7 +74,7 @@ fn lay(tables: &mut Tables) -> Result<(), Error> {
 
 /// The disks as laying leaves them that this fuse stops. A new store that isn't laid drops its
 /// connection with the disks: so all is done once more here, by the same statements.
-fn disks_of_laying(alloc: Global, fuse: FuseAt) -> Disks {
+fn disks_of_laying<D: Stopping>(alloc: Global, fuse: FuseAt) -> Files<D> {
     let disks = empty_disks(alloc, fuse);
     match opened(alloc, disks, FIRST_SEED) {
         Ok(tables) => {
@@ -135,7 +131,12 @@ pub(crate) fn run_rest<S: BookStore>(course: &Course, store: &mut S, done: usize
 }
 
 /// A run that the fuse stopped before the tables were laid.
-fn run_of_laying(alloc: Global, fuse: FuseAt, followers: Followers, others: u64) -> Run {
+fn run_of_laying<D: Stopping>(
+    alloc: Global,
+    fuse: FuseAt,
+    followers: Followers,
+    others: u64,
+) -> Run<D> {
     Run {
         ending: Ending::Laying,
         disks: disks_of_laying(alloc, fuse),
@@ -145,7 +146,10 @@ fn run_of_laying(alloc: Global, fuse: FuseAt, followers: Followers, others: u64)
 }
 
 /// A new store over empty disks with this fuse.
-fn fused_store(course: &Course, fuse: FuseAt) -> Result<StoredBooks, OpenFault> {
+fn fused_store<D: Stopping>(
+    course: &Course,
+    fuse: FuseAt,
+) -> Result<SqlStore<FileStore<D>>, OpenFault> {
     let disks = empty_disks(course.alloc, fuse);
     match opened(course.alloc, disks, FIRST_SEED) {
         Ok(tables) => new_store(course.alloc, tables, course.limits),
@@ -153,21 +157,34 @@ fn fused_store(course: &Course, fuse: FuseAt) -> Result<StoredBooks, OpenFault> 
     }
 }
 
+/// Performs the list over the store. The answer is how it ended, and the connection.
+fn run_store<S: Alter + Drop>(
+    course: &Course,
+    store: SqlStore<S>,
+    followers: &mut Followers,
+    others: &mut u64,
+) -> Result<(Ending, Connection<S>), NoMemory> {
+    let mut store = store;
+    let ending = run_over(course, &mut store, followers, others)?;
+    Ok((ending, store.into_connection()))
+}
+
 /// Lays a store over empty disks with this fuse, and performs the list over it.
-pub(crate) fn run_list(course: &Course, fuse: FuseAt) -> Result<Run, NoMemory> {
+pub(crate) fn run_list<D: Stopping>(course: &Course, fuse: FuseAt) -> Result<Run<D>, NoMemory> {
     let alloc = course.alloc;
     let mut followers = Followers::new(alloc)?;
     let mut others = 0u64;
-    let mut store = match fused_store(course, fuse) {
-        Ok(store) => store,
-        Err(OpenFault::Store) => return Ok(run_of_laying(alloc, fuse, followers, 0)),
-        Err(_) => return Ok(run_of_laying(alloc, fuse, followers, 1)),
-    };
-    let ending = run_over(course, &mut store, &mut followers, &mut others)?;
-    Ok(Run {
-        ending,
-        disks: given_up(store.into_connection()),
-        followers,
-        others,
-    })
+    match fused_store::<D>(course, fuse) {
+        Ok(store) => {
+            let (ending, tables) = run_store(course, store, &mut followers, &mut others)?;
+            Ok(Run {
+                ending,
+                disks: given_up(tables),
+                followers,
+                others,
+            })
+        }
+        Err(OpenFault::Store) => Ok(run_of_laying(alloc, fuse, followers, 0)),
+        Err(_) => Ok(run_of_laying(alloc, fuse, followers, 1)),
+    }
 }

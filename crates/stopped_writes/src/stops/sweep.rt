@@ -4,7 +4,7 @@ use crate::stops::checking::check_left;
 use crate::stops::commands::Kind;
 use crate::stops::counts::{Left, LeftCounts, NO_STOPS, NOTHING_LEFT, StopCounts};
 use crate::stops::course::Course;
-use crate::stops::disks::{Disks, FuseAt, NO_FUSE, Place, Way, copied, crashed, is_burnt};
+use crate::stops::disks::{FuseAt, NO_FUSE, Place, Stopping, Way, copied, crashed, is_burnt};
 use crate::stops::run::{Ending, Run, run_list};
 use crate::stops::trouble::Trouble;
 use std::alloc::Global;
@@ -94,7 +94,12 @@ fn kind_of_ending(course: &Course, ending: Ending) -> Kind {
 }
 
 /// Checks what the stopped run left, in both ways.
-fn check_both(course: &Course, run: Run, calls: u64, sweep: &mut Sweep) -> Result<(), NoMemory> {
+fn check_both<D: Stopping>(
+    course: &Course,
+    run: Run<D>,
+    calls: u64,
+    sweep: &mut Sweep,
+) -> Result<(), NoMemory> {
     let alloc = course.alloc;
     let Run {
         ending,
@@ -114,8 +119,12 @@ fn check_both(course: &Course, run: Run, calls: u64, sweep: &mut Sweep) -> Resul
 }
 
 /// Runs the list with this fuse, and checks what is left. The answer says whether it was stopped.
-fn stop_at(course: &Course, fuse: FuseAt, sweep: &mut Sweep) -> Result<bool, NoMemory> {
-    let mut run = run_list(course, fuse)?;
+fn stop_at<D: Stopping>(
+    course: &Course,
+    fuse: FuseAt,
+    sweep: &mut Sweep,
+) -> Result<bool, NoMemory> {
+    let mut run = run_list::<D>(course, fuse)?;
     let seen = sweep.see_others(course.alloc, fuse.calls, run.others);
     let ending = run.ending;
     if is_burnt(&mut run.disks, fuse.place) {
@@ -132,11 +141,11 @@ fn stop_at(course: &Course, fuse: FuseAt, sweep: &mut Sweep) -> Result<bool, NoM
 }
 
 /// Stops the list at each call of the file's disk in turn, until it isn't stopped any more.
-pub(crate) fn sweep_list(course: &Course, place: Place) -> Result<Sweep, NoMemory> {
+pub(crate) fn sweep_list<D: Stopping>(course: &Course, place: Place) -> Result<Sweep, NoMemory> {
     let mut sweep = Sweep::new(course.alloc);
     for calls in 0..CALLS_MAX {
         let fuse = FuseAt { place, calls };
-        if !stop_at(course, fuse, &mut sweep)? {
+        if !stop_at::<D>(course, fuse, &mut sweep)? {
             return Ok(sweep);
         }
     }
