@@ -1,6 +1,5 @@
 //! Damage, by statements that are run over the tables.
-use crate::laying::Memory;
-use sqlite::{Error, ErrorCode};
+use sqlite::{Alter, Connection, Error, ErrorCode};
 
 /// Why statements weren't run to their end.
 #[derive(Clone, Copy)]
@@ -21,7 +20,7 @@ impl Undone {
 }
 
 /// Runs the statements, up to the first that isn't done.
-pub(crate) fn damage(conn: &mut Memory, statements: &str) -> Result<(), Undone> {
+pub(crate) fn damage<S: Alter>(conn: &mut Connection<S>, statements: &str) -> Result<(), Undone> {
     match conn.execute_batch(statements) {
         Ok(()) => Ok(()),
         Err(Error::SqliteFailure(ErrorCode::ConstraintViolation(_))) => Err(Undone::NotAllowed),

@@ -1,8 +1,7 @@
 //! The rows of tables, told as they stand.
-use crate::laying::Memory;
 use crate::stop::Stop;
 use sqlite::types::ValueRef;
-use sqlite::{Row, params};
+use sqlite::{Alter, Connection, Row, params};
 use std::alloc::Global;
 
 /// All rows of each table, in the order of their keys.
@@ -79,10 +78,10 @@ fn push_row(told: &mut String, alloc: Global, row: &Row, end: &str) -> Result<()
 }
 
 /// What the query shows, each row with the end.
-pub(crate) fn push_rows(
+pub(crate) fn push_rows<S: Alter>(
     told: &mut String,
     alloc: Global,
-    conn: &mut Memory,
+    conn: &mut Connection<S>,
     query: &str,
     end: &str,
 ) -> Result<(), Stop> {
@@ -94,9 +93,9 @@ pub(crate) fn push_rows(
 }
 
 /// What the queries show, a row a line.
-pub(crate) fn rows_told(
+pub(crate) fn rows_told<S: Alter>(
     alloc: Global,
-    conn: &mut Memory,
+    conn: &mut Connection<S>,
     queries: &[&str],
 ) -> Result<String, Stop> {
     let mut told = String::new(alloc);
