@@ -122,16 +122,23 @@ pub(crate) fn limits() -> Result<Limits, Stop> {
     Limits::standard().with_keep(1).ok_or(Stop)
 }
 
+/// The reply to the command of the line.
+fn reply_to<S: BookStore>(alloc: Global, store: &mut S, line: &str) -> Result<Reply, Stop> {
+    let command = command_in(alloc, line)?;
+    let reply = perform(alloc, store, &command);
+    drop(command);
+    Ok(reply)
+}
+
 /// The replies to the commands of the lines, in turn.
-fn replies_to<S: BookStore>(
+pub(crate) fn replies_to<S: BookStore>(
     alloc: Global,
     store: &mut S,
     script: &str,
 ) -> Result<Vec<Reply>, Stop> {
     let mut replies = Vec::new(alloc);
     for line in script.lines() {
-        let command = command_in(alloc, line)?;
-        replies.push(perform(alloc, store, &command))?;
+        replies.push(reply_to(alloc, store, line)?)?;
     }
     Ok(replies)
 }
@@ -139,6 +146,17 @@ fn replies_to<S: BookStore>(
 /// All that the books are.
 pub(crate) fn books_of<S: BookStore>(alloc: Global, store: &mut S) -> Result<Vec<Reply>, Stop> {
     replies_to(alloc, store, TELLING)
+}
+
+/// Whether both stores have the same books.
+pub(crate) fn have_same_books<S: BookStore>(
+    alloc: Global,
+    store: &mut S,
+    twin: &mut S,
+) -> Result<bool, Stop> {
+    let books = books_of(alloc, store)?;
+    let others = books_of(alloc, twin)?;
+    Ok(books.as_slice() == others.as_slice())
 }
 
 /// A store of the kind, over which these commands were performed.
@@ -188,9 +206,9 @@ fn does_again<S: BookStore>(
     command: &Command,
     wanted: &Wanted,
 ) -> Result<bool, Stop> {
-    let again = perform(alloc, store, command);
+    let again = perform(alloc, store, command) == wanted.reply;
     let then = books_of(alloc, store)?;
-    Ok(again == wanted.reply && then.as_slice() == wanted.after.as_slice())
+    Ok(again && then.as_slice() == wanted.after.as_slice())
 }
 
 /// Tells what came of the command, which was replied this.
@@ -221,12 +239,15 @@ fn tell_command<K: Stores>(
     command: &Command,
 ) -> Result<(), Stop> {
     let alloc = desk.alloc();
-    let wanted = wanted_of(alloc, kind, command)?;
     let mut store = filled(alloc, kind)?;
+    let wanted = wanted_of(alloc, kind, command)?;
     desk.opens(name);
     let reply = perform(alloc, &mut store, command);
     desk.closes();
-    tell_reply(desk, &mut store, command, &wanted, &reply)
+    let told = tell_reply(desk, &mut store, command, &wanted, &reply);
+    drop(wanted);
+    drop(reply);
+    told
 }
 
 /// Performs the command that the line says over stores of the kind, if it is chosen.
@@ -235,7 +256,9 @@ fn tell_line<K: Stores>(desk: &mut Desk, kind: &K, name: &str, line: &str) -> Re
         return Ok(());
     }
     let command = command_in(desk.alloc(), line)?;
-    tell_command(desk, kind, name, &command)
+    let told = tell_command(desk, kind, name, &command);
+    drop(command);
+    told
 }
 
 /// Runs the chosen commands over stores of the kind.

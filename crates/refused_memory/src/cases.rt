@@ -9,6 +9,7 @@ use crate::opening::tell_opening;
 use crate::requests::tell_feed;
 use crate::stop::Stop;
 use crate::texts::tell_texts;
+use sqlite::MemStore;
 
 /// Runs the chosen cases over stores of the kind.
 fn tell_stores<K: Stores>(desk: &mut Desk, kind: &K) -> Result<(), Stop> {
@@ -24,7 +25,7 @@ pub(crate) fn tell_cases(desk: &mut Desk) -> Result<(), Stop> {
     tell_device(desk)?;
     tell_stores(desk, &InMemory)?;
     tell_stores(desk, &OverTables)?;
-    tell_opening(desk)?;
-    tell_migrating(desk)?;
+    tell_opening::<MemStore>(desk)?;
+    tell_migrating::<MemStore>(desk)?;
     desk.told()
 }

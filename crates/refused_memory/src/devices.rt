@@ -16,6 +16,20 @@ fn device_after(alloc: Global, pages: &[&Page]) -> Result<Device, NoMemory> {
     Ok(device)
 }
 
+/// Whether the device, which has heard the first page, holds what so many first entries of the next
+/// made of its copy.
+fn has_entries(
+    alloc: Global,
+    store: &mut PlainStore,
+    first: &Page,
+    count: u64,
+    device: &Device,
+) -> Result<bool, Stop> {
+    let front = store.report("staff", Some(first.token()), Some(count))?;
+    let other = device_after(alloc, &[first, &front])?;
+    Ok(device.copy() == other.copy())
+}
+
 /// Whether the device, which has heard the first page, holds what some first entries of the next
 /// made of its copy, and has its token still.
 fn has_first_entries(
@@ -24,15 +38,14 @@ fn has_first_entries(
     first: &Page,
     device: &Device,
 ) -> Result<bool, Stop> {
-    let from = Some(first.token());
     let heard = device_after(alloc, &[first])?;
     let mut found = device.copy() == heard.copy();
+    drop(heard);
     for count in [1, 2, 3] {
-        let front = store.report("staff", from, Some(count))?;
-        let other = device_after(alloc, &[first, &front])?;
-        found = found || device.copy() == other.copy();
+        let has = has_entries(alloc, store, first, count, device)?;
+        found = found || has;
     }
-    Ok(found && device.token() == from)
+    Ok(found && device.token() == Some(first.token()))
 }
 
 /// A store, a page of its book, and the next one: of an edited card, a new one and one that went.

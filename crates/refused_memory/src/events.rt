@@ -1,6 +1,6 @@
 //! Lists of events, and copies of whole books.
 
-use crate::books::{FILLING, Stores, books_of, filled_by, is_no_memory};
+use crate::books::{FILLING, Stores, books_of, filled_by, have_same_books, is_no_memory};
 use crate::desk::Desk;
 use crate::stop::Stop;
 use book_scripts::event_in;
@@ -168,16 +168,6 @@ fn are_replied_alike_again<S: BookStore>(
     Ok(alike)
 }
 
-fn have_same_books<S: BookStore>(
-    alloc: Global,
-    office: &mut Office<S>,
-    twin: &mut Office<S>,
-) -> Result<bool, Stop> {
-    let books = books_of(alloc, &mut office.store)?;
-    let others = books_of(alloc, &mut twin.store)?;
-    Ok(books.as_slice() == others.as_slice())
-}
-
 /// Whether both stores have the same books, and both offices' devices the same copies once they
 /// have heard of all.
 fn are_settled_alike<S: BookStore>(
@@ -188,7 +178,7 @@ fn are_settled_alike<S: BookStore>(
     let asks = events_in(alloc, LAST_ASKS)?;
     driven(alloc, office, asks.as_slice())?;
     driven(alloc, twin, asks.as_slice())?;
-    let same = have_same_books(alloc, office, twin)?;
+    let same = have_same_books(alloc, &mut office.store, &mut twin.store)?;
     Ok(same && office.devices == twin.devices)
 }
 
@@ -218,7 +208,8 @@ fn tell_answer<S: BookStore>(
     let alloc = desk.alloc();
     let whole = is_whole(office, twin, events, answer);
     let alike = are_replied_alike(alloc, twin, events, answer)?;
-    let left = have_same_books(alloc, office, twin)? && alike && whole;
+    let same = have_same_books(alloc, &mut office.store, &mut twin.store)?;
+    let left = same && alike && whole;
     let alike = are_replied_alike_again(alloc, office, twin, events, answer)?;
     let again = are_settled_alike(alloc, office, twin)? && alike;
     if ran_out(answer) {

@@ -12,6 +12,7 @@ mod little;
 mod migrating;
 mod opening;
 mod outcome;
+mod pages;
 mod requests;
 mod stop;
 mod texts;

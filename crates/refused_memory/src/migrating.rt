@@ -2,14 +2,13 @@
 
 use crate::books::{books_of, limits};
 use crate::desk::Desk;
+use crate::pages::Pages;
 use crate::stop::Stop;
 use book_migration::migrate_connection;
 use book_service::Reply;
 use book_store::{OpenFault, SqlStore};
-use sqlite::{Connection, MemStore, params};
+use sqlite::{Alter, Connection, params};
 use std::alloc::Global;
-
-type Memory = Connection<MemStore>;
 
 /// The tables as the first schema declared them, and two books in them.
 const FIRST: &str =
@@ -42,14 +41,14 @@ const NUMBERS: [&str; 5] = [
     "SELECT SUM(number) FROM book",
 ];
 
-fn laid(alloc: Global) -> Result<Memory, Stop> {
-    let mut connection = Connection::open_in_memory(alloc)?;
+fn laid<P: Pages>(alloc: Global) -> Result<Connection<P>, Stop> {
+    let mut connection = P::empty_database(alloc)?;
     connection.execute_batch(FIRST)?;
     Ok(connection)
 }
 
 /// What carrying the tables answers, outside a transaction.
-fn migrated(alloc: Global, connection: &mut Memory) -> Result<u64, OpenFault> {
+fn migrated<P: Alter>(alloc: Global, connection: &mut Connection<P>) -> Result<u64, OpenFault> {
     if !connection.is_autocommit() {
         return Err(OpenFault::Store);
     }
@@ -57,7 +56,7 @@ fn migrated(alloc: Global, connection: &mut Memory) -> Result<u64, OpenFault> {
 }
 
 /// How many tables there are, and the numbers.
-fn numbers_of(alloc: Global, connection: &mut Memory) -> Result<Vec<i64>, Stop> {
+fn numbers_of<P: Alter>(alloc: Global, connection: &mut Connection<P>) -> Result<Vec<i64>, Stop> {
     let mut numbers = Vec::new(alloc);
     for query in NUMBERS {
         let number: i64 = connection.query_row(query, params![])?.get(0)?;
@@ -69,7 +68,10 @@ fn numbers_of(alloc: Global, connection: &mut Memory) -> Result<Vec<i64>, Stop> 
 }
 
 /// The books of the carried tables.
-fn carried_books(alloc: Global, connection: Memory) -> Result<Vec<Reply>, Stop> {
+fn carried_books<P: Alter + Drop>(
+    alloc: Global,
+    connection: Connection<P>,
+) -> Result<Vec<Reply>, Stop> {
     if !connection.is_autocommit() {
         return Err(Stop);
     }
@@ -77,30 +79,72 @@ fn carried_books(alloc: Global, connection: Memory) -> Result<Vec<Reply>, Stop> 
     books_of(alloc, &mut store)
 }
 
+/// What carrying the tables gives where nothing is refused.
+#[derive(Drop)]
+struct Wanted {
+    before: Vec<i64>,
+    answer: Result<u64, OpenFault>,
+    after: Vec<Reply>,
+}
+
+fn wanted_of<P: Pages>(alloc: Global) -> Result<Wanted, Stop> {
+    let mut twin = laid::<P>(alloc)?;
+    let before = numbers_of(alloc, &mut twin)?;
+    let answer = migrated(alloc, &mut twin);
+    let after = carried_books(alloc, twin)?;
+    Ok(Wanted {
+        before,
+        answer,
+        after,
+    })
+}
+
+/// Tells what came of carrying the tables.
+fn tell_carried<P: Alter + Drop>(
+    desk: &mut Desk,
+    connection: Connection<P>,
+    wanted: &Wanted,
+    answer: Result<u64, OpenFault>,
+) -> Result<(), Stop> {
+    let books = carried_books(desk.alloc(), connection)?;
+    let same = books.as_slice() == wanted.after.as_slice();
+    desk.tells_answer(answer == wanted.answer && same, &answer);
+    Ok(())
+}
+
+/// Tells what is left where memory ran out, and carries the tables again.
+fn tell_again<P: Alter + Drop>(
+    desk: &mut Desk,
+    connection: Connection<P>,
+    wanted: &Wanted,
+) -> Result<(), Stop> {
+    let alloc = desk.alloc();
+    let mut connection = connection;
+    let left = numbers_of(alloc, &mut connection)?;
+    let again = migrated(alloc, &mut connection) == wanted.answer;
+    let books = carried_books(alloc, connection)?;
+    let does_again = again && books.as_slice() == wanted.after.as_slice();
+    desk.tells_no_memory(
+        left.as_slice() == wanted.before.as_slice(),
+        does_again,
+        &left,
+    );
+    Ok(())
+}
+
 /// Carries the tables of the first schema.
-pub(crate) fn tell_migrating(desk: &mut Desk) -> Result<(), Stop> {
+pub(crate) fn tell_migrating<P: Pages>(desk: &mut Desk) -> Result<(), Stop> {
     if !desk.wants("migrate_connection") {
         return Ok(());
     }
     let alloc = desk.alloc();
-    let mut twin = laid(alloc)?;
-    let before = numbers_of(alloc, &mut twin)?;
-    let wanted = migrated(alloc, &mut twin);
-    let after = carried_books(alloc, twin)?;
-    let mut connection = laid(alloc)?;
+    let wanted = wanted_of::<P>(alloc)?;
+    let mut connection = laid::<P>(alloc)?;
     desk.opens("migrate_connection");
     let answer = migrated(alloc, &mut connection);
     desk.closes();
-    if !matches!(&answer, Err(OpenFault::Memory)) {
-        let books = carried_books(alloc, connection)?;
-        let same = books.as_slice() == after.as_slice();
-        desk.tells_answer(answer == wanted && same, &answer);
-        return Ok(());
+    if matches!(&answer, Err(OpenFault::Memory)) {
+        return tell_again(desk, connection, &wanted);
     }
-    let left = numbers_of(alloc, &mut connection)?;
-    let again = migrated(alloc, &mut connection);
-    let books = carried_books(alloc, connection)?;
-    let does_again = again == wanted && books.as_slice() == after.as_slice();
-    desk.tells_no_memory(left.as_slice() == before.as_slice(), does_again, &left);
-    Ok(())
+    tell_carried(desk, connection, &wanted, answer)
 }

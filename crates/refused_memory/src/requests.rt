@@ -1,6 +1,6 @@
 //! Requests of one piece over HTTP.
 
-use crate::books::{Stores, books_of, limits};
+use crate::books::{Stores, have_same_books, limits};
 use crate::desk::Desk;
 use crate::stop::Stop;
 use base_types::NoMemory;
@@ -43,6 +43,21 @@ fn is_prefix(done: Done) -> bool {
     (first || !second) && (second || !third) && (third || !fourth)
 }
 
+/// What is replied to the request where it is done, or where memory runs out for it.
+fn reply_where<S: BookStore>(
+    alloc: Global,
+    session: &mut Session,
+    service: &mut Service<S>,
+    request: &str,
+    is_done: bool,
+) -> Result<Vec<u8>, NoMemory> {
+    if is_done {
+        session.feed(alloc, service, request.as_bytes())
+    } else {
+        reply_bytes(alloc, Reply::Fault(Fault::Memory), false)
+    }
+}
+
 /// What is replied where some requests are done, and memory runs out for each of the others.
 fn replies_where<S: BookStore>(
     alloc: Global,
@@ -52,11 +67,7 @@ fn replies_where<S: BookStore>(
     let mut session = Session::new(alloc);
     let mut replies = Vec::new(alloc);
     for (request, is_done) in REQUESTS.iter().zip(done) {
-        let reply = if is_done {
-            session.feed(alloc, service, request.as_bytes())?
-        } else {
-            reply_bytes(alloc, Reply::Fault(Fault::Memory), false)?
-        };
+        let reply = reply_where(alloc, &mut session, service, request, is_done)?;
         replies.extend_from_slice(reply.as_slice())?;
     }
     Ok(replies)
@@ -71,6 +82,20 @@ fn requests_left(alloc: Global, done: Done) -> Result<String, NoMemory> {
         }
     }
     Ok(text)
+}
+
+/// Does the requests over both stores that are left where these were done, and answers whether they
+/// are replied alike.
+fn are_replied_alike<S: BookStore>(
+    alloc: Global,
+    service: &mut Service<S>,
+    twin: &mut Service<S>,
+    done: Done,
+) -> Result<bool, NoMemory> {
+    let left = requests_left(alloc, done)?;
+    let replies = Session::new(alloc).feed(alloc, service, left.as_bytes())?;
+    let others = Session::new(alloc).feed(alloc, twin, left.as_bytes())?;
+    Ok(replies.as_slice() == others.as_slice())
 }
 
 /// Whether what came of the piece is what comes where these requests are done: their replies, or
@@ -91,15 +116,10 @@ fn came_of<K: Stores>(
         Ok(replies) => replies.as_slice() == wanted.as_slice(),
         Err(NoMemory) => is_prefix(done),
     };
-    let books = books_of(alloc, &mut service.store)?;
-    let others = books_of(alloc, &mut twin.store)?;
-    if !replied || books.as_slice() != others.as_slice() {
+    if !replied || !have_same_books(alloc, &mut service.store, &mut twin.store)? {
         return Ok(false);
     }
-    let left = requests_left(alloc, done)?;
-    let more = Session::new(alloc).feed(alloc, service, left.as_bytes())?;
-    let others = Session::new(alloc).feed(alloc, &mut twin, left.as_bytes())?;
-    Ok(more.as_slice() == others.as_slice())
+    Ok(are_replied_alike(alloc, service, &mut twin, done)?)
 }
 
 /// Feeds a session the piece.
