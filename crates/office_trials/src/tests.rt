@@ -1,4 +1,5 @@
 mod checking;
+mod in_memory;
 mod migration;
 mod opening;
 mod order_rows;

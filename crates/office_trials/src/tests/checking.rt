@@ -1,3 +1,4 @@
+use super::in_memory::InMemory;
 use book_check::tables::are_well_stored;
 use book_model::Limits;
 use book_tables::books::all_books;
@@ -5,22 +6,20 @@ use book_tables::imports::all_imports;
 use book_tables::keeps::all_keeps;
 use book_tables::laying::lay_tables;
 use book_tables::members::all_members;
-use sqlite::{Connection, MemStore, Transaction, params};
+use sqlite::{Alter, Connection, MemStore, Transaction, params};
 use std::alloc::Global;
 use std::process::Abort;
-
-pub(super) type Memory = Connection<MemStore>;
 
 const ANNA: &str = "BEGIN:VCARD\r\nVERSION:4.0\r\nUID:a\r\nFN:Anna\r\nEND:VCARD\r\n";
 
 const BOB: &str = "BEGIN:VCARD\r\nVERSION:4.0\r\nUID:b\r\nFN:Bob\r\nEND:VCARD\r\n";
 
 /// A call without its clauses.
-pub(super) fn run(rt: &impl Abort, conn: &mut Memory, statements: &str) {
+pub(super) fn run<S: Alter>(rt: &impl Abort, conn: &mut Connection<S>, statements: &str) {
     conn.execute_batch(statements).expect(rt, "an answer");
 }
 
-fn put(rt: &impl Abort, conn: &mut Memory, uid: &str, changed: i64, card: &str) {
+fn put<S: Alter>(rt: &impl Abort, conn: &mut Connection<S>, uid: &str, changed: i64, card: &str) {
     conn.execute(
         "INSERT INTO member (book, uid, changed, card) VALUES (1, ?1, ?2, ?3)",
         params![uid, changed, card],
@@ -28,14 +27,14 @@ fn put(rt: &impl Abort, conn: &mut Memory, uid: &str, changed: i64, card: &str) 
     .expect(rt, "an answer");
 }
 
-fn lay(rt: &impl Abort, tx: &mut Transaction<'_, MemStore>) {
+fn lay<S: Alter>(rt: &impl Abort, tx: &mut Transaction<'_, S>) {
     lay_tables(tx).expect(rt, "an answer");
 }
 
 /// The book `staff` with nine changes, of which two left live cards and two are removals that are
 /// remembered; and the book `desk`, which is empty.
-pub(super) fn filled(rt: &impl Abort, alloc: Global) -> Memory {
-    let mut conn = Connection::open_in_memory(alloc).expect(rt, "an answer");
+pub(super) fn filled<S: InMemory>(rt: &impl Abort, alloc: Global) -> Connection<S> {
+    let mut conn = S::opened(alloc).expect(rt, "an answer");
     let is_autocommit = conn.is_autocommit();
     assert!(rt; is_autocommit);
     let mut tx = conn.transaction();
@@ -56,7 +55,12 @@ pub(super) fn filled(rt: &impl Abort, alloc: Global) -> Memory {
     conn
 }
 
-fn is_well(rt: &impl Abort, alloc: Global, conn: &mut Memory, limits: Limits) -> bool {
+fn is_well<S: Alter>(
+    rt: &impl Abort,
+    alloc: Global,
+    conn: &mut Connection<S>,
+    limits: Limits,
+) -> bool {
     let books = all_books(conn).expect(rt, "an answer");
     let members = all_members(conn).expect(rt, "an answer");
     let imports = all_imports(conn).expect(rt, "an answer");
@@ -65,18 +69,16 @@ fn is_well(rt: &impl Abort, alloc: Global, conn: &mut Memory, limits: Limits) ->
 }
 
 /// What is found after the statements.
-fn after(rt: &impl Abort, alloc: Global, statements: &str) -> bool {
-    let mut conn = filled(rt, alloc);
+fn after<S: InMemory>(rt: &impl Abort, alloc: Global, statements: &str) -> bool {
+    let mut conn = filled::<S>(rt, alloc);
     run(rt, &mut conn, statements);
     is_well(rt, alloc, &mut conn, Limits::standard())
 }
 
-#[test]
-fn takes_well_formed_books(rt: HostRuntime) {
-    let alloc = rt.alloc();
-    let mut conn = filled(&rt, alloc);
-    let unharmed = is_well(&rt, alloc, &mut conn, Limits::standard());
-    assert!(&rt; unharmed);
+fn takes_well_formed_books_over<S: InMemory>(rt: &impl Abort, alloc: Global) {
+    let mut conn = filled::<S>(rt, alloc);
+    let unharmed = is_well(rt, alloc, &mut conn, Limits::standard());
+    assert!(rt; unharmed);
     let statements = [
         "UPDATE book SET horizon = 5 WHERE id = 1",
         "UPDATE keeping SET keep = 2 WHERE book = 1",
@@ -85,14 +87,17 @@ fn takes_well_formed_books(rt: HostRuntime) {
         "DELETE FROM import_key",
     ];
     for change in statements {
-        let is_well = after(&rt, alloc, change);
-        assert!(&rt; is_well);
+        let is_well = after::<S>(rt, alloc, change);
+        assert!(rt; is_well);
     }
 }
 
 #[test]
-fn finds_each_damage(rt: HostRuntime) {
-    let alloc = rt.alloc();
+fn takes_well_formed_books(rt: HostRuntime) {
+    takes_well_formed_books_over::<MemStore>(&rt, rt.alloc());
+}
+
+fn finds_each_damage_over<S: InMemory>(rt: &impl Abort, alloc: Global) {
     let statements = [
         "UPDATE book SET number = 10 WHERE id = 1",
         "UPDATE book SET created = 4, edited = 2 WHERE id = 1",
@@ -117,20 +122,28 @@ fn finds_each_damage(rt: HostRuntime) {
         "UPDATE keeping SET keep = 1 WHERE book = 1",
     ];
     for damage in statements {
-        let is_well = after(&rt, alloc, damage);
-        assert!(&rt; !is_well);
+        let is_well = after::<S>(rt, alloc, damage);
+        assert!(rt; !is_well);
+    }
+}
+
+#[test]
+fn finds_each_damage(rt: HostRuntime) {
+    finds_each_damage_over::<MemStore>(&rt, rt.alloc());
+}
+
+fn keeps_to_the_limits_over<S: InMemory>(rt: &impl Abort, alloc: Global) {
+    let mut conn = filled::<S>(rt, alloc);
+    for limits in [Limits::new(1, 1, 9, 1), Limits::new(1, 1, 8, 2)] {
+        let Some(limits) = limits else {
+            panic!(rt; "limits");
+        };
+        let is_well = is_well(rt, alloc, &mut conn, limits);
+        assert!(rt; !is_well);
     }
 }
 
 #[test]
 fn keeps_to_the_limits(rt: HostRuntime) {
-    let alloc = rt.alloc();
-    let mut conn = filled(&rt, alloc);
-    for limits in [Limits::new(1, 1, 9, 1), Limits::new(1, 1, 8, 2)] {
-        let Some(limits) = limits else {
-            panic!(&rt; "limits");
-        };
-        let is_well = is_well(&rt, alloc, &mut conn, limits);
-        assert!(&rt; !is_well);
-    }
+    keeps_to_the_limits_over::<MemStore>(&rt, rt.alloc());
 }

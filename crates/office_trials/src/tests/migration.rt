@@ -6,6 +6,7 @@ use book_model::{Entry, Mark, Page, Token};
 use sqlite::{Alter, Connection, params};
 use std::alloc::Global;
 use std::process::Abort;
+use std::rt::HostRuntime;
 use sync_core::BookStore;
 use vcard_text::{Items, Text};
 
@@ -36,7 +37,7 @@ fn put<S: Alter>(rt: &impl Abort, conn: &mut Connection<S>, uid: &str, changed: 
 
 /// Lays the tables of the first schema, with the book `staff`: nine changes, of which two left live
 /// cards and two are removals that are remembered.
-pub(super) fn lay<S: Alter>(rt: &impl Abort, conn: &mut Connection<S>) {
+fn lay<S: Alter>(rt: &impl Abort, conn: &mut Connection<S>) {
     conn.execute_batch(TABLES).expect(rt, "an answer");
     conn.execute_batch(
         "INSERT INTO book VALUES (1, 'staff', 9, 0, 5, 1, 0, 0, 0, 3, 0); \
@@ -46,6 +47,20 @@ pub(super) fn lay<S: Alter>(rt: &impl Abort, conn: &mut Connection<S>) {
     .expect(rt, "an answer");
     put(rt, conn, "a", 4, ANNA);
     put(rt, conn, "b", 7, BOB);
+}
+
+/// Lays these tables, and closes the connection.
+fn lay_and_close<S: Alter + Drop>(test: &impl Abort, conn: Connection<S>) {
+    let mut conn = conn;
+    lay(test, &mut conn);
+}
+
+/// Makes a file with these tables. It is closed then.
+pub(super) fn lay_file(test: &impl Abort, rt: &HostRuntime, path: &str) {
+    match Connection::open(rt, path) {
+        Ok(conn) => lay_and_close(test, conn),
+        Err(_) => panic!(test; "not opened"),
+    }
 }
 
 /// The page that says that `d` went, and nothing else.

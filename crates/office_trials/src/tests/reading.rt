@@ -2,13 +2,12 @@ mod answers;
 mod calls;
 mod unreadable;
 
+use super::in_memory::InMemory;
 use book_model::{Entry, Mark, Stored, Token};
-use sqlite::{Connection, MemStore, Transaction};
+use sqlite::{Alter, Connection, Transaction};
 use std::alloc::Global;
 use std::process::Abort;
 use vcard_text::{Text, read_card};
-
-type Memory = Connection<MemStore>;
 
 const ADA: &str = "BEGIN:VCARD\r\nVERSION:4.0\r\nUID:a\r\nFN:Ada\r\nEND:VCARD\r\n";
 
@@ -18,7 +17,7 @@ const CY: &str = "BEGIN:VCARD\r\nVERSION:4.0\r\nUID:c\r\nFN:Cy\r\nEND:VCARD\r\n"
 
 /// The first book is `staff`, to which Ann, Bob and Cy came, and which Bob left. The second is
 /// `clients`, into which Ada was imported under the key `k`.
-fn fill(rt: &impl Abort, tx: &mut Transaction<'_, MemStore>) {
+fn fill<S: Alter>(rt: &impl Abort, tx: &mut Transaction<'_, S>) {
     calls::lay(rt, tx);
     calls::add_book(rt, tx, 1, "staff", 4, 3, 0, 1);
     calls::put(rt, tx, 1, "a", 1, Some(ANN));
@@ -30,8 +29,8 @@ fn fill(rt: &impl Abort, tx: &mut Transaction<'_, MemStore>) {
 }
 
 /// A connection over memory with these two books.
-fn two_books(rt: &impl Abort, alloc: Global) -> Memory {
-    let mut conn = Connection::open_in_memory(alloc).expect(rt, "an answer");
+fn two_books<S: InMemory>(rt: &impl Abort, alloc: Global) -> Connection<S> {
+    let mut conn = S::opened(alloc).expect(rt, "an answer");
     if conn.is_autocommit() {
         let mut tx = conn.transaction();
         fill(rt, &mut tx);

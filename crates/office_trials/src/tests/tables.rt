@@ -1,14 +1,15 @@
 mod calls;
 mod statements;
 
+use super::in_memory::InMemory;
 use sqlite::types::ValueRef;
-use sqlite::{Connection, MemStore, Row};
+use sqlite::{Connection, Row};
 use std::alloc::Global;
 use std::process::Abort;
 
 /// A connection over memory with the declared tables.
-fn with_tables(rt: &impl Abort, alloc: Global) -> Connection<MemStore> {
-    let mut conn = Connection::open_in_memory(alloc).expect(rt, "an answer");
+fn with_tables<S: InMemory>(rt: &impl Abort, alloc: Global) -> Connection<S> {
+    let mut conn = S::opened(alloc).expect(rt, "an answer");
     if conn.is_autocommit() {
         let mut tx = conn.transaction();
         calls::lay(rt, &mut tx);

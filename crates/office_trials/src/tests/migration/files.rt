@@ -1,8 +1,8 @@
 //! Files.
+use super::lay_file;
 use book_migration::migrate;
 use book_model::Limits;
 use book_store::{FileBooks, OpenFault, SqlStore};
-use sqlite::Connection;
 use std::fs;
 use std::process::Abort;
 use sync_core::BookStore;
@@ -25,12 +25,6 @@ fn new_folder(test: &impl Abort, rt: &HostRuntime, folder: &str) {
     fs::create_dir(rt, folder).expect(test, "an answer");
 }
 
-/// Makes the file, with the tables of the first schema.
-fn lay(test: &impl Abort, rt: &HostRuntime) {
-    let mut conn = Connection::open(rt, FIRST).expect(test, "an answer");
-    super::lay(test, &mut conn);
-}
-
 /// The store in the file.
 fn opened(test: &impl Abort, rt: &HostRuntime) -> FileBooks {
     match SqlStore::open(rt, FIRST, Limits::standard()) {
@@ -46,7 +40,7 @@ fn version(rt: &impl Abort, store: &mut FileBooks) -> u64 {
 #[test]
 fn carries_files(rt: HostRuntime) {
     new_folder(&rt, &rt, FOLDER);
-    lay(&rt, &rt);
+    lay_file(&rt, &rt, FIRST);
     assert_eq!(&rt; migrate(&rt, FIRST), Ok(1));
     assert_eq!(&rt; migrate(&rt, FIRST), Err(OpenFault::OtherSchema { has: 2 }));
     let mut store = opened(&rt, &rt);

@@ -1,9 +1,7 @@
 //! A file of the first schema.
 
 use super::{differs, new_folder};
-use crate::tests::migration::lay;
-use sqlite::Connection;
-use std::process::Abort;
+use crate::tests::migration::lay_file;
 use std::rt::HostRuntime;
 
 const FILE: &str = "migrates/a.db";
@@ -35,15 +33,9 @@ const ROWS: [(&str, &str); 5] = [
     ),
 ];
 
-/// Makes the file. It is closed then.
-fn lay_file(test: &impl Abort, rt: &HostRuntime) {
-    let mut conn = Connection::open(rt, FILE).expect(test, "an answer");
-    lay(test, &mut conn);
-}
-
 #[test]
 fn carries_a_file(rt: HostRuntime) {
     new_folder(&rt, &rt, "migrates");
-    lay_file(&rt, &rt);
+    lay_file(&rt, &rt, FILE);
     assert_eq!(rt; differs(&rt, &rt, &ROWS), None);
 }

@@ -1,6 +1,8 @@
 //! Each call once, where there is memory enough.
-use super::{ADA, ANN, CY, Memory, calls, changed, removed, stored, token, two_books};
+use super::{ADA, ANN, CY, calls, changed, removed, stored, token, two_books};
+use crate::tests::in_memory::InMemory;
 use book_model::{BookLine, Denied, Entry, ImportTally, Mark, Page, Refusal, Tally};
+use sqlite::{Alter, Connection, MemStore};
 use std::alloc::Global;
 use std::process::Abort;
 use vcard_text::{Items, Text};
@@ -45,7 +47,7 @@ fn page_of(entries: Vec<Entry>, at: u64, truncated: bool) -> Page {
     }
 }
 
-fn books_are_told(rt: &impl Abort, alloc: Global, conn: &mut Memory) {
+fn books_are_told<S: Alter>(rt: &impl Abort, alloc: Global, conn: &mut Connection<S>) {
     let staff = line_of(rt, alloc, "staff", 1, 4);
     let lines = calls::lines(alloc, conn).expect(rt, "an answer");
     assert_eq!(rt; lines.len(), 2);
@@ -57,7 +59,7 @@ fn books_are_told(rt: &impl Abort, alloc: Global, conn: &mut Memory) {
     assert_eq!(rt; calls::tally(conn, "staff"), Ok(STAFF));
 }
 
-fn cards_are_told(rt: &impl Abort, alloc: Global, conn: &mut Memory) {
+fn cards_are_told<S: Alter>(rt: &impl Abort, alloc: Global, conn: &mut Connection<S>) {
     let ann = stored(rt, alloc, 1, ANN);
     let cy = stored(rt, alloc, 4, CY);
     let cards = calls::cards(alloc, conn, "staff").expect(rt, "an answer");
@@ -70,7 +72,7 @@ fn cards_are_told(rt: &impl Abort, alloc: Global, conn: &mut Memory) {
     assert_eq!(rt; calls::get(alloc, conn, "staff", "b"), Err(no_card));
 }
 
-fn imports_are_told(rt: &impl Abort, conn: &mut Memory) {
+fn imports_are_told<S: Alter>(rt: &impl Abort, conn: &mut Connection<S>) {
     assert_eq!(rt; calls::kept(conn, "clients", "k"), Ok(Some(ADDED_ADA)));
     assert_eq!(rt; calls::kept(conn, "staff", "k"), Ok(None));
     let bad_key = Denied::Refused(Refusal::BadKey);
@@ -78,7 +80,7 @@ fn imports_are_told(rt: &impl Abort, conn: &mut Memory) {
 }
 
 /// Two pages of one entry each after the first change, and an initial report.
-fn pages_are_told(rt: &impl Abort, alloc: Global, conn: &mut Memory) {
+fn pages_are_told<S: Alter>(rt: &impl Abort, alloc: Global, conn: &mut Connection<S>) {
     let bob = Vec::from_array(alloc, [removed(rt, alloc, "b")]).expect(rt, "an answer");
     assert_eq!(rt;
         calls::page(alloc, conn, "staff", token(1, 1, 1), Some(1)),
@@ -100,12 +102,15 @@ fn pages_are_told(rt: &impl Abort, alloc: Global, conn: &mut Memory) {
     );
 }
 
+fn each_call_answers_over<S: InMemory>(rt: &impl Abort, alloc: Global) {
+    let mut conn = two_books::<S>(rt, alloc);
+    books_are_told(rt, alloc, &mut conn);
+    cards_are_told(rt, alloc, &mut conn);
+    imports_are_told(rt, &mut conn);
+    pages_are_told(rt, alloc, &mut conn);
+}
+
 #[test]
 fn each_call_answers(rt: HostRuntime) {
-    let alloc = rt.alloc();
-    let mut conn = two_books(&rt, alloc);
-    books_are_told(&rt, alloc, &mut conn);
-    cards_are_told(&rt, alloc, &mut conn);
-    imports_are_told(&rt, &mut conn);
-    pages_are_told(&rt, alloc, &mut conn);
+    each_call_answers_over::<MemStore>(&rt, rt.alloc());
 }

@@ -1,6 +1,5 @@
 //! Each call with no clause: a test that makes many of the calls carries none of their clauses
 //! along.
-use super::Memory;
 use book_model::{BookLine, Denied, ImportTally, Limits, Page, Stored, Tally, Token};
 use book_reading::paging::page_of_book;
 use book_reading::telling::{kept_of_book, line_of_book, stored_of_book, tally_of_book};
@@ -9,51 +8,58 @@ use book_tables::books::{BookNumbers, insert_book, renumber_book};
 use book_tables::imports::insert_import;
 use book_tables::laying::lay_tables;
 use book_tables::members::put_member;
-use sqlite::{MemStore, Transaction};
+use sqlite::{Alter, Connection, Transaction};
 use std::alloc::Global;
 use std::collections::BTreeMap;
 use std::process::Abort;
 
-pub(super) fn line(alloc: Global, conn: &mut Memory, name: &str) -> Result<BookLine, Denied> {
+pub(super) fn line<S: Alter>(
+    alloc: Global,
+    conn: &mut Connection<S>,
+    name: &str,
+) -> Result<BookLine, Denied> {
     line_of_book(alloc, conn, name)
 }
 
-pub(super) fn get(
+pub(super) fn get<S: Alter>(
     alloc: Global,
-    conn: &mut Memory,
+    conn: &mut Connection<S>,
     name: &str,
     uid: &str,
 ) -> Result<Stored, Denied> {
     stored_of_book(alloc, conn, name, uid)
 }
 
-pub(super) fn kept(
-    conn: &mut Memory,
+pub(super) fn kept<S: Alter>(
+    conn: &mut Connection<S>,
     name: &str,
     key: &str,
 ) -> Result<Option<ImportTally>, Denied> {
     kept_of_book(conn, name, key)
 }
 
-pub(super) fn tally(conn: &mut Memory, name: &str) -> Result<Tally, Denied> {
+pub(super) fn tally<S: Alter>(conn: &mut Connection<S>, name: &str) -> Result<Tally, Denied> {
     tally_of_book(conn, name)
 }
 
-pub(super) fn lines(alloc: Global, conn: &mut Memory) -> Result<Vec<BookLine>, Denied> {
+pub(super) fn lines<S: Alter>(
+    alloc: Global,
+    conn: &mut Connection<S>,
+) -> Result<Vec<BookLine>, Denied> {
     lines_of_books(alloc, conn)
 }
 
-pub(super) fn cards(
+pub(super) fn cards<S: Alter>(
     alloc: Global,
-    conn: &mut Memory,
+    conn: &mut Connection<S>,
     name: &str,
 ) -> Result<BTreeMap<String, Stored>, Denied> {
     cards_of_book(alloc, conn, name)
 }
 
-pub(super) fn page(
+pub(super) fn page<S: Alter>(
     alloc: Global,
-    conn: &mut Memory,
+    conn: &mut Connection<S>,
     name: &str,
     token: Option<Token>,
     limit: Option<u64>,
@@ -61,14 +67,14 @@ pub(super) fn page(
     page_of_book(alloc, conn, Limits::standard(), name, token, limit)
 }
 
-pub(super) fn lay(rt: &impl Abort, tx: &mut Transaction<'_, MemStore>) {
+pub(super) fn lay<S: Alter>(rt: &impl Abort, tx: &mut Transaction<'_, S>) {
     lay_tables(tx).expect(rt, "an answer");
 }
 
 /// A book with so many creations, imports and deletions.
-pub(super) fn add_book(
+pub(super) fn add_book<S: Alter>(
     rt: &impl Abort,
-    tx: &mut Transaction<'_, MemStore>,
+    tx: &mut Transaction<'_, S>,
     id: i64,
     name: &str,
     number: i64,
@@ -91,9 +97,9 @@ pub(super) fn add_book(
     renumber_book(tx, id, numbers).expect(rt, "an answer");
 }
 
-pub(super) fn put(
+pub(super) fn put<S: Alter>(
     rt: &impl Abort,
-    tx: &mut Transaction<'_, MemStore>,
+    tx: &mut Transaction<'_, S>,
     book: i64,
     uid: &str,
     changed: i64,
@@ -103,9 +109,9 @@ pub(super) fn put(
 }
 
 /// An import that added one card by the change with the number.
-pub(super) fn add_import(
+pub(super) fn add_import<S: Alter>(
     rt: &impl Abort,
-    tx: &mut Transaction<'_, MemStore>,
+    tx: &mut Transaction<'_, S>,
     book: i64,
     key: &str,
     number: i64,

@@ -11,11 +11,9 @@ use book_tables::members::{
     count_removed, find_member, first_removed, forget_members, members_of, put_member,
 };
 use book_tables::meta::all_meta;
-use sqlite::{Connection, Error, MemStore, Row, Transaction};
+use sqlite::{Alter, Connection, Error, Row, Transaction};
 use std::alloc::Global;
 use std::process::Abort;
-
-type Memory = Connection<MemStore>;
 
 /// A row, or `none`.
 fn told_of(rt: &impl Abort, alloc: Global, answer: Result<Row, Error>) -> String {
@@ -26,61 +24,81 @@ fn told_of(rt: &impl Abort, alloc: Global, answer: Result<Row, Error>) -> String
     }
 }
 
-pub(super) fn books(rt: &impl Abort, alloc: Global, conn: &mut Memory) -> String {
+pub(super) fn books<S: Alter>(rt: &impl Abort, alloc: Global, conn: &mut Connection<S>) -> String {
     told_of(rt, alloc, count_books(conn))
 }
 
-pub(super) fn book(rt: &impl Abort, alloc: Global, conn: &mut Memory, name: &str) -> String {
+pub(super) fn book<S: Alter>(
+    rt: &impl Abort,
+    alloc: Global,
+    conn: &mut Connection<S>,
+    name: &str,
+) -> String {
     told_of(rt, alloc, find_book(conn, name))
 }
 
-pub(super) fn member(
+pub(super) fn member<S: Alter>(
     rt: &impl Abort,
     alloc: Global,
-    conn: &mut Memory,
+    conn: &mut Connection<S>,
     book: i64,
     uid: &str,
 ) -> String {
     told_of(rt, alloc, find_member(conn, book, uid))
 }
 
-pub(super) fn removed(
+pub(super) fn removed<S: Alter>(
     rt: &impl Abort,
     alloc: Global,
-    conn: &mut Memory,
+    conn: &mut Connection<S>,
     book: i64,
     horizon: i64,
 ) -> String {
     told_of(rt, alloc, count_removed(conn, book, horizon))
 }
 
-pub(super) fn least(
+pub(super) fn least<S: Alter>(
     rt: &impl Abort,
     alloc: Global,
-    conn: &mut Memory,
+    conn: &mut Connection<S>,
     book: i64,
     horizon: i64,
 ) -> String {
     told_of(rt, alloc, first_removed(conn, book, horizon))
 }
 
-pub(super) fn import(rt: &impl Abort, alloc: Global, conn: &mut Memory, key: &str) -> String {
+pub(super) fn import<S: Alter>(
+    rt: &impl Abort,
+    alloc: Global,
+    conn: &mut Connection<S>,
+    key: &str,
+) -> String {
     told_of(rt, alloc, find_import(conn, 1, key))
 }
 
-pub(super) fn keep(rt: &impl Abort, alloc: Global, conn: &mut Memory, book: i64) -> String {
+pub(super) fn keep<S: Alter>(
+    rt: &impl Abort,
+    alloc: Global,
+    conn: &mut Connection<S>,
+    book: i64,
+) -> String {
     told_of(rt, alloc, find_keep(conn, book))
 }
 
-pub(super) fn members(rt: &impl Abort, alloc: Global, conn: &mut Memory, book: i64) -> String {
+pub(super) fn members<S: Alter>(
+    rt: &impl Abort,
+    alloc: Global,
+    conn: &mut Connection<S>,
+    book: i64,
+) -> String {
     let rows = members_of(conn, book).expect(rt, "an answer");
     told_all(rt, alloc, rows.as_slice())
 }
 
-pub(super) fn due(
+pub(super) fn due<S: Alter>(
     rt: &impl Abort,
     alloc: Global,
-    conn: &mut Memory,
+    conn: &mut Connection<S>,
     at: i64,
     base: i64,
     most: usize,
@@ -89,22 +107,27 @@ pub(super) fn due(
     told_all(rt, alloc, rows.as_slice())
 }
 
-pub(super) fn schema(rt: &impl Abort, alloc: Global, conn: &mut Memory) -> String {
+pub(super) fn schema<S: Alter>(rt: &impl Abort, alloc: Global, conn: &mut Connection<S>) -> String {
     let rows = all_meta(conn).expect(rt, "an answer");
     told_all(rt, alloc, rows.as_slice())
 }
 
-pub(super) fn lay(rt: &impl Abort, tx: &mut Transaction<'_, MemStore>) {
+pub(super) fn lay<S: Alter>(rt: &impl Abort, tx: &mut Transaction<'_, S>) {
     lay_tables(tx).expect(rt, "an answer");
 }
 
-pub(super) fn add_book(rt: &impl Abort, tx: &mut Transaction<'_, MemStore>, id: i64, name: &str) {
+pub(super) fn add_book<S: Alter>(
+    rt: &impl Abort,
+    tx: &mut Transaction<'_, S>,
+    id: i64,
+    name: &str,
+) {
     insert_book(tx, id, name).expect(rt, "an answer");
 }
 
-pub(super) fn put(
+pub(super) fn put<S: Alter>(
     rt: &impl Abort,
-    tx: &mut Transaction<'_, MemStore>,
+    tx: &mut Transaction<'_, S>,
     book: i64,
     uid: &str,
     changed: i64,
@@ -113,16 +136,16 @@ pub(super) fn put(
     put_member(tx, book, uid, changed, card).expect(rt, "an answer");
 }
 
-pub(super) fn forget(
+pub(super) fn forget<S: Alter>(
     rt: &impl Abort,
-    tx: &mut Transaction<'_, MemStore>,
+    tx: &mut Transaction<'_, S>,
     book: i64,
     upto: i64,
 ) -> usize {
     forget_members(tx, book, upto).expect(rt, "an answer")
 }
 
-pub(super) fn renumber(rt: &impl Abort, tx: &mut Transaction<'_, MemStore>, id: i64) {
+pub(super) fn renumber<S: Alter>(rt: &impl Abort, tx: &mut Transaction<'_, S>, id: i64) {
     let numbers = BookNumbers {
         number: 1,
         horizon: 2,
@@ -137,15 +160,20 @@ pub(super) fn renumber(rt: &impl Abort, tx: &mut Transaction<'_, MemStore>, id: 
     renumber_book(tx, id, numbers).expect(rt, "an answer");
 }
 
-pub(super) fn add_import(
+pub(super) fn add_import<S: Alter>(
     rt: &impl Abort,
-    tx: &mut Transaction<'_, MemStore>,
+    tx: &mut Transaction<'_, S>,
     book: i64,
     added: i64,
 ) {
     insert_import(tx, book, "k", added, 2, 3, 4).expect(rt, "an answer");
 }
 
-pub(super) fn add_keep(rt: &impl Abort, tx: &mut Transaction<'_, MemStore>, book: i64, keep: i64) {
+pub(super) fn add_keep<S: Alter>(
+    rt: &impl Abort,
+    tx: &mut Transaction<'_, S>,
+    book: i64,
+    keep: i64,
+) {
     insert_keep(tx, book, keep).expect(rt, "an answer");
 }
