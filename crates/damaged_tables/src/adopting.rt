@@ -2,20 +2,20 @@
 use crate::answers::{answer_told, lines_told, open_fault_told, page_told, tally_told};
 use crate::copying::laid_by;
 use crate::damaging::damage;
-use crate::laying::{Tried, limits};
+use crate::laying::{Store, limits};
 use crate::stop::Stop;
 use book_store::SqlStore;
 use std::alloc::Global;
 use sync_core::{BookLine, BookStore, Denied, Mark, Token};
 
-fn tally<B: BookStore>(alloc: Global, store: &mut B, book: &str) -> Result<String, Denied> {
+fn tally(alloc: Global, store: &mut Store, book: &str) -> Result<String, Denied> {
     let tally = store.tally(book)?;
     Ok(tally_told(alloc, &tally)?)
 }
 
-fn report<B: BookStore>(
+fn report(
     alloc: Global,
-    store: &mut B,
+    store: &mut Store,
     book: &str,
     token: Option<Token>,
 ) -> Result<String, Denied> {
@@ -36,9 +36,9 @@ fn token_at_horizon(line: &BookLine) -> Token {
 }
 
 /// The book in numbers, its initial report, and a report of each removal.
-fn tell_book<B: BookStore>(
+fn tell_book(
     alloc: Global,
-    store: &mut B,
+    store: &mut Store,
     line: &BookLine,
     told: &mut String,
 ) -> Result<(), Stop> {
@@ -54,7 +54,7 @@ fn tell_book<B: BookStore>(
 }
 
 /// The lines of all books, and what is told of each.
-fn store_told<B: BookStore>(alloc: Global, store: &mut B) -> Result<String, Stop> {
+fn store_told(alloc: Global, store: &mut Store) -> Result<String, Stop> {
     let mut told = String::from_str(alloc, "ok, ")?;
     let lines = match store.books() {
         Ok(lines) => lines,
@@ -71,12 +71,8 @@ fn store_told<B: BookStore>(alloc: Global, store: &mut B) -> Result<String, Stop
 }
 
 /// What adopting the tables answers after the statements.
-pub(crate) fn adopted_told<S: Tried>(
-    alloc: Global,
-    script: &str,
-    statements: &str,
-) -> Result<String, Stop> {
-    let mut conn = laid_by::<S>(alloc, script)?;
+pub(crate) fn adopted_told(alloc: Global, script: &str, statements: &str) -> Result<String, Stop> {
+    let mut conn = laid_by(alloc, script)?;
     if let Err(undone) = damage(&mut conn, statements) {
         return Ok(String::from_str(alloc, undone.text())?);
     }

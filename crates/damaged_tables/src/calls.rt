@@ -5,11 +5,10 @@ use crate::answers::answer_told;
 use crate::changes::{create_book, forget, import, move_card, put, remove};
 use crate::copying::laid_by;
 use crate::damaging::damage;
-use crate::laying::{Tried, limits};
+use crate::laying::{Memory, limits};
 use crate::looks::{book, books, cards, get, kept_import, report, report_all, tally};
 use crate::rows::{TABLES, rows_told};
 use crate::stop::Stop;
-use sqlite::{Alter, Connection};
 use std::alloc::Global;
 use sync_core::{Denied, Limits};
 
@@ -49,12 +48,7 @@ const CALLS: [(&str, Call); 14] = [
     ("report with a token", Call::ReportAll),
 ];
 
-fn answer<S: Alter>(
-    alloc: Global,
-    conn: &mut Connection<S>,
-    limits: Limits,
-    call: Call,
-) -> Result<String, Denied>
+fn answer(alloc: Global, conn: &mut Memory, limits: Limits, call: Call) -> Result<String, Denied>
     requires { conn.old.in_transaction ≡ false }
 {
     match call {
@@ -76,13 +70,8 @@ fn answer<S: Alter>(
 }
 
 /// What the call answers over the tables after the statements, and whether it changed a row.
-fn call_told<S: Tried>(
-    alloc: Global,
-    script: &str,
-    statements: &str,
-    call: Call,
-) -> Result<String, Stop> {
-    let mut conn = laid_by::<S>(alloc, script)?;
+fn call_told(alloc: Global, script: &str, statements: &str, call: Call) -> Result<String, Stop> {
+    let mut conn = laid_by(alloc, script)?;
     if let Err(undone) = damage(&mut conn, statements) {
         return Ok(String::from_str(alloc, undone.text())?);
     }
@@ -100,14 +89,10 @@ fn call_told<S: Tried>(
 }
 
 /// The same for each call, over tables of its own.
-pub(crate) fn calls_told<S: Tried>(
-    alloc: Global,
-    script: &str,
-    statements: &str,
-) -> Result<String, Stop> {
+pub(crate) fn calls_told(alloc: Global, script: &str, statements: &str) -> Result<String, Stop> {
     let mut told = String::new(alloc);
     for (name, call) in CALLS {
-        let answer = call_told::<S>(alloc, script, statements, call)?;
+        let answer = call_told(alloc, script, statements, call)?;
         let answer = answer.as_str();
         told.push_str(format!(in alloc; "\n  {name}: {answer}")?.as_str())?;
     }

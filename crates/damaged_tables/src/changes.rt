@@ -2,6 +2,7 @@
 ghost use Rattle.std.specs.Prelude.{◌≡◌, false};
 
 use crate::answers::{import_told, put_told};
+use crate::laying::Memory;
 use book_writing::creating::create_in_tables;
 use book_writing::forgetting::forget_in_book;
 use book_writing::importing::import_in_book;
@@ -9,7 +10,6 @@ use book_writing::move_call::move_in_tables;
 use book_writing::put_call::put_in_book;
 use book_writing::remove_call::remove_in_book;
 use csv_cards::read_rows;
-use sqlite::{Alter, Connection};
 use std::alloc::Global;
 use sync_core::{Denied, Fault, Limits, PutAnswer};
 use vcard_text::read_card;
@@ -20,9 +20,9 @@ const ANN: &str = "BEGIN:VCARD\nVERSION:4.0\nUID:ann\nFN:Ann Lee\nEND:VCARD\n";
 /// Another card of Ann, and a card of Zoe.
 const ROWS: &str = "uid,fn,family,given,email,tel,org,note\nann,Ann Day,,,,,,\nzoe,Zoe,,,,,,\n";
 
-pub(crate) fn create_book<S: Alter>(
+pub(crate) fn create_book(
     alloc: Global,
-    conn: &mut Connection<S>,
+    conn: &mut Memory,
     limits: Limits,
 ) -> Result<String, Denied>
     requires { conn.old.in_transaction ≡ false }
@@ -31,11 +31,7 @@ pub(crate) fn create_book<S: Alter>(
     Ok(format!(in alloc; "book {id}")?)
 }
 
-fn put_ann<S: Alter>(
-    alloc: Global,
-    conn: &mut Connection<S>,
-    limits: Limits,
-) -> Result<PutAnswer, Denied>
+fn put_ann(alloc: Global, conn: &mut Memory, limits: Limits) -> Result<PutAnswer, Denied>
     requires { conn.old.in_transaction ≡ false }
 {
     let Ok(card) = read_card(alloc, ANN.as_bytes()) else {
@@ -44,33 +40,21 @@ fn put_ann<S: Alter>(
     put_in_book(alloc, conn, limits, "staff", &card, None)
 }
 
-pub(crate) fn put<S: Alter>(
-    alloc: Global,
-    conn: &mut Connection<S>,
-    limits: Limits,
-) -> Result<String, Denied>
+pub(crate) fn put(alloc: Global, conn: &mut Memory, limits: Limits) -> Result<String, Denied>
     requires { conn.old.in_transaction ≡ false }
 {
     let answer = put_ann(alloc, conn, limits)?;
     Ok(put_told(alloc, answer)?)
 }
 
-pub(crate) fn remove<S: Alter>(
-    alloc: Global,
-    conn: &mut Connection<S>,
-    limits: Limits,
-) -> Result<String, Denied>
+pub(crate) fn remove(alloc: Global, conn: &mut Memory, limits: Limits) -> Result<String, Denied>
     requires { conn.old.in_transaction ≡ false }
 {
     let number = remove_in_book(alloc, conn, limits, "staff", "ann", None)?;
     Ok(format!(in alloc; "gone {number}")?)
 }
 
-pub(crate) fn move_card<S: Alter>(
-    alloc: Global,
-    conn: &mut Connection<S>,
-    limits: Limits,
-) -> Result<String, Denied>
+pub(crate) fn move_card(alloc: Global, conn: &mut Memory, limits: Limits) -> Result<String, Denied>
     requires { conn.old.in_transaction ≡ false }
 {
     let moved = move_in_tables(alloc, conn, limits, "staff", "clients", "ann", None)?;
@@ -78,18 +62,14 @@ pub(crate) fn move_card<S: Alter>(
 }
 
 /// The staff forgets what was removed up to its fifth change.
-pub(crate) fn forget<S: Alter>(alloc: Global, conn: &mut Connection<S>) -> Result<String, Denied>
+pub(crate) fn forget(alloc: Global, conn: &mut Memory) -> Result<String, Denied>
     requires { conn.old.in_transaction ≡ false }
 {
     let dropped = forget_in_book(conn, "staff", 5)?;
     Ok(format!(in alloc; "forgot {dropped}")?)
 }
 
-pub(crate) fn import<S: Alter>(
-    alloc: Global,
-    conn: &mut Connection<S>,
-    limits: Limits,
-) -> Result<String, Denied>
+pub(crate) fn import(alloc: Global, conn: &mut Memory, limits: Limits) -> Result<String, Denied>
     requires { conn.old.in_transaction ≡ false }
 {
     let Ok(cards) = read_rows(alloc, ROWS.as_bytes()) else {

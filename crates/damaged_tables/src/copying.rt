@@ -1,11 +1,12 @@
 //! The rows of a store as statements that lay them again.
 //!
 //! So the commands by which the store came to be are performed once, and not for each line.
-use crate::laying::{Tried, limits};
+use crate::laying::{Memory, limits};
 use crate::rows::{BOOK, IMPORT, KEEPING, MEMBER};
 use crate::stop::Stop;
+use book_store::SqlStore;
 use sqlite::types::ValueRef;
-use sqlite::{Alter, Connection, Row, params};
+use sqlite::{Row, params};
 use std::alloc::Global;
 
 /// A value as it is written in a statement.
@@ -38,10 +39,10 @@ fn push_values(script: &mut String, alloc: Global, row: &Row) -> Result<(), Stop
 }
 
 /// Statements that insert the rows that the query shows.
-fn push_inserts<S: Alter>(
+fn push_inserts(
     script: &mut String,
     alloc: Global,
-    conn: &mut Connection<S>,
+    conn: &mut Memory,
     table: &str,
     query: &str,
 ) -> Result<(), Stop> {
@@ -55,7 +56,7 @@ fn push_inserts<S: Alter>(
 }
 
 /// Statements that insert the rows of all books.
-pub(crate) fn script_of<S: Alter>(alloc: Global, conn: &mut Connection<S>) -> Result<String, Stop> {
+pub(crate) fn script_of(alloc: Global, conn: &mut Memory) -> Result<String, Stop> {
     let mut script = String::new(alloc);
     push_inserts(&mut script, alloc, conn, "book", BOOK)?;
     push_inserts(&mut script, alloc, conn, "member", MEMBER)?;
@@ -65,8 +66,8 @@ pub(crate) fn script_of<S: Alter>(alloc: Global, conn: &mut Connection<S>) -> Re
 }
 
 /// The tables of a store with the rows that the statements insert.
-pub(crate) fn laid_by<S: Tried>(alloc: Global, script: &str) -> Result<Connection<S>, Stop> {
-    let Ok(store) = S::new_store(alloc, limits()?) else {
+pub(crate) fn laid_by(alloc: Global, script: &str) -> Result<Memory, Stop> {
+    let Ok(store) = SqlStore::open_in_memory(alloc, limits()?) else {
         return Err(Stop::Laying);
     };
     let mut conn = store.into_connection();
@@ -75,8 +76,8 @@ pub(crate) fn laid_by<S: Tried>(alloc: Global, script: &str) -> Result<Connectio
 }
 
 /// The same books in tables of the first schema, which has no keeps.
-pub(crate) fn laid_first<S: Tried>(alloc: Global, script: &str) -> Result<Connection<S>, Stop> {
-    let mut conn = laid_by::<S>(alloc, script)?;
+pub(crate) fn laid_first(alloc: Global, script: &str) -> Result<Memory, Stop> {
+    let mut conn = laid_by(alloc, script)?;
     conn.execute_batch("DROP TABLE keeping; UPDATE meta SET val = 1")?;
     Ok(conn)
 }

@@ -1,5 +1,6 @@
 //! Damage, by statements that are run over the tables.
-use sqlite::{Alter, Connection, Error, ErrorCode};
+use crate::laying::Memory;
+use sqlite::{Error, ErrorCode};
 
 /// Why statements weren't run to their end.
 #[derive(Clone, Copy)]
@@ -20,7 +21,7 @@ impl Undone {
 }
 
 /// Runs the statements, up to the first that isn't done.
-pub(crate) fn damage<S: Alter>(conn: &mut Connection<S>, statements: &str) -> Result<(), Undone> {
+pub(crate) fn damage(conn: &mut Memory, statements: &str) -> Result<(), Undone> {
     match conn.execute_batch(statements) {
         Ok(()) => Ok(()),
         Err(Error::SqliteFailure(ErrorCode::ConstraintViolation(_))) => Err(Undone::NotAllowed),

@@ -1,23 +1,16 @@
 //! The store that is damaged.
 use crate::stop::Stop;
 use book_scripts::replies_told;
-use book_store::{OpenFault, SqlStore};
-use sqlite::{Alter, Connection, MemStore};
+use book_store::SqlStore;
+use sqlite::{Connection, MemStore};
 use std::alloc::Global;
 use sync_core::Limits;
 
-/// What tables are kept in that are tried. All here but one function speaks of any such kind: a
-/// check of a function that names a database by its whole type takes half a minute and more.
-pub(crate) trait Tried: Alter + Drop {
-    /// A new store, without books.
-    fn new_store(alloc: Global, limits: Limits) -> Result<SqlStore<Self>, OpenFault>;
-}
+/// A connection over memory.
+pub(crate) type Memory = Connection<MemStore>;
 
-impl Tried for MemStore {
-    fn new_store(alloc: Global, limits: Limits) -> Result<SqlStore<MemStore>, OpenFault> {
-        SqlStore::open_in_memory(alloc, limits)
-    }
-}
+/// A store over tables in memory.
+pub(crate) type Store = SqlStore<MemStore>;
 
 /// Three books with six cards, of which one has a text that is folded where it is written, three
 /// removed members and two imports.
@@ -62,8 +55,8 @@ fn are_answers(replies: &str) -> bool {
 }
 
 /// The tables of the store.
-pub(crate) fn laid<S: Tried>(alloc: Global) -> Result<Connection<S>, Stop> {
-    let Ok(mut store) = S::new_store(alloc, limits()?) else {
+pub(crate) fn laid(alloc: Global) -> Result<Memory, Stop> {
+    let Ok(mut store) = SqlStore::open_in_memory(alloc, limits()?) else {
         return Err(Stop::Laying);
     };
     let replies = replies_told(alloc, &mut store, LAYING)?;

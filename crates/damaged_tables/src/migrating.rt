@@ -2,17 +2,16 @@
 use crate::answers::open_fault_told;
 use crate::copying::laid_first;
 use crate::damaging::damage;
-use crate::laying::Tried;
+use crate::laying::Memory;
 use crate::rows::{BOOKS, FIRST, KEEPING, META, push_rows, rows_told};
 use crate::stop::Stop;
 use book_migration::migrate_connection;
-use sqlite::{Alter, Connection};
 use std::alloc::Global;
 
 /// The number of books, that of the schema, and the keeps; and whether the books' rows are others.
-fn carried_told<S: Alter>(
+fn carried_told(
     alloc: Global,
-    conn: &mut Connection<S>,
+    conn: &mut Memory,
     books: u64,
     before: &str,
 ) -> Result<String, Stop> {
@@ -26,12 +25,8 @@ fn carried_told<S: Alter>(
 }
 
 /// What carrying the tables answers after the statements, and whether a refusal changed a row.
-pub(crate) fn migrated_told<S: Tried>(
-    alloc: Global,
-    script: &str,
-    statements: &str,
-) -> Result<String, Stop> {
-    let mut conn = laid_first::<S>(alloc, script)?;
+pub(crate) fn migrated_told(alloc: Global, script: &str, statements: &str) -> Result<String, Stop> {
+    let mut conn = laid_first(alloc, script)?;
     if let Err(undone) = damage(&mut conn, statements) {
         return Ok(String::from_str(alloc, undone.text())?);
     }

@@ -1,7 +1,8 @@
 //! The rows of tables, told as they stand.
+use crate::laying::Memory;
 use crate::stop::Stop;
 use sqlite::types::ValueRef;
-use sqlite::{Alter, Connection, Row, params};
+use sqlite::{Row, params};
 use std::alloc::Global;
 
 /// All rows of each table, in the order of their keys.
@@ -78,10 +79,10 @@ fn push_row(told: &mut String, alloc: Global, row: &Row, end: &str) -> Result<()
 }
 
 /// What the query shows, each row with the end.
-pub(crate) fn push_rows<S: Alter>(
+pub(crate) fn push_rows(
     told: &mut String,
     alloc: Global,
-    conn: &mut Connection<S>,
+    conn: &mut Memory,
     query: &str,
     end: &str,
 ) -> Result<(), Stop> {
@@ -93,9 +94,9 @@ pub(crate) fn push_rows<S: Alter>(
 }
 
 /// What the queries show, a row a line.
-pub(crate) fn rows_told<S: Alter>(
+pub(crate) fn rows_told(
     alloc: Global,
-    conn: &mut Connection<S>,
+    conn: &mut Memory,
     queries: &[&str],
 ) -> Result<String, Stop> {
     let mut told = String::new(alloc);
