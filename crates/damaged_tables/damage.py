@@ -111,6 +111,10 @@ ROWS = [
     ("no number of the schema", "DELETE FROM meta"),
     ("a second number of the schema", "INSERT INTO meta VALUES ('schema', 2)"),
     ("another row of the schema's table", "INSERT INTO meta VALUES ('more', 2)"),
+    ("another name of the schema's number", "UPDATE meta SET name = 'scheme'"),
+    ("a view too many", "CREATE VIEW gone AS SELECT uid FROM member WHERE card IS NULL"),
+    ("damage in tables of another schema", "UPDATE meta SET val = 3; "
+     "UPDATE book SET number = 9 WHERE id = 1"),
 ]
 
 # These are of the keeps, which the first schema hasn't.
@@ -134,6 +138,11 @@ KEEP_ROWS = [
     ("no books", "DELETE FROM member; DELETE FROM import_key; DELETE FROM keeping; "
      "DELETE FROM book"),
     ("no keeps' table", "DROP TABLE keeping"),
+    ("no imports' table", "DROP TABLE import_key"),
+    ("keeps in a table that names no books", "DROP TABLE keeping; "
+     "CREATE TABLE keeping (book INTEGER PRIMARY KEY, keep INTEGER) STRICT"),
+    ("no table", "DROP TABLE keeping; DROP TABLE import_key; DROP TABLE member; DROP TABLE book; "
+     "DROP TABLE meta"),
     ("the first schema", "DROP TABLE keeping; UPDATE meta SET val = 1"),
 ]
 

@@ -1,11 +1,8 @@
-mod checking;
 mod in_memory;
 mod migration;
-mod opening;
 mod order_rows;
-mod reading;
 mod sockets;
-mod stores;
+mod store_files;
 mod tables;
 mod texts;
 mod tried;

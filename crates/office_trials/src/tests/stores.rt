@@ -1,4 +1,0 @@
-//! Stores over tables that were there, and in files.
-
-mod adopting;
-mod files;
