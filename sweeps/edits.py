@@ -2,8 +2,8 @@
 
 Each `edits/CRATE/NAME.edit` is one more edit of that crate, in the form of those under
 `crates/CRATE/must-fail/`, which the prover must refuse. The gate tries those alone that turn a rule
-of the promise, the meaning of a statement, what words ask for, or what an order prints, since each
-costs it half a minute and more, and the first of a crate the crate's whole proof.
+of the promise, or what a statement means for the books, since each costs it half a minute and more,
+and the first of a crate the crate's whole proof.
 
 They are tried in a copy of the repository, with what its crates' `out/` hold, so that no library is
 built there again that is built here. The status is 1 where an edit isn't refused or can't be applied.
