@@ -1,0 +1,74 @@
+//! Cards that are made of lines, which are given part by part.
+use crate::cards::{canonical_text, fault_told};
+use base_types::{Items, NoMemory, Text};
+use std::alloc::Global;
+use std::str::Split;
+use vcard_lines::{Line, Param, ParamValue};
+use vcard_text::{Card, card_of_lines, read_card};
+
+/// The value, in quotes where it stands behind one.
+fn value_made(alloc: Global, part: &str) -> Result<ParamValue, NoMemory> {
+    let inside = part.strip_prefix("\"");
+    let text = Text::copy_of(alloc, inside.unwrap_or(part))?;
+    Ok(ParamValue {
+        quoted: inside.is_some(),
+        text,
+    })
+}
+
+/// The parameter of the name, whose values the parts are.
+fn param_made(alloc: Global, name: &str, parts: Split<'_, char>) -> Result<Param, NoMemory> {
+    let mut values = Items::new(alloc);
+    for part in parts {
+        values.push(value_made(alloc, part)?)?;
+    }
+    Ok(Param {
+        name: Text::copy_of(alloc, name)?,
+        values,
+    })
+}
+
+/// The line whose name, value, group, parameter and the parameter's values stand between slashes.
+/// What is left out at the end isn't there.
+pub(crate) fn line_made(alloc: Global, given: &str) -> Result<Line, NoMemory> {
+    let mut parts = given.split('/');
+    let mut line = Line {
+        group: None,
+        name: Text::copy_of(alloc, parts.next().unwrap_or(""))?,
+        params: Items::new(alloc),
+        value: Text::copy_of(alloc, parts.next().unwrap_or(""))?,
+    };
+    if let Some(group) = parts.next() {
+        line.group = Some(Text::copy_of(alloc, group)?);
+    }
+    if let Some(param) = parts.next() {
+        line.params.push(param_made(alloc, param, parts)?)?;
+    }
+    Ok(line)
+}
+
+/// The canonical text of the card, where it is read as the same card.
+fn text_read_back(alloc: Global, card: &Card) -> Result<String, NoMemory> {
+    let text = canonical_text(alloc, card)?;
+    match read_card(alloc, text.as_bytes()) {
+        Ok(again) if again.is_same(card) => Ok(text),
+        _ => Ok(String::from_str(alloc, "another card")?),
+    }
+}
+
+/// The same of the card that the lines make.
+pub(crate) fn made_told(alloc: Global, lines: Vec<Line>) -> Result<String, NoMemory> {
+    match card_of_lines(alloc, lines) {
+        Ok(card) => text_read_back(alloc, &card),
+        Err(fault) => fault_told(alloc, fault),
+    }
+}
+
+/// The same of lines that stand between bars.
+pub(crate) fn make_told(alloc: Global, given: &str) -> Result<String, NoMemory> {
+    let mut lines = Vec::new(alloc);
+    for line in given.split_terminator('|') {
+        lines.push(line_made(alloc, line)?)?;
+    }
+    made_told(alloc, lines)
+}

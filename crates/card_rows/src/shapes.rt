@@ -1,0 +1,25 @@
+//! Cards that are given by a shape: the UID of each, its kind and the values of its members between
+//! spaces, and a semicolon between two. Further lines may stand behind line feeds.
+use std::alloc::Global;
+use std::collections::BTreeMap;
+use vcard_lines::CardFault;
+use vcard_text::{Card, read_card};
+
+/// The card that the words give.
+fn card_of(alloc: Global, words: &str) -> Result<Card, CardFault> {
+    let (uid, others) = words.split_once(' ').unwrap_or((words, ""));
+    let lines = others.replace(alloc, " ", "\nMEMBER:")?;
+    let head = "BEGIN:VCARD\nVERSION:4.0\nFN:n";
+    let text = format!(in alloc; "{head}\nUID:{uid}\nKIND:{lines}\nEND:VCARD\n")?;
+    read_card(alloc, text.as_bytes())
+}
+
+/// The cards of the shape by their UIDs.
+pub(crate) fn cards_of(alloc: Global, shape: &str) -> Result<BTreeMap<String, Card>, CardFault> {
+    let mut cards = BTreeMap::new(alloc);
+    for words in shape.split(';') {
+        let card = card_of(alloc, words)?;
+        cards.insert(String::from_str(alloc, card.uid())?, card)?;
+    }
+    Ok(cards)
+}
