@@ -1,9 +1,0 @@
-mod in_memory;
-mod migration;
-mod order_rows;
-mod sockets;
-mod store_files;
-mod tables;
-mod texts;
-mod tried;
-mod words;

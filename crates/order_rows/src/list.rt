@@ -1,0 +1,72 @@
+//! The rows of the list, each tried in its turn over the files that the rows before it left.
+use crate::devices::{input_told, output_told, read_told};
+use crate::fields::{front_and_rest, octets, placed};
+use crate::files::{done_told, laid_told, locked_told, there_told, written_told};
+use crate::ports::{served_told, taken_told};
+use crate::running::{fault_told, line_told, stop_told};
+use crate::words::words_told;
+use base_types::NoMemory;
+use std::path::PathBuf;
+use std::{env, fs, io};
+use tried_rows::{row_in, tell_row};
+
+/// What comes of the call.
+fn come(rt: &HostRuntime, folder: &str, call: &str, given: &[u8]) -> Result<Vec<u8>, NoMemory> {
+    let alloc = rt.alloc();
+    let (front, rest) = front_and_rest(given);
+    let front = placed(alloc, folder, front)?;
+    let front = front.as_str();
+    match call {
+        "words" => words_told(alloc, front, rest),
+        "run" => line_told(rt, front, rest),
+        "fault" => fault_told(rt, front, rest),
+        "stop" => stop_told(alloc, front),
+        "input" => input_told(rt, front, rest),
+        "output" => output_told(rt, front, rest),
+        "read" => read_told(alloc, rest),
+        "write" => written_told(rt, front, rest),
+        "lay" => laid_told(rt, front, rest),
+        "there" => there_told(rt, front),
+        "do" => done_told(rt, front, rest),
+        "locked" => locked_told(rt, front),
+        "serve" => served_told(rt, front, 0),
+        "taken" => taken_told(rt, front),
+        _ => octets(alloc, "** no such call"),
+    }
+}
+
+/// Tells the rows that don't come to what they should, and then how many there are.
+fn tell_rows_in(rt: &HostRuntime, folder: &str, list: &str) -> Result<String, NoMemory> {
+    let alloc = rt.alloc();
+    let mut told = String::new(alloc);
+    let mut count: u64 = 0;
+    for line in list.lines() {
+        if let Some(row) = row_in(alloc, line)? {
+            count = count.saturating_add(1);
+            let came = come(rt, folder, row.call.as_str(), row.given.as_slice())?;
+            tell_row(alloc, &row, came.as_slice(), &mut told)?;
+        }
+    }
+    told.push_str(format!(in alloc; "{count} rows\n")?.as_str())?;
+    Ok(told)
+}
+
+/// An empty folder, where there may be one that an earlier run left.
+fn new_folder(rt: &HostRuntime) -> io::Result<PathBuf> {
+    let folder = env::temp_dir(rt)?.join(rt.alloc(), "order_rows")?;
+    let _ = fs::remove_dir_all(rt, &folder);
+    fs::create_dir(rt, &folder)?;
+    Ok(folder)
+}
+
+/// Tries the rows of the list, and tells those that don't come to what they should, and then how
+/// many there are. Their files stand in a folder of their own, which is removed then.
+pub fn tell_orders(rt: &HostRuntime, list: &str) -> io::Result<String> {
+    let folder = new_folder(rt)?;
+    let told = tell_rows_in(rt, folder.as_str(), list);
+    fs::remove_dir_all(rt, &folder)?;
+    match told {
+        Ok(told) => Ok(told),
+        Err(NoMemory) => Err(io::Error::from(io::ErrorKind::OutOfMemory)),
+    }
+}
