@@ -17,9 +17,9 @@ use book_model::{BookLine, Denied, ImportTally, Moved, Page, PutAnswer, Stored, 
 use book_reading::paging::page_of_book;
 use book_reading::telling::{kept_of_book, line_of_book, stored_of_book, tally_of_book};
 use book_reading::telling_all::{cards_of_book, lines_of_books};
-use book_writing::creating::create_in_tables;
+use book_adding::creating::create_in_tables;
 use book_writing::forgetting::forget_in_book;
-use book_writing::importing::import_in_book;
+use book_adding::importing::import_in_book;
 use book_writing::move_call::move_in_tables;
 use book_writing::put_call::put_in_book;
 use book_writing::remove_call::remove_in_book;

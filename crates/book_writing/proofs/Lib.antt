@@ -4,8 +4,5 @@ pub mod CallLemmas
 pub mod ForgetLemmas
 pub mod PutLemmas
 pub mod PlanLemmas
-pub mod CreateLemmas
 pub mod RemoveLemmas
-pub mod ImportLemmas
-pub mod WroteLemmas
 pub mod MoveLemmas

@@ -2,5 +2,4 @@ pub mod StoredBooks
 pub mod Changing
 pub mod Planning
 pub mod Removals
-pub mod Importing
 pub mod Moves

@@ -16,8 +16,6 @@ use Rattle.book_rows.specs.TableBooks.{BookFigures, book_of, books_of, line_row}
 use Rattle.book_rows.specs.TableRows.{TableRows}
 use Rattle.book_reading.specs.Answers.{Answers, IsTold}
 
--- ---- a put
-
 -- what a put answers in a book
 abbrev pub put_in : Bounds → List Line → Option ℕ → Book → Result PutAnswer Refusal
 put_in limits card expect book = put_answer limits (found_in book (uid_of card)) card expect
@@ -30,27 +28,3 @@ IsPutPlanned limits rows name card expect (Ok plan) = IsBookNamed rows name plan
 IsPutPlanned limits rows name card expect (Err denied) =
     Answers {T = PutAnswer} {A = PutAnswer} IsTold (Err denied)
     (book_named (books_of rows) name >>= put_in limits card expect)
-
--- ---- a new book
-
--- whether a book has the name, as the table and as the books tell it
-abbrev pub IsNameTold : TableRows → List ℕ → Bool → Type 0
-IsNameTold rows name true = finite.contains_key (books_of rows) name ≡ true
-IsNameTold rows name false = IsNameFree rows name
-
--- whether a book has the name, and how many books there are
-abbrev pub AreTold : TableRows → List ℕ → Bool × ℕ → Type 0
-AreTold rows name found =
-    IsNameTold rows name found.0 × (finite.len (books_of rows) ≡ found.1)
-
--- the id of a new book of the name among the books
-abbrev pub id_among : Bounds → List ℕ → Books → Result ℕ Refusal
-id_among limits name books =
-    new_id limits name (finite.contains_key books name) (finite.len books)
-
--- no book has the name, and the id is that of a new one; or the refusal is due
-abbrev pub IsCreationPlanned : Bounds → TableRows → List ℕ → Result ℕ Denied → Type 0
-IsCreationPlanned limits rows name (Ok id) =
-    IsNameFree rows name × (id_among limits name (books_of rows) ≡ Ok id)
-IsCreationPlanned limits rows name (Err denied) =
-    Answers {T = ℕ} {A = ℕ} IsTold (Err denied) (id_among limits name (books_of rows))

@@ -1,15 +1,20 @@
-//! The numbers of a book as its columns keep them.
+//! The numbers of a book, and a card, as columns keep them.
 ghost use Rattle.book_rows.specs.TableBooks.{numbers_row};
+ghost use Rattle.book_rows.specs.Values.{text_card};
 ghost use Rattle.book_reading.specs.Faults.{IsFault};
 ghost use Rattle.book_tables.specs.Books.{numbers_of};
-ghost use Rattle.std.specs.Prelude.{◌≡◌, IfErr, IfOk};
+ghost use Rattle.std.specs.Prelude.{◌≡◌, IfErr, IfOk, string_bytes};
+ghost use Rattle.vcard_text.specs.Cards.{canonical_text};
 
-use book_model::{Counts, Denied};
+use book_model::{Counts, Denied, Fault};
 use book_reading::column_of;
 use book_tables::books::BookNumbers;
+use std::alloc::Global;
+use vcard_text::laws::card_is_computed;
+use vcard_text::{Card, write_card};
 
 /// `Store` where one is 2^63 or more, which none of a store is.
-pub(crate) fn columns_of(number: u64, horizon: u64, counts: Counts) -> Result<BookNumbers, Denied>
+pub fn columns_of(number: u64, horizon: u64, counts: Counts) -> Result<BookNumbers, Denied>
     ensures numbers { IfOk result (λ numbers.
         numbers_of numbers ≡ numbers_row number horizon counts) }
     ensures fault { IfErr result IsFault }
@@ -25,4 +30,17 @@ pub(crate) fn columns_of(number: u64, horizon: u64, counts: Counts) -> Result<Bo
         deleted: column_of(counts.deleted)?,
         moved_out: column_of(counts.moved_out)?,
     })
+}
+
+/// The card's canonical text, which is read as the card again. A fault where memory runs out.
+pub fn text_of(alloc: Global, card: &Card) -> Result<String, Denied>
+    ensures canonical { IfOk result (λ text. string_bytes text ≡ canonical_text card.now) }
+    ensures card { IfOk result (λ text. text_card (string_bytes text) ≡ card.now) }
+    ensures fault { IfErr result IsFault }
+{
+    card_is_computed();
+    match String::from_utf8(write_card(alloc, card)?) {
+        Ok(text) => Ok(text),
+        Err(_) => Err(Denied::Fault(Fault::Store)),
+    }
 }

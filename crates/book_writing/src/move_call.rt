@@ -12,8 +12,7 @@ ghost use Rattle.sqlite.specs.State.{HasCleanDisk, IsUnchanged};
 ghost use Rattle.std.specs.Prelude.{◌≡◌, ◌<◌, ◌^◌, IfErr, IfOk, IsTrue, List, OnOk, false, ℕ};
 
 use crate::moving::write_move;
-use crate::planning::figures_to_change;
-use crate::put_call::behind;
+use crate::planning::{behind, figures_to_change};
 use crate::remove_call::drop_of_book;
 use book_model::decisions::{Finding, answer_to_move};
 use book_model::{Denied, Limits, Moved, Refusal, Stored};

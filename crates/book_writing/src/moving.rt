@@ -18,8 +18,8 @@ ghost use Rattle.sqlite.specs.State.{HasCleanDisk, KeepsCommit, Survives};
 ghost use Rattle.std.specs.FinMap as finite;
 ghost use Rattle.std.specs.Prelude.{◌≡◌, ◌+◌, ◌<◌, ◌^◌, IfErr, IfOk, IsTrue, List, OnOk, false, pos, ℕ, ⊤};
 
-use crate::columns::columns_of;
-use crate::putting::{columns_after, put_row, text_of};
+use crate::columns::{columns_of, text_of};
+use crate::putting::{columns_after, put_row};
 use crate::removing::drop_row;
 use book_model::{Change, Denied, RemovalReason, StoreReason};
 use book_reading::{Figures, column_of, fault_of};

@@ -1,5 +1,4 @@
 //! Storing a card in a book.
-ghost use Rattle.book_model.specs.Books.{stored_behind};
 ghost use Rattle.book_model.specs.Putting.{found_in, put_answer, put_step, reason_for};
 ghost use Rattle.book_reading.specs.Answers.{Answers, IsTold, OverBook, OverSound};
 ghost use Rattle.book_writing.specs.Changing.{Changes, CommitsOnce};
@@ -10,24 +9,14 @@ ghost use Rattle.sqlite.specs.State.{HasCleanDisk, IsUnchanged};
 ghost use Rattle.std.specs.Prelude.{◌≡◌, ◌<◌, ◌^◌, IfOk, IsSome, IsTrue, OnOk, false};
 ghost use Rattle.vcard_text.specs.Cards.{uid_of};
 
-use crate::planning::figures_to_change;
+use crate::planning::{behind, figures_to_change};
 use crate::putting::write_put;
 use book_model::decisions::{Finding, answer_to_put, reason_of};
-use book_model::{Denied, Limits, PutAnswer, Stored};
+use book_model::{Denied, Limits, PutAnswer};
 use book_reading::{Figures, find_live};
 use sqlite::{Alter, Connection};
 use std::alloc::Global;
 use vcard_text::Card;
-
-/// What is live, as a version and a borrowed card.
-pub(crate) fn behind(live: &Option<Stored>) -> Option<(u64, &Card)>
-    ensures { stored_behind result ≡ live.now }
-{
-    match live {
-        Some(stored) => Some((stored.version, &stored.card)),
-        None => None,
-    }
-}
 
 /// What a put of the card comes to in the book with the figures.
 fn answer_in_book<S: Alter>(

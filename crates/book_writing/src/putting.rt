@@ -7,7 +7,6 @@ ghost use Rattle.book_reading.specs.Faults.{IsFault};
 ghost use Rattle.book_rows.specs.ChangeLaws.{IsTextOf, figures_after};
 ghost use Rattle.book_rows.specs.TableBooks.{BookFigures, book_of, books_of, line_row, numbers_row};
 ghost use Rattle.book_rows.specs.TableRows.{TableRows};
-ghost use Rattle.book_rows.specs.Values.{text_card};
 ghost use Rattle.book_writing.specs.Changing.{AreColumns, ChangesLine, HasLine, HoldsBooks, IsDone, TreesHold};
 ghost use Rattle.book_writing.specs.Moves.{HoldsChange};
 ghost use Rattle.book_tables.specs.Books.{numbers_of};
@@ -15,18 +14,17 @@ ghost use Rattle.book_tables.specs.Laying.{LeavesInside};
 ghost use Rattle.sqlite.specs.Held.{state};
 ghost use Rattle.sqlite.specs.State.{HasCleanDisk, KeepsCommit, Survives};
 ghost use Rattle.std.specs.FinMap as finite;
-ghost use Rattle.std.specs.Prelude.{◌≡◌, ◌+◌, ◌<◌, ◌^◌, IfErr, IfOk, List, OnOk, false, option_copied, pos, string_bytes, ℕ, ⊤};
-ghost use Rattle.vcard_text.specs.Cards.{canonical_text, uid_of};
+ghost use Rattle.std.specs.Prelude.{◌≡◌, ◌+◌, ◌<◌, ◌^◌, IfErr, IfOk, List, OnOk, false, option_copied, pos, ℕ, ⊤};
+ghost use Rattle.vcard_text.specs.Cards.{uid_of};
 
-use crate::columns::columns_of;
-use book_model::{Change, Denied, Fault, StoreReason};
+use crate::columns::{columns_of, text_of};
+use book_model::{Change, Denied, StoreReason};
 use book_reading::{Figures, column_of, fault_of};
 use book_tables::books::{BookNumbers, renumber_book};
 use book_tables::members::put_member;
 use sqlite::{Alter, Connection, Error, Transaction};
 use std::alloc::Global;
-use vcard_text::laws::card_is_computed;
-use vcard_text::{Card, write_card};
+use vcard_text::Card;
 
 /// Puts the member with the UID of the book with the id, and renumbers the book.
 pub(crate) fn put_row<S: Alter>(
@@ -89,19 +87,6 @@ pub(crate) fn commit_put<S: Alter>(
     put_row(&mut tx, id, uid, changed, card, numbers)?;
     tx.commit()?;
     Ok(())
-}
-
-/// The card's canonical text.
-pub(crate) fn text_of(alloc: Global, card: &Card) -> Result<String, Denied>
-    ensures canonical { IfOk result (λ text. string_bytes text ≡ canonical_text card.now) }
-    ensures card { IfOk result (λ text. text_card (string_bytes text) ≡ card.now) }
-    ensures fault { IfErr result IsFault }
-{
-    card_is_computed();
-    match String::from_utf8(write_card(alloc, card)?) {
-        Ok(text) => Ok(text),
-        Err(_) => Err(Denied::Fault(Fault::Store)),
-    }
 }
 
 /// The numbers of the book after the change, as its columns keep them.

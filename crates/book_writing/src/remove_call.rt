@@ -12,8 +12,7 @@ ghost use Rattle.sqlite.specs.State.{HasCleanDisk, IsUnchanged};
 ghost use Rattle.std.specs.Option.{option_map_or};
 ghost use Rattle.std.specs.Prelude.{◌≡◌, ◌+◌, ◌<◌, ◌^◌, IfErr, IfOk, IsTrue, OnOk, false, min, nat_le};
 
-use crate::planning::figures_to_change;
-use crate::put_call::behind;
+use crate::planning::{behind, figures_to_change};
 use crate::removing::write_remove;
 use book_model::decisions::{Finding, number_of_removal};
 use book_model::{Denied, Limits};

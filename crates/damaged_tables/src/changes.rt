@@ -3,9 +3,9 @@ ghost use Rattle.std.specs.Prelude.{◌≡◌, false};
 
 use crate::answers::{import_told, put_told};
 use crate::laying::Memory;
-use book_writing::creating::create_in_tables;
+use book_adding::creating::create_in_tables;
 use book_writing::forgetting::forget_in_book;
-use book_writing::importing::import_in_book;
+use book_adding::importing::import_in_book;
 use book_writing::move_call::move_in_tables;
 use book_writing::put_call::put_in_book;
 use book_writing::remove_call::remove_in_book;

@@ -1,0 +1,3 @@
+pub mod CreateLemmas
+pub mod ImportLemmas
+pub mod WroteLemmas
