@@ -1,5 +1,2 @@
 pub mod ReadLemmas
 pub mod FindLemmas
-pub mod ToldLemmas
-pub mod ListLemmas
-pub mod WholeLemmas

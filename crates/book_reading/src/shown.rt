@@ -30,7 +30,7 @@ pub(crate) fn live_in(alloc: Global, row: &Row) -> Result<Option<Stored>, Denied
 /// The UID of a row that `members_of` or `first_due` of `book_tables` showed, with its number and
 /// its card, none where the member is removed. `Store` where the row can't be read; `Memory` where
 /// memory runs out.
-pub(crate) fn member_in(alloc: Global, row: &Row) -> Result<(Text, Kept), Denied>
+pub fn member_in(alloc: Global, row: &Row) -> Result<(Text, Kept), Denied>
     ensures member { IfOk result (ShowsMember row.now) }
     ensures fault { IfErr result IsFault }
 {
@@ -69,7 +69,7 @@ pub fn count_in(row: &Row) -> Result<u64, Denied>
 
 /// The line of a row that `all_books` of `book_tables` showed. `Store` where the row can't be read;
 /// `Memory` where memory runs out.
-pub(crate) fn line_in(row: &Row) -> Result<BookLine, Denied>
+pub fn line_in(row: &Row) -> Result<BookLine, Denied>
     ensures line { IfOk result (ShowsLine row.now) }
     ensures fault { IfErr result IsFault }
 {

@@ -1,0 +1,25 @@
+use Rattle.std.proofs.Common.{rules, ◌≡◌, Err, sym, subst}
+use Rattle.sqlite.specs.Held.{state}
+use Rattle.book_model.specs.Books.{Book}
+use Rattle.book_model.specs.Importing.{kept_import_step}
+use Rattle.book_tables.proofs.Lookups.{reads_then}
+use Rattle.book_rows.specs.TableBooks.{books_of}
+use Rattle.book_reading.specs.Answers.{Answers, IsTold}
+use Rattle.book_telling.specs.Steps.{kept_step}
+use Rattle.book_reading.proofs.ReadLemmas.{none_told, told_then}
+use Rattle.book_telling.proofs.telling.kept_of_book.Goals as goal
+
+pub returns-in_err-figures-clause-answers : goal.returns-in_err-figures-clause-answers
+returns-in_err-figures-clause-answers g c rows clean holds sound =
+    let said : c.from_residual.result ≡ Err c.in_err-figures.field-0.0 = search rules in
+    subst (λ r. Answers IsTold r (kept_import_step (books_of rows) c.args.name.now c.args.key.now)) (sym said)
+    (none_told IsTold (λ (book : Book). kept_step c.args.key.now book) c.args.name.now (state g.S.Store c.args.conn.now) (state g.S.Store c.find_figures.new.conn) c.in_err-figures.field-0.0 c.in_err-figures.ensures.named rows clean holds sound)
+
+pub returns-clause-answers : goal.returns-clause-answers
+returns-clause-answers g c =
+    told_then IsTold (λ (book : Book). kept_step c.args.key.now book) c.args.name.now (state g.S.Store c.args.conn.now) (state g.S.Store c.find_figures.new.conn) (state g.S.Store c.kept_at.new.conn) _ c.in_ok-figures.figures c.kept_at.result
+    c.in_ok-figures.ensures.named c.in_ok-figures.ensures.unchanged c.kept_at.ensures.left.survives c.kept_at.ensures.answers
+
+pub returns-clause-left : goal.returns-clause-left
+returns-clause-left g c =
+    reads_then (state g.S.Store c.args.conn.now) (state g.S.Store c.find_figures.new.conn) (state g.S.Store c.kept_at.new.conn) c.find_figures.ensures.left c.in_ok-figures.ensures.unchanged c.kept_at.ensures.left
