@@ -7,5 +7,4 @@ pub mod NameLemmas
 pub mod StoredLemmas
 pub mod MovedLemmas
 pub mod ShownLemmas
-pub mod OpenLemmas
 pub mod GreatestLemmas

@@ -9,5 +9,4 @@ mod keys;
 pub mod laws;
 mod members;
 mod names;
-pub mod opening;
 pub mod tables;

@@ -8,7 +8,7 @@ ghost use Rattle.sqlite.specs.Held.{state};
 ghost use Rattle.std.specs.Prelude.{◌≡◌, IfErr, IfOk, false};
 
 use crate::sql_store::SqlStore;
-use book_check::opening::test_tables;
+use book_opening::opening::test_tables;
 use book_model::Limits;
 use schema_check::OpenFault;
 use sqlite::{Alter, Connection};

@@ -1,8 +1,8 @@
 use Rattle.std.proofs.Common.{rules, ◌≡◌, Err, subst, sym}
 use Rattle.sqlite.specs.Held.{state}
 use Rattle.book_check.specs.Opening.{Opens}
-use Rattle.book_check.proofs.OpenLemmas.{nothing_then, schema_opens, tables_opened}
-use Rattle.book_check.proofs.opening.test_tables.Goals as goal
+use Rattle.book_opening.proofs.OpenLemmas.{nothing_then, schema_opens, tables_opened}
+use Rattle.book_opening.proofs.opening.test_tables.Goals as goal
 
 pub returns-in_err-test_schema-clause-answers : goal.returns-in_err-test_schema-clause-answers
 returns-in_err-test_schema-clause-answers g c clean =

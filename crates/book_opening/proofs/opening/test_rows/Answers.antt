@@ -1,7 +1,7 @@
 use Rattle.sqlite.specs.Held.{state}
-use Rattle.book_check.proofs.OpenLemmas.{error_opens, rows_opened}
+use Rattle.book_opening.proofs.OpenLemmas.{error_opens, rows_opened}
 use Rattle.book_check.proofs.ShownLemmas.{well_stored_held}
-use Rattle.book_check.proofs.opening.test_rows.Goals as goal
+use Rattle.book_opening.proofs.opening.test_rows.Goals as goal
 
 pub returns-in-Ok-clause-answers : goal.returns-in-Ok-clause-answers
 returns-in-Ok-clause-answers g c clean says =

@@ -1,7 +1,7 @@
 use Rattle.sqlite.specs.Held.{state}
 use Rattle.book_tables.proofs.Lookups.{reads_then}
-use Rattle.book_check.proofs.OpenLemmas.{lists_four, reads_third, reads_four}
-use Rattle.book_check.proofs.opening.list_rows.Goals as goal
+use Rattle.book_opening.proofs.OpenLemmas.{lists_four, reads_third, reads_four}
+use Rattle.book_opening.proofs.opening.list_rows.Goals as goal
 
 pub returns-in_err-members-clause-left : goal.returns-in_err-members-clause-left
 returns-in_err-members-clause-left g c =

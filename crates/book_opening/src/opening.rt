@@ -7,7 +7,7 @@ ghost use Rattle.sqlite.specs.Held.{state};
 ghost use Rattle.sqlite.specs.State.{HasCleanDisk};
 ghost use Rattle.std.specs.Prelude.{IfOk};
 
-use crate::tables::are_well_stored;
+use book_check::tables::are_well_stored;
 use book_model::Limits;
 use book_tables::books::all_books;
 use book_tables::imports::all_imports;
