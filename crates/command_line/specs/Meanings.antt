@@ -86,21 +86,31 @@ expand_in rows = with_book (λ file book.
 abbrev pub migrate_in : List Row → Option Order
 migrate_in = with_file (λ file. Some (Migrate file))
 
+-- what the matches of an order that tells of a book mean
+abbrev pub telling_of : Text → List Row → Option Order
+telling_of name rows =
+    if bytes_eq name (codes "export") then export_in rows
+    else (if bytes_eq name (codes "tally") then tally_in rows
+    else (if bytes_eq name (codes "mirror") then mirror_in rows
+    else (if bytes_eq name (codes "expand") then expand_in rows
+    else None)))
+
+-- the same, with those of an order that makes or changes a book
+abbrev pub book_order_of : Text → List Row → Option Order
+book_order_of name rows =
+    if bytes_eq name (codes "book") then book_in rows
+    else (if bytes_eq name (codes "import") then import_in rows
+    else (if bytes_eq name (codes "forget") then forget_in rows
+    else telling_of name rows))
+
 -- what a named order's matches mean
 abbrev pub order_of : Text → List Row → Option Order
 order_of name rows =
     if bytes_eq name (codes "try") then Some Try
     else (if bytes_eq name (codes "init") then init_in rows
-    else (if bytes_eq name (codes "book") then book_in rows
     else (if bytes_eq name (codes "serve") then serve_in rows
-    else (if bytes_eq name (codes "import") then import_in rows
-    else (if bytes_eq name (codes "export") then export_in rows
-    else (if bytes_eq name (codes "tally") then tally_in rows
-    else (if bytes_eq name (codes "forget") then forget_in rows
-    else (if bytes_eq name (codes "mirror") then mirror_in rows
-    else (if bytes_eq name (codes "expand") then expand_in rows
     else (if bytes_eq name (codes "migrate") then migrate_in rows
-    else None))))))))))
+    else book_order_of name rows)))
 
 -- no order is named: to try the first path
 abbrev pub order_in : Option (Text × List Row) → Option Order
