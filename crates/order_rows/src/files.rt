@@ -7,7 +7,7 @@ use book_store::SqlStore;
 use sqlite::{Alter, Connection};
 use std::alloc::Global;
 use std::fs;
-use sync_core::Limits;
+use sync_core::{BookStore, Limits};
 
 /// `write PATH|TEXT`: a file of these octets.
 pub(crate) fn written_told(rt: &HostRuntime, path: &str, text: &[u8]) -> Result<Vec<u8>, NoMemory> {
@@ -27,12 +27,12 @@ pub(crate) fn there_told(rt: &HostRuntime, path: &str) -> Result<Vec<u8>, NoMemo
 }
 
 /// Runs the statements, and closes the connection.
-fn ran<S: Alter + Drop>(
+fn laid_told<S: Alter + Drop>(
     alloc: Global,
     mut conn: Connection<S>,
-    statements: &[u8],
+    statements: &str,
 ) -> Result<Vec<u8>, NoMemory> {
-    let done = conn.execute_batch(str::from_utf8(statements).unwrap_or_default());
+    let done = conn.execute_batch(statements);
     drop(conn);
     match done {
         Ok(()) => octets(alloc, "laid"),
@@ -40,38 +40,75 @@ fn ran<S: Alter + Drop>(
     }
 }
 
-/// `lay PATH|STATEMENTS`: runs them over the database in the file, which is made where there is
-/// none.
-pub(crate) fn laid_told(
+/// What the store replies to the commands, a line each; or, without commands, what a tally of the
+/// book `staff` in its file comes to while it is open.
+fn replied_told<S: BookStore>(
     rt: &HostRuntime,
+    store: &mut S,
     path: &str,
-    statements: &[u8],
+    script: &str,
 ) -> Result<Vec<u8>, NoMemory> {
-    match Connection::open(rt, path) {
-        Ok(conn) => ran(rt.alloc(), conn, statements),
-        Err(_) => octets(rt.alloc(), "** not opened"),
+    if script.is_empty() {
+        let line = format!(in rt.alloc(); "tally {path} staff")?;
+        return line_told(rt, line.as_str(), b"");
+    }
+    Ok(replies_told(rt.alloc(), store, script)?.into_bytes())
+}
+
+/// What comes of the commands over the store that the connection has.
+fn adopted_told<S: Alter + Drop>(
+    rt: &HostRuntime,
+    conn: Connection<S>,
+    path: &str,
+    script: &str,
+) -> Result<Vec<u8>, NoMemory> {
+    if !conn.is_autocommit() {
+        return octets(rt.alloc(), "** in a transaction");
+    }
+    let Ok(mut store) = SqlStore::adopt(rt.alloc(), conn, Limits::standard()) else {
+        return octets(rt.alloc(), "** no store");
+    };
+    let told = replied_told(rt, &mut store, path, script);
+    drop(store);
+    told
+}
+
+/// What comes of the text over the database that the connection has: of `lay`, of statements, and
+/// else of commands.
+fn connected_told<S: Alter + Drop>(
+    rt: &HostRuntime,
+    conn: Connection<S>,
+    call: &str,
+    path: &str,
+    text: &str,
+) -> Result<Vec<u8>, NoMemory> {
+    match call {
+        "lay" => laid_told(rt.alloc(), conn, text),
+        _ => adopted_told(rt, conn, path, text),
     }
 }
 
-/// `do PATH|COMMANDS`: what the store in the file replies to commands of `book_scripts`, a line
-/// each.
-pub(crate) fn done_told(rt: &HostRuntime, path: &str, script: &[u8]) -> Result<Vec<u8>, NoMemory> {
-    let script = str::from_utf8(script).unwrap_or_default();
-    let Ok(mut store) = SqlStore::open(rt, path, Limits::standard()) else {
-        return octets(rt.alloc(), "** not opened");
-    };
-    let told = replies_told(rt.alloc(), &mut store, script);
-    drop(store);
-    Ok(told?.into_bytes())
-}
-
-/// `locked PATH`: what a tally of the file's book `staff` comes to while the file is open.
-pub(crate) fn locked_told(rt: &HostRuntime, path: &str) -> Result<Vec<u8>, NoMemory> {
-    let Ok(store) = SqlStore::open(rt, path, Limits::standard()) else {
-        return octets(rt.alloc(), "** not opened");
-    };
-    let line = format!(in rt.alloc(); "tally {path} staff");
-    let told = line_told(rt, line?.as_str(), b"");
-    drop(store);
-    told
+/// Calls over the database in a file, which is made where there is none:
+///
+/// - `lay PATH|STATEMENTS`: runs them;
+/// - `do PATH|COMMANDS`: what the store replies to commands of `book_scripts`, a line each;
+/// - `locked PATH`: what a tally of the book `staff` comes to while the file is open.
+///
+/// (To name the database by its whole type is dear in proofs: it is done here alone.)
+pub(crate) fn file_told(
+    rt: &HostRuntime,
+    call: &str,
+    path: &str,
+    text: &[u8],
+) -> Result<Vec<u8>, NoMemory> {
+    match Connection::open(rt, path) {
+        Ok(conn) => connected_told(
+            rt,
+            conn,
+            call,
+            path,
+            str::from_utf8(text).unwrap_or_default(),
+        ),
+        Err(_) => octets(rt.alloc(), "** not opened"),
+    }
 }

@@ -1,7 +1,7 @@
 //! The rows of the list, each tried in its turn over the files that the rows before it left.
 use crate::devices::{input_told, output_told, read_told};
 use crate::fields::{front_and_rest, octets, placed};
-use crate::files::{done_told, laid_told, locked_told, there_told, written_told};
+use crate::files::{file_told, there_told, written_told};
 use crate::ports::{served_told, taken_told};
 use crate::running::{fault_told, line_told, stop_told};
 use crate::words::words_told;
@@ -25,10 +25,8 @@ fn come(rt: &HostRuntime, folder: &str, call: &str, given: &[u8]) -> Result<Vec<
         "output" => output_told(rt, front, rest),
         "read" => read_told(alloc, rest),
         "write" => written_told(rt, front, rest),
-        "lay" => laid_told(rt, front, rest),
         "there" => there_told(rt, front),
-        "do" => done_told(rt, front, rest),
-        "locked" => locked_told(rt, front),
+        "lay" | "do" | "locked" => file_told(rt, call, front, rest),
         "serve" => served_told(rt, front, 0),
         "taken" => taken_told(rt, front),
         _ => octets(alloc, "** no such call"),
