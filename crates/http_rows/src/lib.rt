@@ -6,7 +6,6 @@
 
 mod cuttings;
 mod failing_devices;
-mod failing_store;
 mod parts;
 mod rows;
 mod serving;

@@ -1,10 +1,10 @@
 //! What stores reply to the connections of a row.
 
 use crate::cuttings::Cutting;
-use crate::failing_store::FailingStore;
 use crate::parts::{CONNECTION, Connection, Row};
 use base_types::NoMemory;
 use book_http::{Service, serve};
+use book_scripts::FailingStore;
 use book_store::SqlStore;
 use http_requests::Session;
 use std::alloc::Global;
@@ -125,7 +125,8 @@ pub(crate) fn replies_in_memory(alloc: Global, row: &Row, way: Way) -> Result<Ve
     let connections = row.connections.as_slice();
     match row.setting.fault {
         Some(fault) => {
-            let store = FailingStore::new(alloc, fault);
+            let mut store = FailingStore::new(alloc);
+            store.answer(Some(fault));
             replies_of(alloc, store, connections, way)
         }
         None => {

@@ -1,4 +1,4 @@
-//! A store that answers a fault to each call, in place of doing what it is asked.
+//! A store that answers a fault on demand, in place of doing what it is asked.
 ghost use Rattle.std.specs.Prelude.{◌≡◌};
 ghost use Rattle.book_model.specs.Bounds.{IsInRange};
 
@@ -12,7 +12,7 @@ use vcard_text::Card;
 
 /// A store in memory, and the fault that it is to answer, if any.
 #[derive(Drop)]
-pub(crate) struct FailingStore {
+pub struct FailingStore {
     inner: PlainStore,
     limits: Limits,
     fault: Option<Fault>,
@@ -21,14 +21,19 @@ pub(crate) struct FailingStore {
 }
 
 impl FailingStore {
-    /// A store without books that answers the fault to each call.
-    pub(crate) fn new(alloc: Global, fault: Fault) -> FailingStore {
+    /// A store without books and with the standard limits, which answers no fault yet.
+    pub fn new(alloc: Global) -> FailingStore {
         let limits = Limits::standard();
         FailingStore {
             inner: PlainStore::new(alloc, limits),
             limits,
-            fault: Some(fault),
+            fault: None,
         }
+    }
+
+    /// From now on each call answers the fault, or does what it is asked where there is none.
+    pub fn answer(&mut self, fault: Option<Fault>) {
+        self.fault = fault;
     }
 }
 
