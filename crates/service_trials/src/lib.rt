@@ -1,6 +1,6 @@
-//! The service, tried where lines of text can't: lists of events, long mirrors, a book as large as
-//! may be, and a store that fails. What commands, devices and mirrors are replied is tried by
-//! `both_stores`, whose lists are files.
+//! The service, tried where rows of text can't: readers that are interrupted or never end,
+//! connections over sockets, lists of events, calls that no command makes, a store that fails, and
+//! a book as large as may be. All else is tried by rows, over several kinds of stores.
 #![tactic(auto)]
 
 #[cfg(test)]

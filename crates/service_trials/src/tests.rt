@@ -1,14 +1,29 @@
+mod calls;
+mod connections;
 mod driving;
 mod failing;
 mod large_book;
-mod mirrors;
+mod sockets;
 
+use book_http::Service;
 use book_scripts::{event_in, reply_told};
 use book_service::{Event, Reply, drive};
 use std::alloc::Global;
 use std::process::Abort;
-use sync_core::{BookStore, Device};
+use sync_core::{BookStore, Device, Limits, PlainStore};
 use vcard_text::NoMemory;
+
+/// A new store with the standard limits.
+fn new_store(alloc: Global) -> PlainStore {
+    PlainStore::new(alloc, Limits::standard())
+}
+
+/// A service that nobody has asked yet.
+fn new_service(alloc: Global) -> Service<PlainStore> {
+    Service {
+        store: new_store(alloc),
+    }
+}
 
 /// The events of a script, a line each.
 fn events_in(alloc: Global, script: &str) -> Result<Vec<Event>, NoMemory> {

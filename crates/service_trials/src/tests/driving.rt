@@ -1,8 +1,8 @@
 //! Lists of events, driven as they stand.
-use super::{devices_of, driven};
+use super::{devices_of, driven, new_store};
 use std::alloc::Global;
 use std::process::Abort;
-use sync_core::{Device, Limits, PlainStore};
+use sync_core::Device;
 
 /// Cards come to `staff`, are edited, move to `clients` and go, and devices of both hear of it.
 const EVENTS: &str = "create staff
@@ -24,11 +24,6 @@ books";
 /// The books of three devices.
 const BOOKS: &[&str] = &["staff", "clients", "staff"];
 
-/// A new store with the standard limits.
-fn new_store(alloc: Global) -> PlainStore {
-    PlainStore::new(alloc, Limits::standard())
-}
-
 /// The replies to the events, each in a list by itself, and what the devices have then.
 fn driven_apart(rt: &impl Abort, alloc: Global) -> (String, Vec<Device>) {
     let mut store = new_store(alloc);
@@ -46,37 +41,27 @@ fn a_list_of_events_is_replied_as_each_of_them_is(rt: HostRuntime) {
     let alloc = rt.alloc();
     let mut store = new_store(alloc);
     let mut devices = devices_of(&rt, alloc, BOOKS);
-    let told = driven(&rt, alloc, &mut store, &mut devices, EVENTS);
     let (apart, devices_apart) = driven_apart(&rt, alloc);
+    let none = driven(&rt, alloc, &mut store, &mut devices, "");
+    assert_eq!(rt; none.as_str(), "");
+    assert!(rt; devices != devices_apart);
+    let told = driven(&rt, alloc, &mut store, &mut devices, EVENTS);
     assert_eq!(rt; told.as_str(), apart.as_str());
     assert_eq!(rt; devices, devices_apart);
     assert_eq!(rt; told.lines().count(), 15);
-}
-
-#[test]
-fn no_events_have_no_replies(rt: HostRuntime) {
-    let mut store = new_store(rt.alloc());
-    let mut devices = devices_of(&rt, rt.alloc(), BOOKS);
-    let told = driven(&rt, rt.alloc(), &mut store, &mut devices, "");
-    assert_eq!(rt; told.as_str(), "");
 }
 
 /// The device of a book of two changes asks another store, whose book has one.
 #[test]
 fn a_refused_token_is_given_up(rt: HostRuntime) {
     let alloc = rt.alloc();
-    let mut store = new_store(alloc);
     let mut devices = devices_of(&rt, alloc, BOOKS);
     let two = "create staff\ncard staff a FN:Ann\nremove staff a\nask 0";
-    driven(&rt, alloc, &mut store, &mut devices, two);
-    let mut other = new_store(alloc);
+    driven(&rt, alloc, &mut new_store(alloc), &mut devices, two);
     let one = "create staff\ncard staff z FN:Zoe\nremove staff y\nask 0\ntally none\nask 0";
-    let told = driven(&rt, alloc, &mut other, &mut devices, one);
-    let mut ends = told.lines().skip(3);
-    assert_eq!(rt; ends.next(), Some("refused 10 cause 3"));
-    assert_eq!(rt; ends.next(), Some("refused 1"));
-    let page = ends.next().unwrap_or_default();
-    assert!(rt; page.starts_with("page 1/1/1 | z 1 "));
+    let told = driven(&rt, alloc, &mut new_store(alloc), &mut devices, one);
+    let wanted = "book 1\ncreated 1\nrefused 4\nrefused 10 cause 3\nrefused 1\npage 1/1/1 | z 1 ";
+    assert!(rt; told.as_str().starts_with(wanted));
 }
 
 #[test]
@@ -84,17 +69,11 @@ fn a_restarted_device_hears_an_initial_report(rt: HostRuntime) {
     let alloc = rt.alloc();
     let mut store = new_store(alloc);
     let mut devices = devices_of(&rt, alloc, BOOKS);
-    let gone = "create staff\ncard staff a FN:Ann\nremove staff a\nask 0";
-    driven(&rt, alloc, &mut store, &mut devices, gone);
-    let later = driven(&rt, alloc, &mut store, &mut devices, "ask 0");
-    assert_eq!(rt; later.as_str(), "page 1/2/2\n");
-    driven(
-        &rt,
-        alloc,
-        &mut store,
-        &mut devices,
-        "card staff b FN:Bob\nask 0",
-    );
+    let before = "create staff\ncard staff a FN:Ann\nremove staff a\nask 0\nask 0\n\
+        card staff b FN:Bob\nask 0";
+    let told = driven(&rt, alloc, &mut store, &mut devices, before);
+    let wanted = "book 1\ncreated 1\ngone 2\npage 1/2/2\npage 1/2/2\ncreated 3\npage 1/3/3 | b 3 ";
+    assert!(rt; told.as_str().starts_with(wanted));
     if let Some(device) = devices.get_mut(0) {
         device.restart();
     }

@@ -1,0 +1,111 @@
+//! Requests out of octets in any pieces.
+ghost use Rattle.std.specs.Prelude.{◌<◌};
+
+use base_types::NoMemory;
+use http_requests::laws::{cuts_make_no_difference, pieces_are_fed_as_one, streams_can_be_cut};
+use http_requests::{Handler, Head, HeadFault, Session};
+use std::alloc::Global;
+
+/// Replies to each request with its method, its target, whether it closes, and its body; and to a
+/// fault with its text.
+#[derive(Drop)]
+struct Echo {
+    handled: u64,
+}
+
+impl Handler for Echo {
+    ghost use Rattle.std.specs.Prelude.{⊤};
+    ghost use Rattle.http_requests.specs.HeadFaults.{fault_text};
+
+    ghost does = { λ _ _ _ _ _. ⊤ };
+
+    ghost fault_reply = { fault_text };
+
+    fn handle(&mut self, alloc: Global, head: &Head, body: &[u8]) -> Result<Vec<u8>, NoMemory> {
+        self.handled = self.handled.wrapping_add(1);
+        reply_of(alloc, head, body)
+    }
+
+    fn refuse(&self, alloc: Global, fault: HeadFault) -> Result<Vec<u8>, NoMemory> {
+        let mut reply = Vec::new(alloc);
+        reply.extend_from_slice(fault.text().as_bytes())?;
+        Ok(reply)
+    }
+}
+
+fn reply_of(alloc: Global, head: &Head, body: &[u8]) -> Result<Vec<u8>, NoMemory> {
+    let method = head.method.as_str().as_bytes();
+    let target = head.target.as_str().as_bytes();
+    let close: &[u8] = if head.close { b" close " } else { b" open " };
+    let mut reply = Vec::new(alloc);
+    for part in [method, b" ", target, close, body, b";"] {
+        reply.extend_from_slice(part)?;
+    }
+    Ok(reply)
+}
+
+/// What is replied to the front and then to the rest in pieces of the size, and whether the session
+/// is closed then.
+fn replies(alloc: Global, front: &[u8], rest: &[u8], size: usize) -> Result<Vec<u8>, NoMemory>
+    requires { 0 < size }
+{
+    let mut session = Session::new(alloc);
+    let mut handler = Echo { handled: 0 };
+    let mut replies = session.feed(alloc, &mut handler, front)?;
+    for piece in rest.chunks(size) {
+        let more = session.feed(alloc, &mut handler, piece)?;
+        replies.extend_from_slice(&more)?;
+    }
+    let end: &[u8] = if session.closed() {
+        b"\n-- closed"
+    } else {
+        b"\n-- open"
+    };
+    replies.extend_from_slice(end)?;
+    Ok(replies)
+}
+
+/// Tells what came of pieces where it is another than what comes of the whole.
+fn tell_other(
+    alloc: Global,
+    cut: usize,
+    other: &[u8],
+    whole: &[u8],
+    told: &mut Vec<u8>,
+) -> Result<(), NoMemory> {
+    if other == whole {
+        return Ok(());
+    }
+    told.extend_from_slice(format!(in alloc; "\n** at {cut}: ")?.as_bytes())?;
+    told.extend_from_slice(other)?;
+    Ok(())
+}
+
+/// `long-requests OCTETS`: what is replied to the whole, and what else where they come octet by
+/// octet, or in larger pieces.
+pub(crate) fn long_requests(alloc: Global, text: &[u8]) -> Result<Vec<u8>, NoMemory> {
+    let whole = replies(alloc, text, b"", 1)?;
+    let mut told = replies(alloc, text, b"", 1)?;
+    for size in [1usize, 1_500] {
+        let other = replies(alloc, b"", text, size)?;
+        tell_other(alloc, size, other.as_slice(), whole.as_slice(), &mut told)?;
+    }
+    Ok(told)
+}
+
+/// `requests OCTETS`: the same, and what else is replied where they are cut in two at some place.
+pub(crate) fn requests(alloc: Global, text: &[u8]) -> Result<Vec<u8>, NoMemory> {
+    // Laws, which do nothing: what is replied follows from all octets that came.
+    streams_can_be_cut();
+    cuts_make_no_difference::<Echo>();
+    pieces_are_fed_as_one::<Echo>();
+
+    let whole = replies(alloc, text, b"", 1)?;
+    let mut told = long_requests(alloc, text)?;
+    for cut in 0..text.len() {
+        let (front, rest) = text.split_at(cut);
+        let other = replies(alloc, front, rest, text.len())?;
+        tell_other(alloc, cut, other.as_slice(), whole.as_slice(), &mut told)?;
+    }
+    Ok(told)
+}

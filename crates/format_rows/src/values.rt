@@ -1,0 +1,60 @@
+//! Tokens, names of books, and limits.
+
+use base_types::NoMemory;
+use book_devices::{read_token, token_text};
+use book_model::decisions::is_book_name;
+use book_model::{Limits, Token};
+use std::alloc::Global;
+
+/// What comes of a text that stands for nothing.
+fn none(alloc: Global) -> Result<String, NoMemory> {
+    Ok(String::from_str(alloc, "none")?)
+}
+
+/// `token TEXT`: the book and the two numbers that the text tells, and what is written of them.
+pub(crate) fn token(alloc: Global, text: &str) -> Result<String, NoMemory> {
+    let Some(token) = read_token(text) else {
+        return none(alloc);
+    };
+    let again = token_text(alloc, &token)?;
+    let again = again.as_str();
+    let Token { book, mark } = token;
+    Ok(format!(in alloc; "{book} {} {} {again}", mark.at, mark.base)?)
+}
+
+/// `name TEXT`: whether a book may have the name.
+pub(crate) fn name(alloc: Global, text: &str) -> Result<String, NoMemory> {
+    if !is_book_name(text) {
+        return none(alloc);
+    }
+    Ok(String::from_str(alloc, "a name")?)
+}
+
+/// The limits of these numbers, and the standard ones of no numbers.
+fn limits_of(numbers: &[u64]) -> Option<Limits> {
+    match numbers {
+        [] => Some(Limits::standard()),
+        [pages, cards, changes, books] => Limits::new(*pages, *cards, *changes, *books),
+        [pages, cards, changes, books, keep] => {
+            Limits::new(*pages, *cards, *changes, *books)?.with_keep(*keep)
+        }
+        _ => None,
+    }
+}
+
+/// `limits PAGE CARDS CHANGES BOOKS KEEP`, where the last may be left out, or `limits standard`:
+/// the five numbers of the limits.
+pub(crate) fn limits(alloc: Global, text: &str) -> Result<String, NoMemory> {
+    let mut numbers = Vec::new(alloc);
+    for word in text.split(' ') {
+        if let Ok(number) = word.parse::<u64>() {
+            numbers.push(number)?;
+        }
+    }
+    let Some(limits) = limits_of(numbers.as_slice()) else {
+        return none(alloc);
+    };
+    let (pages, cards, changes) = (limits.page_max(), limits.cards_max(), limits.changes_max());
+    let (books, keep) = (limits.books_max(), limits.keep());
+    Ok(format!(in alloc; "{pages} {cards} {changes} {books} {keep}")?)
+}

@@ -1,5 +1,0 @@
-mod connections;
-mod pages;
-mod replies;
-mod requests;
-mod routes;

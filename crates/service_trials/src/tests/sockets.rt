@@ -1,0 +1,148 @@
+//! Connections over sockets, each served in its turn.
+use super::new_service;
+use book_http::{ServeFault, Service};
+use book_scripts::replies_told;
+use book_server::{ListenFault, serve_listener};
+use std::alloc::Global;
+use std::io::{Read, Write};
+use std::net::{Ipv4Addr, Shutdown, SocketAddr, TcpListener, TcpStream};
+use std::process::Abort;
+use std::rt::HostRuntime;
+use std::{io, str};
+use sync_core::{BookStore, PlainStore};
+
+const MAKE_STAFF: &str = "PUT /books/staff HTTP/1.1\r\nHost: office\r\n\r\n";
+
+const MAKE_CLIENTS: &str = "PUT /books/clients HTTP/1.1\r\nHost: office\r\n\r\n";
+
+/// Makes `staff`, and puts Ann's card into it.
+const MAKE_AND_PUT: &str = "PUT /books/staff HTTP/1.1\r\nHost: office\r\n\r\n\
+    PUT /books/staff/cards/a HTTP/1.1\r\nHost: office\r\nContent-Length: 52\r\n\r\n\
+    BEGIN:VCARD\r\nVERSION:4.0\r\nUID:a\r\nFN:Ann\r\nEND:VCARD\r\n";
+
+const MADE_AND_PUT: &str = "HTTP/1.1 201 Created\r\nContent-Type: application/json\r\n\
+    Content-Length: 8\r\nConnection: keep-alive\r\n\r\n{\"id\":1}\
+    HTTP/1.1 201 Created\r\nContent-Type: application/json\r\n\
+    Content-Length: 29\r\nConnection: keep-alive\r\n\r\n{\"put\":\"created\",\"version\":1}";
+
+const MADE_SECOND: &str = "HTTP/1.1 201 Created\r\nContent-Type: application/json\r\n\
+    Content-Length: 8\r\nConnection: keep-alive\r\n\r\n{\"id\":2}";
+
+fn listen(rt: &HostRuntime) -> io::Result<TcpListener> {
+    TcpListener::bind(rt, SocketAddr::from((Ipv4Addr::LOCALHOST, 0)))
+}
+
+/// A connection that wrote the requests, and writes no more.
+fn asks(rt: &HostRuntime, listener: &TcpListener, requests: &str) -> io::Result<TcpStream> {
+    let mut stream = TcpStream::connect(rt, listener.local_addr()?)?;
+    stream.write_all(requests.as_bytes())?;
+    stream.shutdown(Shutdown::Write)?;
+    Ok(stream)
+}
+
+/// All that the connection was sent is the text.
+fn is_told(rt: &impl Abort, alloc: Global, stream: &mut TcpStream, wanted: &str) {
+    let mut octets = Vec::new(alloc);
+    stream.read_to_end(&mut octets).expect(rt, "an answer");
+    assert_eq!(rt; str::from_utf8(octets.as_slice()), Ok(wanted));
+}
+
+/// So many connections are served to their ends.
+fn serves(
+    rt: &impl Abort,
+    alloc: Global,
+    service: &mut Service<PlainStore>,
+    listener: &TcpListener,
+    count: u64,
+) {
+    let done = serve_listener(alloc, service, listener, count);
+    assert_eq!(rt; done, Ok(()), "{count}");
+}
+
+#[test]
+fn serves_connections_in_turn(rt: HostRuntime) {
+    let alloc = rt.alloc();
+    let listener = listen(&rt).expect(&rt, "an answer");
+    let mut service = new_service(alloc);
+    let mut first = asks(&rt, &listener, MAKE_AND_PUT).expect(&rt, "an answer");
+    // a new session takes no rest of the one before: this one leaves half a request
+    let mut half = asks(&rt, &listener, "PUT /books/half HTTP/1.1\r\n").expect(&rt, "an answer");
+    let mut last = asks(&rt, &listener, MAKE_CLIENTS).expect(&rt, "an answer");
+    serves(&rt, alloc, &mut service, &listener, 0);
+    assert!(rt; service.store.book("staff").is_err());
+    serves(&rt, alloc, &mut service, &listener, 2);
+    is_told(&rt, alloc, &mut first, MADE_AND_PUT);
+    is_told(&rt, alloc, &mut half, "");
+    assert!(rt; service.store.book("clients").is_err());
+    serves(&rt, alloc, &mut service, &listener, 1);
+    is_told(&rt, alloc, &mut last, MADE_SECOND);
+}
+
+/// A connection that asks for more than one piece, and breaks before anything is replied.
+fn breaks(rt: &HostRuntime, listener: &TcpListener) -> io::Result<()> {
+    let mut stream = TcpStream::connect(rt, listener.local_addr()?)?;
+    for _request in 0..500u32 {
+        stream.write_all(MAKE_STAFF.as_bytes())?;
+    }
+    stream.write_all(b"PUT /books/half HTTP/1.1\r\n")
+}
+
+#[test]
+fn serves_others_where_one_breaks(rt: HostRuntime) {
+    let listener = listen(&rt).expect(&rt, "an answer");
+    let mut service = new_service(rt.alloc());
+    breaks(&rt, &listener).expect(&rt, "an answer");
+    let mut other = asks(&rt, &listener, MAKE_CLIENTS).expect(&rt, "an answer");
+    let done = serve_listener(rt.alloc(), &mut service, &listener, 2);
+    assert_eq!(rt; done, Err(ListenFault::Serve(ServeFault::Write)));
+    is_told(&rt, rt.alloc(), &mut other, MADE_SECOND);
+
+    // no connection waits, and the listener doesn't
+    listener.set_nonblocking(true).expect(&rt, "an answer");
+    let none = serve_listener(rt.alloc(), &mut service, &listener, 1);
+    assert_eq!(rt; none, Err(ListenFault::Device));
+}
+
+/// Nine changes of `staff`.
+const CHANGES: &str = "create staff
+card staff a FN:Ann
+card staff b FN:Bob
+card staff c FN:Cy
+card staff a FN:Anna
+remove staff b
+remove staff c
+card staff b FN:Bob
+card staff d FN:Dee
+remove staff d";
+
+const REPLIES: &str = "book 1
+created 1
+created 2
+created 3
+edited 4
+gone 5
+gone 6
+created 7
+created 8
+gone 9
+";
+
+const ASKS: &str = "GET /books/staff/sync?token=http%3A%2F%2Fcontacts.invalid%2Fsync%2F1%2F7%2F7 \
+    HTTP/1.1\r\nHost: office\r\n\r\n";
+
+const REPORT: &str = "HTTP/1.1 200 OK\r\nContent-Type: application/json\r\n\
+    Content-Length: 101\r\nConnection: keep-alive\r\n\r\n\
+    {\"members\":[{\"status\":404,\"uid\":\"d\"}],\
+    \"token\":\"http://contacts.invalid/sync/1/9/9\",\"truncated\":false}";
+
+#[test]
+fn reports_to_a_device_that_wrote_before(rt: HostRuntime) {
+    let alloc = rt.alloc();
+    let mut service = new_service(alloc);
+    let told = replies_told(alloc, &mut service.store, CHANGES).expect(&rt, "memory");
+    assert_eq!(rt; told.as_str(), REPLIES);
+    let listener = listen(&rt).expect(&rt, "an answer");
+    let mut device = asks(&rt, &listener, ASKS).expect(&rt, "an answer");
+    serves(&rt, alloc, &mut service, &listener, 1);
+    is_told(&rt, alloc, &mut device, REPORT);
+}
