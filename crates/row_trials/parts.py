@@ -1,5 +1,6 @@
 """The parts of the program: the rows of each in the folder data, and what it is to print of them, in
-the file stdout, below the part's name. The scripts that draw rows write them by this."""
+the file stdout, below the part's name. The scripts that draw rows write them by this. Run by
+itself, it counts the rows of the parts that have what is wanted beside them."""
 
 import pathlib
 import re
@@ -30,3 +31,14 @@ def write_told(part, octets):
     parts = {**told_parts(), part: octets}
     whole = b"".join(b"######## %s\n%s\n" % (name.encode(), octets) for name, octets in parts.items())
     (HERE / "stdout").write_bytes(whole)
+
+
+def count_rows():
+    for part in ("cards", "formats", "orders"):
+        lines = rows(part).decode().split("\n")
+        count = sum(1 for line in lines if line and not line.startswith("#"))
+        write_told(part, b"%d rows\n" % count)
+
+
+if __name__ == "__main__":
+    count_rows()

@@ -4,8 +4,11 @@
 #![tactic(auto)]
 
 use both_stores::tell_sections;
+use card_rows::tell_cards;
 use damaged_tables::tell_lines;
+use format_rows::tell_formats;
 use http_rows::told_rows;
+use order_rows::tell_orders;
 use refused_memory::{tell_all, tell_chosen};
 use std::fs;
 use std::io::{Read, Write};
@@ -32,13 +35,34 @@ fn run_memory(rt: &HostRuntime) -> bool {
     print_title(rt, "memory") && tell_all(rt).is_ok() && print(rt, b"\n")
 }
 
+/// Cards: what texts are read as, and what is written of them.
+fn run_cards(rt: &HostRuntime, part: &str, rows: &str) -> bool {
+    match tell_cards(rt.alloc(), rows) {
+        Ok(told) => print_part(rt, part, told.as_bytes()),
+        Err(_) => false,
+    }
+}
+
+/// The formats of the service.
+fn run_formats(rt: &HostRuntime, part: &str, rows: &str) -> bool {
+    match tell_formats(rt.alloc(), rows) {
+        Ok(told) => print_part(rt, part, told.as_bytes()),
+        Err(_) => false,
+    }
+}
+
+/// Words of the command line, and what their orders print.
+fn run_orders(rt: &HostRuntime, part: &str, rows: &str) -> bool {
+    match tell_orders(rt, rows) {
+        Ok(told) => print_part(rt, part, told.as_bytes()),
+        Err(_) => false,
+    }
+}
+
 /// Lists of commands, over three kinds of stores.
-fn run_commands(rt: &HostRuntime, part: &str, rows: &[u8]) -> bool {
-    let Ok(list) = str::from_utf8(rows) else {
-        return false;
-    };
+fn run_commands(rt: &HostRuntime, part: &str, rows: &str) -> bool {
     let mut told = String::new(rt.alloc());
-    let ran = tell_sections(rt, list, &mut told).is_ok();
+    let ran = tell_sections(rt, rows, &mut told).is_ok();
     print_part(rt, part, told.as_bytes()) && ran
 }
 
@@ -51,45 +75,63 @@ fn run_connections(rt: &HostRuntime, part: &str, rows: &[u8]) -> bool {
 }
 
 /// Tables that were damaged.
-fn run_damage(rt: &HostRuntime, part: &str, rows: &[u8]) -> bool {
-    let Ok(list) = str::from_utf8(rows) else {
-        return false;
-    };
+fn run_damage(rt: &HostRuntime, part: &str, rows: &str) -> bool {
     let mut told = String::new(rt.alloc());
-    let ran = tell_lines(rt.alloc(), list, &mut told).is_ok();
+    let ran = tell_lines(rt.alloc(), rows, &mut told).is_ok();
     print_part(rt, part, told.as_bytes()) && ran
 }
 
 /// Disks that stop.
-fn run_stops(rt: &HostRuntime, part: &str, rows: &[u8]) -> bool {
-    let Ok(lists) = str::from_utf8(rows) else {
-        return false;
-    };
-    match tell_stops(rt.alloc(), lists) {
+fn run_stops(rt: &HostRuntime, part: &str, rows: &str) -> bool {
+    match tell_stops(rt.alloc(), rows) {
         Ok(told) => print_part(rt, part, told.as_bytes()),
         Err(_) => false,
     }
 }
 
-/// Runs the part, whose rows are in the file of its name.
+/// Runs a part whose rows are text.
+fn run_text(rt: &HostRuntime, part: &str, rows: &str) -> bool {
+    match part {
+        "cards" => run_cards(rt, part, rows),
+        "formats" => run_formats(rt, part, rows),
+        "orders" => run_orders(rt, part, rows),
+        "commands" => run_commands(rt, part, rows),
+        "damage" => run_damage(rt, part, rows),
+        "stops" => run_stops(rt, part, rows),
+        _ => false,
+    }
+}
+
+/// Runs the part, whose rows are in the file of its name. Those of connections are octets.
 fn run_part(rt: &HostRuntime, part: &str) -> bool {
     let Ok(rows) = fs::read(rt, part) else {
         return false;
     };
-    match part {
-        "commands" => run_commands(rt, part, rows.as_slice()),
-        "connections" => run_connections(rt, part, rows.as_slice()),
-        "damage" => run_damage(rt, part, rows.as_slice()),
-        "stops" => run_stops(rt, part, rows.as_slice()),
-        _ => false,
+    if part == "connections" {
+        return run_connections(rt, part, rows.as_slice());
+    }
+    match str::from_utf8(rows.as_slice()) {
+        Ok(text) => run_text(rt, part, text),
+        Err(_) => false,
     }
 }
+
+/// The parts that have rows, in the order in which they are run.
+const PARTS: [&str; 7] = [
+    "cards",
+    "formats",
+    "orders",
+    "commands",
+    "connections",
+    "damage",
+    "stops",
+];
 
 fn run_all(rt: &HostRuntime) -> bool {
     if !run_memory(rt) {
         return false;
     }
-    for part in ["commands", "connections", "damage", "stops"] {
+    for part in PARTS {
         if !run_part(rt, part) {
             return false;
         }
