@@ -1,35 +1,15 @@
 //! The statements over the table `meta`.
-ghost use Rattle.book_tables.specs.Meta.{AddsSchema, meta_listed};
-ghost use Rattle.book_tables.specs.States.{
-  Inside,
-  IsUndone,
-  OnlyReads,
-  OverTables,
-  StaysInside,
-  WritesOnly,
-};
+ghost use Rattle.book_tables.specs.Meta.{AddsSchema};
+ghost use Rattle.book_tables.specs.States.{Inside, IsUndone, StaysInside, WritesOnly};
 ghost use Rattle.book_tables.specs.Tables.{book_schema};
 ghost use Rattle.sqlite.specs.Held.{state};
-ghost use Rattle.sqlite.specs.State.{IsUnchanged, KeepsCommit};
-ghost use Rattle.std.specs.List.Sorted.{IsPermutation};
-ghost use Rattle.std.specs.Prelude.{◌≡◌, IfOk, OnErr, OnOk, map};
+ghost use Rattle.sqlite.specs.State.{KeepsCommit};
+ghost use Rattle.std.specs.Prelude.{◌≡◌, OnErr, OnOk};
 
-use sqlite::{Alter, Connection, Error, Row, Transaction, params};
+use sqlite::{Alter, Error, Transaction, params};
 
 /// The number of the schema that these tables have.
 pub const SCHEMA: i64 = 2;
-
-/// All rows of the table: the name and the number, whatever they hold.
-pub fn all_meta<S: Alter>(conn: &mut Connection<S>) -> Result<Vec<Row>, Error>
-    ensures lists { OverTables (state S.Store conn.old) (state S.Store conn.new)
-        (IfOk result (λ rows.
-        IsPermutation (map meta_listed ((state S.Store conn.old).now.trees 0)) rows.items)) }
-    ensures unchanged { OverTables (state S.Store conn.old) (state S.Store conn.new)
-        (OnOk result (IsUnchanged (state S.Store conn.old) (state S.Store conn.new))) }
-    ensures left { OnlyReads (state S.Store conn.old) (state S.Store conn.new) }
-{
-    conn.query_all("SELECT name, val FROM meta", params![])
-}
 
 /// The number of the schema is written, under the name `schema`.
 ///
