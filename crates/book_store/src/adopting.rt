@@ -8,8 +8,8 @@ ghost use Rattle.sqlite.specs.Held.{state};
 ghost use Rattle.std.specs.Prelude.{◌≡◌, IfErr, IfOk, false};
 
 use crate::sql_store::SqlStore;
-use book_opening::opening::test_tables;
 use book_model::Limits;
+use book_opening::opening::test_tables;
 use schema_check::OpenFault;
 use sqlite::{Alter, Connection};
 use std::alloc::Global;
