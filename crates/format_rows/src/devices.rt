@@ -21,15 +21,29 @@ fn hear(alloc: Global, device: &mut Device, text: &str) -> Result<(), NoMemory> 
     }
 }
 
+/// Tells what the device has, in a line.
+fn tell(alloc: Global, device: &Device, told: &mut String) -> Result<(), NoMemory> {
+    let mut line = device_told(alloc, device)?;
+    line.push_str("\n")?;
+    told.push_str(line.as_str())?;
+    Ok(())
+}
+
+/// What the device has after each of the pages.
+fn pages_told(alloc: Global, device: &mut Device, pages: &str) -> Result<String, NoMemory> {
+    let mut told = String::new(alloc);
+    for text in pages.split('|') {
+        hear(alloc, device, text)?;
+        tell(alloc, device, &mut told)?;
+    }
+    Ok(told)
+}
+
 /// `device TEXT|TEXT|..`: what a new device has after each of the pages, which it hears one after
 /// another, a line each. Before a page it gives up its token where the text is of none.
 pub(crate) fn device(alloc: Global, pages: &str) -> Result<String, NoMemory> {
     let mut device = Device::new(alloc, "staff")?;
-    let mut told = String::new(alloc);
-    for text in pages.split('|') {
-        hear(alloc, &mut device, text)?;
-        told.push_str(device_told(alloc, &device)?.as_str())?;
-        told.push_str("\n")?;
-    }
-    Ok(told)
+    let told = pages_told(alloc, &mut device, pages);
+    drop(device);
+    told
 }

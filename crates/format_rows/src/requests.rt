@@ -44,17 +44,35 @@ fn reply_of(alloc: Global, head: &Head, body: &[u8]) -> Result<Vec<u8>, NoMemory
     Ok(reply)
 }
 
-/// What is replied to the front and then to the rest in pieces of the size, and whether the session
-/// is closed then.
-fn replies(alloc: Global, front: &[u8], rest: &[u8], size: usize) -> Result<Vec<u8>, NoMemory>
+/// Adds what is replied to the piece.
+fn feed(
+    alloc: Global,
+    session: &mut Session,
+    handler: &mut Echo,
+    piece: &[u8],
+    replies: &mut Vec<u8>,
+) -> Result<(), NoMemory> {
+    let more = session.feed(alloc, handler, piece)?;
+    replies.extend_from_slice(&more)?;
+    Ok(())
+}
+
+/// Adds what is replied to the front and then to the rest in pieces of the size, and whether the
+/// session is closed then.
+fn feed_all(
+    alloc: Global,
+    session: &mut Session,
+    handler: &mut Echo,
+    octets: (&[u8], &[u8]),
+    size: usize,
+    replies: &mut Vec<u8>,
+) -> Result<(), NoMemory>
     requires { 0 < size }
 {
-    let mut session = Session::new(alloc);
-    let mut handler = Echo { handled: 0 };
-    let mut replies = session.feed(alloc, &mut handler, front)?;
+    let (front, rest) = octets;
+    feed(alloc, session, handler, front, replies)?;
     for piece in rest.chunks(size) {
-        let more = session.feed(alloc, &mut handler, piece)?;
-        replies.extend_from_slice(&more)?;
+        feed(alloc, session, handler, piece, replies)?;
     }
     let end: &[u8] = if session.closed() {
         b"\n-- closed"
@@ -62,6 +80,27 @@ fn replies(alloc: Global, front: &[u8], rest: &[u8], size: usize) -> Result<Vec<
         b"\n-- open"
     };
     replies.extend_from_slice(end)?;
+    Ok(())
+}
+
+/// What is replied to the front and then to the rest in pieces of the size, and whether the session
+/// is closed then.
+fn replies(alloc: Global, front: &[u8], rest: &[u8], size: usize) -> Result<Vec<u8>, NoMemory>
+    requires { 0 < size }
+{
+    let mut session = Session::new(alloc);
+    let mut handler = Echo { handled: 0 };
+    let mut replies = Vec::new(alloc);
+    let fed = feed_all(
+        alloc,
+        &mut session,
+        &mut handler,
+        (front, rest),
+        size,
+        &mut replies,
+    );
+    drop(session);
+    fed?;
     Ok(replies)
 }
 

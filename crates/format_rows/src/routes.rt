@@ -4,17 +4,35 @@ use base_types::{Items, NoMemory};
 use book_service::Command;
 use csv_cards::Form;
 use http_routes::{NoCommand, RouteFault, read_request};
-use std::alloc::Global;
+use std::alloc::{AllocError, Global};
 
-fn number_or_none(alloc: Global, number: Option<u64>) -> Result<String, NoMemory> {
-    match number {
-        Some(number) => Ok(format!(in alloc; "{number}")?),
-        None => Ok(String::from_str(alloc, "none")?),
-    }
+/// What was told, if there was memory for it.
+fn made(told: Result<String, AllocError>) -> Result<String, NoMemory> {
+    Ok(told?)
 }
 
-fn octets_told(alloc: Global, octets: &Items<u8>) -> Result<String, NoMemory> {
-    Ok(String::from_utf8_lossy(alloc, octets.as_slice())?)
+/// The front, and behind it the version, or `none`.
+fn with_version(
+    alloc: Global,
+    front: Result<String, AllocError>,
+    version: Option<u64>,
+) -> Result<String, NoMemory> {
+    let front = front?;
+    let front = front.as_str();
+    made(match version {
+        Some(version) => format!(in alloc; "{front} {version}"),
+        None => format!(in alloc; "{front} none"),
+    })
+}
+
+/// The front, and behind it the octets in brackets.
+fn with_octets(alloc: Global, front: String, octets: &Items<u8>) -> Result<String, NoMemory> {
+    let text = String::from_utf8_lossy(alloc, octets.as_slice());
+    let mut told = front;
+    told.push_str(" [")?;
+    told.push_str(text?.as_str())?;
+    told.push_str("]")?;
+    Ok(told)
 }
 
 /// `put BOOK UID VERSION [TEXT]`
@@ -25,33 +43,38 @@ fn put_told(
     text: &Items<u8>,
 ) -> Result<String, NoMemory> {
     let (book, uid) = names;
-    let version = number_or_none(alloc, expect)?;
-    let text = octets_told(alloc, text)?;
-    Ok(format!(in alloc; "put {book} {uid} {version} [{text}]")?)
+    let front = with_version(alloc, format!(in alloc; "put {book} {uid}"), expect)?;
+    with_octets(alloc, front, text)
 }
 
 /// The question in the words of the rows.
 fn question_told(alloc: Global, command: &Command) -> Result<String, NoMemory> {
     match command {
-        Command::Get { book, uid } => Ok(format!(in alloc; "get {book} {uid}")?),
-        Command::People { book, uid } => Ok(format!(in alloc; "people {book} {uid}")?),
-        Command::TallyOf { book } => Ok(format!(in alloc; "tally {book}")?),
-        Command::Export { book, form } => match form {
-            Form::Cards => Ok(format!(in alloc; "export {book} cards")?),
-            Form::Columns => Ok(format!(in alloc; "export {book} columns")?),
-        },
+        Command::Get { book, uid } => made(format!(in alloc; "get {book} {uid}")),
+        Command::People { book, uid } => made(format!(in alloc; "people {book} {uid}")),
+        Command::TallyOf { book } => made(format!(in alloc; "tally {book}")),
+        Command::Export { book, form } => made(match form {
+            Form::Cards => format!(in alloc; "export {book} cards"),
+            Form::Columns => format!(in alloc; "export {book} columns"),
+        }),
         Command::Report { book, token, limit } => {
-            let limit = number_or_none(alloc, *limit)?;
-            Ok(format!(in alloc; "report {book} [{token}] {limit}")?)
+            with_version(alloc, format!(in alloc; "report {book} [{token}]"), *limit)
         }
-        _ => Ok(String::from_str(alloc, "books")?),
+        _ => made(String::from_str(alloc, "books")),
     }
+}
+
+/// `import BOOK [KEY] [BODY]`
+fn import_told(alloc: Global, names: (&str, &str), body: &Items<u8>) -> Result<String, NoMemory> {
+    let (book, key) = names;
+    let front = format!(in alloc; "import {book} [{key}]")?;
+    with_octets(alloc, front, body)
 }
 
 /// The command in the words of the rows.
 fn command_told(alloc: Global, command: &Command) -> Result<String, NoMemory> {
     match command {
-        Command::CreateBook { book } => Ok(format!(in alloc; "create {book}")?),
+        Command::CreateBook { book } => made(format!(in alloc; "create {book}")),
         Command::Put {
             book,
             uid,
@@ -59,23 +82,22 @@ fn command_told(alloc: Global, command: &Command) -> Result<String, NoMemory> {
             text,
         } => put_told(alloc, (book.as_str(), uid.as_str()), *expect, text),
         Command::Remove { book, uid, expect } => {
-            let version = number_or_none(alloc, *expect)?;
-            Ok(format!(in alloc; "remove {book} {uid} {version}")?)
+            with_version(alloc, format!(in alloc; "remove {book} {uid}"), *expect)
         }
         Command::MoveCard {
             book,
             uid,
             to,
             expect,
-        } => {
-            let version = number_or_none(alloc, *expect)?;
-            Ok(format!(in alloc; "move {book} {uid} [{to}] {version}")?)
-        }
+        } => with_version(
+            alloc,
+            format!(in alloc; "move {book} {uid} [{to}]"),
+            *expect,
+        ),
         Command::Import { book, key, body } => {
-            let body = octets_told(alloc, body)?;
-            Ok(format!(in alloc; "import {book} [{key}] [{body}]")?)
+            import_told(alloc, (book.as_str(), key.as_str()), body)
         }
-        Command::Forget { book, upto } => Ok(format!(in alloc; "forget {book} {upto}")?),
+        Command::Forget { book, upto } => made(format!(in alloc; "forget {book} {upto}")),
         question => question_told(alloc, question),
     }
 }
@@ -83,10 +105,10 @@ fn command_told(alloc: Global, command: &Command) -> Result<String, NoMemory> {
 /// The fault's number, and behind it the methods that the reply tells.
 fn fault_told(alloc: Global, fault: RouteFault) -> Result<String, NoMemory> {
     let number = fault.number();
-    match fault.allow() {
-        Some(methods) => Ok(format!(in alloc; "{number} {methods}")?),
-        None => Ok(format!(in alloc; "{number}")?),
-    }
+    made(match fault.allow() {
+        Some(methods) => format!(in alloc; "{number} {methods}"),
+        None => format!(in alloc; "{number}"),
+    })
 }
 
 /// `route METHOD|TARGET`: what the request with the body `body` asks for, or its fault.

@@ -38,16 +38,31 @@ fn imported(alloc: Global, store: &mut PlainStore, body: Vec<u8>) -> Result<Stri
         key: Text::copy_of(alloc, "all")?,
         body: Items::from_vec(body),
     };
-    reply_told(alloc, &perform(alloc, store, &command))
+    let reply = perform(alloc, store, &command);
+    drop(command);
+    let told = reply_told(alloc, &reply);
+    drop(reply);
+    told
+}
+
+/// The octets of the rows that are replied.
+fn rows_of(alloc: Global, reply: Reply) -> Vec<u8> {
+    match reply {
+        Reply::Csv(rows) => rows.into_vec(),
+        other => {
+            drop(other);
+            Vec::new(alloc)
+        }
+    }
 }
 
 /// The octets of the rows of the book, and none where they aren't replied.
 fn exported(alloc: Global, store: &mut PlainStore, form: Form) -> Result<Vec<u8>, NoMemory> {
     let book = Text::copy_of(alloc, "staff")?;
-    match perform(alloc, store, &Command::Export { book, form }) {
-        Reply::Csv(rows) => Ok(rows.into_vec()),
-        _ => Ok(Vec::new(alloc)),
-    }
+    let command = Command::Export { book, form };
+    let reply = perform(alloc, store, &command);
+    drop(command);
+    Ok(rows_of(alloc, reply))
 }
 
 const ALL_NEW: &str = "added 10000 edited 0 same 0 number 10000";
