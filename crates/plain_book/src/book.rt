@@ -168,24 +168,28 @@ impl PlainBook {
         }
     }
 
+    /// The book's id in its store, from 1 on.
     pub fn id(&self) -> u64
         ensures { result ≡ self.now.id }
     {
         self.id
     }
 
+    /// The number of the last change, and 0 before the first.
     pub fn number(&self) -> u64
         ensures { result ≡ self.now.number }
     {
         self.number
     }
 
+    /// The number up to which removals are forgotten.
     pub fn horizon(&self) -> u64
         ensures { result ≡ self.now.horizon }
     {
         self.horizon
     }
 
+    /// The rows of the members, those that are remembered as removed among them.
     pub fn members(&self) -> &TextMap<Row>
         ensures { result.now ≡ self.now.members }
     {
