@@ -16,7 +16,7 @@ use crate::sql_store::SqlStore;
 use book_adding::creating::create_in_tables;
 use book_adding::importing::import_in_book;
 use book_model::{BookLine, Denied, ImportTally, Moved, Page, PutAnswer, Stored, Tally, Token};
-use book_telling::paging::page_of_book;
+use book_paging::paging::page_of_book;
 use book_telling::telling::{kept_of_book, line_of_book, stored_of_book, tally_of_book};
 use book_telling::telling_all::{cards_of_book, lines_of_books};
 use book_writing::forgetting::forget_in_book;

@@ -71,7 +71,7 @@ fn entry_of(member: (Text, Kept)) -> Entry
 }
 
 /// What a page says of rows of members, and the number of the last of them.
-pub(crate) fn entries_in(alloc: Global, rows: &[Row]) -> Result<(Items<Entry>, u64), Denied>
+pub fn entries_in(alloc: Global, rows: &[Row]) -> Result<(Items<Entry>, u64), Denied>
     ensures entries { IfOk result (λ told. ShowEntries rows.now told.0 told.1) }
     ensures fault { IfErr result IsFault }
 {

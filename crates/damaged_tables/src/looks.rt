@@ -1,7 +1,7 @@
 //! The calls that only read, over a connection.
 use crate::answers::{import_told, line_told, lines_told, page_told, tally_told};
 use crate::laying::Memory;
-use book_telling::paging::page_of_book;
+use book_paging::paging::page_of_book;
 use book_telling::telling::{kept_of_book, line_of_book, stored_of_book, tally_of_book};
 use book_telling::telling_all::{cards_of_book, lines_of_books};
 use std::alloc::Global;

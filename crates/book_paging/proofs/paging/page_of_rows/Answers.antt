@@ -1,7 +1,7 @@
 use Rattle.std.proofs.Common.{refl, sym, arith}
 use Rattle.book_rows.specs.ReadLaws.{asked_of}
 use Rattle.book_rows.proofs.ReportLemmas.{more_first, no_more_all}
-use Rattle.book_telling.proofs.paging.page_of_rows.Goals as goal
+use Rattle.book_paging.proofs.paging.page_of_rows.Goals as goal
 
 pub returns-then-rows-size-clause-page : goal.returns-then-rows-size-clause-page
 returns-then-rows-size-clause-page c held name sound due =

@@ -2,7 +2,7 @@ use Rattle.std.proofs.Common.{sym}
 use Rattle.book_reading.proofs.FindLemmas.{back, back_of}
 use Rattle.book_telling.proofs.WholeLemmas.{page_told}
 use Rattle.book_rows.specs.ReadLaws.{asked_of}
-use Rattle.book_telling.proofs.paging.page_at.Goals as goal
+use Rattle.book_paging.proofs.paging.page_at.Goals as goal
 
 pub returns-in-Ok-clause-answers : goal.returns-in-Ok-clause-answers
 returns-in-Ok-clause-answers g c rows clean holds sound name =

@@ -15,11 +15,11 @@ ghost use Rattle.book_tables.specs.States.{OnlyReads};
 ghost use Rattle.sqlite.specs.Held.{state};
 ghost use Rattle.std.specs.Prelude.{◌≡◌, ◌≤◌, IfErr, IfOk, List, Ok, ℕ};
 
-use crate::listing::entries_in;
 use book_model::decisions::{mark_of, size_of_page, truncated_page, whole_page};
 use book_model::{Denied, Limits, Mark, Page, Token};
 use book_reading::{Figures, column_of, fault_of, find_figures};
 use book_tables::due_members::first_due;
+use book_telling::listing::entries_in;
 use sqlite::{Alter, Connection, Row};
 use std::alloc::Global;
 

@@ -7,7 +7,7 @@ use Rattle.book_rows.specs.TableBooks.{books_of}
 use Rattle.book_reading.specs.Answers.{Answers}
 use Rattle.book_telling.specs.Steps.{page_step}
 use Rattle.book_reading.proofs.ReadLemmas.{none_told, told_then}
-use Rattle.book_telling.proofs.paging.page_of_book.Goals as goal
+use Rattle.book_paging.proofs.paging.page_of_book.Goals as goal
 
 pub returns-in_err-figures-clause-answers : goal.returns-in_err-figures-clause-answers
 returns-in_err-figures-clause-answers g c rows clean holds sound =

@@ -5,7 +5,7 @@ use Rattle.book_model.specs.Pages.{IsReport, mark_asked, page_size}
 use Rattle.book_rows.specs.TableBooks.{book_of, line_row}
 use Rattle.book_telling.specs.Steps.{asked_for}
 use Rattle.book_telling.proofs.ToldLemmas.{both_pass}
-use Rattle.book_telling.proofs.paging.page_in.Goals as goal
+use Rattle.book_paging.proofs.paging.page_in.Goals as goal
 
 pub returns-clause-answers : goal.returns-clause-answers
 returns-clause-answers g c rows clean holds sound name =
