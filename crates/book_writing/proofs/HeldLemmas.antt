@@ -8,8 +8,7 @@ use Rattle.book_tables.specs.Books.{BookRow, Numbers, has_id, renumbered}
 use Rattle.book_tables.specs.Laying.{LeavesInside}
 use Rattle.book_rows.specs.TableRows.{TableRows}
 use Rattle.book_rows.proofs.HeldRows.{books_held}
-use Rattle.book_writing.specs.Changing.{HoldsBooks, TreesHold}
-use Rattle.book_writing.specs.Moves.{HoldsChange}
+use Rattle.book_writing.specs.Changing.{HoldsBooks, HoldsChange, TreesHold}
 
 -- a row of another book is there when one was renumbered
 pub still_there : (id : ℤ) (numbers : Numbers) (bs : List BookRow) (b : BookRow) → Has bs b → int_eq b.id id ≡ false → Has (renumbered id numbers bs) b

@@ -4,5 +4,3 @@ pub mod CallLemmas
 pub mod ForgetLemmas
 pub mod PutLemmas
 pub mod PlanLemmas
-pub mod RemoveLemmas
-pub mod MoveLemmas

@@ -14,8 +14,7 @@ use Rattle.book_rows.specs.TableBooks.{BookFigures, line_row, numbers_row, book_
 use Rattle.book_rows.specs.TableRows.{TableRows, put_rows, renumbered_rows}
 use Rattle.book_rows.proofs.BookLemmas.{changes_one, renumbering_held}
 use Rattle.book_rows.proofs.WriteLemmas.{put_held, put_is_row}
-use Rattle.book_writing.specs.Changing.{HasLine}
-use Rattle.book_writing.specs.Moves.{HoldsChange}
+use Rattle.book_writing.specs.Changing.{HasLine, HoldsChange}
 use Rattle.book_writing.proofs.ForgetLemmas.{writes_table}
 use Rattle.book_writing.proofs.HeldLemmas.{still_there}
 

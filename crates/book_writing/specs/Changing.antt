@@ -1,5 +1,6 @@
 -- What a call that changes the tables leaves of them. This project's own.
 use Rattle.std.specs.Prelude.{◌≡◌, false, ℕ, ℤ, pos, List, IsTrue, Result, Ok, Err}
+use Rattle.std.specs.Ordering.{int_eq}
 use Rattle.sqlite.specs.Effect.{Database}
 use Rattle.sqlite.specs.State.{State, HasCleanDisk, Survives}
 use Rattle.sqlite.specs.Tree.{Trees}
@@ -10,9 +11,9 @@ use Rattle.book_model.specs.Books.{Books}
 use Rattle.book_model.specs.Outcomes.{Does}
 use Rattle.book_rows.specs.LookupLaws.{IsNameFree}
 use Rattle.book_rows.specs.SoundTables.{AreSound, IsSound}
-use Rattle.book_rows.specs.TableBooks.{BookFigures, line_row, numbers_row, books_in}
+use Rattle.book_rows.specs.TableBooks.{BookFigures, line_row, numbers_row, book_of, books_in, books_of}
 use Rattle.book_rows.specs.TableRows.{TableRows, Holds}
-use Rattle.book_tables.specs.Books.{numbers_of}
+use Rattle.book_tables.specs.Books.{BookRow, numbers_of}
 use Rattle.book_tables.specs.Tables.{book_schema}
 use Rattle.book_tables.specs.declared.books.BookNumbers.{BookNumbers}
 use Rattle.book_writing.specs.StoredBooks.{IsInOrder, Stands, stored_books}
@@ -54,6 +55,16 @@ ChangesLine old new Then = (rows : TableRows) (name : List ℕ) (figures : BookF
 pub record AreColumns (figures : BookFigures) (id : ℤ) (columns : BookNumbers) : Type 0 where
   pub id_is : id ≡ pos figures.id
   pub numbers : numbers_of columns ≡ numbers_row figures.number figures.horizon figures.counts
+
+-- After a change of the book with the id, the tables hold rows whose books are these. Any other row
+-- of `book` is there still, and its book is as it was.
+pub record HoldsChange (db : Database) (rows : TableRows) (id : ℤ) (books : Books) : Type 0 where
+  pub after : TableRows
+  pub holds : Holds db after
+  pub sound : AreSound after
+  pub are : books_of after ≡ books
+  pub others : (b : BookRow) → Has rows.books b → int_eq b.id id ≡ false
+      → Has after.books b × (book_of after b ≡ book_of rows b)
 
 -- ---- what a transaction comes to
 

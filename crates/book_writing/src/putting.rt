@@ -7,8 +7,7 @@ ghost use Rattle.book_reading.specs.Faults.{IsFault};
 ghost use Rattle.book_rows.specs.ChangeLaws.{IsTextOf, figures_after};
 ghost use Rattle.book_rows.specs.TableBooks.{BookFigures, book_of, books_of, line_row, numbers_row};
 ghost use Rattle.book_rows.specs.TableRows.{TableRows};
-ghost use Rattle.book_writing.specs.Changing.{AreColumns, ChangesLine, HasLine, HoldsBooks, IsDone, TreesHold};
-ghost use Rattle.book_writing.specs.Moves.{HoldsChange};
+ghost use Rattle.book_writing.specs.Changing.{AreColumns, ChangesLine, HasLine, HoldsBooks, HoldsChange, IsDone, TreesHold};
 ghost use Rattle.book_tables.specs.Books.{numbers_of};
 ghost use Rattle.book_tables.specs.Laying.{LeavesInside};
 ghost use Rattle.sqlite.specs.Held.{state};
@@ -27,7 +26,7 @@ use std::alloc::Global;
 use vcard_text::Card;
 
 /// Puts the member with the UID of the book with the id, and renumbers the book.
-pub(crate) fn put_row<S: Alter>(
+pub fn put_row<S: Alter>(
     tx: &mut Transaction<'_, S>,
     id: i64,
     uid: &str,
@@ -55,7 +54,7 @@ pub(crate) fn put_row<S: Alter>(
 }
 
 /// Puts in one transaction.
-pub(crate) fn commit_put<S: Alter>(
+pub fn commit_put<S: Alter>(
     conn: &mut Connection<S>,
     id: i64,
     uid: &str,
@@ -90,7 +89,7 @@ pub(crate) fn commit_put<S: Alter>(
 }
 
 /// The numbers of the book after the change, as its columns keep them.
-pub(crate) fn columns_after(figures: Figures, change: &Change) -> Result<BookNumbers, Denied>
+pub fn columns_after(figures: Figures, change: &Change) -> Result<BookNumbers, Denied>
     requires { figures.number < 2 ^ 63 }
     ensures numbers { IfOk result (λ columns. numbers_of columns
         ≡ numbers_row (figures.number + 1) figures.horizon

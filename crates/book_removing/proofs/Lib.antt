@@ -1,0 +1,2 @@
+pub mod RemoveLemmas
+pub mod MoveLemmas
