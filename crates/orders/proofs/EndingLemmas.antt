@@ -2,11 +2,11 @@
 use Rattle.std.proofs.Common.{◌⊎◌, ℕ, List, Option, Some, None, Result, Ok, Err, OnOk, IfErr, IfSome, inl, inr}
 use Rattle.command_line.specs.declared.order.Order.{Order}
 use Rattle.orders.specs.Endings.{Ends, IsPathDone, IsOrderDone, IsOrderStopped, IsPathStopped}
-use Rattle.orders.specs.PathOutputs.{LeavesOutput, PrintsPath}
-use Rattle.orders.specs.PathStops.{IsStopFor}
-use Rattle.orders.specs.declared.stop.Stop.{Stop}
+use Rattle.order_doing.specs.PathOutputs.{LeavesOutput, PrintsPath}
+use Rattle.order_doing.specs.PathStops.{IsStopFor}
+use Rattle.order_doing.specs.declared.stop.Stop.{Stop}
 use Rattle.orders.specs.OnFiles.{PrintsOrder}
-use Rattle.orders.specs.Telling.{LeavesWriter}
+use Rattle.order_doing.specs.Telling.{LeavesWriter}
 
 pub tried_ends : (r : Result (Unit {0}) Stop) (a before after errors_before errors_after : Option (List ℕ)) (status : ℕ) → OnOk r (IfSome a (λ input. PrintsPath input before after))
     → IfErr r (λ stop. IfSome a (λ input. IsStopFor input stop)) → IfErr r (λ stop. IfSome a (λ input. LeavesOutput stop input before after)) → Ends r errors_before errors_after status

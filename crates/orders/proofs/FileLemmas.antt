@@ -9,14 +9,14 @@ use Rattle.command_line.specs.declared.order.Order.{Order}
 use Rattle.command_line.specs.declared.order.Order.TheVariants.{Try, Init, Serve, Mirror, Migrate}
 use Rattle.http_replies.specs.Replies.{head_fault_octets}
 use Rattle.orders.specs.Asking.{DoesOrder, IsCommandOf, StopsOrder}
-use Rattle.orders.specs.declared.stop.Stop.{Stop}
-use Rattle.orders.specs.Doing.{Prints, Stops}
+use Rattle.order_doing.specs.declared.stop.Stop.{Stop}
+use Rattle.order_doing.specs.Doing.{Prints, Stops}
 use Rattle.orders.specs.Machines.{Reach, unknown_but_ports}
 use Rattle.orders.specs.OnFiles.{PrintsOrder}
 use Rattle.orders.specs.OnMachines.{IsDone, IsStopped, ServesFile, StopsCarrying, StopsInFile, StopsMaking, StopsServe}
-use Rattle.orders.specs.Serving.{Announces, StopsServing}
-use Rattle.orders.specs.Telling.{LeavesWriter}
-use Rattle.orders.proofs.StopLemmas.{keeps_leaves, left_by_device, serving_stop_leaves, stop_leaves}
+use Rattle.order_doing.specs.Serving.{Announces, StopsServing}
+use Rattle.order_doing.specs.Telling.{LeavesWriter}
+use Rattle.order_doing.proofs.StopLemmas.{keeps_leaves, left_by_device, serving_stop_leaves, stop_leaves}
 
 module _ {S : Type 0} (books : S → Books) (limits : S → Bounds) (premise : S → Type 0) (may_fault : FaultKind → Type 0) (holds : List ℕ → List ℕ → Type 0) where
   -- an order that is a command was done as the command was

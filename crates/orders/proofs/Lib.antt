@@ -1,9 +1,2 @@
-pub mod OctetLemmas
-pub mod StopLemmas
-pub mod CommandLemmas
-pub mod ReplyLemmas
 pub mod FileLemmas
-pub mod FirstPathLemmas
-pub mod InputLemmas
 pub mod EndingLemmas
-pub mod LongTextLemmas

@@ -8,10 +8,10 @@ use Rattle.book_service.specs.declared.command.Command.{Command}
 use Rattle.book_service.specs.declared.command.Command.TheVariants.{CreateBook, Import as ImportRows, Forget as ForgetUpto, TallyOf, Export as ExportRows, People}
 use Rattle.command_line.specs.declared.order.Order.{Order}
 use Rattle.command_line.specs.declared.order.Order.TheVariants.{Book, Import, Export, Tally, Forget, Mirror, Expand}
-use Rattle.orders.specs.declared.stop.Stop.{Stop}
-use Rattle.orders.specs.declared.stop.Stop.TheVariants.{Device}
-use Rattle.orders.specs.Doing.{Prints, PrintsMirror, Stops, StopsMirror}
-use Rattle.orders.specs.Stops.{no_memory}
+use Rattle.order_doing.specs.declared.stop.Stop.{Stop}
+use Rattle.order_doing.specs.declared.stop.Stop.TheVariants.{Device}
+use Rattle.order_doing.specs.Doing.{Prints, PrintsMirror, Stops, StopsMirror}
+use Rattle.order_doing.specs.Stops.{no_memory}
 
 -- The command that an order is, if it is one alone. An import's rows are all octets that its file
 -- holds.

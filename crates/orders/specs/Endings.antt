@@ -3,13 +3,13 @@ use Rattle.std.specs.Prelude.{ℕ, ◌≡◌, ◌⊎◌, ◌∷◌, ◌++◌, []
 use Rattle.std.specs.Io.KnownBytes.{Keeps}
 use Rattle.base_types.specs.Octets.{line_feed}
 use Rattle.command_line.specs.declared.order.Order.{Order}
-use Rattle.orders.specs.PathOutputs.{LeavesOutput, PrintsPath}
-use Rattle.orders.specs.PathStops.{IsStopFor}
-use Rattle.orders.specs.declared.stop.Stop.{Stop}
+use Rattle.order_doing.specs.PathOutputs.{LeavesOutput, PrintsPath}
+use Rattle.order_doing.specs.PathStops.{IsStopFor}
+use Rattle.order_doing.specs.declared.stop.Stop.{Stop}
 use Rattle.orders.specs.OnFiles.{PrintsOrder}
-use Rattle.orders.specs.Stops.{no_memory, status_of, stop_line}
-use Rattle.orders.specs.Streams.{WritesFront}
-use Rattle.orders.specs.Telling.{LeavesWriter}
+use Rattle.order_doing.specs.Stops.{no_memory, status_of, stop_line}
+use Rattle.order_doing.specs.Streams.{WritesFront}
+use Rattle.order_doing.specs.Telling.{LeavesWriter}
 
 -- a line, ended by a line feed
 abbrev pub whole_line : List ℕ → List ℕ

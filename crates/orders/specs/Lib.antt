@@ -1,15 +1,5 @@
 pub mod Asking
-pub mod Stops
-pub mod Streams
-pub mod Telling
-pub mod Doing
-pub mod OrderReplies
-pub mod Serving
 pub mod OnFiles
 pub mod Machines
 pub mod OnMachines
-pub mod Inputs
-pub mod PathStops
-pub mod FirstPaths
-pub mod PathOutputs
 pub mod Endings

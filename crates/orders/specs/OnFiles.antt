@@ -6,8 +6,8 @@ use Rattle.book_service.specs.declared.reply.Reply.{Reply}
 use Rattle.command_line.specs.declared.order.Order.{Order}
 use Rattle.command_line.specs.declared.order.Order.TheVariants.{Try, Init, Book, Serve, Import, Export, Tally, Forget, Mirror, Expand, Migrate}
 use Rattle.order_texts.specs.OrderTexts.{made_line, migrate_line, mirror_lines}
-use Rattle.orders.specs.Serving.{listening_line}
-use Rattle.orders.specs.Telling.{IsPrinted}
+use Rattle.order_doing.specs.Serving.{listening_line}
+use Rattle.order_doing.specs.Telling.{IsPrinted}
 
 -- the order names this file
 abbrev pub IsFileOf : Order → List ℕ → Type 0

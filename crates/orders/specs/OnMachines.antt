@@ -11,13 +11,13 @@ use Rattle.command_line.specs.declared.order.Order.TheVariants.{Try, Init, Serve
 use Rattle.http_replies.specs.Replies.{head_fault_octets}
 use Rattle.order_texts.specs.OrderTexts.{made_line, migrate_line}
 use Rattle.orders.specs.Asking.{DoesOrder, StopsOrder}
-use Rattle.orders.specs.declared.stop.Stop.{Stop}
-use Rattle.orders.specs.declared.stop.Stop.TheVariants.{Open, Device}
+use Rattle.order_doing.specs.declared.stop.Stop.{Stop}
+use Rattle.order_doing.specs.declared.stop.Stop.TheVariants.{Open, Device}
 use Rattle.orders.specs.Machines.{Reach}
 use Rattle.orders.specs.OnFiles.{IsFileOf}
-use Rattle.orders.specs.Serving.{Announces, StopsServing}
-use Rattle.orders.specs.Stops.{no_memory}
-use Rattle.orders.specs.Streams.{WritesFront}
+use Rattle.order_doing.specs.Serving.{Announces, StopsServing}
+use Rattle.order_doing.specs.Stops.{no_memory}
+use Rattle.order_doing.specs.Streams.{WritesFront}
 use Rattle.schema_check.specs.declared.open_fault.OpenFault.{OpenFault}
 
 -- the file couldn't be used, as this fault says, and nothing is written

@@ -1,13 +1,13 @@
 //! The commands that orders ask a store of books to perform.
 ghost use Rattle.std.specs.Prelude.{◌≡◌, ◌⊎◌, IfErr, IfOk};
 ghost use Rattle.orders.specs.Asking.{IsCommandOf};
-ghost use Rattle.orders.specs.Stops.{no_memory};
+ghost use Rattle.order_doing.specs.Stops.{no_memory};
 
 use crate::machine::Machine;
-use crate::stop::Stop;
 use base_types::Items;
 use book_service::Command;
 use command_line::Order;
+use order_doing::Stop;
 use std::alloc::Global;
 
 /// The command that an order is. Of an import, the file of rows is read.

@@ -4,13 +4,11 @@ ghost use Rattle.std.specs.Io.KnownBytes.{Keeps};
 ghost use Rattle.command_line.specs.declared.fault.LineFault.{LineFault as TheFault};
 ghost use Rattle.command_line.specs.declared.order.Order.{Order as TheOrder};
 ghost use Rattle.orders.specs.Endings.{Ends, IsPathDone, IsOrderDone, IsOrderStopped, IsPathStopped, Says, SaysBad, whole_line};
-ghost use Rattle.orders.specs.Stops.{no_memory, stop_line};
+ghost use Rattle.order_doing.specs.Stops.{no_memory, stop_line};
 
 use crate::running::run_order;
-use crate::stop::Stop;
-use crate::tried::run_try;
-use crate::writing::write_out;
 use command_line::{LineFault, Order};
+use order_doing::{Stop, run_try, write_out};
 use std::alloc::Global;
 use std::io::{Read, Write};
 use std::rt::HostRuntime;

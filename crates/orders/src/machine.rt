@@ -1,12 +1,11 @@
 //! Where the files and the ports are that orders name.
 ghost use Rattle.std.specs.Prelude.{◌≡◌, ◌⊎◌, IfErr, IfOk};
 ghost use Rattle.orders.specs.Machines.{Reach};
-ghost use Rattle.orders.specs.Stops.{no_memory};
+ghost use Rattle.order_doing.specs.Stops.{no_memory};
 
-use crate::reading::read_rows_of;
-use crate::stop::Stop;
 use book_migration::migrate;
 use book_store::{FileBooks, OpenFault, SqlStore};
+use order_doing::{Stop, read_rows_of};
 use std::alloc::Global;
 use std::fs;
 use std::net::{Ipv4Addr, SocketAddr, TcpListener};

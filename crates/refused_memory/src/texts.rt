@@ -7,7 +7,7 @@ use base_types::NoMemory;
 use card_core::{GroupFault, expand};
 use command_line::{LineFault, read_order};
 use csv_cards::{CsvCause, CsvFault, Form, read_rows, write_rows};
-use orders::first_path;
+use order_doing::first_path;
 use page_json::{ReportFault, read_report, write_report};
 use std::alloc::Global;
 use std::collections::BTreeMap;

@@ -2,8 +2,8 @@ use Rattle.std.proofs.Common.{◌≡◌, ◌∷◌, ◌++◌, [], sym, subst, re
 use Rattle.std.specs.Fmt.{decimal}
 use Rattle.std.specs.Prelude.{codes}
 use Rattle.std.proofs.lemmas.Fmt.{decimal_step, decimal_digit}
-use Rattle.orders.specs.Streams.{WritesFront}
-use Rattle.orders.specs.Stops.{no_memory, status_of}
+use Rattle.order_doing.specs.Streams.{WritesFront}
+use Rattle.order_doing.specs.Stops.{no_memory, status_of}
 use Rattle.orders.proofs.ending.say_stop.Goals as goal
 
 twenty : decimal 20 ≡ 50 ∷ 48 ∷ []

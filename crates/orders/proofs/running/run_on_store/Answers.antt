@@ -1,4 +1,4 @@
-use Rattle.orders.proofs.CommandLemmas.{command_leaves}
+use Rattle.order_doing.proofs.CommandLemmas.{command_leaves}
 use Rattle.orders.proofs.FileLemmas.{command_done, command_stopped}
 use Rattle.orders.proofs.running.run_on_store.Goals as goal
 

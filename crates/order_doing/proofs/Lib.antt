@@ -1,0 +1,7 @@
+pub mod OctetLemmas
+pub mod StopLemmas
+pub mod CommandLemmas
+pub mod ReplyLemmas
+pub mod FirstPathLemmas
+pub mod InputLemmas
+pub mod LongTextLemmas

@@ -1,0 +1,10 @@
+pub mod Stops
+pub mod Streams
+pub mod Telling
+pub mod Doing
+pub mod OrderReplies
+pub mod Serving
+pub mod Inputs
+pub mod PathStops
+pub mod FirstPaths
+pub mod PathOutputs

@@ -1,0 +1,44 @@
+//! Connections, served behind a line that says where.
+ghost use Rattle.std.specs.Prelude.{◌≡◌, IfErr, IfOk, Ok};
+ghost use Rattle.order_doing.specs.Serving.{Announces, StopsServing, listening_line};
+
+use crate::stop::Stop;
+use crate::writing::write_out;
+use book_server::{Listener, serve_listener};
+use http_requests::Handler;
+use std::alloc::Global;
+use std::io::Write;
+use vcard_text::NoMemory;
+
+/// At which port the service listens, as `listening 127.0.0.1:8080`.
+fn listening_text(alloc: Global, port: u16) -> Result<Vec<u8>, NoMemory>
+    ensures { IfOk result (λ text. text.items ≡ listening_line port) }
+{
+    Ok(format!(in alloc; "listening 127.0.0.1:{port}\n")?.into_bytes())
+}
+
+/// Writes and flushes the line that names the port, and then serves so many connections of the
+/// listener, as `book_server::serve_listener` does.
+///
+/// Stops with no memory, and with `Device` where the writer or the listener fails; and with `Serve`
+/// where a connection was given up.
+pub fn announce_and_serve<H: Handler, L: Listener + Drop, W: Write>(
+    alloc: Global,
+    handler: &mut H,
+    listener: L,
+    port: u16,
+    connections: u64,
+    writer: &mut W,
+) -> Result<(), Stop>
+    ensures served { IfOk result (λ done. Announces H.does H.fault_reply
+        L.Stream.remaining L.Stream.contents port connections (L.coming listener)
+        handler.old (W.contents writer.old) (W.contents writer.new) (Ok done) handler.new) }
+    ensures stopped { IfErr result (λ stop. StopsServing H.does H.fault_reply
+        L.Stream.remaining L.Stream.contents port connections (L.coming listener)
+        handler.old (W.contents writer.old) (W.contents writer.new) stop handler.new) }
+{
+    let line = listening_text(alloc, port)?;
+    write_out(writer, line.as_slice())?;
+    serve_listener(alloc, handler, listener, connections)?;
+    Ok(())
+}
