@@ -11,9 +11,10 @@ use Rattle.book_model.specs.Bounds.{Bounds}
 use Rattle.book_tables.specs.Keeps.{KeepRow, keep_row}
 use Rattle.book_tables.specs.Tables.{book_schema}
 use Rattle.book_rows.specs.TableRows.{rows_in}
-use Rattle.book_migration.specs.Migration.{CommitsMigration, IsMigrated, IsWithKeeps, keeps_due}
+use Rattle.book_migration.specs.Migration.{CommitsMigration, IsMigrated, IsWithKeeps}
 use Rattle.book_migration.specs.Planning.{IsPlanned}
 use Rattle.book_migration.specs.Writing.{IsFirstWith, TreesWithKeeps}
+use Rattle.due_keeps.specs.KeepsDue.{keeps_due}
 
 -- the keeps in the order of the plan are those that are due
 pub migrated : (old new : Database) (due : List KeepRow) → IsPermutation (keeps_due (rows_in old.trees)) due → IsWithKeeps due old new → IsMigrated old new

@@ -25,8 +25,9 @@ use Rattle.schema_check.specs.declared.open_fault.OpenFault.{OpenFault}
 use Rattle.schema_check.specs.declared.open_fault.OpenFault.TheVariants.{Store, NotOurs, OtherSchema, Damaged, NotEmpty, Memory}
 use Rattle.book_tables.specs.Meta.{meta_listed, schema_row}
 use Rattle.book_migration.specs.FirstRows.{AreFirstListed, id_listed, meta_cells}
-use Rattle.book_migration.specs.Migration.{IsDue, IsMigrated, keep_due, keeps_due, remembered}
-use Rattle.book_migration.specs.Planning.{HasId, IsPlanned, TellsKeeps, due_told, keep_told, keeps_told}
+use Rattle.book_migration.specs.Migration.{IsDue, IsMigrated}
+use Rattle.book_migration.specs.Planning.{HasId, IsPlanned, TellsKeeps}
+use Rattle.due_keeps.specs.KeepsDue.{due_told, keep_due, keep_told, keeps_due, keeps_told, remembered}
 
 -- ---- the keeps
 

@@ -11,8 +11,8 @@ use Rattle.book_tables.specs.Keeps.{AddsKeep, KeepRow}
 use Rattle.book_tables.specs.Laying.{LeavesInside}
 use Rattle.book_tables.specs.States.{Spares, WritesOnly}
 use Rattle.book_tables.proofs.KeyedRows.{turned}
-use Rattle.book_migration.specs.Planning.{keep_told}
 use Rattle.book_migration.specs.Writing.{Ends, HasKept}
+use Rattle.due_keeps.specs.KeepsDue.{keep_told}
 
 -- ---- the keeps
 

@@ -1,33 +1,18 @@
 -- What carrying tables of the first schema into the second makes of them. This project's own.
-use Rattle.std.specs.Prelude.{◌≡◌, ⊤, ℕ, pos, max, List, map, filter, length, Err}
+use Rattle.std.specs.Prelude.{◌≡◌, ⊤, List, Err}
 use Rattle.sqlite.specs.Effect.{Database}
 use Rattle.sqlite.specs.Tree.{Trees}
 use Rattle.book_model.specs.Bounds.{Bounds}
-use Rattle.book_tables.specs.Books.{BookRow}
-use Rattle.book_tables.specs.Keeps.{KeepRow, HoldKeeps, keeping_of}
-use Rattle.book_tables.specs.Members.{MemberRow, is_removed_after}
+use Rattle.book_tables.specs.Keeps.{KeepRow, HoldKeeps}
 use Rattle.book_tables.specs.Meta.{schema_number}
 use Rattle.book_tables.specs.Tables.{book_schema}
 use Rattle.book_rows.specs.SoundTables.{HoldsWellFormed}
-use Rattle.book_rows.specs.TableRows.{TableRows, rows_in}
+use Rattle.book_rows.specs.TableRows.{rows_in}
+use Rattle.due_keeps.specs.KeepsDue.{keeps_due}
 use Rattle.schema_check.specs.FirstSchema.{IsFirst, TellsFirst}
 use Rattle.schema_check.specs.StoredSchema.{SaysNumber}
 use Rattle.schema_check.specs.declared.open_fault.OpenFault.{OpenFault}
 use Rattle.schema_check.specs.declared.open_fault.OpenFault.TheVariants.{Store, NotOurs, OtherSchema, Damaged, NotEmpty, Memory}
-
--- ---- the keeps
-
--- how many removed members the book remembers
-abbrev pub remembered : List MemberRow → BookRow → ℕ
-remembered members b = length (filter (is_removed_after b.id b.numbers.horizon) members)
-
--- A book's keep is 10,000, and no less than what the book remembers, so that nothing is forgotten.
-abbrev pub keep_due : List MemberRow → BookRow → KeepRow
-keep_due members b = keeping_of b.id (pos (max 10000 (remembered members b)))
-
--- each book's
-abbrev pub keeps_due : TableRows → List KeepRow
-keeps_due rows = map (keep_due rows.members) rows.books
 
 -- ---- what is made of the tables
 

@@ -1,32 +1,20 @@
 -- What is planned before anything is written. This project's own.
-use Rattle.std.specs.Prelude.{◌≡◌, ℤ, List, [], ◌∷◌, map, length, Vec, Result, Ok, Err}
+use Rattle.std.specs.Prelude.{◌≡◌, ℤ, List, map, length, Vec, Result, Ok, Err}
 use Rattle.std.specs.declared.alloc.Global.{Global}
 use Rattle.std.specs.List.Sorted.{IsPermutation}
-use Rattle.sqlite.specs.declared.types.Value.TheVariants.{Int}
 use Rattle.sqlite.specs.Effect.{Database}
 use Rattle.sqlite.specs.Order.{Row}
 use Rattle.book_model.specs.Bounds.{Bounds}
 use Rattle.book_tables.specs.Keeps.{KeepRow}
 use Rattle.book_rows.specs.SoundTables.{HoldsWellFormed}
-use Rattle.book_rows.specs.TableRows.{member_in, rows_in}
+use Rattle.book_rows.specs.TableRows.{rows_in}
 use Rattle.book_check.specs.Opening.{TellsRows}
-use Rattle.book_check.specs.ReadRows.{AreWellStored, book_told}
+use Rattle.book_check.specs.ReadRows.{AreWellStored}
 use Rattle.schema_check.specs.FirstSchema.{IsFirst, first_number}
 use Rattle.schema_check.specs.declared.open_fault.OpenFault.{OpenFault}
 use Rattle.book_migration.specs.FirstRows.{HasOneNumber}
-use Rattle.book_migration.specs.Migration.{IsMigrated, keep_due, keeps_due}
-
--- a keep as the statement over the whole table shows it
-abbrev pub keep_told : KeepRow → Row
-keep_told k = Int k.book ∷ Int k.keep ∷ []
-
--- the keep that is due of a book, by its row and those of the members as they are shown
-abbrev pub due_told : List Row → Row → KeepRow
-due_told members book = keep_due (map member_in members) (book_told book)
-
--- each book's, as the statement would show it
-abbrev pub keeps_told : List Row → List Row → List Row
-keeps_told books members = map (λ book. keep_told (due_told members book)) books
+use Rattle.book_migration.specs.Migration.{IsMigrated}
+use Rattle.due_keeps.specs.KeepsDue.{keep_told, keeps_due, keeps_told}
 
 -- the keeps that are due, with which the rows are well stored; or why there are none
 abbrev pub TellsKeeps : Bounds → List Row → List Row → List Row → Result (Vec Row Global) OpenFault

@@ -1,33 +1,25 @@
 //! What is tested before anything is written, and the keeps that are to be.
-ghost use Rattle.book_check.specs.ReadRows.{HasNumber, book_told};
+ghost use Rattle.book_check.specs.ReadRows.{HasNumber};
 ghost use Rattle.book_migration.specs.FirstRows.{AreFirstListed, OverFirst, ReadsFirst};
-ghost use Rattle.book_migration.specs.Migration.{IsDue, remembered};
-ghost use Rattle.book_migration.specs.Planning.{HasId, IsPlanned, TellsKeeps, keeps_told};
-ghost use Rattle.book_rows.specs.TableRows.{member_in};
+ghost use Rattle.book_migration.specs.Migration.{IsDue};
+ghost use Rattle.book_migration.specs.Planning.{HasId, IsPlanned, TellsKeeps};
 ghost use Rattle.schema_check.specs.FirstSchema.{IsFirst};
 ghost use Rattle.schema_check.specs.OpenFaults.{IsErrorFault};
 ghost use Rattle.schema_check.specs.StoredSchema.{ChangesNothing};
 ghost use Rattle.sqlite.specs.Held.{state};
 ghost use Rattle.sqlite.specs.Order.{Row as Values};
 ghost use Rattle.sqlite.specs.State.{HasCleanDisk, IsUnchanged};
-ghost use Rattle.sqlite.specs.declared.types.Value.TheVariants.{Int};
-ghost use Rattle.std.specs.Prelude.{[], ◌∷◌, ◌≡◌, IfErr, IfOk, IsTrue, OnOk, map, max, pos};
+ghost use Rattle.std.specs.Prelude.{[], ◌∷◌, ◌≡◌, IfErr, IfOk, IsTrue, OnOk};
 
 use crate::first_rows::{list_books, list_imports, list_members, list_meta_ids};
-use book_check::books::count_removed;
-use book_check::cells::{has_number, number_at};
+use book_check::cells::has_number;
 use book_check::tables::are_well_stored;
 use book_model::Limits;
+use due_keeps::keeps_of;
 use schema_check::{OpenFault, open_fault_of, test_first_schema};
-use sqlite::types::ValueRef;
 use sqlite::{Alter, Connection, Error, Row};
-use sqlite_exec::work::FromRow;
-use sqlite_value::row;
 use std::alloc::Global;
 use vcard_text::NoMemory;
-
-/// The keep of a book that remembers no more removed members than these.
-const LEAST_KEEP: usize = 10_000;
 
 /// The rows of the three tables that books of the first schema are kept in.
 #[derive(Drop)]
@@ -38,46 +30,6 @@ struct FirstRows {
 }
 
 // ---- the keeps
-
-/// The keep that is the book's due: 10,000, and no less than what the book remembers.
-fn keep_of(members: &[Row], book: &Row) -> Result<i64, NoMemory>
-    ensures { IfOk result (λ keep. keep
-        ≡ pos (max 10000 (remembered (map member_in members.now) (book_told book.now)))) }
-{
-    let remembered = count_removed(members, number_at(book, 0), number_at(book, 3));
-    let keep = if remembered < LEAST_KEEP {
-        LEAST_KEEP
-    } else {
-        remembered
-    };
-    match i64::try_from(keep) {
-        Ok(keep) => Ok(keep),
-        // No memory has room for so many rows.
-        Err(_) => Err(NoMemory),
-    }
-}
-
-/// The row of a keep.
-fn keep_row(alloc: Global, book: i64, keep: i64) -> Result<Row, NoMemory>
-    ensures { IfOk result (λ row. row ≡ Int book ∷ Int keep ∷ []) }
-{
-    let mut values = row::Row::new(alloc);
-    values.push(ValueRef::Int(book))?;
-    values.push(ValueRef::Int(keep))?;
-    Ok(Row::from_row(alloc, &values)?)
-}
-
-/// The keep of each book that is its due.
-fn keeps_of(alloc: Global, books: &[Row], members: &[Row]) -> Result<Vec<Row>, NoMemory>
-    ensures { IfOk result (λ keeps. keeps.items ≡ keeps_told books.now members.now) }
-{
-    let mut keeps = Vec::new(alloc);
-    for book in books {
-        let keep = keep_of(members, book)?;
-        keeps.push(keep_row(alloc, number_at(book, 0), keep)?)?;
-    }
-    Ok(keeps)
-}
 
 /// The keeps with which the rows are well stored.
 fn test_keeps(alloc: Global, limits: Limits, rows: &FirstRows) -> Result<Vec<Row>, OpenFault>

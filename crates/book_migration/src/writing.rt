@@ -1,7 +1,6 @@
 //! Making tables of the second schema from those of the first, in one transaction.
 ghost use Rattle.book_migration.specs.FirstRows.{HasOneNumber};
 ghost use Rattle.book_migration.specs.Migration.{IsWithKeeps};
-ghost use Rattle.book_migration.specs.Planning.{keep_told};
 ghost use Rattle.book_migration.specs.Writing.{Ends, HasKept, IsFirstWith, TreesWithKeeps};
 ghost use Rattle.book_tables.specs.Keeps.{KeepRow};
 ghost use Rattle.book_tables.specs.Laying.{LeavesInside};
@@ -12,6 +11,7 @@ ghost use Rattle.schema_check.specs.StoredSchema.{SaysNumber};
 ghost use Rattle.sqlite.specs.Held.{state};
 ghost use Rattle.sqlite.specs.State.{HasCleanDisk, KeepsCommit, Survives};
 ghost use Rattle.std.specs.Prelude.{◌≡◌, ℤ, List, OnOk, [], false, map, ⊤};
+ghost use Rattle.due_keeps.specs.KeepsDue.{keep_told};
 
 use book_check::cells::number_at;
 use book_tables::keeps::insert_keep;

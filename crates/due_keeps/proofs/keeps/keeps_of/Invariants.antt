@@ -1,6 +1,6 @@
 use Rattle.std.proofs.Common.{◌≡◌, take}
-use Rattle.book_migration.specs.Planning.{keeps_told}
-use Rattle.book_migration.proofs.planning.keeps_of.Given as goal
+use Rattle.due_keeps.specs.KeepsDue.{keeps_told}
+use Rattle.due_keeps.proofs.keeps.keeps_of.Given as goal
 
 -- the keeps of the books so far
 abbrev pub invariant-loop-book : goal.invariant-loop-book
