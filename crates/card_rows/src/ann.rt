@@ -26,11 +26,15 @@ fn lines_told(alloc: Global, card: &Card) -> Result<String, NoMemory> {
     Ok(String::from_str(alloc, lines.strip_suffix(END).unwrap_or("another end"))?)
 }
 
+fn members_told(alloc: Global, card: &Card) -> Result<String, NoMemory> {
+    let members = card.members()?;
+    joined(alloc, members.as_slice())
+}
+
 /// The card's UID, its kind, how many lines it has, and its members.
 fn card_told(alloc: Global, card: &Card) -> Result<String, NoMemory> {
-    let members = card.members()?;
-    let members = joined(alloc, members.as_slice())?;
     let (uid, kind, count) = (card.uid(), card.kind(), card.lines().len());
+    let members = members_told(alloc, card)?;
     Ok(format!(in alloc; "{uid} {kind:?} {count}{members}")?)
 }
 

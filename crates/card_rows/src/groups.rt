@@ -7,6 +7,14 @@ use std::alloc::Global;
 use std::collections::BTreeMap;
 use vcard_text::Card;
 
+fn push_each(list: &mut String, texts: &[Text]) -> Result<(), NoMemory> {
+    for text in texts {
+        list.push(' ')?;
+        list.push_str(text.as_str())?;
+    }
+    Ok(())
+}
+
 /// The texts, each behind a space; of more than a hundred, how many there are, the first and the
 /// last.
 fn listed(alloc: Global, texts: &Items<Text>) -> Result<String, NoMemory> {
@@ -15,10 +23,7 @@ fn listed(alloc: Global, texts: &Items<Text>) -> Result<String, NoMemory> {
         return Ok(format!(in alloc; " {}: {first} to {last}", texts.len())?);
     }
     let mut list = String::new(alloc);
-    for text in texts {
-        list.push(' ')?;
-        list.push_str(text.as_str())?;
-    }
+    push_each(&mut list, texts)?;
     Ok(list)
 }
 
@@ -53,17 +58,27 @@ pub(crate) fn people_told(alloc: Global, given: &str) -> Result<String, NoMemory
 /// `urn:uuid:`, and the cards of the last tenth are missing.
 pub(crate) fn wide_told(alloc: Global, count: &str) -> Result<String, NoMemory> {
     let count = count.parse::<u32>().unwrap_or(0);
-    let mut members = String::from_str(alloc, "g|g group")?;
-    let mut cards = String::new(alloc);
+    let mut given = String::from_str(alloc, "g|g group")?;
+    push_members(alloc, &mut given, count)?;
+    push_people(alloc, &mut given, count - count / 10)?;
+    people_told(alloc, given.as_str())
+}
+
+/// So many members, the greatest number first.
+fn push_members(alloc: Global, given: &mut String, count: u32) -> Result<(), NoMemory> {
     for number in (0..count).rev() {
         let urn = if number % 2 == 0 { "urn:uuid:" } else { "" };
-        members.push_str(format!(in alloc; " {urn}m{number:05}")?.as_str())?;
-        if number < count - count / 10 {
-            cards.push_str(format!(in alloc; ";m{number:05} individual")?.as_str())?;
-        }
+        given.push_str(format!(in alloc; " {urn}m{number:05}")?.as_str())?;
     }
-    members.push_str(cards.as_str())?;
-    people_told(alloc, members.as_str())
+    Ok(())
+}
+
+/// So many people's cards, the greatest number first.
+fn push_people(alloc: Global, given: &mut String, count: u32) -> Result<(), NoMemory> {
+    for number in (0..count).rev() {
+        given.push_str(format!(in alloc; ";m{number:05} individual")?.as_str())?;
+    }
+    Ok(())
 }
 
 /// The same of the first of so many groups, each of which has the next one and a value that names
@@ -71,10 +86,16 @@ pub(crate) fn wide_told(alloc: Global, count: &str) -> Result<String, NoMemory> 
 pub(crate) fn chain_told(alloc: Global, count: &str) -> Result<String, NoMemory> {
     let count = count.parse::<u32>().unwrap_or(0);
     let mut given = String::from_str(alloc, "m00000|")?;
+    push_chain(alloc, &mut given, count)?;
+    people_told(alloc, given.as_str())
+}
+
+/// So many groups, and the person.
+fn push_chain(alloc: Global, given: &mut String, count: u32) -> Result<(), NoMemory> {
     for number in 0..count {
         let next = number.saturating_add(1);
         given.push_str(format!(in alloc; "m{number:05} group m{next:05} n;")?.as_str())?;
     }
     given.push_str(format!(in alloc; "m{count:05} individual")?.as_str())?;
-    people_told(alloc, given.as_str())
+    Ok(())
 }

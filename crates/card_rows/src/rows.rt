@@ -15,22 +15,56 @@ fn push_card(alloc: Global, card: &Card, told: &mut String) -> Result<(), NoMemo
     Ok(())
 }
 
+fn push_cards(alloc: Global, cards: &[Card], told: &mut String) -> Result<(), NoMemory> {
+    for card in cards {
+        push_card(alloc, card, told)?;
+    }
+    Ok(())
+}
+
+/// The cards, a line each.
 fn cards_told(alloc: Global, cards: &[Card]) -> Result<String, NoMemory> {
     let mut told = String::new(alloc);
-    for card in cards {
-        push_card(alloc, card, &mut told)?;
-    }
+    push_cards(alloc, cards, &mut told)?;
     Ok(told)
 }
 
-/// The rows of the cards in the form.
-fn written(alloc: Global, cards: Vec<Card>, form: Form) -> Result<String, NoMemory> {
-    let mut book = BTreeMap::new(alloc);
+/// Puts copies of the cards under their UIDs.
+fn put_cards(
+    alloc: Global,
+    book: &mut BTreeMap<String, Card>,
+    cards: &[Card],
+) -> Result<(), NoMemory> {
     for card in cards {
-        book.insert(String::from_str(alloc, card.uid())?, card)?;
+        let uid = String::from_str(alloc, card.uid())?;
+        book.insert(uid, card.try_copy()?)?;
     }
-    let text = write_rows(alloc, &book, form)?;
+    Ok(())
+}
+
+/// The rows of the book in the form.
+fn book_written(
+    alloc: Global,
+    book: &BTreeMap<String, Card>,
+    form: Form,
+) -> Result<String, NoMemory> {
+    let text = write_rows(alloc, book, form)?;
     Ok(String::from_utf8_lossy(alloc, text.as_slice())?)
+}
+
+/// The rows of the cards in the form.
+fn written(alloc: Global, cards: &[Card], form: Form) -> Result<String, NoMemory> {
+    let mut book = BTreeMap::new(alloc);
+    put_cards(alloc, &mut book, cards)?;
+    book_written(alloc, &book, form)
+}
+
+/// The cards, or their rows in the form.
+fn told_in(alloc: Global, cards: &[Card], form: Option<Form>) -> Result<String, NoMemory> {
+    match form {
+        Some(form) => written(alloc, cards, form),
+        None => cards_told(alloc, cards),
+    }
 }
 
 /// The row of the fault, and the number of its cause.
@@ -44,9 +78,8 @@ pub(crate) fn rows_told(
     text: &[u8],
     form: Option<Form>,
 ) -> Result<String, NoMemory> {
-    match (read_rows(alloc, text), form) {
-        (Ok(cards), None) => cards_told(alloc, cards.as_slice()),
-        (Ok(cards), Some(form)) => written(alloc, cards, form),
-        (Err(fault), _) => csv_fault_told(alloc, fault),
+    match read_rows(alloc, text) {
+        Ok(cards) => told_in(alloc, cards.as_slice(), form),
+        Err(fault) => csv_fault_told(alloc, fault),
     }
 }

@@ -14,12 +14,32 @@ fn card_of(alloc: Global, words: &str) -> Result<Card, CardFault> {
     read_card(alloc, text.as_bytes())
 }
 
+/// Puts the card that the words give under its UID.
+fn put_card(
+    alloc: Global,
+    cards: &mut BTreeMap<String, Card>,
+    words: &str,
+) -> Result<(), CardFault> {
+    let card = card_of(alloc, words)?;
+    let uid = String::from_str(alloc, card.uid())?;
+    cards.insert(uid, card)?;
+    Ok(())
+}
+
+fn put_cards(
+    alloc: Global,
+    cards: &mut BTreeMap<String, Card>,
+    shape: &str,
+) -> Result<(), CardFault> {
+    for words in shape.split(';') {
+        put_card(alloc, cards, words)?;
+    }
+    Ok(())
+}
+
 /// The cards of the shape by their UIDs.
 pub(crate) fn cards_of(alloc: Global, shape: &str) -> Result<BTreeMap<String, Card>, CardFault> {
     let mut cards = BTreeMap::new(alloc);
-    for words in shape.split(';') {
-        let card = card_of(alloc, words)?;
-        cards.insert(String::from_str(alloc, card.uid())?, card)?;
-    }
+    put_cards(alloc, &mut cards, shape)?;
     Ok(cards)
 }

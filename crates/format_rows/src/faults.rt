@@ -27,19 +27,28 @@ pub(crate) fn fault(alloc: Global, number: &str) -> Result<Vec<u8>, NoMemory> {
     with_reply(words, reply.as_slice())
 }
 
-/// `head-fault NUMBER`: its number, its status and its word, and below them the reply.
-pub(crate) fn head_fault(alloc: Global, number: &str) -> Result<Vec<u8>, NoMemory> {
-    let fault = match number {
+fn head_fault_of(number: &str) -> HeadFault {
+    match number {
         "21" => HeadFault::BadHead,
         "22" => HeadFault::HeadTooLarge,
         "23" => HeadFault::BadHost,
         "24" => HeadFault::TransferEncoding,
         "25" => HeadFault::BadLength,
         _ => HeadFault::BodyTooLarge,
-    };
+    }
+}
+
+/// The fault's number, its status and its word.
+fn head_words_of(alloc: Global, fault: HeadFault) -> Result<String, NoMemory> {
     let (number, status, text) = (fault.number(), fault.status(), fault.text());
-    let words = format!(in alloc; "{number} {status} {text}")?;
+    Ok(format!(in alloc; "{number} {status} {text}")?)
+}
+
+/// `head-fault NUMBER`: its number, its status and its word, and below them the reply.
+pub(crate) fn head_fault(alloc: Global, number: &str) -> Result<Vec<u8>, NoMemory> {
+    let fault = head_fault_of(number);
     let reply = head_fault_bytes(alloc, fault)?;
+    let words = head_words_of(alloc, fault)?;
     with_reply(words, reply.as_slice())
 }
 

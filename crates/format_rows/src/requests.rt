@@ -57,6 +57,23 @@ fn feed(
     Ok(())
 }
 
+/// Adds what is replied to the octets in pieces of the size.
+fn feed_pieces(
+    alloc: Global,
+    session: &mut Session,
+    handler: &mut Echo,
+    octets: &[u8],
+    size: usize,
+    replies: &mut Vec<u8>,
+) -> Result<(), NoMemory>
+    requires { 0 < size }
+{
+    for piece in octets.chunks(size) {
+        feed(alloc, session, handler, piece, replies)?;
+    }
+    Ok(())
+}
+
 /// Adds what is replied to the front and then to the rest in pieces of the size, and whether the
 /// session is closed then.
 fn feed_all(
@@ -71,9 +88,7 @@ fn feed_all(
 {
     let (front, rest) = octets;
     feed(alloc, session, handler, front, replies)?;
-    for piece in rest.chunks(size) {
-        feed(alloc, session, handler, piece, replies)?;
-    }
+    feed_pieces(alloc, session, handler, rest, size, replies)?;
     let end: &[u8] = if session.closed() {
         b"\n-- closed"
     } else {
@@ -125,11 +140,32 @@ fn tell_other(
 pub(crate) fn long_requests(alloc: Global, text: &[u8]) -> Result<Vec<u8>, NoMemory> {
     let whole = replies(alloc, text, b"", 1)?;
     let mut told = replies(alloc, text, b"", 1)?;
+    tell_sizes(alloc, text, whole.as_slice(), &mut told)?;
+    Ok(told)
+}
+
+/// Tells what is replied to pieces of a size, where it is another than to the whole.
+fn tell_sizes(
+    alloc: Global,
+    text: &[u8],
+    whole: &[u8],
+    told: &mut Vec<u8>,
+) -> Result<(), NoMemory> {
     for size in [1usize, 1_500] {
         let other = replies(alloc, b"", text, size)?;
-        tell_other(alloc, size, other.as_slice(), whole.as_slice(), &mut told)?;
+        tell_other(alloc, size, other.as_slice(), whole, told)?;
     }
-    Ok(told)
+    Ok(())
+}
+
+/// The same of two pieces.
+fn tell_cuts(alloc: Global, text: &[u8], whole: &[u8], told: &mut Vec<u8>) -> Result<(), NoMemory> {
+    for cut in 0..text.len() {
+        let (front, rest) = text.split_at(cut);
+        let other = replies(alloc, front, rest, text.len())?;
+        tell_other(alloc, cut, other.as_slice(), whole, told)?;
+    }
+    Ok(())
 }
 
 /// `requests OCTETS`: the same, and what else is replied where they are cut in two at some place.
@@ -141,10 +177,6 @@ pub(crate) fn requests(alloc: Global, text: &[u8]) -> Result<Vec<u8>, NoMemory> 
 
     let whole = replies(alloc, text, b"", 1)?;
     let mut told = long_requests(alloc, text)?;
-    for cut in 0..text.len() {
-        let (front, rest) = text.split_at(cut);
-        let other = replies(alloc, front, rest, text.len())?;
-        tell_other(alloc, cut, other.as_slice(), whole.as_slice(), &mut told)?;
-    }
+    tell_cuts(alloc, text, whole.as_slice(), &mut told)?;
     Ok(told)
 }

@@ -47,21 +47,27 @@ fn put_told(
     with_octets(alloc, front, text)
 }
 
-/// The question in the words of the rows.
-fn question_told(alloc: Global, command: &Command) -> Result<String, NoMemory> {
-    match command {
-        Command::Get { book, uid } => made(format!(in alloc; "get {book} {uid}")),
-        Command::People { book, uid } => made(format!(in alloc; "people {book} {uid}")),
-        Command::TallyOf { book } => made(format!(in alloc; "tally {book}")),
-        Command::Export { book, form } => made(match form {
-            Form::Cards => format!(in alloc; "export {book} cards"),
-            Form::Columns => format!(in alloc; "export {book} columns"),
-        }),
-        Command::Report { book, token, limit } => {
-            with_version(alloc, format!(in alloc; "report {book} [{token}]"), *limit)
-        }
-        _ => made(String::from_str(alloc, "books")),
+fn form_name(form: Form) -> &'static str {
+    match form {
+        Form::Cards => "cards",
+        Form::Columns => "columns",
     }
+}
+
+/// The command in the words of the rows, where these are its names alone.
+fn names_told(alloc: Global, command: &Command) -> Result<String, NoMemory> {
+    made(match command {
+        Command::CreateBook { book } => format!(in alloc; "create {book}"),
+        Command::Get { book, uid } => format!(in alloc; "get {book} {uid}"),
+        Command::People { book, uid } => format!(in alloc; "people {book} {uid}"),
+        Command::TallyOf { book } => format!(in alloc; "tally {book}"),
+        Command::Forget { book, upto } => format!(in alloc; "forget {book} {upto}"),
+        Command::Export { book, form } => {
+            let form = form_name(*form);
+            format!(in alloc; "export {book} {form}")
+        }
+        _ => String::from_str(alloc, "books"),
+    })
 }
 
 /// `import BOOK [KEY] [BODY]`
@@ -74,7 +80,6 @@ fn import_told(alloc: Global, names: (&str, &str), body: &Items<u8>) -> Result<S
 /// The command in the words of the rows.
 fn command_told(alloc: Global, command: &Command) -> Result<String, NoMemory> {
     match command {
-        Command::CreateBook { book } => made(format!(in alloc; "create {book}")),
         Command::Put {
             book,
             uid,
@@ -97,8 +102,10 @@ fn command_told(alloc: Global, command: &Command) -> Result<String, NoMemory> {
         Command::Import { book, key, body } => {
             import_told(alloc, (book.as_str(), key.as_str()), body)
         }
-        Command::Forget { book, upto } => made(format!(in alloc; "forget {book} {upto}")),
-        question => question_told(alloc, question),
+        Command::Report { book, token, limit } => {
+            with_version(alloc, format!(in alloc; "report {book} [{token}]"), *limit)
+        }
+        command => names_told(alloc, command),
     }
 }
 

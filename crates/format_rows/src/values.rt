@@ -42,19 +42,32 @@ fn limits_of(numbers: &[u64]) -> Option<Limits> {
     }
 }
 
-/// `limits PAGE CARDS CHANGES BOOKS KEEP`, where the last may be left out, or `limits standard`:
-/// the five numbers of the limits.
-pub(crate) fn limits(alloc: Global, text: &str) -> Result<String, NoMemory> {
-    let mut numbers = Vec::new(alloc);
+fn push_numbers(numbers: &mut Vec<u64>, text: &str) -> Result<(), NoMemory> {
     for word in text.split(' ') {
         if let Ok(number) = word.parse::<u64>() {
             numbers.push(number)?;
         }
     }
-    let Some(limits) = limits_of(numbers.as_slice()) else {
-        return none(alloc);
-    };
+    Ok(())
+}
+
+fn limits_in(alloc: Global, text: &str) -> Result<Option<Limits>, NoMemory> {
+    let mut numbers = Vec::new(alloc);
+    push_numbers(&mut numbers, text)?;
+    Ok(limits_of(numbers.as_slice()))
+}
+
+fn limits_told(alloc: Global, limits: Limits) -> Result<String, NoMemory> {
     let (pages, cards, changes) = (limits.page_max(), limits.cards_max(), limits.changes_max());
     let (books, keep) = (limits.books_max(), limits.keep());
     Ok(format!(in alloc; "{pages} {cards} {changes} {books} {keep}")?)
+}
+
+/// `limits PAGE CARDS CHANGES BOOKS KEEP`, where the last may be left out, or `limits standard`:
+/// the five numbers of the limits.
+pub(crate) fn limits(alloc: Global, text: &str) -> Result<String, NoMemory> {
+    match limits_in(alloc, text)? {
+        Some(limits) => limits_told(alloc, limits),
+        None => none(alloc),
+    }
 }
