@@ -12,6 +12,7 @@ mod run;
 mod sweep;
 mod trouble;
 
+use crate::stops::counts::push_made;
 use crate::stops::course::Course;
 use crate::stops::disks::{Place, Stopping};
 use crate::stops::migrations::{carried_told, first_disks, sweep_carrying};
@@ -39,18 +40,55 @@ struct Telling {
 impl Telling {
     /// Tells of a sweep over the file, and counts its stops.
     fn tell(&mut self, place: Place, sweep: &Sweep) -> Result<(), NoMemory> {
-        let title = format!(in self.alloc; "-- the {} fails", place.name())?;
-        self.told
-            .push_str(sweep.told(self.alloc, title.as_str())?.as_str())?;
         self.stops = self.stops.saturating_add(sweep.stops.sum());
-        Ok(())
+        sweep.tell(&mut self.told, place)
+    }
+
+    /// Tells of the list, and of the books at its end.
+    fn tell_course(&mut self, course: &Course, keep: u64, name: &str) -> Result<(), NoMemory> {
+        let (count, refusals) = (course.steps.len(), course.refusals());
+        let title = format!(in self.alloc;
+            "==== {name}, keep {keep}: {count} commands, {refusals} refused; \
+            the books then\n"
+        );
+        push_made(&mut self.told, title)?;
+        Ok(self.told.push_str(course.told_behind(count))?)
+    }
+
+    /// Tells of tables of the first schema, and of their books.
+    fn tell_carried(&mut self, books: &str) -> Result<(), NoMemory> {
+        self.told
+            .push_str("==== tables of the first schema, and the books then\n")?;
+        Ok(self.told.push_str(books)?)
     }
 
     fn tell_finding(&mut self, what: &str) -> Result<(), NoMemory> {
-        let line = format!(in self.alloc; "** {what}\n")?;
-        self.told.push_str(line.as_str())?;
-        Ok(())
+        push_made(&mut self.told, format!(in self.alloc; "** {what}\n"))
     }
+
+    fn tell_total(&mut self) -> Result<(), NoMemory> {
+        let total = format!(in self.alloc; "==== {} stops in all\n", self.stops);
+        push_made(&mut self.told, total)
+    }
+}
+
+/// Sweeps over the list and the file.
+fn tell_sweep<D: Stopping>(
+    telling: &mut Telling,
+    course: &Course,
+    place: Place,
+) -> Result<(), NoMemory> {
+    let mut sweep = Sweep::new(telling.alloc);
+    sweep_list::<D>(course, place, &mut sweep)?;
+    telling.tell(place, &sweep)
+}
+
+/// Sweeps over the list, for each of the two files.
+fn tell_course<D: Stopping>(telling: &mut Telling, course: &Course) -> Result<(), NoMemory> {
+    for place in PLACES {
+        tell_sweep::<D>(telling, course, place)?;
+    }
+    Ok(())
 }
 
 /// Sweeps over the list, for books that remember so many removed members.
@@ -60,47 +98,20 @@ fn tell_list<D: Stopping>(
     name: &str,
     list: &str,
 ) -> Result<(), NoMemory> {
-    let alloc = telling.alloc;
     let Some(limits) = Limits::standard().with_keep(keep) else {
         return Ok(());
     };
-    let course = Course::of_list(alloc, limits, list)?;
-    let (count, refusals) = (course.steps.len(), course.refusals());
-    let title = format!(in alloc;
-        "==== {name}, keep {keep}: {count} commands, {refusals} refused; \
-        the books then\n"
-    )?;
-    telling.told.push_str(title.as_str())?;
-    telling.told.push_str(course.told_behind(count))?;
-    for place in PLACES {
-        let sweep = sweep_list::<D>(&course, place)?;
-        telling.tell(place, &sweep)?;
-    }
-    Ok(())
+    let course = Course::of_list(telling.alloc, limits, list)?;
+    telling.tell_course(&course, keep, name)?;
+    tell_course::<D>(telling, &course)
 }
 
-/// Sweeps over the carrying of the tables that the disks have.
-fn tell_carrying<D: Stopping>(
-    alloc: Global,
-    first: &Files<D>,
-    telling: &mut Telling,
-) -> Result<(), Trouble> {
-    let wanted = carried_told(alloc, first)?;
-    telling
-        .told
-        .push_str("==== tables of the first schema, and the books then\n")?;
-    telling.told.push_str(wanted.as_str())?;
-    for place in PLACES {
-        let sweep = sweep_carrying(alloc, first, wanted.as_str(), place)?;
-        telling.tell(place, &sweep)?;
+/// Sweeps over the list, for each keep.
+fn tell_keeps<D: Stopping>(telling: &mut Telling, name: &str, list: &str) -> Result<(), NoMemory> {
+    for keep in KEEPS {
+        tell_list::<D>(telling, keep, name, list)?;
     }
     Ok(())
-}
-
-/// Lays tables of the first schema, and sweeps over their carrying.
-fn tell_migration<D: Stopping>(alloc: Global, telling: &mut Telling) -> Result<(), Trouble> {
-    let first = first_disks::<D>(alloc)?;
-    tell_carrying(alloc, &first, telling)
 }
 
 /// Sweeps over each of the lists, which stand in the text one behind the other, each below a line
@@ -108,28 +119,58 @@ fn tell_migration<D: Stopping>(alloc: Global, telling: &mut Telling) -> Result<(
 fn tell_lists<D: Stopping>(telling: &mut Telling, lists: &str) -> Result<(), NoMemory> {
     for part in lists.split("==== ") {
         if let Some((name, list)) = part.split_once('\n') {
-            for keep in KEEPS {
-                tell_list::<D>(telling, keep, name, list)?;
-            }
+            tell_keeps::<D>(telling, name, list)?;
         }
     }
     Ok(())
 }
 
-/// What all sweeps come to: those over the lists, and those over carrying.
+/// Sweeps over the carrying of the tables that the disks have, and over the file.
+fn tell_carrying_sweep<D: Stopping>(
+    telling: &mut Telling,
+    first: &Files<D>,
+    wanted: &str,
+    place: Place,
+) -> Result<(), NoMemory> {
+    let mut sweep = Sweep::new(telling.alloc);
+    sweep_carrying(first, wanted, place, &mut sweep)?;
+    telling.tell(place, &sweep)
+}
+
+/// Sweeps over the carrying of the tables that the disks have, for each of the two files.
+fn tell_carrying<D: Stopping>(telling: &mut Telling, first: &Files<D>) -> Result<(), Trouble> {
+    let wanted = carried_told(telling.alloc, first)?;
+    telling.tell_carried(wanted.as_str())?;
+    for place in PLACES {
+        tell_carrying_sweep(telling, first, wanted.as_str(), place)?;
+    }
+    Ok(())
+}
+
+/// Lays tables of the first schema, and sweeps over their carrying.
+fn tell_migration<D: Stopping>(telling: &mut Telling) -> Result<(), Trouble> {
+    let first = first_disks::<D>(telling.alloc)?;
+    tell_carrying(telling, &first)
+}
+
+/// All sweeps: those over the lists, and those over carrying.
+fn tell_all<D: Stopping>(telling: &mut Telling, lists: &str) -> Result<(), NoMemory> {
+    tell_lists::<D>(telling, lists)?;
+    match tell_migration::<D>(telling) {
+        Ok(()) => {}
+        Err(Trouble::Memory) => return Err(NoMemory),
+        Err(Trouble::Finding(what)) => telling.tell_finding(what)?,
+    }
+    telling.tell_total()
+}
+
+/// What all sweeps come to.
 pub fn tell_stops(alloc: Global, lists: &str) -> Result<String, NoMemory> {
     let mut telling = Telling {
         alloc,
         told: String::new(alloc),
         stops: 0,
     };
-    tell_lists::<Fuse<Memory>>(&mut telling, lists)?;
-    match tell_migration::<Fuse<Memory>>(alloc, &mut telling) {
-        Ok(()) => {}
-        Err(Trouble::Memory) => return Err(NoMemory),
-        Err(Trouble::Finding(what)) => telling.tell_finding(what)?,
-    }
-    let total = format!(in alloc; "==== {} stops in all\n", telling.stops)?;
-    telling.told.push_str(total.as_str())?;
+    tell_all::<Fuse<Memory>>(&mut telling, lists)?;
     Ok(telling.told)
 }

@@ -1,8 +1,19 @@
 //! How many stops there were.
 
 use crate::stops::commands::Kind;
-use std::alloc::Global;
+use std::alloc::{AllocError, Global};
 use vcard_text::NoMemory;
+
+/// Adds a piece that was made, if there was memory for it.
+pub(crate) fn push_made(
+    told: &mut String,
+    piece: Result<String, AllocError>,
+) -> Result<(), NoMemory> {
+    let piece = piece?;
+    let pushed = told.push_str(piece.as_str());
+    drop(piece);
+    Ok(pushed?)
+}
 
 /// How many stops fell in what.
 #[derive(Clone, Copy)]
@@ -63,16 +74,21 @@ impl StopCounts {
         sum
     }
 
-    /// The counts that aren't 0, a line each.
-    pub(crate) fn told(self, alloc: Global) -> Result<String, NoMemory> {
-        let mut told = String::new(alloc);
+    /// Tells the counts that aren't 0, a line each.
+    pub(crate) fn tell(self, alloc: Global, told: &mut String) -> Result<(), NoMemory> {
         for (name, count) in self.parts() {
-            if count > 0 {
-                told.push_str(format!(in alloc; "  {name} {count}\n")?.as_str())?;
-            }
+            tell_count(alloc, told, name, count)?;
         }
-        Ok(told)
+        Ok(())
     }
+}
+
+/// Tells the count, if it isn't 0.
+fn tell_count(alloc: Global, told: &mut String, name: &str, count: u64) -> Result<(), NoMemory> {
+    if count == 0 {
+        return Ok(());
+    }
+    push_made(told, format!(in alloc; "  {name} {count}\n"))
 }
 
 /// What the stopped call left.
@@ -90,7 +106,7 @@ pub(crate) struct LeftCounts {
     before: u64,
     after: u64,
     wrong: u64,
-    pub(crate) anew: u64,
+    anew: u64,
 }
 
 /// Nothing yet.
@@ -113,15 +129,22 @@ impl LeftCounts {
         self.wrong = self.wrong.saturating_add(1);
     }
 
-    pub(crate) fn told(self, alloc: Global, way: &str) -> Result<String, NoMemory> {
+    /// Counts so many devices that began anew.
+    pub(crate) fn add_anew(&mut self, anew: u64) {
+        self.anew = self.anew.saturating_add(anew);
+    }
+
+    /// Tells the counts of the way, in a line.
+    pub(crate) fn tell(self, alloc: Global, told: &mut String, way: &str) -> Result<(), NoMemory> {
         let LeftCounts {
             before,
             after,
             wrong,
             anew,
         } = self;
-        Ok(format!(in alloc;
+        let line = format!(in alloc;
             "  {way}: before {before}, after {after}, wrong {wrong}; devices began anew {anew}\n"
-        )?)
+        );
+        push_made(told, line)
     }
 }

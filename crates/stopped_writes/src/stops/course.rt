@@ -45,16 +45,28 @@ impl Course {
     /// Performs the list over a store in memory.
     pub(crate) fn of_list(alloc: Global, limits: Limits, list: &str) -> Result<Course, NoMemory> {
         let mut store = PlainStore::new(alloc, limits);
-        let mut steps = Vec::new(alloc);
-        for line in list.lines() {
-            let command = command_in(alloc, line)?;
-            steps.push(step_of(alloc, &mut store, command)?)?;
-        }
-        Ok(Course {
+        let mut course = Course {
             alloc,
             limits,
-            steps,
-        })
+            steps: Vec::new(alloc),
+        };
+        let performed = course.perform_list(&mut store, list);
+        drop(store);
+        performed?;
+        Ok(course)
+    }
+
+    fn perform_list(&mut self, store: &mut PlainStore, list: &str) -> Result<(), NoMemory> {
+        for line in list.lines() {
+            self.perform_line(store, line)?;
+        }
+        Ok(())
+    }
+
+    fn perform_line(&mut self, store: &mut PlainStore, line: &str) -> Result<(), NoMemory> {
+        let command = command_in(self.alloc, line)?;
+        let step = step_of(self.alloc, store, command)?;
+        Ok(self.steps.push(step)?)
     }
 
     /// What the books are behind so many commands.

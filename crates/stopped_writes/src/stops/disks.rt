@@ -1,9 +1,10 @@
 //! Disks in memory of which one has a fuse, and what is left of them after a stop.
 //!
-//! What runs over them knows nothing but the trait `Stopping`: where a function names a database
-//! over just these disks, by its whole type, its check takes half a minute and more.
+//! What runs over them knows nothing but the trait `Stopping`, and what is done over their tables
+//! nothing but `Alter`: a function that names a database over such disks takes 15 to 40 seconds to
+//! check, and one alone does, `over_disks`.
 
-use sqlite::{Connection, FileStore, Files, Options};
+use sqlite::{Alter, Connection, FileStore, Files, Options};
 use sqlite_disk::{Crash, Disk, Fuse, Memory};
 use std::alloc::Global;
 use std::io;
@@ -134,8 +135,14 @@ pub(crate) fn crashed<D: Stopping>(disks: Files<D>) -> Files<D> {
     disks
 }
 
+/// What is done over the tables of disks.
+pub(crate) trait Work {
+    /// Does it. The connection comes back, where it isn't used up.
+    fn over<S: Alter + Drop>(&mut self, tables: Connection<S>) -> Option<Connection<S>>;
+}
+
 /// A connection over the disks. An `Err` has the disks as the failing open left them.
-pub(crate) fn opened<D: Disk + Drop>(
+fn opened<D: Disk + Drop>(
     alloc: Global,
     disks: Files<D>,
     seed: u64,
@@ -156,9 +163,30 @@ pub(crate) fn opened<D: Disk + Drop>(
     }
 }
 
-/// The disks of a connection that is given up, without a call to them.
-pub(crate) fn given_up<D: Disk + Drop>(tables: Connection<FileStore<D>>) -> Files<D> {
-    tables.into_store().close()
+/// Does the work over the tables, and gives their connection up, where it comes back.
+fn over_tables<S: Alter + Drop, W: Work>(tables: Connection<S>, work: &mut W) -> Option<S> {
+    match work.over(tables) {
+        Some(tables) => Some(tables.into_store()),
+        None => None,
+    }
+}
+
+/// Opens the disks, does the work over their tables, and gives the disks back without a further
+/// call to them. Where the open fails, nothing is done, and the disks are as it left them. They are
+/// gone where the connection is used up.
+pub(crate) fn over_disks<D: Stopping, W: Work>(
+    alloc: Global,
+    disks: Files<D>,
+    seed: u64,
+    work: &mut W,
+) -> Option<Files<D>> {
+    match opened(alloc, disks, seed) {
+        Ok(tables) => match over_tables(tables, work) {
+            Some(store) => Some(store.close()),
+            None => None,
+        },
+        Err(disks) => Some(disks),
+    }
 }
 
 /// Whether the fuse has burnt, or would at the next call.

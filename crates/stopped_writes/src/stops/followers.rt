@@ -2,7 +2,8 @@
 
 use crate::stops::trouble::Trouble;
 use std::alloc::Global;
-use sync_core::{BookStore, Denied, Device, Page, Refusal, TokenCause};
+use std::collections::BTreeMap;
+use sync_core::{BookStore, Denied, Device, Page, Refusal, Stored, TokenCause};
 use vcard_text::NoMemory;
 
 /// A device asks for so many pages at most until one comes untruncated.
@@ -41,11 +42,30 @@ impl Follower {
     /// The device as the pages made it.
     fn device_again(&self, alloc: Global) -> Result<Device, NoMemory> {
         let mut device = Device::new(alloc, self.device.book())?;
-        for page in self.pages.as_slice() {
-            device.apply(page)?;
-        }
+        apply_all(&mut device, self.pages.as_slice())?;
         Ok(device)
     }
+
+    /// Goes on from where it is, over another store, and must come to hold its book. Tokens that
+    /// are refused as too old are counted. The follower itself stays as it is.
+    fn go_on_over<S: BookStore>(
+        &self,
+        alloc: Global,
+        store: &mut S,
+        anew: &mut u64,
+    ) -> Result<(), Trouble> {
+        let mut device = self.device_again(alloc)?;
+        let caught = catch_up(store, &mut device, anew);
+        drop(device);
+        caught
+    }
+}
+
+fn apply_all(device: &mut Device, pages: &[Page]) -> Result<(), NoMemory> {
+    for page in pages {
+        device.apply(page)?;
+    }
+    Ok(())
 }
 
 /// Asks for the next page of one entry. The answer says whether more are due. A token that is too
@@ -72,7 +92,7 @@ fn go_on<S: BookStore>(
 }
 
 /// Goes on until a page comes untruncated.
-fn catch_up<S: BookStore>(
+fn ask_to_the_end<S: BookStore>(
     store: &mut S,
     device: &mut Device,
     anew: &mut u64,
@@ -85,18 +105,36 @@ fn catch_up<S: BookStore>(
     Err(Trouble::Finding("pages come without an end"))
 }
 
-/// Whether the device holds exactly the cards of its book, or nothing where there is none.
-fn holds_its_book<S: BookStore>(store: &mut S, device: &Device) -> bool {
-    let copy = device.copy();
-    let Ok(cards) = store.cards(device.book()) else {
-        return copy.is_empty();
-    };
+/// Whether the copy has each of the cards, and no other.
+fn is_copy_of(copy: &BTreeMap<String, Stored>, cards: &BTreeMap<String, Stored>) -> bool {
     for (uid, stored) in cards.iter() {
         if copy.get(uid.as_str()) != Some(stored) {
             return false;
         }
     }
     copy.len() == cards.len()
+}
+
+/// Whether the device holds exactly the cards of its book, or nothing where there is none.
+fn holds_its_book<S: BookStore>(store: &mut S, device: &Device) -> bool {
+    match store.cards(device.book()) {
+        Ok(cards) => is_copy_of(device.copy(), &cards),
+        Err(_) => device.copy().is_empty(),
+    }
+}
+
+/// Goes on until a page comes untruncated, when it must hold its book.
+fn catch_up<S: BookStore>(
+    store: &mut S,
+    device: &mut Device,
+    anew: &mut u64,
+) -> Result<(), Trouble> {
+    ask_to_the_end(store, device, anew)?;
+    if holds_its_book(store, device) {
+        Ok(())
+    } else {
+        Err(Trouble::Finding("a device holds another book"))
+    }
 }
 
 /// A device for each of the two books.
@@ -123,20 +161,13 @@ impl Followers {
     }
 
     /// Each goes on from where it is, over another store, and must come to hold its book.
-    /// Tokens that are refused as too old are counted. The followers themselves stay as they are.
     pub(crate) fn go_on_over<S: BookStore>(
         &self,
         alloc: Global,
         store: &mut S,
         anew: &mut u64,
     ) -> Result<(), Trouble> {
-        for follower in [&self.staff, &self.clients] {
-            let mut device = follower.device_again(alloc)?;
-            catch_up(store, &mut device, anew)?;
-            if !holds_its_book(store, &device) {
-                return Err(Trouble::Finding("a device holds another book"));
-            }
-        }
-        Ok(())
+        self.staff.go_on_over(alloc, store, anew)?;
+        self.clients.go_on_over(alloc, store, anew)
     }
 }

@@ -4,16 +4,16 @@ use crate::stops::books::books_told;
 use crate::stops::commands::Kind;
 use crate::stops::counts::Left;
 use crate::stops::disks::{
-    FuseAt, NO_FUSE, Place, Stopping, Way, copied, crashed, empty_disks, given_up, is_burnt, opened,
+    FuseAt, NO_FUSE, Place, Stopping, Way, Work, copied, crashed, empty_disks, is_burnt, over_disks,
 };
 use crate::stops::run::store_over;
-use crate::stops::sweep::Sweep;
+use crate::stops::sweep::{CALLS_MAX, Sweep};
 use crate::stops::trouble::Trouble;
 use book_migration::migrate_connection;
 use book_store::OpenFault;
 use sqlite::{Alter, Connection, Error, Files, params};
 use std::alloc::Global;
-use sync_core::Limits;
+use sync_core::{BookStore, Limits};
 use vcard_text::NoMemory;
 
 /// The tables of the first schema, with two books.
@@ -44,9 +44,6 @@ const BOB: &str = "BEGIN:VCARD\r\nVERSION:4.0\r\nUID:b\r\nFN:Bob\r\nEND:VCARD\r\
 /// For the log's salts: files that are opened again have other ones.
 const SEEDS: [u64; 3] = [17, 18, 19];
 
-/// A sweep ends behind so many calls, though none should.
-const CALLS_MAX: u64 = 100_000;
-
 fn put<S: Alter>(
     conn: &mut Connection<S>,
     uid: &str,
@@ -67,18 +64,32 @@ fn lay_first<S: Alter>(conn: &mut Connection<S>) -> Result<(), Error> {
     put(conn, "b", 7, BOB)
 }
 
+/// Tables of the first schema are laid.
+#[derive(Clone, Copy)]
+struct Laying {
+    laid: Result<(), Trouble>,
+}
+
+impl Work for Laying {
+    fn over<S: Alter + Drop>(&mut self, tables: Connection<S>) -> Option<Connection<S>> {
+        let mut tables = tables;
+        self.laid = match lay_first(&mut tables) {
+            Ok(()) => Ok(()),
+            Err(_) => Err(Trouble::Finding("the first schema isn't laid")),
+        };
+        Some(tables)
+    }
+}
+
 /// Disks with tables of the first schema, all of which is synced.
 pub(crate) fn first_disks<D: Stopping>(alloc: Global) -> Result<Files<D>, Trouble> {
-    let disks = empty_disks(alloc, NO_FUSE);
-    let Ok(mut tables) = opened(alloc, disks, SEEDS[0]) else {
-        return Err(Trouble::Finding("new files aren't opened"));
+    let mut laying = Laying {
+        laid: Err(Trouble::Finding("new files aren't opened")),
     };
-    let laid = lay_first(&mut tables);
-    let disks = given_up(tables);
-    match laid {
-        Ok(()) => Ok(disks),
-        Err(_) => Err(Trouble::Finding("the first schema isn't laid")),
-    }
+    let disks = over_disks(alloc, empty_disks(alloc, NO_FUSE), SEEDS[0], &mut laying);
+    laying
+        .laid
+        .and(disks.ok_or(Trouble::Finding("new disks are gone")))
 }
 
 /// What carrying the tables answers. A connection in a transaction, which none is here, isn't ours.
@@ -89,32 +100,38 @@ fn migrated<S: Alter>(alloc: Global, tables: &mut Connection<S>) -> Result<u64, 
     migrate_connection(alloc, tables)
 }
 
-/// The books of the tables, which are of the second schema.
-fn second_told<S: Alter + Drop>(alloc: Global, tables: Connection<S>) -> Result<String, Trouble> {
+/// Adds what the books of the store are.
+fn push_books<B: BookStore>(
+    alloc: Global,
+    store: &mut B,
+    told: &mut String,
+) -> Result<(), NoMemory> {
+    let books = books_told(alloc, store)?;
+    let pushed = told.push_str(books.as_str());
+    drop(books);
+    Ok(pushed?)
+}
+
+/// Adds the books of the tables, which are of the second schema.
+fn push_second<S: Alter + Drop>(
+    alloc: Global,
+    tables: Connection<S>,
+    told: &mut String,
+) -> Result<(), Trouble> {
     let Ok(mut store) = store_over(alloc, tables, Limits::standard()) else {
         return Err(Trouble::Finding("the tables aren't taken"));
     };
-    Ok(books_told(alloc, &mut store)?)
+    let pushed = push_books(alloc, &mut store, told);
+    drop(store);
+    Ok(pushed?)
 }
 
-/// Opens what is left, which is still of the first schema, and is carried then, or already of the
-/// second. The books must be those that are wanted.
-fn check_carried<D: Stopping>(
-    alloc: Global,
-    disks: Files<D>,
-    wanted: &str,
-) -> Result<Left, Trouble> {
-    match opened(alloc, disks, SEEDS[2]) {
-        Ok(tables) => check_tables(alloc, tables, wanted),
-        Err(_) => Err(Trouble::Finding("the files aren't opened")),
-    }
-}
-
-/// The same of the tables.
-fn check_tables<S: Alter + Drop>(
+/// Adds the books of the tables, which are still of the first schema, and are carried then, or
+/// already of the second.
+fn push_carried<S: Alter + Drop>(
     alloc: Global,
     tables: Connection<S>,
-    wanted: &str,
+    told: &mut String,
 ) -> Result<Left, Trouble> {
     let mut tables = tables;
     let left = match migrated(alloc, &mut tables) {
@@ -122,88 +139,34 @@ fn check_tables<S: Alter + Drop>(
         Err(OpenFault::OtherSchema { has: 2 }) => Left::After,
         _ => return Err(Trouble::Finding("the tables are of neither schema")),
     };
-    let told = second_told(alloc, tables)?;
-    if told.as_str() != wanted {
-        return Err(Trouble::Finding("other books"));
-    }
+    push_second(alloc, tables, told)?;
     Ok(left)
 }
 
-/// What came of carrying with a fuse.
+/// The books of tables, which are carried, if they are of the first schema, and used up.
 #[derive(Drop)]
-struct Carried<D: Stopping> {
-    kind: Kind,
-    is_carried: bool,
-    disks: Files<D>,
+struct Reading {
+    alloc: Global,
+    told: String,
+    left: Result<Left, Trouble>,
 }
 
-/// Opens the disks and carries their tables.
-fn carry<D: Stopping>(alloc: Global, disks: Files<D>) -> Carried<D> {
-    let mut tables = match opened(alloc, disks, SEEDS[1]) {
-        Ok(tables) => tables,
-        Err(disks) => {
-            return Carried {
-                kind: Kind::Laying,
-                is_carried: false,
-                disks,
-            };
-        }
+impl Work for Reading {
+    fn over<S: Alter + Drop>(&mut self, tables: Connection<S>) -> Option<Connection<S>> {
+        self.left = push_carried(self.alloc, tables, &mut self.told);
+        None
+    }
+}
+
+/// Reads the books of the disks' tables.
+fn read<D: Stopping>(alloc: Global, disks: Files<D>, seed: u64) -> Reading {
+    let mut reading = Reading {
+        alloc,
+        told: String::new(alloc),
+        left: Err(Trouble::Finding("the files aren't opened")),
     };
-    let is_carried = migrated(alloc, &mut tables).is_ok();
-    Carried {
-        kind: if is_carried {
-            Kind::End
-        } else {
-            Kind::Carrying
-        },
-        is_carried,
-        disks: given_up(tables),
-    }
-}
-
-/// Checks what is left of the disks, in both ways.
-fn check_both<D: Stopping>(
-    alloc: Global,
-    disks: Files<D>,
-    wanted: &str,
-    calls: u64,
-    sweep: &mut Sweep,
-) -> Result<(), NoMemory> {
-    let written = copied(alloc, &disks, NO_FUSE)?;
-    let found = check_carried(alloc, written, wanted);
-    sweep.note(alloc, calls, Way::Written, found)?;
-    let found = check_carried(alloc, crashed(disks), wanted);
-    sweep.note(alloc, calls, Way::Synced, found)
-}
-
-/// Carries a copy of the disks with this fuse, and checks what is left. The answer says whether it
-/// was stopped.
-fn stop_at<D: Stopping>(
-    alloc: Global,
-    first: &Files<D>,
-    wanted: &str,
-    fuse: FuseAt,
-    sweep: &mut Sweep,
-) -> Result<bool, NoMemory> {
-    let mut carried = carry(alloc, copied(alloc, first, fuse)?);
-    if !is_burnt(&mut carried.disks, fuse.place) {
-        if !carried.is_carried {
-            sweep.find(alloc, fuse.calls, "a fault without a stop")?;
-        }
-        return Ok(false);
-    }
-    sweep.stops.add(carried.kind);
-    check_both(alloc, carried.disks, wanted, fuse.calls, sweep)?;
-    Ok(true)
-}
-
-/// Carries the tables, and tells their books.
-fn carried_books<S: Alter + Drop>(alloc: Global, tables: Connection<S>) -> Result<String, Trouble> {
-    let mut tables = tables;
-    if migrated(alloc, &mut tables) != Ok(BOOKS) {
-        return Err(Trouble::Finding("the tables aren't carried"));
-    }
-    second_told(alloc, tables)
+    drop(over_disks(alloc, disks, seed, &mut reading));
+    reading
 }
 
 /// The books that the tables hold where nothing stops.
@@ -211,27 +174,114 @@ pub(crate) fn carried_told<D: Stopping>(
     alloc: Global,
     first: &Files<D>,
 ) -> Result<String, Trouble> {
-    let disks = copied(alloc, first, NO_FUSE)?;
-    match opened(alloc, disks, SEEDS[1]) {
-        Ok(tables) => carried_books(alloc, tables),
-        Err(_) => Err(Trouble::Finding("the files aren't opened")),
+    let reading = read(alloc, copied(alloc, first, NO_FUSE)?, SEEDS[1]);
+    match reading.left {
+        Ok(Left::Before) => Ok(reading.told),
+        Ok(Left::After) => Err(Trouble::Finding("the tables aren't carried")),
+        Err(trouble) => Err(trouble),
+    }
+}
+
+/// What is left on the disks. The books must be those that are wanted.
+fn check_carried<D: Stopping>(
+    alloc: Global,
+    disks: Files<D>,
+    wanted: &str,
+) -> Result<Left, Trouble> {
+    let reading = read(alloc, disks, SEEDS[2]);
+    if reading.left.is_ok() && reading.told.as_str() != wanted {
+        return Err(Trouble::Finding("other books"));
+    }
+    reading.left
+}
+
+/// Tables are carried.
+#[derive(Clone, Copy)]
+struct Carrying {
+    alloc: Global,
+    /// What a stop falls in.
+    kind: Kind,
+}
+
+impl Work for Carrying {
+    fn over<S: Alter + Drop>(&mut self, tables: Connection<S>) -> Option<Connection<S>> {
+        let mut tables = tables;
+        self.kind = match migrated(self.alloc, &mut tables) {
+            Ok(_) => Kind::End,
+            Err(_) => Kind::Carrying,
+        };
+        Some(tables)
+    }
+}
+
+/// Checks what is left of the disks, in both ways.
+fn check_both<D: Stopping>(
+    disks: Files<D>,
+    wanted: &str,
+    calls: u64,
+    sweep: &mut Sweep,
+) -> Result<(), NoMemory> {
+    let alloc = sweep.alloc;
+    let found = check_carried(alloc, copied(alloc, &disks, NO_FUSE)?, wanted);
+    sweep.note(calls, Way::Written, found)?;
+    let found = check_carried(alloc, crashed(disks), wanted);
+    sweep.note(calls, Way::Synced, found)
+}
+
+/// Checks what carrying left, a stop of which falls in the kind. The answer says whether it was
+/// stopped.
+fn check_stop<D: Stopping>(
+    kind: Kind,
+    disks: Files<D>,
+    wanted: &str,
+    fuse: FuseAt,
+    sweep: &mut Sweep,
+) -> Result<bool, NoMemory> {
+    let mut disks = disks;
+    if is_burnt(&mut disks, fuse.place) {
+        sweep.stops.add(kind);
+        check_both(disks, wanted, fuse.calls, sweep)?;
+        return Ok(true);
+    }
+    drop(disks);
+    if !matches!(kind, Kind::End) {
+        sweep.find(fuse.calls, "a fault without a stop")?;
+    }
+    Ok(false)
+}
+
+/// Carries a copy of the disks with this fuse, and checks what is left. The answer says whether it
+/// was stopped.
+fn stop_at<D: Stopping>(
+    first: &Files<D>,
+    wanted: &str,
+    fuse: FuseAt,
+    sweep: &mut Sweep,
+) -> Result<bool, NoMemory> {
+    let alloc = sweep.alloc;
+    let mut carrying = Carrying {
+        alloc,
+        kind: Kind::Laying,
+    };
+    let copy = copied(alloc, first, fuse)?;
+    match over_disks(alloc, copy, SEEDS[1], &mut carrying) {
+        Some(disks) => check_stop(carrying.kind, disks, wanted, fuse, sweep),
+        None => sweep.find_no_disks(fuse.calls),
     }
 }
 
 /// Stops the carrying at each call of the file's disk in turn, until it isn't stopped any more.
 pub(crate) fn sweep_carrying<D: Stopping>(
-    alloc: Global,
     first: &Files<D>,
     wanted: &str,
     place: Place,
-) -> Result<Sweep, NoMemory> {
-    let mut sweep = Sweep::new(alloc);
+    sweep: &mut Sweep,
+) -> Result<(), NoMemory> {
     for calls in 0..CALLS_MAX {
         let fuse = FuseAt { place, calls };
-        if !stop_at(alloc, first, wanted, fuse, &mut sweep)? {
-            return Ok(sweep);
+        if !stop_at(first, wanted, fuse, sweep)? {
+            return Ok(());
         }
     }
-    sweep.find(alloc, CALLS_MAX, "no end")?;
-    Ok(sweep)
+    sweep.find(CALLS_MAX, "no end")
 }

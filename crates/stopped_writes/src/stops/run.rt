@@ -1,12 +1,12 @@
 //! The list performed over disks of which one fails.
 
 use crate::stops::course::{Course, Step};
-use crate::stops::disks::{FuseAt, Stopping, empty_disks, given_up, opened};
+use crate::stops::disks::{FuseAt, Stopping, Work, empty_disks, over_disks};
 use crate::stops::followers::Followers;
 use book_service::{Reply, perform};
 use book_store::{OpenFault, SqlStore};
 use book_tables::laying::lay_tables;
-use sqlite::{Alter, Connection, Error, FileStore, Files};
+use sqlite::{Alter, Connection, Error, Files};
 use std::alloc::Global;
 use sync_core::{BookStore, Fault, Limits};
 use vcard_text::NoMemory;
@@ -25,16 +25,6 @@ pub(crate) enum Ending {
     Page(usize),
     /// The list was performed.
     End,
-}
-
-/// What came of the list.
-#[derive(Drop)]
-pub(crate) struct Run<D: Stopping> {
-    pub(crate) ending: Ending,
-    pub(crate) disks: Files<D>,
-    pub(crate) followers: Followers,
-    /// How many replies were others than they should be.
-    pub(crate) others: u64,
 }
 
 /// A new store over the connection, or why there is none. A connection that is in a transaction,
@@ -72,119 +62,126 @@ fn lay<S: Alter>(tables: &mut Connection<S>) -> Result<(), Error> {
     tx.commit()
 }
 
-/// The disks as laying leaves them that this fuse stops. A new store that isn't laid drops its
-/// connection with the disks: so all is done once more here, by the same statements.
-fn disks_of_laying<D: Stopping>(alloc: Global, fuse: FuseAt) -> Files<D> {
-    let disks = empty_disks(alloc, fuse);
-    match opened(alloc, disks, FIRST_SEED) {
-        Ok(tables) => {
-            let mut tables = tables;
-            let _stopped = lay(&mut tables);
-            given_up(tables)
-        }
-        Err(disks) => disks,
+/// Tables are laid, and nothing more.
+#[derive(Clone, Copy)]
+struct Laying;
+
+impl Work for Laying {
+    fn over<S: Alter + Drop>(&mut self, tables: Connection<S>) -> Option<Connection<S>> {
+        let mut tables = tables;
+        let _stopped = lay(&mut tables);
+        Some(tables)
     }
 }
 
-/// Performs the command, and counts a reply that is another than it should be. The answer says
-/// whether the store was at fault.
-fn has_fault<S: BookStore>(course: &Course, store: &mut S, step: &Step, others: &mut u64) -> bool {
+/// What a reply is.
+#[derive(Clone, Copy)]
+struct Answer {
+    /// A fault of the store.
+    is_fault: bool,
+    /// What it should be.
+    is_right: bool,
+}
+
+/// Performs the command.
+fn answer_to<B: BookStore>(course: &Course, store: &mut B, step: &Step) -> Answer {
     let reply = perform(course.alloc, store, &step.command);
-    if reply == Reply::Fault(Fault::Store) {
-        return true;
-    }
-    if reply != step.reply {
-        *others = others.saturating_add(1);
-    }
-    false
-}
-
-/// Performs the list, and lets the devices ask for a page behind each command, until a fault of the
-/// store comes.
-fn run_over<S: BookStore>(
-    course: &Course,
-    store: &mut S,
-    followers: &mut Followers,
-    others: &mut u64,
-) -> Result<Ending, NoMemory> {
-    for (place, step) in course.steps.as_slice().iter().enumerate() {
-        if has_fault(course, store, step, others) {
-            return Ok(Ending::Command(place));
-        }
-        if followers.ask(store)? {
-            return Ok(Ending::Page(place));
-        }
-    }
-    Ok(Ending::End)
+    let answer = Answer {
+        is_fault: matches!(&reply, Reply::Fault(Fault::Store)),
+        is_right: reply == step.reply,
+    };
+    drop(reply);
+    answer
 }
 
 /// Performs the list behind so many commands. The answer is how many replies were others than they
 /// should be.
-pub(crate) fn run_rest<S: BookStore>(course: &Course, store: &mut S, done: usize) -> u64 {
+pub(crate) fn run_rest<B: BookStore>(course: &Course, store: &mut B, done: usize) -> u64 {
     let mut others = 0u64;
     for step in course.steps.as_slice().iter().skip(done) {
-        if perform(course.alloc, store, &step.command) != step.reply {
+        if !answer_to(course, store, step).is_right {
             others = others.saturating_add(1);
         }
     }
     others
 }
 
-/// A run that the fuse stopped before the tables were laid.
-fn run_of_laying<D: Stopping>(
-    alloc: Global,
-    fuse: FuseAt,
-    followers: Followers,
-    others: u64,
-) -> Run<D> {
-    Run {
-        ending: Ending::Laying,
-        disks: disks_of_laying(alloc, fuse),
-        followers,
-        others,
+/// The list over a new store.
+#[derive(Drop)]
+pub(crate) struct Run<'a> {
+    pub(crate) course: &'a Course,
+    /// How it ended, if there was memory for it.
+    pub(crate) ending: Result<Ending, NoMemory>,
+    pub(crate) followers: Followers,
+    /// How many replies were others than they should be.
+    pub(crate) others: u64,
+}
+
+impl Run<'_> {
+    /// A run that hasn't begun.
+    pub(crate) fn new(course: &Course) -> Result<Run<'_>, NoMemory> {
+        Ok(Run {
+            course,
+            ending: Ok(Ending::Laying),
+            followers: Followers::new(course.alloc)?,
+            others: 0,
+        })
     }
-}
 
-/// A new store over empty disks with this fuse.
-fn fused_store<D: Stopping>(
-    course: &Course,
-    fuse: FuseAt,
-) -> Result<SqlStore<FileStore<D>>, OpenFault> {
-    let disks = empty_disks(course.alloc, fuse);
-    match opened(course.alloc, disks, FIRST_SEED) {
-        Ok(tables) => new_store(course.alloc, tables, course.limits),
-        Err(_) => Err(OpenFault::Store),
-    }
-}
-
-/// Performs the list over the store. The answer is how it ended, and the connection.
-fn run_store<S: Alter + Drop>(
-    course: &Course,
-    store: SqlStore<S>,
-    followers: &mut Followers,
-    others: &mut u64,
-) -> Result<(Ending, Connection<S>), NoMemory> {
-    let mut store = store;
-    let ending = run_over(course, &mut store, followers, others)?;
-    Ok((ending, store.into_connection()))
-}
-
-/// Lays a store over empty disks with this fuse, and performs the list over it.
-pub(crate) fn run_list<D: Stopping>(course: &Course, fuse: FuseAt) -> Result<Run<D>, NoMemory> {
-    let alloc = course.alloc;
-    let mut followers = Followers::new(alloc)?;
-    let mut others = 0u64;
-    match fused_store::<D>(course, fuse) {
-        Ok(store) => {
-            let (ending, tables) = run_store(course, store, &mut followers, &mut others)?;
-            Ok(Run {
-                ending,
-                disks: given_up(tables),
-                followers,
-                others,
-            })
+    /// Performs the command, and counts a reply that is another than it should be. The answer says
+    /// whether the store was at fault.
+    fn has_fault<B: BookStore>(&mut self, store: &mut B, step: &Step) -> bool {
+        let answer = answer_to(self.course, store, step);
+        if !answer.is_fault && !answer.is_right {
+            self.others = self.others.saturating_add(1);
         }
-        Err(OpenFault::Store) => Ok(run_of_laying(alloc, fuse, followers, 0)),
-        Err(_) => Ok(run_of_laying(alloc, fuse, followers, 1)),
+        answer.is_fault
+    }
+
+    /// Performs the list, and lets the devices ask for a page behind each command, until a fault of
+    /// the store comes.
+    fn perform_list<B: BookStore>(&mut self, store: &mut B) -> Result<Ending, NoMemory> {
+        let course = self.course;
+        for (place, step) in course.steps.as_slice().iter().enumerate() {
+            if self.has_fault(store, step) {
+                return Ok(Ending::Command(place));
+            }
+            if self.followers.ask(store)? {
+                return Ok(Ending::Page(place));
+            }
+        }
+        Ok(Ending::End)
+    }
+
+    /// Performs the list over the store, and gives its connection back.
+    fn over_store<S: Alter + Drop>(&mut self, store: SqlStore<S>) -> Connection<S> {
+        let mut store = store;
+        self.ending = self.perform_list(&mut store);
+        store.into_connection()
+    }
+}
+
+/// A store is laid, and the list performed over it. Where it isn't laid, the connection is used up.
+impl Work for Run<'_> {
+    fn over<S: Alter + Drop>(&mut self, tables: Connection<S>) -> Option<Connection<S>> {
+        match new_store(self.course.alloc, tables, self.course.limits) {
+            Ok(store) => Some(self.over_store(store)),
+            Err(OpenFault::Store) => None,
+            Err(_) => {
+                self.others = 1;
+                None
+            }
+        }
+    }
+}
+
+/// Runs the list over empty disks with this fuse. The answer is the disks. A new store that isn't
+/// laid drops its connection with the disks: so the tables are laid once more then, by the same
+/// statements.
+pub(crate) fn run_list<D: Stopping>(run: &mut Run<'_>, fuse: FuseAt) -> Option<Files<D>> {
+    let alloc = run.course.alloc;
+    match over_disks(alloc, empty_disks(alloc, fuse), FIRST_SEED, run) {
+        Some(disks) => Some(disks),
+        None => over_disks(alloc, empty_disks(alloc, fuse), FIRST_SEED, &mut Laying),
     }
 }
