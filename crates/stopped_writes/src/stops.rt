@@ -1,23 +1,17 @@
 //! All sweeps, and what is told of them.
 
-mod books;
 mod checking;
-mod commands;
-mod counts;
-mod course;
 mod disks;
-mod followers;
 mod migrations;
 mod run;
 mod sweep;
-mod trouble;
 
-use crate::stops::counts::push_made;
-use crate::stops::course::Course;
 use crate::stops::disks::{Place, Stopping};
 use crate::stops::migrations::{carried_told, first_disks, sweep_carrying};
 use crate::stops::sweep::{Sweep, sweep_list};
-use crate::stops::trouble::Trouble;
+use list_courses::counts::push_made;
+use list_courses::course::Course;
+use list_courses::trouble::Trouble;
 use sqlite::Files;
 use sqlite_disk::{Fuse, Memory};
 use std::alloc::Global;

@@ -1,13 +1,13 @@
 //! What is left after a stop, opened anew.
 
-use crate::stops::books::books_told;
-use crate::stops::counts::Left;
-use crate::stops::course::Course;
 use crate::stops::disks::{Stopping, Work, over_disks};
-use crate::stops::followers::Followers;
 use crate::stops::run::{Ending, new_store, run_rest, store_over};
-use crate::stops::trouble::Trouble;
 use book_store::SqlStore;
+use list_courses::books::books_told;
+use list_courses::counts::Left;
+use list_courses::course::Course;
+use list_courses::followers::Followers;
+use list_courses::trouble::Trouble;
 use sqlite::{Alter, Connection, Files};
 use sync_core::BookStore;
 

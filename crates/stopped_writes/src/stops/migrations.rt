@@ -1,16 +1,16 @@
 //! Tables of the first schema, carried into the second over a disk that fails.
 
-use crate::stops::books::books_told;
-use crate::stops::commands::Kind;
-use crate::stops::counts::Left;
 use crate::stops::disks::{
     FuseAt, NO_FUSE, Place, Stopping, Way, Work, copied, crashed, empty_disks, is_burnt, over_disks,
 };
 use crate::stops::run::store_over;
 use crate::stops::sweep::{CALLS_MAX, Sweep};
-use crate::stops::trouble::Trouble;
 use book_migration::migrate_connection;
 use book_store::OpenFault;
+use list_courses::books::books_told;
+use list_courses::commands::Kind;
+use list_courses::counts::Left;
+use list_courses::trouble::Trouble;
 use sqlite::{Alter, Connection, Error, Files, params};
 use std::alloc::Global;
 use sync_core::{BookStore, Limits};

@@ -1,11 +1,11 @@
 //! The list performed over disks of which one fails.
 
-use crate::stops::course::{Course, Step};
 use crate::stops::disks::{FuseAt, Stopping, Work, empty_disks, over_disks};
-use crate::stops::followers::Followers;
 use book_service::{Reply, perform};
 use book_store::{OpenFault, SqlStore};
 use book_tables::laying::lay_tables;
+use list_courses::course::{Course, Step};
+use list_courses::followers::Followers;
 use sqlite::{Alter, Connection, Error, Files};
 use std::alloc::Global;
 use sync_core::{BookStore, Fault, Limits};

@@ -1,12 +1,12 @@
 //! The list, stopped at each call of one file's disk.
 
 use crate::stops::checking::{Stop, check_left};
-use crate::stops::commands::Kind;
-use crate::stops::counts::{Left, LeftCounts, NO_STOPS, NOTHING_LEFT, StopCounts, push_made};
-use crate::stops::course::Course;
 use crate::stops::disks::{FuseAt, NO_FUSE, Place, Stopping, Way, copied, crashed, is_burnt};
 use crate::stops::run::{Ending, Run, run_list};
-use crate::stops::trouble::Trouble;
+use list_courses::commands::Kind;
+use list_courses::counts::{Left, LeftCounts, NO_STOPS, NOTHING_LEFT, StopCounts, push_made};
+use list_courses::course::Course;
+use list_courses::trouble::Trouble;
 use sqlite::Files;
 use std::alloc::Global;
 use vcard_text::NoMemory;

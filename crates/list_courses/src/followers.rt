@@ -1,6 +1,6 @@
 //! Devices that follow the books while the list is performed, and after a stop.
 
-use crate::stops::trouble::Trouble;
+use crate::trouble::Trouble;
 use std::alloc::Global;
 use std::collections::BTreeMap;
 use sync_core::{BookStore, Denied, Device, Page, Refusal, Stored, TokenCause};
@@ -11,7 +11,7 @@ const PAGES_MAX: usize = 60;
 
 /// A device, and the pages that made it what it is.
 #[derive(Drop)]
-pub(crate) struct Follower {
+pub struct Follower {
     device: Device,
     pages: Vec<Page>,
 }
@@ -139,13 +139,13 @@ fn catch_up<S: BookStore>(
 
 /// A device for each of the two books.
 #[derive(Drop)]
-pub(crate) struct Followers {
+pub struct Followers {
     staff: Follower,
     clients: Follower,
 }
 
 impl Followers {
-    pub(crate) fn new(alloc: Global) -> Result<Followers, NoMemory> {
+    pub fn new(alloc: Global) -> Result<Followers, NoMemory> {
         Ok(Followers {
             staff: Follower::new(alloc, "staff")?,
             clients: Follower::new(alloc, "clients")?,
@@ -153,7 +153,7 @@ impl Followers {
     }
 
     /// Each asks for a page of one entry. The answer says whether the store was at fault.
-    pub(crate) fn ask<S: BookStore>(&mut self, store: &mut S) -> Result<bool, NoMemory> {
+    pub fn ask<S: BookStore>(&mut self, store: &mut S) -> Result<bool, NoMemory> {
         if self.staff.ask(store)? {
             return Ok(true);
         }
@@ -161,7 +161,7 @@ impl Followers {
     }
 
     /// Each goes on from where it is, over another store, and must come to hold its book.
-    pub(crate) fn go_on_over<S: BookStore>(
+    pub fn go_on_over<S: BookStore>(
         &self,
         alloc: Global,
         store: &mut S,

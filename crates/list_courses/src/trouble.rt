@@ -4,7 +4,7 @@ use vcard_text::NoMemory;
 
 /// Memory ran out, or something is wrong, which the text says.
 #[derive(Clone, Copy)]
-pub(crate) enum Trouble {
+pub enum Trouble {
     Memory,
     Finding(&'static str),
 }

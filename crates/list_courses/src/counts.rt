@@ -1,14 +1,11 @@
 //! How many stops there were.
 
-use crate::stops::commands::Kind;
+use crate::commands::Kind;
 use std::alloc::{AllocError, Global};
 use vcard_text::NoMemory;
 
 /// Adds a piece that was made, if there was memory for it.
-pub(crate) fn push_made(
-    told: &mut String,
-    piece: Result<String, AllocError>,
-) -> Result<(), NoMemory> {
+pub fn push_made(told: &mut String, piece: Result<String, AllocError>) -> Result<(), NoMemory> {
     let piece = piece?;
     let pushed = told.push_str(piece.as_str());
     drop(piece);
@@ -17,7 +14,7 @@ pub(crate) fn push_made(
 
 /// How many stops fell in what.
 #[derive(Clone, Copy)]
-pub(crate) struct StopCounts {
+pub struct StopCounts {
     laying: u64,
     one_book: u64,
     two_books: u64,
@@ -28,7 +25,7 @@ pub(crate) struct StopCounts {
 }
 
 /// No stops.
-pub(crate) const NO_STOPS: StopCounts = StopCounts {
+pub const NO_STOPS: StopCounts = StopCounts {
     laying: 0,
     one_book: 0,
     two_books: 0,
@@ -40,7 +37,7 @@ pub(crate) const NO_STOPS: StopCounts = StopCounts {
 
 impl StopCounts {
     /// Counts one more.
-    pub(crate) fn add(&mut self, kind: Kind) {
+    pub fn add(&mut self, kind: Kind) {
         let count = match kind {
             Kind::Laying => &mut self.laying,
             Kind::OneBook => &mut self.one_book,
@@ -66,7 +63,7 @@ impl StopCounts {
         ]
     }
 
-    pub(crate) fn sum(self) -> u64 {
+    pub fn sum(self) -> u64 {
         let mut sum = 0u64;
         for (_, count) in self.parts() {
             sum = sum.saturating_add(count);
@@ -75,7 +72,7 @@ impl StopCounts {
     }
 
     /// Tells the counts that aren't 0, a line each.
-    pub(crate) fn tell(self, alloc: Global, told: &mut String) -> Result<(), NoMemory> {
+    pub fn tell(self, alloc: Global, told: &mut String) -> Result<(), NoMemory> {
         for (name, count) in self.parts() {
             tell_count(alloc, told, name, count)?;
         }
@@ -93,7 +90,7 @@ fn tell_count(alloc: Global, told: &mut String, name: &str, count: u64) -> Resul
 
 /// What the stopped call left.
 #[derive(Clone, Copy)]
-pub(crate) enum Left {
+pub enum Left {
     /// The books before it.
     Before,
     /// The books after it.
@@ -102,7 +99,7 @@ pub(crate) enum Left {
 
 /// What was found behind the stops in one way.
 #[derive(Clone, Copy)]
-pub(crate) struct LeftCounts {
+pub struct LeftCounts {
     before: u64,
     after: u64,
     wrong: u64,
@@ -110,7 +107,7 @@ pub(crate) struct LeftCounts {
 }
 
 /// Nothing yet.
-pub(crate) const NOTHING_LEFT: LeftCounts = LeftCounts {
+pub const NOTHING_LEFT: LeftCounts = LeftCounts {
     before: 0,
     after: 0,
     wrong: 0,
@@ -118,24 +115,24 @@ pub(crate) const NOTHING_LEFT: LeftCounts = LeftCounts {
 };
 
 impl LeftCounts {
-    pub(crate) fn add(&mut self, left: Left) {
+    pub fn add(&mut self, left: Left) {
         match left {
             Left::Before => self.before = self.before.saturating_add(1),
             Left::After => self.after = self.after.saturating_add(1),
         }
     }
 
-    pub(crate) fn add_wrong(&mut self) {
+    pub fn add_wrong(&mut self) {
         self.wrong = self.wrong.saturating_add(1);
     }
 
     /// Counts so many devices that began anew.
-    pub(crate) fn add_anew(&mut self, anew: u64) {
+    pub fn add_anew(&mut self, anew: u64) {
         self.anew = self.anew.saturating_add(anew);
     }
 
     /// Tells the counts of the way, in a line.
-    pub(crate) fn tell(self, alloc: Global, told: &mut String, way: &str) -> Result<(), NoMemory> {
+    pub fn tell(self, alloc: Global, told: &mut String, way: &str) -> Result<(), NoMemory> {
         let LeftCounts {
             before,
             after,

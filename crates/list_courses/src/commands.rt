@@ -4,7 +4,7 @@ use book_service::Command;
 
 /// What a stop can fall in.
 #[derive(Clone, Copy)]
-pub(crate) enum Kind {
+pub enum Kind {
     /// The files are opened, and the tables laid.
     Laying,
     /// A command that changes one book.
@@ -22,7 +22,7 @@ pub(crate) enum Kind {
 }
 
 /// What a stop in the command falls in.
-pub(crate) fn kind_of(command: &Command) -> Kind {
+pub fn kind_of(command: &Command) -> Kind {
     match command {
         Command::MoveCard { .. } => Kind::TwoBooks,
         Command::Import { .. } => Kind::Import,

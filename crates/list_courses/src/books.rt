@@ -20,7 +20,7 @@ import clients k2 nonsense";
 
 /// Each book of the store: its line, its numbers, its live cards, the page of its initial report,
 /// and what it keeps of imports. Without books it is an empty text.
-pub(crate) fn books_told<S: BookStore>(alloc: Global, store: &mut S) -> Result<String, NoMemory> {
+pub fn books_told<S: BookStore>(alloc: Global, store: &mut S) -> Result<String, NoMemory> {
     if matches!(store.books(), Ok(lines) if lines.is_empty()) {
         return Ok(String::new(alloc));
     }

@@ -1,7 +1,7 @@
 //! A list as it is performed over books in memory, where nothing stops: what is to be found.
 
-use crate::stops::books::books_told;
-use crate::stops::commands::{Kind, kind_of};
+use crate::books::books_told;
+use crate::commands::{Kind, kind_of};
 use book_scripts::command_in;
 use book_service::{Command, Reply, perform};
 use std::alloc::Global;
@@ -10,18 +10,18 @@ use vcard_text::NoMemory;
 
 /// A command, what it is replied, and what the books are behind it.
 #[derive(Drop)]
-pub(crate) struct Step {
-    pub(crate) command: Command,
-    pub(crate) reply: Reply,
+pub struct Step {
+    pub command: Command,
+    pub reply: Reply,
     told: String,
 }
 
 /// A list over a store with these limits.
 #[derive(Drop)]
-pub(crate) struct Course {
-    pub(crate) alloc: Global,
-    pub(crate) limits: Limits,
-    pub(crate) steps: Vec<Step>,
+pub struct Course {
+    pub alloc: Global,
+    pub limits: Limits,
+    pub steps: Vec<Step>,
 }
 
 /// Performs the command over a store in memory.
@@ -43,7 +43,7 @@ fn step_of(alloc: Global, store: &mut PlainStore, command: Command) -> Result<St
 
 impl Course {
     /// Performs the list over a store in memory.
-    pub(crate) fn of_list(alloc: Global, limits: Limits, list: &str) -> Result<Course, NoMemory> {
+    pub fn of_list(alloc: Global, limits: Limits, list: &str) -> Result<Course, NoMemory> {
         let mut store = PlainStore::new(alloc, limits);
         let mut course = Course {
             alloc,
@@ -70,7 +70,7 @@ impl Course {
     }
 
     /// What the books are behind so many commands.
-    pub(crate) fn told_behind(&self, count: usize) -> &str {
+    pub fn told_behind(&self, count: usize) -> &str {
         let Some(place) = count.checked_sub(1) else {
             return "";
         };
@@ -81,7 +81,7 @@ impl Course {
     }
 
     /// What a stop in the command at the place falls in.
-    pub(crate) fn kind_at(&self, place: usize) -> Kind {
+    pub fn kind_at(&self, place: usize) -> Kind {
         match self.steps.as_slice().get(place) {
             Some(step) => kind_of(&step.command),
             None => Kind::End,
@@ -89,7 +89,7 @@ impl Course {
     }
 
     /// How many commands are refused.
-    pub(crate) fn refusals(&self) -> u64 {
+    pub fn refusals(&self) -> u64 {
         let mut count = 0u64;
         for step in self.steps.as_slice() {
             if matches!(&step.reply, Reply::Refused(_) | Reply::Fault(_)) {
