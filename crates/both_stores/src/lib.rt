@@ -3,10 +3,10 @@
 //! give the same.
 #![tactic(auto)]
 
-mod office;
-mod offices;
+mod lines;
 mod runs;
 mod stop;
+mod stores;
 
 pub use runs::tell_sections;
 pub use stop::Stop;
