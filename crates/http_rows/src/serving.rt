@@ -6,38 +6,71 @@ use base_types::NoMemory;
 use book_http::{Service, serve};
 use book_scripts::FailingStore;
 use book_store::SqlStore;
-use http_requests::Session;
+use http_requests::{Handler, Session};
 use std::alloc::Global;
 use std::io;
 use std::io::Read;
 use sync_core::{BookStore, PlainStore};
 
-/// Serves a new connection in pieces, and adds its replies and whether it is closed then.
-pub(crate) fn serve_pieces<S: BookStore + Drop>(
+/// Adds what is told of how a connection ends.
+fn push_end(told: &mut Vec<u8>, end: &[u8]) -> Result<(), NoMemory> {
+    Ok(told.extend_from_slice(end)?)
+}
+
+/// Feeds the session a piece, and adds the replies to it.
+fn feed_piece<H: Handler>(
     alloc: Global,
-    service: &mut Service<S>,
+    handler: &mut H,
+    session: &mut Session,
+    piece: &[u8],
+    told: &mut Vec<u8>,
+) -> Result<(), NoMemory> {
+    let replies = session.feed(alloc, handler, piece)?;
+    let pushed = told.extend_from_slice(replies.as_slice());
+    drop(replies);
+    Ok(pushed?)
+}
+
+/// Feeds the session the octets, cut in that way, and adds the replies to them.
+fn feed_pieces<H: Handler>(
+    alloc: Global,
+    handler: &mut H,
+    session: &mut Session,
     octets: &[u8],
     cutting: Cutting,
     told: &mut Vec<u8>,
 ) -> Result<(), NoMemory> {
-    let mut session = Session::new(alloc);
     let mut left = octets;
     for _piece in 0..octets.len() {
         if left.is_empty() {
             break;
         }
         let (piece, rest) = cutting.next_piece(octets, left);
-        let replies = session.feed(alloc, service, piece)?;
-        told.extend_from_slice(replies.as_slice())?;
+        feed_piece(alloc, handler, session, piece, told)?;
         left = rest;
     }
-    let end: &[u8] = if session.closed() {
+    Ok(())
+}
+
+/// Serves a new connection in pieces, and adds its replies and whether it is closed then.
+pub(crate) fn serve_pieces<H: Handler>(
+    alloc: Global,
+    handler: &mut H,
+    octets: &[u8],
+    cutting: Cutting,
+    told: &mut Vec<u8>,
+) -> Result<(), NoMemory> {
+    let mut session = Session::new(alloc);
+    let fed = feed_pieces(alloc, handler, &mut session, octets, cutting, told);
+    let is_closed = session.closed();
+    drop(session);
+    fed?;
+    let end: &[u8] = if is_closed {
         b"\n-- closed"
     } else {
         b"\n-- open"
     };
-    told.extend_from_slice(end)?;
-    Ok(())
+    push_end(told, end)
 }
 
 /// Octets that are read, and whether it was seen that they end.
@@ -57,9 +90,9 @@ impl<'a> Read for Octets<'a> {
 
 /// Serves a new connection from octets in memory, and adds what is written and how it ends: it is
 /// closed where no end of the octets was seen.
-fn serve_octets<S: BookStore + Drop>(
+fn serve_octets<H: Handler>(
     alloc: Global,
-    service: &mut Service<S>,
+    handler: &mut H,
     octets: &[u8],
     told: &mut Vec<u8>,
 ) -> Result<(), NoMemory> {
@@ -68,15 +101,16 @@ fn serve_octets<S: BookStore + Drop>(
         ended: false,
     };
     let mut writer = Vec::new(alloc);
-    let done = serve(alloc, service, &mut reader, &mut writer);
-    told.extend_from_slice(writer.as_slice())?;
+    let done = serve(alloc, handler, &mut reader, &mut writer);
+    let pushed = told.extend_from_slice(writer.as_slice());
+    drop(writer);
+    pushed?;
     let end: &[u8] = match done {
         Ok(()) if reader.ended => b"\n-- open",
         Ok(()) => b"\n-- closed",
         Err(_) => b"\n** a fault **",
     };
-    told.extend_from_slice(end)?;
-    Ok(())
+    push_end(told, end)
 }
 
 /// How a connection's octets come to the service.
@@ -88,52 +122,87 @@ pub(crate) enum Way {
     Read,
 }
 
-/// Serves a new connection in that way, and adds its replies and whether it is closed then.
-fn serve_connection<S: BookStore + Drop>(
+/// Adds the title and the replies to a connection, which comes in that way.
+fn add_connection<H: Handler>(
     alloc: Global,
-    service: &mut Service<S>,
-    octets: &[u8],
+    handler: &mut H,
+    connection: &Connection,
     way: Way,
     told: &mut Vec<u8>,
 ) -> Result<(), NoMemory> {
+    told.extend_from_slice(CONNECTION)?;
+    told.extend_from_slice(connection.title)?;
+    told.extend_from_slice(b"\n")?;
     match way {
-        Way::Fed(cutting) => serve_pieces(alloc, service, octets, cutting, told),
-        Way::Read => serve_octets(alloc, service, octets, told),
+        Way::Fed(cutting) => serve_pieces(alloc, handler, connection.octets, cutting, told),
+        Way::Read => serve_octets(alloc, handler, connection.octets, told),
     }
 }
 
-/// What a store without books replies to the connections, one after another.
-fn replies_of<S: BookStore + Drop>(
+/// Adds the replies to the connections, one after another.
+fn add_connections<H: Handler>(
     alloc: Global,
-    store: S,
+    handler: &mut H,
     connections: &[Connection],
     way: Way,
-) -> Result<Vec<u8>, NoMemory> {
-    let mut told = Vec::new(alloc);
-    let mut service = Service { store };
+    told: &mut Vec<u8>,
+) -> Result<(), NoMemory> {
     for connection in connections {
-        told.extend_from_slice(CONNECTION)?;
-        told.extend_from_slice(connection.title)?;
-        told.extend_from_slice(b"\n")?;
-        serve_connection(alloc, &mut service, connection.octets, way, &mut told)?;
+        add_connection(alloc, handler, connection, way, told)?;
     }
-    Ok(told)
+    Ok(())
 }
 
-/// What a new store in memory replies to the connections, which come in that way.
-pub(crate) fn replies_in_memory(alloc: Global, row: &Row, way: Way) -> Result<Vec<u8>, NoMemory> {
-    let connections = row.connections.as_slice();
+/// Adds what a store without books replies to the row's connections.
+fn add_replies_of<S: BookStore + Drop>(
+    alloc: Global,
+    store: S,
+    row: &Row,
+    way: Way,
+    told: &mut Vec<u8>,
+) -> Result<(), NoMemory> {
+    let mut service = Service { store };
+    add_connections(alloc, &mut service, row.connections.as_slice(), way, told)
+}
+
+/// Adds what a new store in memory replies to the row's connections.
+fn add_replies_in_memory(
+    alloc: Global,
+    row: &Row,
+    way: Way,
+    told: &mut Vec<u8>,
+) -> Result<(), NoMemory> {
     match row.setting.fault {
         Some(fault) => {
             let mut store = FailingStore::new(alloc);
             store.answer(Some(fault));
-            replies_of(alloc, store, connections, way)
+            add_replies_of(alloc, store, row, way, told)
         }
         None => {
             let store = PlainStore::new(alloc, row.setting.limits);
-            replies_of(alloc, store, connections, way)
+            add_replies_of(alloc, store, row, way, told)
         }
     }
+}
+
+/// Adds what a new store over tables replies to the row's connections.
+fn add_replies_over_tables(
+    alloc: Global,
+    row: &Row,
+    way: Way,
+    told: &mut Vec<u8>,
+) -> Result<(), NoMemory> {
+    match SqlStore::open_in_memory(alloc, row.setting.limits) {
+        Ok(store) => add_replies_of(alloc, store, row, way, told),
+        Err(_) => Err(NoMemory),
+    }
+}
+
+/// What a new store in memory replies to the connections, which come in that way.
+pub(crate) fn replies_in_memory(alloc: Global, row: &Row, way: Way) -> Result<Vec<u8>, NoMemory> {
+    let mut told = Vec::new(alloc);
+    add_replies_in_memory(alloc, row, way, &mut told)?;
+    Ok(told)
 }
 
 /// What a new store over tables replies to the connections, octet by octet, or one in memory where
@@ -143,8 +212,7 @@ pub(crate) fn replies_to_octets(alloc: Global, row: &Row) -> Result<Vec<u8>, NoM
     if row.setting.fault.is_some() {
         return replies_in_memory(alloc, row, way);
     }
-    let Ok(tables) = SqlStore::open_in_memory(alloc, row.setting.limits) else {
-        return Err(NoMemory);
-    };
-    replies_of(alloc, tables, row.connections.as_slice(), way)
+    let mut told = Vec::new(alloc);
+    add_replies_over_tables(alloc, row, way, &mut told)?;
+    Ok(told)
 }
