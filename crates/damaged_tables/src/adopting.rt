@@ -1,26 +1,36 @@
 //! What adopting damaged tables answers, and what the store tells where it is adopted.
-use crate::answers::{answer_told, lines_told, open_fault_told, page_told, tally_told};
-use crate::copying::laid_by;
-use crate::damaging::damage;
-use crate::laying::{Store, limits};
+use crate::answers::{
+    tell_denial, tell_denied, tell_lines, tell_open_fault, tell_page, tell_tally,
+};
+use crate::damaging::{Damage, is_damaged};
+use crate::laying::{Memory, Store, limits};
 use crate::stop::Stop;
 use book_store::SqlStore;
 use std::alloc::Global;
 use sync_core::{BookLine, BookStore, Denied, Mark, Token};
+use vcard_text::NoMemory;
 
-fn tally(alloc: Global, store: &mut Store, book: &str) -> Result<String, Denied> {
+fn tell_figures(
+    told: &mut String,
+    alloc: Global,
+    store: &mut Store,
+    book: &str,
+) -> Result<(), Denied> {
     let tally = store.tally(book)?;
-    Ok(tally_told(alloc, &tally)?)
+    Ok(tell_tally(told, alloc, &tally)?)
 }
 
-fn report(
+fn tell_report(
+    told: &mut String,
     alloc: Global,
     store: &mut Store,
     book: &str,
     token: Option<Token>,
-) -> Result<String, Denied> {
+) -> Result<(), Denied> {
     let page = store.report(book, token, None)?;
-    Ok(page_told(alloc, &page)?)
+    let done = tell_page(told, alloc, &page);
+    drop(page);
+    Ok(done?)
 }
 
 /// The token of a device that has heard nothing since the book's horizon, and is to be told of each
@@ -37,51 +47,73 @@ fn token_at_horizon(line: &BookLine) -> Token {
 
 /// The book in numbers, its initial report, and a report of each removal.
 fn tell_book(
+    told: &mut String,
     alloc: Global,
     store: &mut Store,
     line: &BookLine,
-    told: &mut String,
-) -> Result<(), Stop> {
+) -> Result<(), NoMemory> {
     let book = line.name.as_str();
-    let figures = tally(alloc, store, book);
-    let initial = report(alloc, store, book, None);
-    let later = report(alloc, store, book, Some(token_at_horizon(line)));
-    for answer in [figures, initial, later] {
+    told.push_str("\n  ")?;
+    let figures = tell_figures(told, alloc, store, book);
+    tell_denial(told, alloc, figures)?;
+    for token in [None, Some(token_at_horizon(line))] {
         told.push_str("\n  ")?;
-        told.push_str(answer_told(alloc, answer)?.as_str())?;
+        let page = tell_report(told, alloc, store, book, token);
+        tell_denial(told, alloc, page)?;
+    }
+    Ok(())
+}
+
+/// The lines, and what is told of each book.
+fn tell_books(
+    told: &mut String,
+    alloc: Global,
+    store: &mut Store,
+    lines: &[BookLine],
+) -> Result<(), NoMemory> {
+    tell_lines(told, alloc, lines)?;
+    for line in lines {
+        tell_book(told, alloc, store, line)?;
     }
     Ok(())
 }
 
 /// The lines of all books, and what is told of each.
-fn store_told(alloc: Global, store: &mut Store) -> Result<String, Stop> {
-    let mut told = String::from_str(alloc, "ok, ")?;
-    let lines = match store.books() {
-        Ok(lines) => lines,
-        Err(denied) => {
-            told.push_str(answer_told(alloc, Err(denied))?.as_str())?;
-            return Ok(told);
+fn tell_store(told: &mut String, alloc: Global, store: &mut Store) -> Result<(), NoMemory> {
+    told.push_str("ok, ")?;
+    match store.books() {
+        Ok(lines) => {
+            let done = tell_books(told, alloc, store, lines.as_slice());
+            drop(lines);
+            done
         }
-    };
-    told.push_str(lines_told(alloc, lines.as_slice())?.as_str())?;
-    for line in lines.as_slice() {
-        tell_book(alloc, store, line, &mut told)?;
+        Err(denied) => tell_denied(told, alloc, denied),
     }
-    Ok(told)
 }
 
-/// What adopting the tables answers after the statements.
-pub(crate) fn adopted_told(alloc: Global, script: &str, statements: &str) -> Result<String, Stop> {
-    let mut conn = laid_by(alloc, script)?;
-    if let Err(undone) = damage(&mut conn, statements) {
-        return Ok(String::from_str(alloc, undone.text())?);
-    }
+/// What adopting the tables answers.
+fn tell_adopted(told: &mut String, alloc: Global, conn: Memory) -> Result<(), Stop> {
     let limits = limits()?;
     if !conn.is_autocommit() {
         return Err(Stop::Unsettled);
     }
     match SqlStore::adopt(alloc, conn, limits) {
-        Ok(mut store) => store_told(alloc, &mut store),
-        Err(fault) => Ok(open_fault_told(alloc, fault)?),
+        Ok(mut store) => Ok(tell_store(told, alloc, &mut store)?),
+        Err(fault) => Ok(tell_open_fault(told, alloc, fault)?),
+    }
+}
+
+/// What adopting the tables answers after the damage.
+pub(crate) fn tell_adopting(
+    told: &mut String,
+    alloc: Global,
+    conn: Memory,
+    damage: Damage<'_>,
+) -> Result<(), Stop> {
+    let mut conn = conn;
+    if is_damaged(told, &mut conn, damage)? {
+        tell_adopted(told, alloc, conn)
+    } else {
+        Ok(())
     }
 }

@@ -1,31 +1,56 @@
-//! Damage, by statements that are run over the tables.
+//! Rows that are laid, and damaged by statements that are run over the tables.
 use crate::laying::Memory;
+use crate::stop::Stop;
 use sqlite::{Error, ErrorCode};
 
-/// Why statements weren't run to their end.
+/// Statements that lay the rows of a store, and statements that damage them.
 #[derive(Clone, Copy)]
-pub(crate) enum Undone {
-    /// A column or a key of a table doesn't allow it.
-    NotAllowed,
-    /// The database answered another error.
-    Failed,
+pub(crate) struct Damage<'a> {
+    pub(crate) script: &'a str,
+    pub(crate) statements: &'a str,
 }
 
-impl Undone {
-    pub(crate) fn text(self) -> &'static str {
-        match self {
-            Undone::NotAllowed => "not done",
-            Undone::Failed => "** failed **",
+/// Makes of the tables those of the first schema, which has no keeps.
+const TO_FIRST: &str = "DROP TABLE keeping; UPDATE meta SET val = 1";
+
+/// What is told of statements that weren't run to their end: a column or a key of a table doesn't
+/// allow it, or the database answered another error.
+fn undone_told(error: Error) -> &'static str {
+    match error {
+        Error::SqliteFailure(ErrorCode::ConstraintViolation(_)) => "not done",
+        Error::SqliteFailure(ErrorCode::TypeMismatch) => "not done",
+        _ => "** failed **",
+    }
+}
+
+/// Runs the statements, up to the first that isn't done, of which it is told. Whether all were done.
+fn is_done(told: &mut String, conn: &mut Memory, statements: &str) -> Result<bool, Stop> {
+    match conn.execute_batch(statements) {
+        Ok(()) => Ok(true),
+        Err(error) => {
+            told.push_str(undone_told(error))?;
+            Ok(false)
         }
     }
 }
 
-/// Runs the statements, up to the first that isn't done.
-pub(crate) fn damage(conn: &mut Memory, statements: &str) -> Result<(), Undone> {
-    match conn.execute_batch(statements) {
-        Ok(()) => Ok(()),
-        Err(Error::SqliteFailure(ErrorCode::ConstraintViolation(_))) => Err(Undone::NotAllowed),
-        Err(Error::SqliteFailure(ErrorCode::TypeMismatch)) => Err(Undone::NotAllowed),
-        Err(_) => Err(Undone::Failed),
-    }
+/// Lays the rows in the tables of a new store, and damages them. Whether that was done.
+pub(crate) fn is_damaged(
+    told: &mut String,
+    conn: &mut Memory,
+    damage: Damage<'_>,
+) -> Result<bool, Stop> {
+    conn.execute_batch(damage.script)?;
+    is_done(told, conn, damage.statements)
+}
+
+/// The same in tables of the first schema.
+pub(crate) fn is_first_damaged(
+    told: &mut String,
+    conn: &mut Memory,
+    damage: Damage<'_>,
+) -> Result<bool, Stop> {
+    conn.execute_batch(damage.script)?;
+    conn.execute_batch(TO_FIRST)?;
+    is_done(told, conn, damage.statements)
 }

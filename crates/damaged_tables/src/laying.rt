@@ -1,4 +1,6 @@
 //! The store that is damaged.
+use crate::copying::push_script;
+use crate::rows::{TABLES, tell_rows};
 use crate::stop::Stop;
 use book_scripts::replies_told;
 use book_store::SqlStore;
@@ -54,14 +56,45 @@ fn are_answers(replies: &str) -> bool {
     true
 }
 
-/// The tables of the store.
-pub(crate) fn laid(alloc: Global) -> Result<Memory, Stop> {
-    let Ok(mut store) = SqlStore::open_in_memory(alloc, limits()?) else {
-        return Err(Stop::Laying);
-    };
-    let replies = replies_told(alloc, &mut store, LAYING)?;
-    if !are_answers(replies.as_str()) {
-        return Err(Stop::Laying);
+/// How the store that is damaged is told.
+#[derive(Clone, Copy)]
+pub(crate) enum Form {
+    /// Its rows, a row a line.
+    Rows,
+    /// Statements that lay its rows again.
+    Script,
+}
+
+/// Makes the books of the store that is damaged.
+fn make_books(alloc: Global, store: &mut Store) -> Result<(), Stop> {
+    let replies = replies_told(alloc, store, LAYING)?;
+    let are_made = are_answers(replies.as_str());
+    drop(replies);
+    if are_made { Ok(()) } else { Err(Stop::Laying) }
+}
+
+/// Tells the rows of the tables in the form.
+fn tell_tables(
+    told: &mut String,
+    alloc: Global,
+    conn: &mut Memory,
+    form: Form,
+) -> Result<(), Stop> {
+    match form {
+        Form::Rows => tell_rows(told, alloc, conn, &TABLES),
+        Form::Script => push_script(told, alloc, conn),
     }
-    Ok(store.into_connection())
+}
+
+/// Makes the books that are damaged over the new store, and tells them in the form.
+pub(crate) fn tell_laid(
+    told: &mut String,
+    alloc: Global,
+    store: Store,
+    form: Form,
+) -> Result<(), Stop> {
+    let mut store = store;
+    make_books(alloc, &mut store)?;
+    let mut conn = store.into_connection();
+    tell_tables(told, alloc, &mut conn, form)
 }

@@ -14,6 +14,7 @@ mod looks;
 mod migrating;
 mod rows;
 mod stop;
+mod tables;
 
 pub use lines::tell_lines;
 pub use stop::Stop;

@@ -1,44 +1,68 @@
 //! The list: a line has a kind, a label and statements, with tabs between.
-use crate::adopting::adopted_told;
-use crate::calls::calls_told;
-use crate::copying::script_of;
-use crate::laying::laid;
-use crate::migrating::migrated_told;
-use crate::rows::{TABLES, rows_told};
+use crate::answers::push_pieces;
+use crate::calls::CALLS;
+use crate::damaging::Damage;
+use crate::laying::Form;
 use crate::stop::Stop;
+use crate::tables::{Task, tell_task};
 use std::alloc::Global;
 
+/// What each call comes to, over tables of its own.
+fn tell_calls(told: &mut String, alloc: Global, damage: Damage<'_>) -> Result<(), Stop> {
+    for (name, call) in CALLS {
+        push_pieces(told, &["\n  ", name, ": "])?;
+        tell_task(told, alloc, Task::Call(damage, call))?;
+    }
+    Ok(())
+}
+
 /// What comes of the statements.
-fn outcome_told(alloc: Global, script: &str, kind: &str, statements: &str) -> Result<String, Stop> {
+fn tell_outcome(
+    told: &mut String,
+    alloc: Global,
+    kind: &str,
+    damage: Damage<'_>,
+) -> Result<(), Stop> {
     match kind {
-        "adopt" => adopted_told(alloc, script, statements),
-        "migrate" => migrated_told(alloc, script, statements),
-        "calls" => calls_told(alloc, script, statements),
+        "adopt" => tell_task(told, alloc, Task::Adopt(damage)),
+        "migrate" => tell_task(told, alloc, Task::Migrate(damage)),
+        "calls" => tell_calls(told, alloc, damage),
         _ => Err(Stop::Line),
     }
 }
 
-fn tell_line(alloc: Global, script: &str, line: &str, told: &mut String) -> Result<(), Stop> {
+fn tell_line(told: &mut String, alloc: Global, script: &str, line: &str) -> Result<(), Stop> {
     let Some((kind, rest)) = line.split_once('\t') else {
         return Err(Stop::Line);
     };
     let Some((label, statements)) = rest.split_once('\t') else {
         return Err(Stop::Line);
     };
-    let outcome = outcome_told(alloc, script, kind, statements)?;
-    let outcome = outcome.as_str();
-    told.push_str(format!(in alloc; "{kind} {label}: {outcome}\n")?.as_str())?;
+    push_pieces(told, &[kind, " ", label, ": "])?;
+    tell_outcome(told, alloc, kind, Damage { script, statements })?;
+    Ok(told.push_str("\n")?)
+}
+
+/// Tells what comes of each line, whose damage is to the rows that the script lays.
+fn tell_all(told: &mut String, alloc: Global, script: &str, list: &str) -> Result<(), Stop> {
+    for line in list.lines() {
+        tell_line(told, alloc, script, line)?;
+    }
     Ok(())
+}
+
+/// The rows of the store that is damaged, as statements that lay them.
+fn script_told(alloc: Global) -> Result<String, Stop> {
+    let mut script = String::new(alloc);
+    tell_task(&mut script, alloc, Task::Lay(Form::Script))?;
+    Ok(script)
 }
 
 /// Tells the rows of the store that is damaged, and then what comes of each line.
 pub fn tell_lines(alloc: Global, list: &str, told: &mut String) -> Result<(), Stop> {
-    let mut conn = laid(alloc)?;
-    told.push_str(rows_told(alloc, &mut conn, &TABLES)?.as_str())?;
-    let script = script_of(alloc, &mut conn)?;
-    let script = script.as_str();
-    for line in list.lines() {
-        tell_line(alloc, script, line, told)?;
-    }
-    Ok(())
+    tell_task(told, alloc, Task::Lay(Form::Rows))?;
+    let script = script_told(alloc)?;
+    let done = tell_all(told, alloc, script.as_str(), list);
+    drop(script);
+    done
 }

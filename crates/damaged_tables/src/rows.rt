@@ -1,9 +1,11 @@
 //! The rows of tables, told as they stand.
+use crate::answers::push_made;
 use crate::laying::Memory;
 use crate::stop::Stop;
 use sqlite::types::ValueRef;
 use sqlite::{Row, params};
 use std::alloc::Global;
+use vcard_text::NoMemory;
 
 /// All rows of each table, in the order of their keys.
 pub(crate) const META: &str = "SELECT name, val FROM meta ORDER BY name";
@@ -28,45 +30,54 @@ pub(crate) const FIRST: [&str; 4] = [META, BOOK, MEMBER, IMPORT];
 /// Those whose rows stay as they were where tables are carried.
 pub(crate) const BOOKS: [&str; 3] = [BOOK, MEMBER, IMPORT];
 
-/// The octets in hexadecimal.
-fn push_octets(told: &mut String, alloc: Global, octets: &[u8]) -> Result<(), Stop> {
+/// Adds the number.
+pub(crate) fn push_number(told: &mut String, alloc: Global, number: i64) -> Result<(), NoMemory> {
+    push_made(told, format!(in alloc; "{number}"))
+}
+
+/// Adds the octets in hexadecimal.
+pub(crate) fn push_octets(told: &mut String, alloc: Global, octets: &[u8]) -> Result<(), NoMemory> {
     told.push_str("x'")?;
     for octet in octets {
-        told.push_str(format!(in alloc; "{octet:02x}")?.as_str())?;
+        push_made(told, format!(in alloc; "{octet:02x}"))?;
     }
-    told.push_str("'")?;
-    Ok(())
+    Ok(told.push_str("'")?)
 }
 
-/// The text in one line: `\r`, `\n` and `\\` for what would end it, and for a backslash.
-fn push_text(told: &mut String, text: &str) -> Result<(), Stop> {
+/// Adds the character in one line: `\r`, `\n` and `\\` for what would end it, and for a backslash.
+fn push_char(told: &mut String, c: char) -> Result<(), NoMemory> {
+    let pushed = match c {
+        '\r' => told.push_str("\\r"),
+        '\n' => told.push_str("\\n"),
+        '\\' => told.push_str("\\\\"),
+        c => told.push(c),
+    };
+    Ok(pushed?)
+}
+
+/// Adds the text in one line.
+fn push_text(told: &mut String, text: &str) -> Result<(), NoMemory> {
     for c in text.chars() {
-        match c {
-            '\r' => told.push_str("\\r")?,
-            '\n' => told.push_str("\\n")?,
-            '\\' => told.push_str("\\\\")?,
-            c => told.push(c)?,
-        }
+        push_char(told, c)?;
     }
     Ok(())
 }
 
-/// A number, a text, octets that are none in hexadecimal, and a hyphen for a null.
-fn push_value(told: &mut String, alloc: Global, value: ValueRef<'_>) -> Result<(), Stop> {
+/// Adds a number, a text, octets that are none in hexadecimal, and a hyphen for a null.
+fn push_value(told: &mut String, alloc: Global, value: ValueRef<'_>) -> Result<(), NoMemory> {
     match value {
-        ValueRef::Null => told.push_str("-")?,
-        ValueRef::Int(number) => told.push_str(format!(in alloc; "{number}")?.as_str())?,
+        ValueRef::Null => Ok(told.push_str("-")?),
+        ValueRef::Int(number) => push_number(told, alloc, number),
         ValueRef::Text(octets) => match str::from_utf8(octets) {
-            Ok(text) => push_text(told, text)?,
-            Err(_) => push_octets(told, alloc, octets)?,
+            Ok(text) => push_text(told, text),
+            Err(_) => push_octets(told, alloc, octets),
         },
-        ValueRef::Real(_) => told.push_str("** real **")?,
-        ValueRef::Blob(_) => told.push_str("** blob **")?,
+        ValueRef::Real(_) => Ok(told.push_str("** real **")?),
+        ValueRef::Blob(_) => Ok(told.push_str("** blob **")?),
     }
-    Ok(())
 }
 
-/// The row's values between bars, and the end.
+/// Adds the row's values between bars, and the end.
 fn push_row(told: &mut String, alloc: Global, row: &Row, end: &str) -> Result<(), Stop> {
     for at in 0..row.column_count() {
         if at > 0 {
@@ -74,11 +85,18 @@ fn push_row(told: &mut String, alloc: Global, row: &Row, end: &str) -> Result<()
         }
         push_value(told, alloc, row.get_ref(at)?)?;
     }
-    told.push_str(end)?;
+    Ok(told.push_str(end)?)
+}
+
+/// Adds the rows, each with the end.
+fn push_all(told: &mut String, alloc: Global, rows: &[Row], end: &str) -> Result<(), Stop> {
+    for row in rows {
+        push_row(told, alloc, row, end)?;
+    }
     Ok(())
 }
 
-/// What the query shows, each row with the end.
+/// Adds what the query shows, each row with the end.
 pub(crate) fn push_rows(
     told: &mut String,
     alloc: Global,
@@ -87,8 +105,20 @@ pub(crate) fn push_rows(
     end: &str,
 ) -> Result<(), Stop> {
     let rows = conn.query_all(query, params![])?;
-    for row in rows.as_slice() {
-        push_row(told, alloc, row, end)?;
+    let pushed = push_all(told, alloc, rows.as_slice(), end);
+    drop(rows);
+    pushed
+}
+
+/// Adds what the queries show, a row a line.
+pub(crate) fn tell_rows(
+    told: &mut String,
+    alloc: Global,
+    conn: &mut Memory,
+    queries: &[&str],
+) -> Result<(), Stop> {
+    for query in queries {
+        push_rows(told, alloc, conn, query, "\n")?;
     }
     Ok(())
 }
@@ -100,8 +130,24 @@ pub(crate) fn rows_told(
     queries: &[&str],
 ) -> Result<String, Stop> {
     let mut told = String::new(alloc);
-    for query in queries {
-        push_rows(&mut told, alloc, conn, query, "\n")?;
-    }
+    tell_rows(&mut told, alloc, conn, queries)?;
     Ok(told)
+}
+
+/// Adds the words where the queries don't show these rows.
+pub(crate) fn tell_others(
+    told: &mut String,
+    alloc: Global,
+    conn: &mut Memory,
+    queries: &[&str],
+    rows: &str,
+    words: &str,
+) -> Result<(), Stop> {
+    let shown = rows_told(alloc, conn, queries)?;
+    let is_same = shown.as_str() == rows;
+    drop(shown);
+    if is_same {
+        return Ok(());
+    }
+    Ok(told.push_str(words)?)
 }

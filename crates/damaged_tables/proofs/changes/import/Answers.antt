@@ -3,8 +3,8 @@ use Rattle.book_model.specs.ImportLaws.{HaveDistinctUids}
 use Rattle.book_service.proofs.ImportLemmas.{are_distinct}
 use Rattle.damaged_tables.proofs.changes.import.Goals as goal
 
-pub import_in_book-requires : goal.import_in_book-requires
-import_in_book-requires c = record {
+pub import_in_book-tally-requires : goal.import_in_book-tally-requires
+import_in_book-tally-requires c = record {
   settled = c.requires;
   distinct = subst HaveDistinctUids (sym c.as_slice.ensures.value) (are_distinct c.as_bytes.result.now c.in-Ok.cards.items c.in-Ok.ensures.cards);
 }
