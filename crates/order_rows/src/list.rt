@@ -1,14 +1,14 @@
 //! The rows of the list, each tried in its turn over the files that the rows before it left.
-use crate::devices::{input_told, output_told, read_told};
+use crate::devices::{output_told, read_told};
 use crate::fields::{front_and_rest, octets, placed};
 use crate::files::{file_told, there_told, written_told};
 use crate::ports::{served_told, taken_told};
-use crate::running::{fault_told, line_told, stop_told};
+use crate::running::{fault_told, input_told, line_told, stop_told};
 use crate::words::words_told;
 use base_types::NoMemory;
 use std::path::PathBuf;
 use std::{env, fs, io};
-use tried_rows::{row_in, tell_row};
+use tried_rows::{Row, row_in, tell_row};
 
 /// What comes of the call.
 fn come(rt: &HostRuntime, folder: &str, call: &str, given: &[u8]) -> Result<Vec<u8>, NoMemory> {
@@ -33,19 +33,50 @@ fn come(rt: &HostRuntime, folder: &str, call: &str, given: &[u8]) -> Result<Vec<
     }
 }
 
+/// Tries the row, and tells it if it doesn't come to what it should.
+fn try_row(rt: &HostRuntime, folder: &str, row: &Row, told: &mut String) -> Result<(), NoMemory> {
+    let came = come(rt, folder, row.call.as_str(), row.given.as_slice())?;
+    let done = tell_row(rt.alloc(), row, came.as_slice(), told);
+    drop(came);
+    done
+}
+
+/// Tries the line's row, if it has one: how many rows these are.
+fn try_line(
+    rt: &HostRuntime,
+    folder: &str,
+    line: &str,
+    told: &mut String,
+) -> Result<u64, NoMemory> {
+    match row_in(rt.alloc(), line)? {
+        Some(row) => {
+            let done = try_row(rt, folder, &row, told);
+            drop(row);
+            done?;
+            Ok(1)
+        }
+        None => Ok(0),
+    }
+}
+
 /// Tells the rows that don't come to what they should, and then how many there are.
-fn tell_rows_in(rt: &HostRuntime, folder: &str, list: &str) -> Result<String, NoMemory> {
-    let alloc = rt.alloc();
-    let mut told = String::new(alloc);
+fn tell_rows(
+    rt: &HostRuntime,
+    folder: &str,
+    list: &str,
+    told: &mut String,
+) -> Result<(), NoMemory> {
     let mut count: u64 = 0;
     for line in list.lines() {
-        if let Some(row) = row_in(alloc, line)? {
-            count = count.saturating_add(1);
-            let came = come(rt, folder, row.call.as_str(), row.given.as_slice())?;
-            tell_row(alloc, &row, came.as_slice(), &mut told)?;
-        }
+        count = count.saturating_add(try_line(rt, folder, line, told)?);
     }
-    told.push_str(format!(in alloc; "{count} rows\n")?.as_str())?;
+    let line = format!(in rt.alloc(); "{count} rows\n")?;
+    Ok(told.push_str(line.as_str())?)
+}
+
+fn rows_told(rt: &HostRuntime, folder: &str, list: &str) -> Result<String, NoMemory> {
+    let mut told = String::new(rt.alloc());
+    tell_rows(rt, folder, list, &mut told)?;
     Ok(told)
 }
 
@@ -61,8 +92,10 @@ fn new_folder(rt: &HostRuntime) -> io::Result<PathBuf> {
 /// many there are. Their files stand in a folder of their own, which is removed then.
 pub fn tell_orders(rt: &HostRuntime, list: &str) -> io::Result<String> {
     let folder = new_folder(rt)?;
-    let told = tell_rows_in(rt, folder.as_str(), list);
-    fs::remove_dir_all(rt, &folder)?;
+    let told = rows_told(rt, folder.as_str(), list);
+    let removed = fs::remove_dir_all(rt, &folder);
+    drop(folder);
+    removed?;
     match told {
         Ok(told) => Ok(told),
         Err(NoMemory) => Err(io::Error::from(io::ErrorKind::OutOfMemory)),

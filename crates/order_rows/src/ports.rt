@@ -1,4 +1,5 @@
 //! The port that books are served at.
+use crate::devices::Input;
 use crate::fields::octets;
 use crate::running::run_told;
 use base_types::{NoMemory, Text};
@@ -26,12 +27,19 @@ pub(crate) fn served_told(rt: &HostRuntime, path: &str, port: u16) -> Result<Vec
         port,
         connections,
     };
-    let mut reader: &[u8] = b"";
-    let told = run_told(rt, Ok(order), &mut reader)?;
+    let told = run_told(rt, Ok(order), Input::of(b""))?;
     if names_port(str::from_utf8(told.as_slice()).unwrap_or_default()) {
         return octets(rt.alloc(), "PORT");
     }
     Ok(told)
+}
+
+/// The file's books are to be served at the port that the listener has.
+fn taken_by(rt: &HostRuntime, path: &str, listener: &TcpListener) -> Result<Vec<u8>, NoMemory> {
+    match listener.local_addr() {
+        Ok(address) => served_told(rt, path, address.port()),
+        Err(_) => octets(rt.alloc(), "** no address"),
+    }
 }
 
 /// `taken PATH`: the file's books are to be served at a port that is taken.
@@ -39,10 +47,7 @@ pub(crate) fn taken_told(rt: &HostRuntime, path: &str) -> Result<Vec<u8>, NoMemo
     let Ok(taken) = TcpListener::bind(rt, SocketAddr::from((Ipv4Addr::LOCALHOST, 0))) else {
         return octets(rt.alloc(), "** no port");
     };
-    let Ok(address) = taken.local_addr() else {
-        return octets(rt.alloc(), "** no address");
-    };
-    let told = served_told(rt, path, address.port());
+    let told = taken_by(rt, path, &taken);
     drop(taken);
     told
 }

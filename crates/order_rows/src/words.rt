@@ -5,21 +5,28 @@ use command_line::{LineFault, Order, read_order};
 use csv_cards::Form;
 use std::alloc::{AllocError, Global};
 
-/// The words of a line, cut at each space.
-fn words_of(alloc: Global, line: &str) -> Result<Vec<String>, AllocError> {
-    let mut words = Vec::new(alloc);
+/// Adds a copy of the word.
+fn push_word(words: &mut Vec<String>, alloc: Global, word: &str) -> Result<(), AllocError> {
+    Ok(words.push(String::from_str(alloc, word)?)?)
+}
+
+/// Adds the words of a line, cut at each space.
+fn push_words(words: &mut Vec<String>, alloc: Global, line: &str) -> Result<(), AllocError> {
     for word in line.split(' ') {
         if !word.is_empty() {
-            words.push(String::from_str(alloc, word)?)?;
+            push_word(words, alloc, word)?;
         }
     }
-    Ok(words)
+    Ok(())
 }
 
 /// What the words of the line ask for.
 pub(crate) fn order_in(alloc: Global, line: &str) -> Result<Order, LineFault> {
-    let words = words_of(alloc, line)?;
-    read_order(alloc, words.as_slice())
+    let mut words = Vec::new(alloc);
+    push_words(&mut words, alloc, line)?;
+    let order = read_order(alloc, words.as_slice());
+    drop(words);
+    order
 }
 
 fn form_name(form: Form) -> &'static str {
@@ -63,14 +70,30 @@ fn order_told(alloc: Global, order: &Order) -> Result<String, AllocError> {
     }
 }
 
+/// `bad` where the text of the fault has the part, and else that text.
+fn bad_told(alloc: Global, fault: &LineFault, part: &str) -> Result<Vec<u8>, NoMemory> {
+    let told = match fault {
+        LineFault::Bad { text } if text.as_str().contains(part) => "bad",
+        LineFault::Bad { text } => text.as_str(),
+        LineFault::Memory => "no memory",
+    };
+    octets(alloc, told)
+}
+
 /// `words LINE|PART`: what the words ask for; `bad` where that is nothing and the text which says
 /// so has the part, or else that text.
 pub(crate) fn words_told(alloc: Global, line: &str, part: &[u8]) -> Result<Vec<u8>, NoMemory> {
-    let part = str::from_utf8(part).unwrap_or_default();
     match order_in(alloc, line) {
-        Ok(order) => Ok(order_told(alloc, &order)?.into_bytes()),
-        Err(LineFault::Bad { text }) if text.as_str().contains(part) => octets(alloc, "bad"),
-        Err(LineFault::Bad { text }) => octets(alloc, text.as_str()),
-        Err(LineFault::Memory) => octets(alloc, "no memory"),
+        Ok(order) => {
+            let told = order_told(alloc, &order);
+            drop(order);
+            Ok(told?.into_bytes())
+        }
+        Err(fault) => {
+            let part = str::from_utf8(part).unwrap_or_default();
+            let told = bad_told(alloc, &fault, part);
+            drop(fault);
+            told
+        }
     }
 }
