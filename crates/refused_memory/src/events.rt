@@ -1,13 +1,13 @@
-//! Lists of events, and copies of whole books.
+//! Lists of events.
 
-use crate::books::{FILLING, Stores, books_of, filled_by, have_same_books, is_no_memory};
-use crate::desk::Desk;
-use crate::stop::Stop;
+use base_types::NoMemory;
 use book_scripts::event_in;
-use book_service::{Event, Mirrored, Reply, drive, mirror};
+use book_service::{Event, Reply, drive};
+use memory_desk::{
+    Desk, FEW_CARDS, FILLING, Stop, Stores, filled_by, have_same_books, is_no_memory,
+};
 use std::alloc::Global;
-use sync_core::{BookStore, Denied, Device, Fault};
-use vcard_text::NoMemory;
+use sync_core::{BookStore, Device};
 
 /// Devices of a book ask among commands that change it, from its making on: for pages of one entry,
 /// from a token that is old, and once more when all is known.
@@ -59,25 +59,23 @@ forget staff 4
 ask 0 1
 ask 1";
 
-/// A book with two cards, of which one was edited, and one that was removed.
-const FEW_CARDS: &str = "create staff
-card staff a FN:Ann
-card staff b FN:Bob
-card staff c FN:Cy
-card staff a FN:Anna
-remove staff b";
-
 /// By these both devices hear of all that is left.
 const LAST_ASKS: &str = "ask 0
 ask 1
 ask 0
 ask 1";
 
+/// Adds the event that the line says.
+fn push_event(events: &mut Vec<Event>, alloc: Global, line: &str) -> Result<(), NoMemory> {
+    events.push(event_in(alloc, line)?)?;
+    Ok(())
+}
+
 /// The events that the lines say.
 fn events_in(alloc: Global, script: &str) -> Result<Vec<Event>, NoMemory> {
     let mut events = Vec::new(alloc);
     for line in script.lines() {
-        events.push(event_in(alloc, line)?)?;
+        push_event(&mut events, alloc, line)?;
     }
     Ok(events)
 }
@@ -89,11 +87,17 @@ struct Office<S> {
     devices: Vec<Device>,
 }
 
+/// Adds a device that has heard nothing.
+fn push_device(devices: &mut Vec<Device>, alloc: Global) -> Result<(), NoMemory> {
+    devices.push(Device::new(alloc, "staff")?)?;
+    Ok(())
+}
+
 fn new_office<K: Stores>(alloc: Global, kind: &K, filling: &str) -> Result<Office<K::Store>, Stop> {
-    let store = filled_by(alloc, kind, filling)?;
     let mut devices = Vec::new(alloc);
-    devices.push(Device::new(alloc, "staff")?)?;
-    devices.push(Device::new(alloc, "staff")?)?;
+    push_device(&mut devices, alloc)?;
+    push_device(&mut devices, alloc)?;
+    let store = filled_by(alloc, kind, filling)?;
     Ok(Office { store, devices })
 }
 
@@ -109,6 +113,32 @@ fn driven<S: BookStore>(
         return Err(NoMemory);
     }
     drive(alloc, store, devices, events)
+}
+
+/// Drives the events in both offices, and answers whether they are replied alike.
+fn are_driven_alike<S: BookStore>(
+    alloc: Global,
+    office: &mut Office<S>,
+    twin: &mut Office<S>,
+    events: &[Event],
+) -> Result<bool, NoMemory> {
+    let replies = driven(alloc, office, events)?;
+    let others = driven(alloc, twin, events)?;
+    Ok(replies.as_slice() == others.as_slice())
+}
+
+/// Drives the event that is to get a reply, and answers whether it gets this one.
+fn is_driven_to<S: BookStore>(
+    alloc: Global,
+    office: &mut Office<S>,
+    event: &[Event],
+    reply: Option<&Reply>,
+) -> Result<bool, NoMemory> {
+    if reply.is_none() {
+        return Ok(true);
+    }
+    let replies = driven(alloc, office, event)?;
+    Ok(replies.first() == reply)
 }
 
 /// Whether memory ran out for some events, or before all of them.
@@ -137,13 +167,10 @@ fn are_replied_alike<S: BookStore>(
     twin: &mut Office<S>,
     events: &[Event],
     answer: &Result<Vec<Reply>, NoMemory>,
-) -> Result<bool, Stop> {
+) -> Result<bool, NoMemory> {
     let mut alike = true;
     for (place, event) in events.chunks(1).enumerate() {
-        if let Some(reply) = reply_at(answer, place) {
-            let others = driven(alloc, twin, event)?;
-            alike = alike && others.first() == Some(reply);
-        }
+        alike = is_driven_to(alloc, twin, event, reply_at(answer, place))? && alike;
     }
     Ok(alike)
 }
@@ -156,13 +183,11 @@ fn are_replied_alike_again<S: BookStore>(
     twin: &mut Office<S>,
     events: &[Event],
     answer: &Result<Vec<Reply>, NoMemory>,
-) -> Result<bool, Stop> {
+) -> Result<bool, NoMemory> {
     let mut alike = true;
     for (place, event) in events.chunks(1).enumerate() {
         if reply_at(answer, place).is_none() {
-            let replies = driven(alloc, office, event)?;
-            let others = driven(alloc, twin, event)?;
-            alike = alike && replies.as_slice() == others.as_slice();
+            alike = are_driven_alike(alloc, office, twin, event)? && alike;
         }
     }
     Ok(alike)
@@ -204,20 +229,34 @@ fn tell_answer<S: BookStore>(
     twin: &mut Office<S>,
     events: &[Event],
     answer: &Result<Vec<Reply>, NoMemory>,
-) -> Result<(), Stop> {
+) {
     let alloc = desk.alloc();
     let whole = is_whole(office, twin, events, answer);
-    let alike = are_replied_alike(alloc, twin, events, answer)?;
-    let same = have_same_books(alloc, &mut office.store, &mut twin.store)?;
-    let left = same && alike && whole;
-    let alike = are_replied_alike_again(alloc, office, twin, events, answer)?;
-    let again = are_settled_alike(alloc, office, twin)? && alike;
+    let alike = desk.found(are_replied_alike(alloc, twin, events, answer));
+    let same = have_same_books(alloc, &mut office.store, &mut twin.store);
+    let left = desk.found(same) && alike && whole;
+    let alike = desk.found(are_replied_alike_again(alloc, office, twin, events, answer));
+    let again = desk.found(are_settled_alike(alloc, office, twin)) && alike;
     if ran_out(answer) {
         desk.tells_no_memory(left, again, answer);
-        return Ok(());
+    } else {
+        desk.tells_answer(left && again, answer);
     }
-    desk.tells_answer(left && again, answer);
-    Ok(())
+}
+
+/// Drives the events in an office, where nothing happened yet, as in its twin.
+fn tell_events<S: BookStore>(
+    desk: &mut Desk,
+    office: &mut Office<S>,
+    twin: &mut Office<S>,
+    events: &[Event],
+    name: &str,
+    over: &str,
+) {
+    desk.opens_over(name, over);
+    let answer = driven(desk.alloc(), office, events);
+    desk.closes();
+    tell_answer(desk, office, twin, events, &answer);
 }
 
 /// Drives the events over a store with this filling.
@@ -228,18 +267,17 @@ fn tell_driven<K: Stores>(
     filling: &str,
     events: &str,
 ) -> Result<(), Stop> {
-    let alloc = desk.alloc();
-    let name = format!(in alloc; "{name}, {}", kind.suffix())?;
-    if !desk.wants(name.as_str()) {
+    let over = kind.over();
+    if !desk.wants_over(name, over) {
         return Ok(());
     }
+    let alloc = desk.alloc();
+    let events = events_in(alloc, events)?;
     let mut office = new_office(alloc, kind, filling)?;
     let mut twin = new_office(alloc, kind, filling)?;
-    let events = events_in(alloc, events)?;
-    desk.opens(name.as_str());
-    let answer = driven(alloc, &mut office, events.as_slice());
-    desk.closes();
-    tell_answer(desk, &mut office, &mut twin, events.as_slice(), &answer)
+    let events = events.as_slice();
+    tell_events(desk, &mut office, &mut twin, events, name, over);
+    Ok(())
 }
 
 /// Drives lists of events: one from an empty store on, one over a filled store, and one in which a
@@ -254,54 +292,4 @@ pub(crate) fn tell_drive<K: Stores>(desk: &mut Desk, kind: &K) -> Result<(), Sto
         FEW_CARDS,
         FORGETTING_DAYS,
     )
-}
-
-/// What a mirror answers.
-type Answer = Result<Mirrored, Denied>;
-
-/// A mirror of a book, in pages of one entry.
-fn mirrored<S: BookStore>(alloc: Global, store: &mut S) -> Answer {
-    mirror(alloc, store, "staff", 1, 10)
-}
-
-/// Tells what a mirror answered, where `wanted` is what one answers that finds memory. It leaves
-/// the books as they were.
-fn tell_answered<S: BookStore>(
-    desk: &mut Desk,
-    store: &mut S,
-    before: &[Reply],
-    wanted: &Answer,
-    answer: &Answer,
-) -> Result<(), Stop> {
-    let alloc = desk.alloc();
-    let left = books_of(alloc, store)?.as_slice() == before;
-    let again = mirrored(alloc, store);
-    if matches!(answer, Err(Denied::Fault(Fault::Memory))) {
-        desk.tells_no_memory(left, again == *wanted, &again);
-    } else {
-        desk.tells_answer(left && answer == wanted && again == *wanted, answer);
-    }
-    Ok(())
-}
-
-/// What a mirror of the few cards answers, and the books.
-fn mirror_wanted<K: Stores>(alloc: Global, kind: &K) -> Result<(Answer, Vec<Reply>), Stop> {
-    let mut twin = filled_by(alloc, kind, FEW_CARDS)?;
-    let before = books_of(alloc, &mut twin)?;
-    Ok((mirrored(alloc, &mut twin), before))
-}
-
-/// Mirrors a book.
-pub(crate) fn tell_mirror<K: Stores>(desk: &mut Desk, kind: &K) -> Result<(), Stop> {
-    let alloc = desk.alloc();
-    let name = format!(in alloc; "mirror, {}", kind.suffix())?;
-    if !desk.wants(name.as_str()) {
-        return Ok(());
-    }
-    let (wanted, before) = mirror_wanted(alloc, kind)?;
-    let mut store = filled_by(alloc, kind, FEW_CARDS)?;
-    desk.opens(name.as_str());
-    let answer = mirrored(alloc, &mut store);
-    desk.closes();
-    tell_answered(desk, &mut store, before.as_slice(), &wanted, &answer)
 }

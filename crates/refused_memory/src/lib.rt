@@ -1,26 +1,20 @@
-//! Calls of the libraries, each in a window in which allocations may be refused, and what stands
-//! behind it.
+//! Calls over stores of two kinds, each in a window in which allocations may be refused; and these
+//! with the calls of `memory_desk`, as they are and with little memory.
 #![tactic(auto)]
 
-mod books;
 mod cases;
-mod desk;
-mod devices;
 mod events;
-mod hoard;
 mod little;
 mod migrating;
 mod opening;
-mod outcome;
-mod pages;
+mod paths;
 mod requests;
-mod stop;
-mod texts;
+mod tables;
 
 use crate::cases::tell_cases;
-use crate::desk::Desk;
 use crate::little::tell_little;
-pub use crate::stop::Stop;
+use memory_desk::Desk;
+pub use memory_desk::Stop;
 
 /// Runs the case of the name, or `all` of them. Allocations may be refused from outside.
 pub fn tell_chosen(rt: &HostRuntime, chosen: &str) -> Result<(), Stop> {

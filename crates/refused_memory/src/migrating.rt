@@ -1,13 +1,12 @@
 //! Tables of the first schema, which are carried into the second.
 
-use crate::books::{books_of, limits};
-use crate::desk::Desk;
-use crate::pages::Pages;
-use crate::stop::Stop;
+use crate::opening::{adopted, opened_books};
+use crate::tables::Tables;
 use book_migration::migrate_connection;
 use book_service::Reply;
-use book_store::{OpenFault, SqlStore};
-use sqlite::{Alter, Connection, params};
+use book_store::OpenFault;
+use memory_desk::{Desk, Stop, limits};
+use sqlite::{Error, params};
 use std::alloc::Global;
 
 /// The tables as the first schema declared them, and two books in them.
@@ -41,54 +40,61 @@ const NUMBERS: [&str; 5] = [
     "SELECT SUM(number) FROM book",
 ];
 
-fn laid<P: Pages>(alloc: Global) -> Result<Connection<P>, Stop> {
-    let mut connection = P::empty_database(alloc)?;
-    connection.execute_batch(FIRST)?;
-    Ok(connection)
+/// What carrying the tables answers: how many members were carried, or why none was.
+type Answer = Result<u64, OpenFault>;
+
+fn laid(alloc: Global) -> Result<Tables, Stop> {
+    let mut tables = Tables::open_in_memory(alloc)?;
+    tables.execute_batch(FIRST).or(Err(Stop))?;
+    Ok(tables)
 }
 
 /// What carrying the tables answers, outside a transaction.
-fn migrated<P: Alter>(alloc: Global, connection: &mut Connection<P>) -> Result<u64, OpenFault> {
-    if !connection.is_autocommit() {
+fn migrated(alloc: Global, tables: &mut Tables) -> Answer {
+    if !tables.is_autocommit() {
         return Err(OpenFault::Store);
     }
-    migrate_connection(alloc, connection)
+    migrate_connection(alloc, tables)
+}
+
+/// The number that the query asks for.
+fn number_of(tables: &mut Tables, query: &str) -> Result<i64, Error> {
+    tables.query_row(query, params![])?.get(0)
+}
+
+/// Adds the number that the query asks for.
+fn push_number(numbers: &mut Vec<i64>, tables: &mut Tables, query: &str) -> Result<(), Stop> {
+    let number = number_of(tables, query).or(Err(Stop))?;
+    numbers.push(number)?;
+    Ok(())
 }
 
 /// How many tables there are, and the numbers.
-fn numbers_of<P: Alter>(alloc: Global, connection: &mut Connection<P>) -> Result<Vec<i64>, Stop> {
+fn numbers_of(alloc: Global, tables: &mut Tables) -> Result<Vec<i64>, Stop> {
     let mut numbers = Vec::new(alloc);
     for query in NUMBERS {
-        let number: i64 = connection.query_row(query, params![])?.get(0)?;
-        numbers.push(number)?;
+        push_number(&mut numbers, tables, query)?;
     }
-    let tables = connection.schema().tables.len();
-    numbers.push(i64::try_from(tables).unwrap_or(i64::MAX))?;
+    let count = tables.schema().tables.len();
+    numbers.push(i64::try_from(count).unwrap_or(i64::MAX))?;
     Ok(numbers)
 }
 
 /// The books of the carried tables.
-fn carried_books<P: Alter + Drop>(
-    alloc: Global,
-    connection: Connection<P>,
-) -> Result<Vec<Reply>, Stop> {
-    if !connection.is_autocommit() {
-        return Err(Stop);
-    }
-    let mut store = SqlStore::adopt(alloc, connection, limits()?)?;
-    books_of(alloc, &mut store)
+fn carried_books(alloc: Global, tables: Tables) -> Result<Vec<Reply>, Stop> {
+    opened_books(alloc, adopted(alloc, limits()?, tables))?.or(Err(Stop))
 }
 
 /// What carrying the tables gives where nothing is refused.
 #[derive(Drop)]
 struct Wanted {
     before: Vec<i64>,
-    answer: Result<u64, OpenFault>,
+    answer: Answer,
     after: Vec<Reply>,
 }
 
-fn wanted_of<P: Pages>(alloc: Global) -> Result<Wanted, Stop> {
-    let mut twin = laid::<P>(alloc)?;
+fn wanted_of(alloc: Global) -> Result<Wanted, Stop> {
+    let mut twin = laid(alloc)?;
     let before = numbers_of(alloc, &mut twin)?;
     let answer = migrated(alloc, &mut twin);
     let after = carried_books(alloc, twin)?;
@@ -99,52 +105,38 @@ fn wanted_of<P: Pages>(alloc: Global) -> Result<Wanted, Stop> {
     })
 }
 
-/// Tells what came of carrying the tables.
-fn tell_carried<P: Alter + Drop>(
-    desk: &mut Desk,
-    connection: Connection<P>,
-    wanted: &Wanted,
-    answer: Result<u64, OpenFault>,
-) -> Result<(), Stop> {
-    let books = carried_books(desk.alloc(), connection)?;
-    let same = books.as_slice() == wanted.after.as_slice();
-    desk.tells_answer(answer == wanted.answer && same, &answer);
-    Ok(())
+/// Whether the books of the carried tables are these.
+fn has_carried(alloc: Global, tables: Tables, books: &[Reply]) -> Result<bool, Stop> {
+    Ok(carried_books(alloc, tables)?.as_slice() == books)
 }
 
-/// Tells what is left where memory ran out, and carries the tables again.
-fn tell_again<P: Alter + Drop>(
-    desk: &mut Desk,
-    connection: Connection<P>,
-    wanted: &Wanted,
-) -> Result<(), Stop> {
+/// Carries the tables in a window, and again where memory ran out.
+fn tell_carried(desk: &mut Desk, wanted: &Wanted) -> Result<(), Stop> {
     let alloc = desk.alloc();
-    let mut connection = connection;
-    let left = numbers_of(alloc, &mut connection)?;
-    let again = migrated(alloc, &mut connection) == wanted.answer;
-    let books = carried_books(alloc, connection)?;
-    let does_again = again && books.as_slice() == wanted.after.as_slice();
-    desk.tells_no_memory(
-        left.as_slice() == wanted.before.as_slice(),
-        does_again,
-        &left,
-    );
+    let mut tables = laid(alloc)?;
+    desk.opens("migrate_connection");
+    let mut answer = migrated(alloc, &mut tables);
+    desk.closes();
+    let left = numbers_of(alloc, &mut tables)?;
+    let ran_out = matches!(&answer, Err(OpenFault::Memory));
+    if ran_out {
+        answer = migrated(alloc, &mut tables);
+    }
+    let has_books = desk.found(has_carried(alloc, tables, wanted.after.as_slice()));
+    let same = has_books && answer == wanted.answer;
+    if ran_out {
+        desk.tells_no_memory(left.as_slice() == wanted.before.as_slice(), same, &left);
+    } else {
+        desk.tells_answer(same, &answer);
+    }
     Ok(())
 }
 
 /// Carries the tables of the first schema.
-pub(crate) fn tell_migrating<P: Pages>(desk: &mut Desk) -> Result<(), Stop> {
+pub(crate) fn tell_migrating(desk: &mut Desk) -> Result<(), Stop> {
     if !desk.wants("migrate_connection") {
         return Ok(());
     }
-    let alloc = desk.alloc();
-    let wanted = wanted_of::<P>(alloc)?;
-    let mut connection = laid::<P>(alloc)?;
-    desk.opens("migrate_connection");
-    let answer = migrated(alloc, &mut connection);
-    desk.closes();
-    if matches!(&answer, Err(OpenFault::Memory)) {
-        return tell_again(desk, connection, &wanted);
-    }
-    tell_carried(desk, connection, &wanted, answer)
+    let wanted = wanted_of(desk.alloc())?;
+    tell_carried(desk, &wanted)
 }

@@ -1,21 +1,20 @@
 //! What reads and writes texts, and keeps no state.
 
-use crate::books::{InMemory, filled};
 use crate::desk::Desk;
 use crate::stop::Stop;
+use crate::stores::{InMemory, filled};
 use base_types::NoMemory;
 use card_core::{GroupFault, expand};
 use command_line::{LineFault, read_order};
 use csv_cards::{CsvCause, CsvFault, Form, read_rows, write_rows};
-use order_doing::first_path;
 use page_json::{ReportFault, read_report, write_report};
 use std::alloc::Global;
 use std::collections::BTreeMap;
-use sync_core::{BookStore, Denied, Fault, Page};
+use sync_core::{BookStore, Page, PlainStore};
 use vcard_text::{Card, CardFault, read_card, write_card};
 
 /// A card with a fold, a group, parameters in quotes and without, and a line that is to be folded.
-const CARD: &str = "BEGIN:VCARD\r\nVERSION:4.0\r\nUID:a\r\nfn;LANGUAGE=en:An\r\n n Example\r\n\
+pub const CARD: &str = "BEGIN:VCARD\r\nVERSION:4.0\r\nUID:a\r\nfn;LANGUAGE=en:An\r\n n Example\r\n\
     home.TEL;TYPE=\"home,voice\";PREF=1:+1 555 0100\r\nN:Example;Ann;;;\r\n\
     NOTE:She is in the office on Mondays and Tuesdays\\, and elsewhere on the other days\r\n\
     END:VCARD\r\n";
@@ -47,7 +46,7 @@ fn read_card_case(desk: &mut Desk) {
     desk.closes();
     let again = read_card(alloc, CARD.as_bytes());
     let ran_out = matches!(&answer, Err(CardFault::Memory));
-    desk.tells_alone(&wanted, ran_out, &answer, &again);
+    desk.tells_alone(wanted, ran_out, answer, again);
 }
 
 fn write_card_case(desk: &mut Desk) -> Result<(), Stop> {
@@ -61,22 +60,8 @@ fn write_card_case(desk: &mut Desk) -> Result<(), Stop> {
     let answer = write_card(alloc, &card);
     desk.closes();
     let again = write_card(alloc, &card);
-    desk.tells_alone(&wanted, answer.is_err(), &answer, &again);
+    desk.tells_alone(wanted, answer.is_err(), answer, again);
     Ok(())
-}
-
-fn first_path_case(desk: &mut Desk) {
-    if !desk.wants("first_path") {
-        return;
-    }
-    let alloc = desk.alloc();
-    let wanted = first_path(alloc, CARD.as_bytes());
-    desk.opens("first_path");
-    let answer = first_path(alloc, CARD.as_bytes());
-    desk.closes();
-    let again = first_path(alloc, CARD.as_bytes());
-    let ran_out = matches!(&answer, Err(Denied::Fault(Fault::Memory)));
-    desk.tells_alone(&wanted, ran_out, &answer, &again);
 }
 
 fn read_rows_case(desk: &mut Desk, name: &str, rows: &str) {
@@ -90,7 +75,7 @@ fn read_rows_case(desk: &mut Desk, name: &str, rows: &str) {
     desk.closes();
     let again = read_rows(alloc, rows.as_bytes());
     let ran_out = is_out_of_memory(&answer);
-    desk.tells_alone(&wanted, ran_out, &answer, &again);
+    desk.tells_alone(wanted, ran_out, answer, again);
 }
 
 fn is_out_of_memory(read: &Result<Vec<Card>, CsvFault>) -> bool {
@@ -100,13 +85,24 @@ fn is_out_of_memory(read: &Result<Vec<Card>, CsvFault>) -> bool {
     }
 }
 
+/// The card of the lines.
+fn card_of(alloc: Global, lines: &str) -> Result<Card, Stop> {
+    let text = format!(in alloc; "BEGIN:VCARD\r\nVERSION:4.0\r\n{lines}END:VCARD\r\n")?;
+    Ok(read_card(alloc, text.as_bytes())?)
+}
+
+/// Adds the card of the lines, by its UID.
+fn insert_card(cards: &mut BTreeMap<String, Card>, alloc: Global, lines: &str) -> Result<(), Stop> {
+    let card = card_of(alloc, lines)?;
+    cards.insert(String::from_str(alloc, card.uid())?, card)?;
+    Ok(())
+}
+
 /// The cards of the groups, by their UIDs.
 fn group_cards(alloc: Global) -> Result<BTreeMap<String, Card>, Stop> {
     let mut cards = BTreeMap::new(alloc);
     for lines in GROUPS {
-        let text = format!(in alloc; "BEGIN:VCARD\r\nVERSION:4.0\r\n{lines}END:VCARD\r\n")?;
-        let card = read_card(alloc, text.as_bytes())?;
-        cards.insert(String::from_str(alloc, card.uid())?, card)?;
+        insert_card(&mut cards, alloc, lines)?;
     }
     Ok(cards)
 }
@@ -122,7 +118,7 @@ fn write_rows_case(desk: &mut Desk, name: &str, form: Form) -> Result<(), Stop> 
     let answer = write_rows(alloc, &cards, form);
     desk.closes();
     let again = write_rows(alloc, &cards, form);
-    desk.tells_alone(&wanted, answer.is_err(), &answer, &again);
+    desk.tells_alone(wanted, answer.is_err(), answer, again);
     Ok(())
 }
 
@@ -138,16 +134,26 @@ fn expand_case(desk: &mut Desk) -> Result<(), Stop> {
     desk.closes();
     let again = expand(alloc, &cards, "g");
     let ran_out = matches!(&answer, Err(GroupFault::Memory));
-    desk.tells_alone(&wanted, ran_out, &answer, &again);
+    desk.tells_alone(wanted, ran_out, answer, again);
     Ok(())
 }
 
-/// A page of cards and of one that went.
-fn some_page(alloc: Global) -> Result<Page, Stop> {
-    let mut store = filled(alloc, &InMemory)?;
+/// A page of the filled store, of cards and of one that went.
+fn page_of(store: &mut PlainStore) -> Result<Page, Stop> {
     let from = store.report("staff", None, Some(1))?.token();
     store.remove("staff", "c", None)?;
     Ok(store.report("staff", Some(from), None)?)
+}
+
+fn some_page(alloc: Global) -> Result<Page, Stop> {
+    let mut store = filled(alloc, &InMemory)?;
+    page_of(&mut store)
+}
+
+/// The text of a page.
+fn some_report(alloc: Global) -> Result<Vec<u8>, Stop> {
+    let page = some_page(alloc)?;
+    Ok(write_report(alloc, &page)?)
 }
 
 fn write_report_case(desk: &mut Desk) -> Result<(), Stop> {
@@ -161,7 +167,7 @@ fn write_report_case(desk: &mut Desk) -> Result<(), Stop> {
     let answer = write_report(alloc, &page);
     desk.closes();
     let again = write_report(alloc, &page);
-    desk.tells_alone(&wanted, answer.is_err(), &answer, &again);
+    desk.tells_alone(wanted, answer.is_err(), answer, again);
     Ok(())
 }
 
@@ -170,15 +176,14 @@ fn read_report_case(desk: &mut Desk) -> Result<(), Stop> {
         return Ok(());
     }
     let alloc = desk.alloc();
-    let page = some_page(alloc)?;
-    let text = write_report(alloc, &page)?;
+    let text = some_report(alloc)?;
     let wanted = read_report(alloc, text.as_slice());
     desk.opens("read_report");
     let answer = read_report(alloc, text.as_slice());
     desk.closes();
     let again = read_report(alloc, text.as_slice());
     let ran_out = matches!(&answer, Err(ReportFault::Memory));
-    desk.tells_alone(&wanted, ran_out, &answer, &again);
+    desk.tells_alone(wanted, ran_out, answer, again);
     Ok(())
 }
 
@@ -202,19 +207,18 @@ fn read_order_case(desk: &mut Desk) -> Result<(), Stop> {
     desk.closes();
     let again = read_order(alloc, words.as_slice());
     let ran_out = matches!(&answer, Err(LineFault::Memory));
-    desk.tells_alone(&wanted, ran_out, &answer, &again);
-    // An order has eleven forms. Where it goes by a call, the prover needn't go through them.
-    drop(wanted);
-    drop(answer);
-    drop(again);
+    desk.tells_alone(wanted, ran_out, answer, again);
     Ok(())
 }
 
-/// Runs the chosen cases of texts.
-pub(crate) fn tell_texts(desk: &mut Desk) -> Result<(), Stop> {
+/// Runs the chosen cases of one card's text.
+pub fn tell_cards(desk: &mut Desk) -> Result<(), Stop> {
     read_card_case(desk);
-    write_card_case(desk)?;
-    first_path_case(desk);
+    write_card_case(desk)
+}
+
+/// Runs the chosen cases of other texts.
+pub fn tell_texts(desk: &mut Desk) -> Result<(), Stop> {
     read_rows_case(desk, "read_rows, of columns", COLUMNS);
     read_rows_case(desk, "read_rows, of cards", ROWS);
     write_rows_case(desk, "write_rows, as columns", Form::Columns)?;

@@ -61,14 +61,26 @@ fn take_all(alloc: Global, blocks: &mut Blocks) -> Result<(), Stop> {
     Ok(())
 }
 
-/// Blocks of so many octets together.
-fn blocks_of(alloc: Global, octets: usize) -> Result<Blocks, Stop> {
-    let mut blocks = Vec::new(alloc);
+/// Takes all memory but the room.
+fn take_beside_room(alloc: Global, blocks: &mut Blocks) -> Result<(), Stop> {
+    let room: Vec<u8> = Vec::with_capacity(alloc, ROOM)?;
+    let taken = take_all(alloc, blocks);
+    drop(room);
+    taken
+}
+
+/// Adds a block of so many octets.
+fn push_block(blocks: &mut Blocks, alloc: Global, octets: usize) -> Result<(), Stop> {
+    blocks.push(Vec::with_capacity(alloc, octets)?)?;
+    Ok(())
+}
+
+/// Adds blocks of so many octets together.
+fn push_blocks(blocks: &mut Blocks, alloc: Global, octets: usize) -> Result<(), Stop> {
     for _ in 0..octets / LEFT_IN_ONE {
-        blocks.push(Vec::with_capacity(alloc, LEFT_IN_ONE)?)?;
+        push_block(blocks, alloc, LEFT_IN_ONE)?;
     }
-    blocks.push(Vec::with_capacity(alloc, octets % LEFT_IN_ONE)?)?;
-    Ok(blocks)
+    push_block(blocks, alloc, octets % LEFT_IN_ONE)
 }
 
 impl Hoard {
@@ -76,9 +88,7 @@ impl Hoard {
     pub(crate) fn new(alloc: Global) -> Result<Hoard, Stop> {
         let mut always = Vec::with_capacity(alloc, BLOCKS_MAX)?;
         let in_window = Vec::with_capacity(alloc, BLOCKS_MAX)?;
-        let room: Vec<u8> = Vec::with_capacity(alloc, ROOM)?;
-        take_all(alloc, &mut always)?;
-        drop(room);
+        take_beside_room(alloc, &mut always)?;
         Ok(Hoard {
             alloc,
             always,
@@ -88,10 +98,11 @@ impl Hoard {
 
     /// From now on there is no memory but so many octets, give or take what an allocator needs.
     pub(crate) fn leave(&mut self, octets: usize) -> Result<(), Stop> {
-        let left = blocks_of(self.alloc, octets)?;
-        take_all(self.alloc, &mut self.in_window)?;
+        let mut left = Vec::new(self.alloc);
+        push_blocks(&mut left, self.alloc, octets)?;
+        let taken = take_all(self.alloc, &mut self.in_window);
         drop(left);
-        Ok(())
+        taken
     }
 
     /// From now on there is the room again.

@@ -1,15 +1,13 @@
 //! Why no case is run any more.
 
 use base_types::NoMemory;
-use book_store::OpenFault;
-use sqlite::Error;
 use std::alloc::{AllocError, AllocFailed};
 use std::io;
 use sync_core::Denied;
 use vcard_text::CardFault;
 
 /// What prepares or checks a case failed, where nothing is refused.
-#[derive(Clone, Copy, Debug)]
+#[derive(Clone, Copy)]
 pub struct Stop;
 
 impl From<NoMemory> for Stop {
@@ -44,18 +42,6 @@ impl From<Denied> for Stop {
 
 impl From<CardFault> for Stop {
     fn from(_fault: CardFault) -> Stop {
-        Stop
-    }
-}
-
-impl From<OpenFault> for Stop {
-    fn from(_fault: OpenFault) -> Stop {
-        Stop
-    }
-}
-
-impl From<Error> for Stop {
-    fn from(_error: Error) -> Stop {
         Stop
     }
 }

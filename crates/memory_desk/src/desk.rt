@@ -15,7 +15,7 @@ use std::mem;
 
 /// What is chosen, and where it is told.
 #[derive(Drop)]
-pub(crate) struct Desk<'a> {
+pub struct Desk<'a> {
     rt: &'a HostRuntime,
     chosen: String,
     /// The cases that were run and told, in their order.
@@ -25,12 +25,12 @@ pub(crate) struct Desk<'a> {
     hoard: Option<Hoard>,
     /// How many octets the hoard leaves in a window.
     left: usize,
-    /// Whether a window couldn't be opened, or something couldn't be told.
+    /// Whether a window couldn't be opened, or something couldn't be looked at or told.
     stopped: bool,
 }
 
 impl<'a> Desk<'a> {
-    pub(crate) fn new(rt: &'a HostRuntime) -> Desk<'a> {
+    pub fn new(rt: &'a HostRuntime) -> Desk<'a> {
         let alloc = rt.alloc();
         Desk {
             rt,
@@ -43,29 +43,35 @@ impl<'a> Desk<'a> {
         }
     }
 
-    pub(crate) fn alloc(&self) -> Global {
+    pub fn alloc(&self) -> Global {
         self.rt.alloc()
     }
 
     /// Chooses the case of this name, or `all` of them.
-    pub(crate) fn choose(&mut self, name: &str) -> Result<(), Stop> {
+    pub fn choose(&mut self, name: &str) -> Result<(), Stop> {
         self.chosen = String::from_str(self.alloc(), name)?;
         Ok(())
     }
 
     /// Whether the case is to be run.
-    pub(crate) fn wants(&self, name: &str) -> bool {
-        self.chosen.as_str() == "all" || self.chosen.as_str() == name
+    pub fn wants(&self, name: &str) -> bool {
+        self.wants_over(name, "")
+    }
+
+    /// Whether the case is to be run over stores of a kind, which ends its name.
+    pub fn wants_over(&self, name: &str, over: &str) -> bool {
+        let chosen = self.chosen.as_str();
+        chosen == "all" || chosen.strip_prefix(name) == Some(over)
     }
 
     /// The cases that were told so far.
-    pub(crate) fn take_names(&mut self) -> Vec<String> {
+    pub fn take_names(&mut self) -> Vec<String> {
         let none = Vec::new(self.alloc());
         mem::replace(&mut self.names, none)
     }
 
     /// From now on each window has so many octets, and nothing is told but findings.
-    pub(crate) fn leave(&mut self, octets: usize) -> Result<(), Stop> {
+    pub fn leave(&mut self, octets: usize) -> Result<(), Stop> {
         if self.hoard.is_none() {
             self.hoard = Some(Hoard::new(self.alloc())?);
         }
@@ -74,7 +80,7 @@ impl<'a> Desk<'a> {
     }
 
     /// What came of the last case.
-    pub(crate) fn outcome(&self) -> Outcome {
+    pub fn outcome(&self) -> Outcome {
         self.outcome
     }
 
@@ -85,27 +91,46 @@ impl<'a> Desk<'a> {
         }
     }
 
-    /// Whether all windows were opened, and all was told.
-    pub(crate) fn told(&self) -> Result<(), Stop> {
+    /// Whether it was found, where looking didn't fail; that it did is remembered.
+    pub fn found<E: Drop>(&mut self, found: Result<bool, E>) -> bool {
+        match found {
+            Ok(found) => found,
+            Err(_) => {
+                self.stopped = true;
+                false
+            }
+        }
+    }
+
+    /// Whether all windows were opened, and all was looked at and told.
+    pub fn told(&self) -> Result<(), Stop> {
         if self.stopped { Err(Stop) } else { Ok(()) }
     }
 
     /// Opens the window of the case. From now on allocations may be refused.
-    pub(crate) fn opens(&mut self, name: &str) {
-        let opened = self.opens_window(name);
+    pub fn opens(&mut self, name: &str) {
+        self.opens_over(name, "");
+    }
+
+    /// Opens the window of the case over stores of a kind, which ends its name.
+    pub fn opens_over(&mut self, name: &str, over: &str) {
+        let opened = match &mut self.hoard {
+            Some(hoard) => hoard.leave(self.left),
+            None => self.opens_told(name, over),
+        };
         self.notes(opened);
     }
 
-    fn opens_window(&mut self, name: &str) -> Result<(), Stop> {
-        if let Some(hoard) = &mut self.hoard {
-            return hoard.leave(self.left);
-        }
-        self.names.push(String::from_str(self.rt.alloc(), name)?)?;
-        self.write(name)
+    /// Remembers the case's name, and tells it, which opens a window from outside.
+    fn opens_told(&mut self, name: &str, over: &str) -> Result<(), Stop> {
+        let name = format!(in self.alloc(); "{name}{over}")?;
+        self.names.push(name)?;
+        let name = self.names.last().ok_or(Stop)?;
+        self.write(name.as_str())
     }
 
     /// From now on nothing is refused.
-    pub(crate) fn closes(&mut self) {
+    pub fn closes(&mut self) {
         if let Some(hoard) = &mut self.hoard {
             hoard.give_back();
             return;
@@ -114,7 +139,7 @@ impl<'a> Desk<'a> {
         self.notes(closed);
     }
 
-    pub(crate) fn write(&self, text: &str) -> Result<(), Stop> {
+    pub fn write(&self, text: &str) -> Result<(), Stop> {
         self.rt.stdout().write_all(text.as_bytes())?;
         Ok(())
     }
@@ -129,41 +154,52 @@ impl<'a> Desk<'a> {
 
     /// Tells a call that didn't run out of memory, and gave what it gives where nothing is refused,
     /// or something else.
-    pub(crate) fn tells_answer<T: Debug>(&mut self, same: bool, answer: &T) {
+    pub fn tells_answer<T: Debug>(&mut self, same: bool, answer: &T) {
         if same {
-            return self.ends(Outcome::Same);
+            self.ends(Outcome::Same);
+        } else {
+            self.ends(Outcome::AnotherAnswer);
+            self.tells_finding(answer);
         }
-        self.ends(Outcome::AnotherAnswer);
-        self.tells_finding(answer);
     }
 
     /// Tells a call that ran out of memory: whether all was left as it was, and whether it answered
     /// and left the same when it was asked again.
-    pub(crate) fn tells_no_memory<T: Debug>(&mut self, left: bool, again: bool, state: &T) {
-        if left && again {
-            return self.ends(Outcome::OutOfMemory);
+    pub fn tells_no_memory<T: Debug>(&mut self, left: bool, again: bool, state: &T) {
+        self.ends(Outcome::without_memory(left, again));
+        if self.outcome.is_finding() {
+            self.tells_finding(state);
         }
-        if left {
-            self.ends(Outcome::AnotherThen);
-        } else {
-            self.ends(Outcome::Changed);
-        }
-        self.tells_finding(state);
     }
 
-    /// Tells a call that is asked alone: what it answers where nothing is refused, what it
-    /// answered, and what it answers again.
-    pub(crate) fn tells_alone<T: PartialEq + Debug>(
+    /// Tells a call that is to change nothing: whether all was left as it was, what it answers where
+    /// nothing is refused, what it answered, and what it answers again. These come by value: where
+    /// one goes as a value of some type, the prover needn't go through its forms.
+    pub fn tells_asked<T: PartialEq + Debug + Drop>(
         &mut self,
-        wanted: &T,
+        left: bool,
+        wanted: T,
         ran_out: bool,
-        answer: &T,
-        again: &T,
+        answer: T,
+        again: T,
     ) {
+        let gives_again = again == wanted;
         if ran_out {
-            return self.tells_no_memory(true, again == wanted, again);
+            self.tells_no_memory(left, gives_again, &again);
+        } else {
+            self.tells_answer(left && answer == wanted && gives_again, &answer);
         }
-        self.tells_answer(answer == wanted && again == wanted, answer);
+    }
+
+    /// Tells a call that has nothing to change.
+    pub fn tells_alone<T: PartialEq + Debug + Drop>(
+        &mut self,
+        wanted: T,
+        ran_out: bool,
+        answer: T,
+        again: T,
+    ) {
+        self.tells_asked(true, wanted, ran_out, answer, again);
     }
 
     fn tells_finding<T: Debug>(&mut self, found: &T) {

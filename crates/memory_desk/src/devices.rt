@@ -1,11 +1,17 @@
 //! A device that applies a page of three entries.
 
-use crate::books::{InMemory, filled};
 use crate::desk::Desk;
 use crate::stop::Stop;
+use crate::stores::{InMemory, filled, replies_to};
 use base_types::NoMemory;
 use std::alloc::Global;
 use sync_core::{BookStore, Device, Page, PlainStore};
+
+/// Changes of the book: a card comes, one goes and is put again, and one goes.
+const CHANGES: &str = "move clients x staff
+remove staff a
+card staff a FN:Ann\\nEMAIL:ann@office.invalid
+remove staff c";
 
 /// A device that applied the pages.
 fn device_after(alloc: Global, pages: &[&Page]) -> Result<Device, NoMemory> {
@@ -14,6 +20,12 @@ fn device_after(alloc: Global, pages: &[&Page]) -> Result<Device, NoMemory> {
         device.apply(*page)?;
     }
     Ok(device)
+}
+
+/// Whether the device holds what the pages made of another one's copy.
+fn has_copy_after(alloc: Global, pages: &[&Page], device: &Device) -> Result<bool, NoMemory> {
+    let other = device_after(alloc, pages)?;
+    Ok(device.copy() == other.copy())
 }
 
 /// Whether the device, which has heard the first page, holds what so many first entries of the next
@@ -26,8 +38,7 @@ fn has_entries(
     device: &Device,
 ) -> Result<bool, Stop> {
     let front = store.report("staff", Some(first.token()), Some(count))?;
-    let other = device_after(alloc, &[first, &front])?;
-    Ok(device.copy() == other.copy())
+    Ok(has_copy_after(alloc, &[first, &front], device)?)
 }
 
 /// Whether the device, which has heard the first page, holds what some first entries of the next
@@ -38,12 +49,9 @@ fn has_first_entries(
     first: &Page,
     device: &Device,
 ) -> Result<bool, Stop> {
-    let heard = device_after(alloc, &[first])?;
-    let mut found = device.copy() == heard.copy();
-    drop(heard);
+    let mut found = has_copy_after(alloc, &[first], device)?;
     for count in [1, 2, 3] {
-        let has = has_entries(alloc, store, first, count, device)?;
-        found = found || has;
+        found = has_entries(alloc, store, first, count, device)? || found;
     }
     Ok(found && device.token() == Some(first.token()))
 }
@@ -56,21 +64,16 @@ struct Pages {
     next: Page,
 }
 
-/// Changes the book by a card that comes, one that goes and is put again, and one that goes.
-fn change(store: &mut PlainStore) -> Result<(), Stop> {
-    store.move_card("clients", "staff", "x", None)?;
-    let moved = store.get("staff", "a")?;
-    store.remove("staff", "a", None)?;
-    store.put("staff", &moved.card, None)?;
-    store.remove("staff", "c", None)?;
-    Ok(())
+/// The page of the book since this one, behind its changes.
+fn next_page(alloc: Global, store: &mut PlainStore, first: &Page) -> Result<Page, Stop> {
+    replies_to(alloc, store, CHANGES)?;
+    Ok(store.report("staff", Some(first.token()), None)?)
 }
 
 fn new_pages(alloc: Global) -> Result<Pages, Stop> {
     let mut store = filled(alloc, &InMemory)?;
     let first = store.report("staff", None, None)?;
-    change(&mut store)?;
-    let next = store.report("staff", Some(first.token()), None)?;
+    let next = next_page(alloc, &mut store, &first)?;
     Ok(Pages { store, first, next })
 }
 
@@ -85,25 +88,30 @@ fn tell_applied(
     let wanted = device_after(alloc, &[&pages.first, &pages.next])?;
     if is_applied {
         desk.tells_answer(*device == wanted, device);
-        return Ok(());
+    } else {
+        let left = has_first_entries(alloc, &mut pages.store, &pages.first, device);
+        let left = desk.found(left);
+        let applied = device.apply(&pages.next).is_ok();
+        desk.tells_no_memory(left, applied && *device == wanted, device);
     }
-    let left = has_first_entries(alloc, &mut pages.store, &pages.first, device)?;
-    let applied = device.apply(&pages.next).is_ok();
-    desk.tells_no_memory(left, applied && *device == wanted, device);
     Ok(())
+}
+
+/// Applies the next page in a window, to a device that has heard the first.
+fn tell_pages(desk: &mut Desk, pages: &mut Pages) -> Result<(), Stop> {
+    let mut device = device_after(desk.alloc(), &[&pages.first])?;
+    desk.opens("Device::apply");
+    let is_applied = device.apply(&pages.next).is_ok();
+    desk.closes();
+    tell_applied(desk, pages, &mut device, is_applied)
 }
 
 /// Applies a page of an edited card, a new one and one that went. Where memory runs out, the device
 /// has to hold some first entries of it.
-pub(crate) fn tell_device(desk: &mut Desk) -> Result<(), Stop> {
+pub fn tell_device(desk: &mut Desk) -> Result<(), Stop> {
     if !desk.wants("Device::apply") {
         return Ok(());
     }
-    let alloc = desk.alloc();
-    let mut pages = new_pages(alloc)?;
-    let mut device = device_after(alloc, &[&pages.first])?;
-    desk.opens("Device::apply");
-    let answer = device.apply(&pages.next);
-    desk.closes();
-    tell_applied(desk, &mut pages, &mut device, answer.is_ok())
+    let mut pages = new_pages(desk.alloc())?;
+    tell_pages(desk, &mut pages)
 }

@@ -2,7 +2,7 @@
 
 /// What came of a case.
 #[derive(Clone, Copy, PartialEq)]
-pub(crate) enum Outcome {
+pub enum Outcome {
     /// The call gave what it gives where nothing is refused.
     Same,
     /// It ran out of memory and changed nothing, and gave the same when it was asked again.
@@ -16,8 +16,18 @@ pub(crate) enum Outcome {
 }
 
 impl Outcome {
+    /// What came of a call that ran out of memory: whether all was left as it was, and whether it
+    /// gave the same when it was asked again.
+    pub(crate) fn without_memory(left: bool, again: bool) -> Outcome {
+        match (left, again) {
+            (true, true) => Outcome::OutOfMemory,
+            (true, false) => Outcome::AnotherThen,
+            (false, _) => Outcome::Changed,
+        }
+    }
+
     /// The line that tells it, behind the case's name.
-    pub(crate) fn line(self) -> &'static str {
+    pub fn line(self) -> &'static str {
         match self {
             Outcome::Same => "as it is without refusals\n",
             Outcome::OutOfMemory => "out of memory, nothing changed, asked again gives the same\n",
@@ -29,12 +39,12 @@ impl Outcome {
         }
     }
 
-    pub(crate) fn is_finding(self) -> bool {
+    pub fn is_finding(self) -> bool {
         !matches!(self, Outcome::Same | Outcome::OutOfMemory)
     }
 
     /// This and the next together: a finding, or whether memory ran out.
-    pub(crate) fn and(self, next: Outcome) -> Outcome {
+    pub fn and(self, next: Outcome) -> Outcome {
         if self.is_finding() || next == Outcome::Same {
             self
         } else {
