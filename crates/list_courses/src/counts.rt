@@ -63,6 +63,7 @@ impl StopCounts {
         ]
     }
 
+    /// All of them.
     pub fn sum(self) -> u64 {
         let mut sum = 0u64;
         for (_, count) in self.parts() {
@@ -115,6 +116,7 @@ pub const NOTHING_LEFT: LeftCounts = LeftCounts {
 };
 
 impl LeftCounts {
+    /// Counts one more.
     pub fn add(&mut self, left: Left) {
         match left {
             Left::Before => self.before = self.before.saturating_add(1),
@@ -122,6 +124,7 @@ impl LeftCounts {
         }
     }
 
+    /// Counts one more that left something else.
     pub fn add_wrong(&mut self) {
         self.wrong = self.wrong.saturating_add(1);
     }

@@ -11,7 +11,9 @@ use vcard_text::NoMemory;
 /// A command, what it is replied, and what the books are behind it.
 #[derive(Drop)]
 pub struct Step {
+    /// The command.
     pub command: Command,
+    /// What it is replied over a store in memory.
     pub reply: Reply,
     told: String,
 }
@@ -19,8 +21,11 @@ pub struct Step {
 /// A list over a store with these limits.
 #[derive(Drop)]
 pub struct Course {
+    /// What texts and replies are made with.
     pub alloc: Global,
+    /// The limits of the store.
     pub limits: Limits,
+    /// The commands, in their order.
     pub steps: Vec<Step>,
 }
 

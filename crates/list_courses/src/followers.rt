@@ -145,6 +145,7 @@ pub struct Followers {
 }
 
 impl Followers {
+    /// Devices that have heard nothing.
     pub fn new(alloc: Global) -> Result<Followers, NoMemory> {
         Ok(Followers {
             staff: Follower::new(alloc, "staff")?,

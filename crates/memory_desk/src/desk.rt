@@ -30,6 +30,7 @@ pub struct Desk<'a> {
 }
 
 impl<'a> Desk<'a> {
+    /// A desk at which no case is chosen yet.
     pub fn new(rt: &'a HostRuntime) -> Desk<'a> {
         let alloc = rt.alloc();
         Desk {
@@ -43,6 +44,7 @@ impl<'a> Desk<'a> {
         }
     }
 
+    /// What allocates.
     pub fn alloc(&self) -> Global {
         self.rt.alloc()
     }
@@ -91,7 +93,7 @@ impl<'a> Desk<'a> {
         }
     }
 
-    /// Whether it was found, where looking didn't fail; that it did is remembered.
+    /// Whether it was found. Where looking failed it wasn't, and the failure is remembered.
     pub fn found<E: Drop>(&mut self, found: Result<bool, E>) -> bool {
         match found {
             Ok(found) => found,
@@ -139,6 +141,7 @@ impl<'a> Desk<'a> {
         self.notes(closed);
     }
 
+    /// Writes the text to standard output.
     pub fn write(&self, text: &str) -> Result<(), Stop> {
         self.rt.stdout().write_all(text.as_bytes())?;
         Ok(())

@@ -39,6 +39,7 @@ impl Outcome {
         }
     }
 
+    /// Whether it isn't what should come of a case.
     pub fn is_finding(self) -> bool {
         !matches!(self, Outcome::Same | Outcome::OutOfMemory)
     }

@@ -40,7 +40,7 @@ const NUMBERS: [&str; 5] = [
     "SELECT SUM(number) FROM book",
 ];
 
-/// What carrying the tables answers: how many members were carried, or why none was.
+/// What carrying the tables answers: how many books there are, or why they weren't carried.
 type Answer = Result<u64, OpenFault>;
 
 fn laid(alloc: Global) -> Result<Tables, Stop> {
