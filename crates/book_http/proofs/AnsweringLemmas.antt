@@ -3,8 +3,8 @@ use Rattle.std.proofs.Common.{◌≡◌, ℕ, List, OnErr, Result, Ok, Err, subs
 use Rattle.book_model.specs.Bounds.{Bounds}
 use Rattle.book_model.specs.Books.{Books}
 use Rattle.book_model.specs.declared.denied.Fault.{Fault as FaultKind}
-use Rattle.book_service.specs.declared.command.Command.{Command}
-use Rattle.book_service.specs.declared.reply.Reply.{Reply}
+use Rattle.book_commands.specs.declared.command.Command.{Command}
+use Rattle.book_commands.specs.declared.reply.Reply.{Reply}
 use Rattle.http_replies.specs.Replies.{reply_octets}
 use Rattle.http_requests.specs.declared.head.Head.{Head}
 use Rattle.http_routes.specs.Commands.{asked}

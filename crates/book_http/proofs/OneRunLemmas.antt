@@ -19,12 +19,12 @@ use Rattle.book_devices.specs.TokenTextLaws.{TextsTellTokens}
 use Rattle.book_laws.specs.Calls.{AsksReport, Puts, Returned, MadeBook, DidPut, DidRemove, DidMove, DidImport, DidForget, GavePage, GaveImport, GaveBooks, GaveBook, GaveCard, GaveCards, GaveTally}
 use Rattle.book_laws.specs.WorldReads.{kept_import_meaning}
 use Rattle.book_laws.specs.Worlds.{Stories, World, rows}
-use Rattle.book_service.specs.declared.command.Command.{Command}
-use Rattle.book_service.specs.declared.command.Command.TheVariants.{Get, Put, Report, Import, Forget, Export, People}
+use Rattle.book_commands.specs.declared.command.Command.{Command}
+use Rattle.book_commands.specs.declared.command.Command.TheVariants.{Get, Put, Report, Import, Forget, Export, People}
 use Rattle.book_service.specs.declared.event.Event.{Event}
 use Rattle.book_service.specs.declared.event.Event.TheVariants.{Do}
-use Rattle.book_service.specs.declared.reply.Reply.{Reply}
-use Rattle.book_service.specs.declared.reply.Reply.TheVariants as reply
+use Rattle.book_commands.specs.declared.reply.Reply.{Reply}
+use Rattle.book_commands.specs.declared.reply.Reply.TheVariants as reply
 use Rattle.book_service.specs.Commands.{ComesOf, Meaning, Means, MeansImport, Performs, meaning_of_body, meaning_with}
 use Rattle.book_service.specs.Faults.{IfFaultReply}
 use Rattle.book_service.specs.Replies.{TellsReturned}

@@ -7,10 +7,10 @@ use Rattle.book_model.specs.Devices.{after_page}
 use Rattle.book_devices.specs.TokenTextLaws.{TextsTellTokens}
 use Rattle.book_laws.specs.Calls.{AsksReport, GavePage, with_reading}
 use Rattle.book_laws.specs.Worlds.{Stories}
-use Rattle.book_service.specs.declared.command.Command.{Command}
-use Rattle.book_service.specs.declared.command.Command.TheVariants.{Report}
+use Rattle.book_commands.specs.declared.command.Command.{Command}
+use Rattle.book_commands.specs.declared.command.Command.TheVariants.{Report}
 use Rattle.book_service.specs.declared.event.Event.TheVariants.{Do}
-use Rattle.book_service.specs.declared.reply.Reply.TheVariants as reply
+use Rattle.book_commands.specs.declared.reply.Reply.TheVariants as reply
 use Rattle.book_service.specs.Commands.{ComesOf, Meaning, meaning_with, Performs}
 use Rattle.book_service.specs.Mirrors.{report_at}
 use Rattle.book_service.specs.Runs.{Moment}

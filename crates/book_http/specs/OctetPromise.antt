@@ -8,9 +8,9 @@ use Rattle.book_model.specs.declared.page.Page.{Page}
 use Rattle.book_model.specs.Bounds.{Bounds}
 use Rattle.book_model.specs.Books.{Books}
 use Rattle.book_model.specs.Devices.{Holding, after_page}
-use Rattle.book_service.specs.declared.command.Command.TheVariants.{Report}
+use Rattle.book_commands.specs.declared.command.Command.TheVariants.{Report}
 use Rattle.book_service.specs.declared.event.Event.TheVariants.{Do, Ask}
-use Rattle.book_service.specs.declared.reply.Reply.TheVariants as reply
+use Rattle.book_commands.specs.declared.reply.Reply.TheVariants as reply
 use Rattle.book_service.specs.Runs.{Moment, Step, IsAt}
 use Rattle.book_service.specs.Texts.{ReadsToken}
 use Rattle.http_replies.specs.Replies.{body_octets, head_fault_octets, reply_body}

@@ -3,7 +3,7 @@
 use Rattle.std.specs.Prelude.{◌≡◌, ℕ, Bool, List, [], ◌∷◌, ◌++◌, Option, Some, None, Result, Ok, Err}
 use Rattle.std.specs.List.{AllByRecursion}
 use Rattle.book_model.specs.Books.{Books}
-use Rattle.book_service.specs.declared.command.Command.{Command}
+use Rattle.book_commands.specs.declared.command.Command.{Command}
 use Rattle.book_service.specs.declared.event.Event.TheVariants.{Do}
 use Rattle.book_service.specs.Faults.{IfFaultReply}
 use Rattle.book_service.specs.Runs.{Moment, Happening, Run, end_of, IsAt}

@@ -7,9 +7,9 @@ use Rattle.book_model.specs.declared.denied.Fault.{Fault as FaultKind}
 use Rattle.book_service.specs.Faults.{IfFaultReply, MayComeOf}
 use Rattle.book_service.specs.Replies.{Keeps}
 use Rattle.book_service.specs.Runs.{IsAt, LeadsTo, Moment}
-use Rattle.book_service.specs.declared.command.Command.{Command}
+use Rattle.book_commands.specs.declared.command.Command.{Command}
 use Rattle.book_service.specs.declared.event.Event.TheVariants.{Do}
-use Rattle.book_service.specs.declared.reply.Reply.{Reply}
+use Rattle.book_commands.specs.declared.reply.Reply.{Reply}
 
 module _ {S : Type 0} (books : S → Books) (limits : S → Bounds) (premise : S → Type 0)
     (may_fault : FaultKind → Type 0) where

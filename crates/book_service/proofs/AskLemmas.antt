@@ -15,7 +15,7 @@ use Rattle.book_model.specs.Pages.{Asked, IsReport, report_step}
 use Rattle.book_laws.specs.Worlds.{Stories}
 use Rattle.book_laws.specs.Following.{PagesFollow}
 use Rattle.book_laws.specs.ReadLaws.{ReportsFollow}
-use Rattle.book_service.specs.declared.reply.Reply.TheVariants as reply
+use Rattle.book_commands.specs.declared.reply.Reply.TheVariants as reply
 use Rattle.book_service.specs.Asks.{Answers, after_refusal}
 use Rattle.book_service.specs.Mirrors.{report_at}
 use Rattle.book_service.specs.Runs.{Moment, IsAt}

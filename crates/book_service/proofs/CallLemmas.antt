@@ -32,9 +32,9 @@ use Rattle.book_laws.specs.WorldChanges.{remove_meaning, move_meaning, forget_me
 use Rattle.book_laws.specs.WorldReads.{books_meaning, book_line_meaning, get_meaning, tally_meaning}
 use Rattle.book_laws.specs.Worlds.{Story, World}
 use Rattle.book_laws.specs.WorldSteps.{story_named, create_meaning, found_of, stories_after_put, put_meaning, report_meaning}
-use Rattle.book_service.specs.declared.command.Command.TheVariants.{CreateBook, Books as ListBooks, Get, Put, Remove, MoveCard, Report, Forget, TallyOf}
-use Rattle.book_service.specs.declared.reply.Reply.{Reply}
-use Rattle.book_service.specs.declared.reply.Reply.TheVariants as reply
+use Rattle.book_commands.specs.declared.command.Command.TheVariants.{CreateBook, Books as ListBooks, Get, Put, Remove, MoveCard, Report, Forget, TallyOf}
+use Rattle.book_commands.specs.declared.reply.Reply.{Reply}
+use Rattle.book_commands.specs.declared.reply.Reply.TheVariants as reply
 use Rattle.book_service.specs.OnRows.{DoesCommand, first_denial, DeniesIn, IsFault}
 use Rattle.book_service.specs.Replies.{denied_reply, reply_to}
 use Rattle.book_service.specs.Texts.{ReadsCard, ReadsToken}

@@ -12,7 +12,7 @@ use Rattle.book_service.specs.Faults.{FaultsMayCome, IfFaultReply, MayComeAt}
 use Rattle.book_service.specs.PageCounts.{FewAreTruncated}
 use Rattle.book_service.specs.Promise.{TruncatedPagesAreFew}
 use Rattle.book_service.specs.declared.event.Event.{Event}
-use Rattle.book_service.specs.declared.reply.Reply.{Reply}
+use Rattle.book_commands.specs.declared.reply.Reply.{Reply}
 use Rattle.book_service.specs.Runs.{Moment, IsAt, Happening, end_of, replies_of, LeadsTo, RanTo}
 use Rattle.book_service.proofs.StepLemmas.{runs_join, end-append, run_limits}
 

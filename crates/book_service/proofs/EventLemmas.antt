@@ -3,9 +3,9 @@ use Rattle.std.proofs.Common.{◌≡◌, ℕ, List, Option, Some, refl, ap, ◌�
 use Rattle.book_model.specs.Bounds.{Bounds}
 use Rattle.book_model.specs.Books.{Books}
 use Rattle.book_model.specs.Devices.{Holding}
-use Rattle.book_service.specs.declared.command.Command.{Command}
+use Rattle.book_commands.specs.declared.command.Command.{Command}
 use Rattle.book_service.specs.declared.event.Event.TheVariants.{Do, Ask}
-use Rattle.book_service.specs.declared.reply.Reply.{Reply}
+use Rattle.book_commands.specs.declared.reply.Reply.{Reply}
 use Rattle.book_service.specs.Asks.{Answers}
 use Rattle.book_service.specs.Mirrors.{report_at}
 use Rattle.book_service.specs.OnRows.{DoesCommand}

@@ -21,9 +21,9 @@ use Rattle.book_laws.specs.ReadLaws.{KeptImportsFollow}
 use Rattle.book_laws.specs.WorldChanges.{import_meaning}
 use Rattle.book_laws.specs.WorldReads.{kept_import_meaning}
 use Rattle.book_laws.specs.Worlds.{Stories, World}
-use Rattle.book_service.specs.declared.command.Command.TheVariants.{Import}
-use Rattle.book_service.specs.declared.reply.Reply.{Reply}
-use Rattle.book_service.specs.declared.reply.Reply.TheVariants as reply
+use Rattle.book_commands.specs.declared.command.Command.TheVariants.{Import}
+use Rattle.book_commands.specs.declared.reply.Reply.{Reply}
+use Rattle.book_commands.specs.declared.reply.Reply.TheVariants as reply
 use Rattle.book_service.specs.Commands.{Meaning, MeansImport, ComesOf}
 use Rattle.book_service.specs.OnRows.{DoesCommand}
 use Rattle.book_service.specs.Replies.{denied_reply, reply_to}

@@ -31,7 +31,7 @@ use Rattle.book_laws.specs.TokenLaws.{NewTokensAreTaken}
 use Rattle.book_laws.specs.Worlds.{AreSound, Story, Stories}
 use Rattle.book_laws.specs.WorldSteps.{report_meaning}
 use Rattle.book_service.specs.declared.event.Event.TheVariants.{Ask}
-use Rattle.book_service.specs.declared.reply.Reply.TheVariants as reply
+use Rattle.book_commands.specs.declared.reply.Reply.TheVariants as reply
 use Rattle.book_service.specs.Asks.{Answers}
 use Rattle.book_service.specs.Mirrors.{new_device, with_device, AsksOn, IsMirrored, IsMirrorDenied, TakesFewPages, pages_needed, report_at}
 use Rattle.book_service.specs.PageCounts.{due_count_for}

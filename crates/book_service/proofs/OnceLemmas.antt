@@ -9,11 +9,11 @@ use Rattle.book_laws.specs.RunLaws.{ImportsActOnce}
 use Rattle.book_laws.specs.WorldChanges.{import_meaning}
 use Rattle.book_laws.specs.WorldReads.{kept_import_meaning}
 use Rattle.book_laws.specs.Worlds.{Stories}
-use Rattle.book_service.specs.declared.command.Command.TheVariants.{Import}
+use Rattle.book_commands.specs.declared.command.Command.TheVariants.{Import}
 use Rattle.book_service.specs.declared.event.Event.{Event}
 use Rattle.book_service.specs.declared.event.Event.TheVariants.{Do}
-use Rattle.book_service.specs.declared.reply.Reply.{Reply}
-use Rattle.book_service.specs.declared.reply.Reply.TheVariants as reply
+use Rattle.book_commands.specs.declared.reply.Reply.{Reply}
+use Rattle.book_commands.specs.declared.reply.Reply.TheVariants as reply
 use Rattle.book_service.specs.Commands.{Meaning, meaning_of_body, MeansImport, ComesOf}
 use Rattle.book_service.specs.Promise.{KeysActOnce}
 use Rattle.book_service.specs.Runs.{Moment, Step, end_of}

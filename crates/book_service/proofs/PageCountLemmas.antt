@@ -30,8 +30,8 @@ use Rattle.book_laws.specs.Worlds.{Story, Stories, book_of, rows}
 use Rattle.book_laws.specs.WorldSteps.{report_meaning}
 use Rattle.book_service.specs.declared.event.Event.{Event}
 use Rattle.book_service.specs.declared.event.Event.TheVariants.{Do, Ask}
-use Rattle.book_service.specs.declared.reply.Reply.{Reply}
-use Rattle.book_service.specs.declared.reply.Reply.TheVariants as reply
+use Rattle.book_commands.specs.declared.reply.Reply.{Reply}
+use Rattle.book_commands.specs.declared.reply.Reply.TheVariants as reply
 use Rattle.book_service.specs.Asks.{Answers}
 use Rattle.book_service.specs.PageCounts.{Stands, due_count_for, GetsPage, is_ask_of, is_truncated, truncated_pages}
 use Rattle.book_service.specs.Promise.{TruncatedPagesAreFew}

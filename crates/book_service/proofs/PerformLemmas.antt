@@ -13,9 +13,9 @@ use Rattle.book_laws.specs.Following.{AreStoriesOf, Follows}
 use Rattle.book_laws.specs.WorldReads.{book_line_meaning, story_line}
 use Rattle.book_laws.specs.Worlds.{Story, Stories, World, rows}
 use Rattle.book_laws.specs.WorldSteps.{story_named}
-use Rattle.book_service.specs.declared.command.Command.{Command}
-use Rattle.book_service.specs.declared.reply.Reply.{Reply}
-use Rattle.book_service.specs.declared.reply.Reply.TheVariants as reply
+use Rattle.book_commands.specs.declared.command.Command.{Command}
+use Rattle.book_commands.specs.declared.reply.Reply.{Reply}
+use Rattle.book_commands.specs.declared.reply.Reply.TheVariants as reply
 use Rattle.book_service.specs.Commands.{Meaning, IsCallWith, meaning_with, Means, ComesOf, Performs}
 use Rattle.book_service.specs.OnRows.{IsPerformed, DoesCommand, first_denial, IsFault}
 use Rattle.book_service.specs.Replies.{Keeps, TellsReturned, reply_to}

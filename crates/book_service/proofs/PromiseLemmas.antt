@@ -22,11 +22,11 @@ use Rattle.book_model.specs.WellFormed.{IsWellFormed}
 use Rattle.book_laws.specs.WorldChanges.{move_meaning}
 use Rattle.book_laws.specs.WorldSteps.{report_meaning}
 use Rattle.book_laws.specs.Worlds.{Stories, IsSoundWorld, rows}
-use Rattle.book_service.specs.declared.command.Command.TheVariants.{MoveCard}
+use Rattle.book_commands.specs.declared.command.Command.TheVariants.{MoveCard}
 use Rattle.book_service.specs.declared.event.Event.{Event}
 use Rattle.book_service.specs.declared.event.Event.TheVariants.{Do, Ask}
-use Rattle.book_service.specs.declared.reply.Reply.{Reply}
-use Rattle.book_service.specs.declared.reply.Reply.TheVariants as reply
+use Rattle.book_commands.specs.declared.reply.Reply.{Reply}
+use Rattle.book_commands.specs.declared.reply.Reply.TheVariants as reply
 use Rattle.book_service.specs.Asks.{Answers}
 use Rattle.book_service.specs.Commands.{Meaning, ComesOf}
 use Rattle.book_service.specs.Promise.{InEachBook, AddsUp, BooksGoOn, MovesTakeOneCard, DevicesStayRight, LastPagesComplete, HasWellFormedRows, RowsStayWellFormed, NewStoresStart}

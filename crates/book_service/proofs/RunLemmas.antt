@@ -16,12 +16,12 @@ use Rattle.book_laws.specs.WorldChanges.{forget_meaning, import_meaning, import_
 use Rattle.book_laws.specs.WorldReads.{get_meaning, kept_import_meaning}
 use Rattle.book_laws.specs.Worlds.{Story, Stories, World}
 use Rattle.book_laws.specs.WorldSteps.{story_named}
-use Rattle.book_service.specs.declared.command.Command.{Command}
-use Rattle.book_service.specs.declared.command.Command.TheVariants.{CreateBook, Books as ListBooks, Get, Put, Remove, MoveCard, Report, Import, Forget, TallyOf, Export, People}
+use Rattle.book_commands.specs.declared.command.Command.{Command}
+use Rattle.book_commands.specs.declared.command.Command.TheVariants.{CreateBook, Books as ListBooks, Get, Put, Remove, MoveCard, Report, Import, Forget, TallyOf, Export, People}
 use Rattle.book_service.specs.declared.event.Event.{Event}
 use Rattle.book_service.specs.declared.event.Event.TheVariants.{Do}
-use Rattle.book_service.specs.declared.reply.Reply.{Reply}
-use Rattle.book_service.specs.declared.reply.Reply.TheVariants as reply
+use Rattle.book_commands.specs.declared.reply.Reply.{Reply}
+use Rattle.book_commands.specs.declared.reply.Reply.TheVariants as reply
 use Rattle.book_service.specs.Commands.{Meaning, IsCallWith, meaning_with, meaning_of_body, MeansImport, Means, ComesOf, Performs}
 
 -- the call makes a book forget

@@ -6,7 +6,7 @@ use Rattle.book_laws.specs.RunLaws.{StaysSound}
 use Rattle.book_laws.specs.Worlds.{Stories, AreSound, IsSoundWorld}
 use Rattle.book_service.specs.declared.event.Event.{Event}
 use Rattle.book_service.specs.declared.event.Event.TheVariants.{Do, Ask}
-use Rattle.book_service.specs.declared.reply.Reply.{Reply}
+use Rattle.book_commands.specs.declared.reply.Reply.{Reply}
 use Rattle.book_service.specs.Promise.{Always, RunsAppend}
 use Rattle.book_service.specs.Runs.{Moment, Step, Happening, Run, end_of}
 use Rattle.book_service.proofs.RunLemmas.{Leads, EventLeads, leads_on, leads_nowhere, leads_nowhere_by, performs_leads}

@@ -19,12 +19,12 @@ use Rattle.book_laws.specs.WorldSteps.{report_meaning}
 use Rattle.book_laws.specs.Worlds.{Stories, IsSoundWorld}
 use Rattle.book_devices.specs.TokenTextLaws.{TextsTellTokens}
 use Rattle.book_devices.specs.TokenTexts.{IsToken, token_octets}
-use Rattle.book_service.specs.declared.command.Command.{Command}
-use Rattle.book_service.specs.declared.command.Command.TheVariants.{CreateBook, Books as ListBooks, Get, Put, Remove, MoveCard, Report, Import, Forget, TallyOf, Export, People}
+use Rattle.book_commands.specs.declared.command.Command.{Command}
+use Rattle.book_commands.specs.declared.command.Command.TheVariants.{CreateBook, Books as ListBooks, Get, Put, Remove, MoveCard, Report, Import, Forget, TallyOf, Export, People}
 use Rattle.book_service.specs.declared.event.Event.{Event}
 use Rattle.book_service.specs.declared.event.Event.TheVariants.{Do, Ask}
-use Rattle.book_service.specs.declared.reply.Reply.{Reply}
-use Rattle.book_service.specs.declared.reply.Reply.TheVariants as reply
+use Rattle.book_commands.specs.declared.reply.Reply.{Reply}
+use Rattle.book_commands.specs.declared.reply.Reply.TheVariants as reply
 use Rattle.book_service.specs.Asks.{Answers}
 use Rattle.book_service.specs.Commands.{Meaning, meaning_with, ComesOf, Performs}
 use Rattle.book_service.specs.Promise.{AsksAfter, AtSomeStep, ForgetsAbove, TokensGrowOld}

@@ -35,10 +35,10 @@ use Rattle.book_laws.specs.ReadLaws.{CardsFollow}
 use Rattle.book_laws.specs.WorldReads.{cards_meaning}
 use Rattle.book_laws.specs.Worlds.{Story, Stories, World}
 use Rattle.book_laws.specs.WorldSteps.{story_named}
-use Rattle.book_service.specs.declared.command.Command.{Command}
-use Rattle.book_service.specs.declared.command.Command.TheVariants.{Export, People}
-use Rattle.book_service.specs.declared.reply.Reply.{Reply}
-use Rattle.book_service.specs.declared.reply.Reply.TheVariants as reply
+use Rattle.book_commands.specs.declared.command.Command.{Command}
+use Rattle.book_commands.specs.declared.command.Command.TheVariants.{Export, People}
+use Rattle.book_commands.specs.declared.reply.Reply.{Reply}
+use Rattle.book_commands.specs.declared.reply.Reply.TheVariants as reply
 use Rattle.book_service.specs.Commands.{Meaning, ComesOf, Performs}
 use Rattle.book_service.specs.OnRows.{DoesCommand}
 use Rattle.book_service.specs.Replies.{denied_reply, reply_to}

@@ -7,8 +7,8 @@ use Rattle.book_model.specs.declared.page.Page.{Page}
 use Rattle.book_model.specs.declared.refusal.Refusal.{Refusal}
 use Rattle.book_model.specs.declared.refusal.Refusal.TheVariants.{BadToken}
 use Rattle.book_model.specs.Devices.{Holding, AppliesFirst, after_page}
-use Rattle.book_service.specs.declared.reply.Reply.{Reply}
-use Rattle.book_service.specs.declared.reply.Reply.TheVariants as reply
+use Rattle.book_commands.specs.declared.reply.Reply.{Reply}
+use Rattle.book_commands.specs.declared.reply.Reply.TheVariants as reply
 
 -- a token that was refused is taken away, and any other refusal leaves the device
 abbrev pub after_refusal : Holding → Refusal → Holding

@@ -12,10 +12,10 @@ use Rattle.book_laws.specs.Calls.{Call, CreatesBook, Puts, Removes, Moves, Impor
 use Rattle.book_laws.specs.WorldReads.{get_meaning, kept_import_meaning}
 use Rattle.book_laws.specs.Worlds.{Stories, World}
 use Rattle.book_laws.specs.WorldSteps.{story_named}
-use Rattle.book_service.specs.declared.command.Command.{Command}
-use Rattle.book_service.specs.declared.command.Command.TheVariants.{CreateBook, Books as ListBooks, Get, Put, Remove, MoveCard, Report, Import, Forget, TallyOf, Export, People}
-use Rattle.book_service.specs.declared.reply.Reply.{Reply}
-use Rattle.book_service.specs.declared.reply.Reply.TheVariants as reply
+use Rattle.book_commands.specs.declared.command.Command.{Command}
+use Rattle.book_commands.specs.declared.command.Command.TheVariants.{CreateBook, Books as ListBooks, Get, Put, Remove, MoveCard, Report, Import, Forget, TallyOf, Export, People}
+use Rattle.book_commands.specs.declared.reply.Reply.{Reply}
+use Rattle.book_commands.specs.declared.reply.Reply.TheVariants as reply
 use Rattle.book_service.specs.Replies.{TellsReturned}
 use Rattle.book_service.specs.Texts.{ReadsCard, ReadsCards, ReadsToken}
 

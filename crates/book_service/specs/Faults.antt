@@ -3,12 +3,12 @@ use Rattle.std.specs.Prelude.{◌⊎◌, List, All}
 use Rattle.std.specs.List.{zip}
 use Rattle.book_model.specs.declared.denied.Fault.{Fault as FaultKind}
 use Rattle.book_model.specs.Outcomes.{IsOutOfMemory}
-use Rattle.book_service.specs.declared.command.Command.{Command}
-use Rattle.book_service.specs.declared.command.Command.TheVariants.{Get, Put, Import, Export, People}
+use Rattle.book_commands.specs.declared.command.Command.{Command}
+use Rattle.book_commands.specs.declared.command.Command.TheVariants.{Get, Put, Import, Export, People}
 use Rattle.book_service.specs.declared.event.Event.{Event}
 use Rattle.book_service.specs.declared.event.Event.TheVariants.{Do, Ask}
-use Rattle.book_service.specs.declared.reply.Reply.{Reply}
-use Rattle.book_service.specs.declared.reply.Reply.TheVariants as reply
+use Rattle.book_commands.specs.declared.reply.Reply.{Reply}
+use Rattle.book_commands.specs.declared.reply.Reply.TheVariants as reply
 
 -- out of memory, or a fault of the store
 abbrev pub IsMemoryOr : (FaultKind → Type 0) → FaultKind → Type 0

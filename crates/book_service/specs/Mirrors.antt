@@ -15,7 +15,7 @@ use Rattle.book_laws.specs.Worlds.{Story}
 use Rattle.book_laws.specs.WorldSteps.{report_meaning}
 use Rattle.book_service.specs.declared.event.Event.TheVariants.{Ask}
 use Rattle.book_service.specs.declared.mirrored.Mirrored.{Mirrored}
-use Rattle.book_service.specs.declared.reply.Reply.TheVariants as reply
+use Rattle.book_commands.specs.declared.reply.Reply.TheVariants as reply
 use Rattle.book_service.specs.PageCounts.{due_count_for}
 use Rattle.book_service.specs.Runs.{Moment, Happening, Run, end_of}
 

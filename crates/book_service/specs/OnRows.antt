@@ -11,9 +11,9 @@ use Rattle.book_model.specs.Books.{Books}
 use Rattle.book_model.specs.Reading.{book_line_step}
 use Rattle.book_laws.specs.Following.{AreStoriesOf}
 use Rattle.book_laws.specs.Worlds.{Stories, World}
-use Rattle.book_service.specs.declared.command.Command.{Command}
-use Rattle.book_service.specs.declared.reply.Reply.{Reply}
-use Rattle.book_service.specs.declared.reply.Reply.TheVariants as reply
+use Rattle.book_commands.specs.declared.command.Command.{Command}
+use Rattle.book_commands.specs.declared.reply.Reply.{Reply}
+use Rattle.book_commands.specs.declared.reply.Reply.TheVariants as reply
 use Rattle.book_service.specs.Commands.{Performs}
 use Rattle.book_service.specs.Replies.{Keeps, denied_reply}
 

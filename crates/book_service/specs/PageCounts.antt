@@ -12,8 +12,8 @@ use Rattle.book_laws.specs.Reports.{due}
 use Rattle.book_laws.specs.Worlds.{Story}
 use Rattle.book_service.specs.declared.event.Event.{Event}
 use Rattle.book_service.specs.declared.event.Event.TheVariants.{Do, Ask}
-use Rattle.book_service.specs.declared.reply.Reply.{Reply}
-use Rattle.book_service.specs.declared.reply.Reply.TheVariants.{Page}
+use Rattle.book_commands.specs.declared.reply.Reply.{Reply}
+use Rattle.book_commands.specs.declared.reply.Reply.TheVariants.{Page}
 use Rattle.book_service.specs.Runs.{Moment}
 
 -- the device at this place and its book

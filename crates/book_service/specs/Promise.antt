@@ -23,11 +23,11 @@ use Rattle.book_laws.specs.RightDevices.{IsComplete, IsRight}
 use Rattle.book_laws.specs.GoingOn.{GoesOn}
 use Rattle.book_laws.specs.Losses.{LostMoreThanKept}
 use Rattle.book_laws.specs.Worlds.{Story, IsSoundWorld, World, rows}
-use Rattle.book_service.specs.declared.command.Command.TheVariants.{MoveCard, Report, Import, Forget}
+use Rattle.book_commands.specs.declared.command.Command.TheVariants.{MoveCard, Report, Import, Forget}
 use Rattle.book_service.specs.declared.event.Event.{Event}
 use Rattle.book_service.specs.declared.event.Event.TheVariants.{Do, Ask}
-use Rattle.book_service.specs.declared.reply.Reply.{Reply}
-use Rattle.book_service.specs.declared.reply.Reply.TheVariants.{Moved, Imported, Page, Forgot, Refused}
+use Rattle.book_commands.specs.declared.reply.Reply.{Reply}
+use Rattle.book_commands.specs.declared.reply.Reply.TheVariants.{Moved, Imported, Page, Forgot, Refused}
 use Rattle.book_service.specs.PageCounts.{FewAreTruncated}
 use Rattle.book_service.specs.Runs.{Moment, Happening, AtEachStep, Run, end_of, events_of, replies_of, IsAt}
 use Rattle.book_service.specs.Texts.{ReadsToken}

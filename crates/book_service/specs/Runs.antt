@@ -8,7 +8,7 @@ use Rattle.book_laws.specs.Worlds.{Stories, World}
 use Rattle.book_laws.specs.WorldSteps.{report_meaning}
 use Rattle.book_service.specs.declared.event.Event.{Event}
 use Rattle.book_service.specs.declared.event.Event.TheVariants.{Do, Ask}
-use Rattle.book_service.specs.declared.reply.Reply.{Reply}
+use Rattle.book_commands.specs.declared.reply.Reply.{Reply}
 use Rattle.book_service.specs.Asks.{Answers}
 use Rattle.book_service.specs.Commands.{Performs}
 

@@ -9,8 +9,8 @@ use Rattle.card_core.specs.Groups.{IsExpansion}
 use Rattle.csv_cards.specs.declared.form.Form.{Form}
 use Rattle.csv_cards.specs.Writing.{csv_text}
 use Rattle.book_model.specs.Books.{LiveCards}
-use Rattle.book_service.specs.declared.reply.Reply.{Reply}
-use Rattle.book_service.specs.declared.reply.Reply.TheVariants as reply
+use Rattle.book_commands.specs.declared.reply.Reply.{Reply}
+use Rattle.book_commands.specs.declared.reply.Reply.TheVariants as reply
 
 -- the lines of each card, by its UID
 abbrev pub lines_by_uid : LiveCards → finite.FinMap text_cmp (List Line)

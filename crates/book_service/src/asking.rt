@@ -1,6 +1,6 @@
 //! A device that asks for its next page.
 ghost use Rattle.std.specs.Prelude.{◌≡◌};
-ghost use Rattle.book_service.specs.declared.reply.Reply.{Reply};
+ghost use Rattle.book_commands.specs.declared.reply.Reply.{Reply};
 ghost use Rattle.book_model.specs.Bounds.{IsInRange};
 ghost use Rattle.book_model.specs.Outcomes.{IfFault};
 ghost use Rattle.book_service.specs.Faults.{IsMemoryOr};

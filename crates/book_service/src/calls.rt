@@ -4,17 +4,16 @@ ghost use Rattle.book_laws.specs.ChangeLaws.{CreatingFollows, PuttingFollows, Re
 ghost use Rattle.book_laws.specs.ReadLaws.{BooksFollow, BookLinesFollow, GettingFollows, TalliesFollow, ReportsFollow};
 ghost use Rattle.book_model.specs.Bounds.{IsInRange};
 ghost use Rattle.book_model.specs.Outcomes.{IfFault};
-ghost use Rattle.book_service.specs.declared.command.Command.{Command as TheCommand};
-ghost use Rattle.book_service.specs.declared.reply.Reply.{Reply as TheReply};
+ghost use Rattle.book_commands.specs.declared.command.Command.{Command as TheCommand};
+ghost use Rattle.book_commands.specs.declared.reply.Reply.{Reply as TheReply};
 ghost use Rattle.book_service.specs.Faults.{IfFaultReply, MayComeOf};
 ghost use Rattle.book_service.specs.OnRows.{DoesCommand, DeniesIn};
 ghost use Rattle.book_service.specs.Replies.{denied_reply, reply_to};
 
-use crate::command::Command;
 use crate::importing::import_body;
-use crate::reply::Reply;
 use crate::texts::{card_for, token_in};
 use crate::whole_books::{export, people};
+use book_commands::{Command, Reply};
 use book_laws::following::{
     book_lines_follow_histories, cards_follow_histories, creating_follows_histories,
     forgetting_follows_histories, moving_follows_histories, putting_follows_histories,

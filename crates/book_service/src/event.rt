@@ -5,9 +5,10 @@ ghost use Rattle.book_service.specs.PageCounts.{FewAreTruncated};
 ghost use Rattle.book_service.specs.Runs.{Moment, NamesDevice, IsAt, LeadsTo, RanTo};
 
 use crate::asking::next_page;
-use crate::command::{Command, perform};
+use crate::command::perform;
 use crate::laws::truncated_pages_are_few;
-use crate::reply::{Reply, denied_reply};
+use crate::reply::denied_reply;
+use book_commands::{Command, Reply};
 use std::alloc::Global;
 use sync_core::{BookStore, Device};
 use vcard_text::NoMemory;

@@ -13,8 +13,8 @@ mod reply;
 mod texts;
 mod whole_books;
 
-pub use command::{Command, perform};
+pub use book_commands::{Command, Reply};
+pub use command::perform;
 pub use event::{Event, drive};
 pub use mirrored::{Mirrored, mirror};
 pub use page_tokens::page_tokens_have_texts;
-pub use reply::Reply;

@@ -1,5 +1,3 @@
 pub mod Messages
-pub mod Objects
-pub mod ReplyValues
 pub mod Statuses
 pub mod Replies

@@ -4,8 +4,8 @@ use Rattle.std.specs.Prelude.{ℕ, Bool, true, List, codes, Option, None}
 use Rattle.serde_json.specs.Data.{Data}
 use Rattle.serde_json.specs.Written.{compact_text}
 use Rattle.book_model.specs.RefusalNumbers.{fault_number, fault_text}
-use Rattle.book_service.specs.declared.reply.Reply.{Reply}
-use Rattle.book_service.specs.declared.reply.Reply.TheVariants as reply
+use Rattle.book_commands.specs.declared.reply.Reply.{Reply}
+use Rattle.book_commands.specs.declared.reply.Reply.TheVariants as reply
 use Rattle.http_requests.specs.HeadFaults as head
 use Rattle.http_requests.specs.declared.head_fault.HeadFault.{HeadFault}
 use Rattle.http_routes.specs.RouteFaults as route
@@ -13,7 +13,7 @@ use Rattle.http_routes.specs.declared.fault.RouteFault.{RouteFault}
 use Rattle.page_json.specs.PageValues.{page_value}
 use Rattle.page_json.specs.Reportable.{page_texts}
 use Rattle.http_replies.specs.Messages.{Message, message_octets}
-use Rattle.http_replies.specs.ReplyValues.{created_value, put_value, gone_value, moved_value, imported_value, forgot_value, books_value, card_value, tally_value, people_value, fault_value, refusal_value}
+use Rattle.reply_values.specs.ReplyValues.{created_value, put_value, gone_value, moved_value, imported_value, forgot_value, books_value, card_value, tally_value, people_value, fault_value, refusal_value}
 use Rattle.http_replies.specs.Statuses.{reply_status}
 
 -- the body of a reply: JSON (RFC 8259), or rows of CSV (RFC 4180)

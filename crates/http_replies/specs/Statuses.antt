@@ -5,8 +5,8 @@ use Rattle.book_model.specs.declared.answers.PutAnswer.{PutAnswer}
 use Rattle.book_model.specs.declared.answers.PutAnswer.TheVariants as put
 use Rattle.book_model.specs.declared.refusal.Refusal.{Refusal}
 use Rattle.book_model.specs.declared.refusal.Refusal.TheVariants.{NoSuchBook, BookExists, BadBookName, NoSuchCard, BadCard, UidMismatch, VersionMismatch, UidTaken, SameBook, BadToken, BadLimit, BookFull, ChangesSpent, BadImport, BadKey, BadForget, NotGroup, TooManyBooks}
-use Rattle.book_service.specs.declared.reply.Reply.{Reply}
-use Rattle.book_service.specs.declared.reply.Reply.TheVariants as reply
+use Rattle.book_commands.specs.declared.reply.Reply.{Reply}
+use Rattle.book_commands.specs.declared.reply.Reply.TheVariants as reply
 
 abbrev pub refusal_status : Refusal → ℕ
 refusal_status NoSuchBook = 404

@@ -2,11 +2,8 @@
 #![tactic(auto)]
 
 mod bodies;
-mod lists;
 mod message;
-mod refusals;
 mod replies;
 mod statuses;
-mod values;
 
 pub use replies::{head_fault_bytes, reply_bytes, route_fault_bytes};

@@ -5,7 +5,7 @@ ghost use Rattle.http_replies.specs.Replies.{head_fault_octets, reply_octets, ro
 use crate::bodies::{JSON, body_of, fault_text, media_type_of};
 use crate::message::{Message, message_octets};
 use crate::statuses::reply_status;
-use book_service::Reply;
+use book_commands::Reply;
 use http::StatusCode;
 use http_requests::HeadFault;
 use http_routes::RouteFault;

@@ -2,8 +2,8 @@
 ghost use Rattle.std.specs.Prelude.{◌≡◌};
 ghost use Rattle.http_replies.specs.Statuses.{put_status, refusal_status, reply_status};
 
+use book_commands::Reply;
 use book_model::{PutAnswer, Refusal};
-use book_service::Reply;
 use http::StatusCode;
 
 fn put_status(answer: PutAnswer) -> StatusCode

@@ -4,7 +4,7 @@ use Rattle.std.specs.Str.{is_utf8}
 use Rattle.std.proofs.lemmas.List.{drop_all, take_all}
 use Rattle.std.proofs.lemmas.Str.{IsUtf8-from_is_utf8, is_utf8-from_IsUtf8}
 use Rattle.percent_encoding.specs.Percent.{percent_decode}
-use Rattle.book_service.specs.declared.command.Command.{Command}
+use Rattle.book_commands.specs.declared.command.Command.{Command}
 use Rattle.http_routes.proofs.OutcomeLemmas.{failed, went_on}
 use Rattle.http_routes.specs.Asks.{ask_of}
 use Rattle.http_routes.specs.Commands.{◌>>=◌, asked, command_with, path_in, path_len, query_in, text_in}

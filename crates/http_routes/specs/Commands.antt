@@ -4,8 +4,8 @@ use Rattle.std.specs.Prelude.{ℕ, Bool, ◌+◌, ◌==◌, List, Option, Some, 
 use Rattle.std.specs.List.{position_or_len}
 use Rattle.std.specs.Str.{is_utf8}
 use Rattle.percent_encoding.specs.Percent.{percent_decode}
-use Rattle.book_service.specs.declared.command.Command.{Command}
-use Rattle.book_service.specs.declared.command.Command.TheVariants as command
+use Rattle.book_commands.specs.declared.command.Command.{Command}
+use Rattle.book_commands.specs.declared.command.Command.TheVariants as command
 use Rattle.http_routes.specs.Asks.{ask_of}
 use Rattle.http_routes.specs.Paths.{route_of, book_part, uid_part}
 use Rattle.http_routes.specs.Queries.{Pair, pairs_of, has_names_of, value_of, value_or_empty, number_in, number_in_value, form_in_value}

@@ -12,7 +12,7 @@ use crate::no_command::NoCommand;
 use crate::path::{part_at, parts_of, route_of, text_in};
 use crate::query::{form_of, has_names_of, number_in, number_of, pairs_of, value_or_empty};
 use base_types::{Items, Text};
-use book_service::Command;
+use book_commands::Command;
 use std::alloc::Global;
 
 /// The path of a target and its query: what stands before the first question mark, and behind it.

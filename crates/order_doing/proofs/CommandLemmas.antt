@@ -5,8 +5,8 @@ use Rattle.book_http.specs.Performing.{Performs}
 use Rattle.book_model.specs.Bounds.{Bounds}
 use Rattle.book_model.specs.Books.{Books}
 use Rattle.book_model.specs.declared.denied.Fault.{Fault as FaultKind}
-use Rattle.book_service.specs.declared.command.Command.{Command}
-use Rattle.book_service.specs.declared.reply.Reply.{Reply}
+use Rattle.book_commands.specs.declared.command.Command.{Command}
+use Rattle.book_commands.specs.declared.reply.Reply.{Reply}
 use Rattle.book_service.specs.declared.mirrored.Mirrored.{Mirrored}
 use Rattle.book_service.specs.Mirrors.{IsMirrored, TakesFewPages}
 use Rattle.book_service.specs.Runs.{IsAt, Moment}

@@ -16,9 +16,9 @@ use Rattle.book_laws.specs.Worlds.{Stories, World}
 use Rattle.book_laws.specs.WorldSteps.{create_meaning}
 use Rattle.book_service.specs.Commands.{ComesOf, Meaning, Performs, Means, MeansImport, meaning_of_body}
 use Rattle.book_service.specs.Replies.{TellsReturned}
-use Rattle.book_service.specs.declared.command.Command.{Command}
-use Rattle.book_service.specs.declared.command.Command.TheVariants.{CreateBook, Books, Get, Put, Remove, MoveCard, Report, Import, Forget, TallyOf, Export, People}
-use Rattle.book_service.specs.declared.reply.Reply.{Reply}
+use Rattle.book_commands.specs.declared.command.Command.{Command}
+use Rattle.book_commands.specs.declared.command.Command.TheVariants.{CreateBook, Books, Get, Put, Remove, MoveCard, Report, Import, Forget, TallyOf, Export, People}
+use Rattle.book_commands.specs.declared.reply.Reply.{Reply}
 use Rattle.order_doing.specs.OrderReplies.{IsOfOrder, IsToOrder, OrdersAreReplied}
 
 -- what is returned by this command is told so

@@ -4,7 +4,7 @@ use Rattle.std.specs.Io.KnownBytes.{Appends, Keeps}
 use Rattle.book_server.specs.Listening.{Listens}
 use Rattle.book_server.specs.declared.listen_fault.ListenFault.{ListenFault}
 use Rattle.book_server.specs.declared.listen_fault.ListenFault.TheVariants.{Serve as GaveUp, Device as NoListener}
-use Rattle.book_service.specs.declared.reply.Reply.{Reply}
+use Rattle.book_commands.specs.declared.reply.Reply.{Reply}
 use Rattle.http_requests.specs.Handling.{Doing, FaultReplies}
 use Rattle.order_doing.specs.declared.stop.Stop.{Stop}
 use Rattle.order_doing.specs.declared.stop.Stop.TheVariants.{Refused, Fault, Open, Serve, Device}

@@ -1,10 +1,10 @@
 -- What the commands of orders are replied. This project's own.
 use Rattle.std.specs.Prelude.{⊤}
-use Rattle.book_service.specs.declared.command.Command.{Command}
-use Rattle.book_service.specs.declared.command.Command.TheVariants.{CreateBook, Import, Forget, TallyOf, Export, People}
+use Rattle.book_commands.specs.declared.command.Command.{Command}
+use Rattle.book_commands.specs.declared.command.Command.TheVariants.{CreateBook, Import, Forget, TallyOf, Export, People}
 use Rattle.book_service.specs.declared.event.Event.TheVariants.{Do}
-use Rattle.book_service.specs.declared.reply.Reply.{Reply}
-use Rattle.book_service.specs.declared.reply.Reply.TheVariants as reply
+use Rattle.book_commands.specs.declared.reply.Reply.{Reply}
+use Rattle.book_commands.specs.declared.reply.Reply.TheVariants as reply
 use Rattle.book_service.specs.Runs.{Moment, Step}
 
 -- the command is one that an order does

@@ -2,8 +2,8 @@
 use Rattle.std.specs.Prelude.{◌≡◌, ◌⊎◌, ℕ, List, Option}
 use Rattle.std.specs.Io.KnownBytes.{Appends, Keeps}
 use Rattle.book_model.specs.declared.denied.Fault.TheVariants.{Store}
-use Rattle.book_service.specs.declared.reply.Reply.{Reply}
-use Rattle.book_service.specs.declared.reply.Reply.TheVariants as reply
+use Rattle.book_commands.specs.declared.reply.Reply.{Reply}
+use Rattle.book_commands.specs.declared.reply.Reply.TheVariants as reply
 use Rattle.order_texts.specs.OrderTexts.{book_line, expand_lines, forget_line, import_line, tally_lines}
 use Rattle.order_doing.specs.declared.stop.Stop.{Stop}
 use Rattle.order_doing.specs.declared.stop.Stop.TheVariants.{Refused, Fault, Open, Serve, Device}

@@ -4,7 +4,7 @@ use Rattle.book_http.specs.OctetPromise.{Serving}
 use Rattle.book_model.specs.Bounds.{Bounds}
 use Rattle.book_model.specs.Books.{Books}
 use Rattle.book_model.specs.declared.denied.Fault.{Fault as FaultKind}
-use Rattle.book_service.specs.declared.command.Command.{Command}
+use Rattle.book_commands.specs.declared.command.Command.{Command}
 use Rattle.command_line.specs.declared.order.Order.{Order}
 use Rattle.command_line.specs.declared.order.Order.TheVariants.{Try, Init, Serve, Mirror, Migrate}
 use Rattle.http_replies.specs.Replies.{head_fault_octets}

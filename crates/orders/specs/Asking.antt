@@ -4,8 +4,8 @@ use Rattle.std.specs.Io.KnownBytes.{Keeps}
 use Rattle.book_model.specs.Bounds.{Bounds}
 use Rattle.book_model.specs.Books.{Books}
 use Rattle.book_model.specs.declared.denied.Fault.{Fault as FaultKind}
-use Rattle.book_service.specs.declared.command.Command.{Command}
-use Rattle.book_service.specs.declared.command.Command.TheVariants.{CreateBook, Import as ImportRows, Forget as ForgetUpto, TallyOf, Export as ExportRows, People}
+use Rattle.book_commands.specs.declared.command.Command.{Command}
+use Rattle.book_commands.specs.declared.command.Command.TheVariants.{CreateBook, Import as ImportRows, Forget as ForgetUpto, TallyOf, Export as ExportRows, People}
 use Rattle.command_line.specs.declared.order.Order.{Order}
 use Rattle.command_line.specs.declared.order.Order.TheVariants.{Book, Import, Export, Tally, Forget, Mirror, Expand}
 use Rattle.order_doing.specs.declared.stop.Stop.{Stop}

@@ -2,7 +2,7 @@
 use Rattle.std.specs.Prelude.{◌≡◌, ◌≢◌, ℕ, List, Option}
 use Rattle.std.specs.Io.KnownBytes.{Appends}
 use Rattle.book_service.specs.declared.mirrored.Mirrored.{Mirrored}
-use Rattle.book_service.specs.declared.reply.Reply.{Reply}
+use Rattle.book_commands.specs.declared.reply.Reply.{Reply}
 use Rattle.command_line.specs.declared.order.Order.{Order}
 use Rattle.command_line.specs.declared.order.Order.TheVariants.{Try, Init, Book, Serve, Import, Export, Tally, Forget, Mirror, Expand, Migrate}
 use Rattle.order_texts.specs.OrderTexts.{made_line, migrate_line, mirror_lines}

@@ -12,10 +12,10 @@ use Rattle.book_model.specs.Moving.{move_step}
 use Rattle.book_model.specs.Outcomes.{Does, Tells}
 use Rattle.book_model.specs.Reading.{get_step, tally_step}
 use Rattle.book_model.specs.Removing.{remove_step}
-use Rattle.book_service.specs.declared.command.Command.{Command}
-use Rattle.book_service.specs.declared.command.Command.TheVariants.{CreateBook, Books as ListBooks, Get, Put, Remove, MoveCard, Import, Forget, TallyOf, Export, People}
-use Rattle.book_service.specs.declared.reply.Reply.{Reply}
-use Rattle.book_service.specs.declared.reply.Reply.TheVariants as reply
+use Rattle.book_commands.specs.declared.command.Command.{Command}
+use Rattle.book_commands.specs.declared.command.Command.TheVariants.{CreateBook, Books as ListBooks, Get, Put, Remove, MoveCard, Import, Forget, TallyOf, Export, People}
+use Rattle.book_commands.specs.declared.reply.Reply.{Reply}
+use Rattle.book_commands.specs.declared.reply.Reply.TheVariants as reply
 use Rattle.book_service.specs.OnRows.{DoesCommand}
 use Rattle.book_service.specs.Replies.{denied_reply, reply_to}
 use Rattle.book_service.proofs.CallLemmas.{creates, removes, moves, forgets, gets, gets_not, tallies, lists, lists_not}

@@ -1,7 +1,7 @@
 use Rattle.std.proofs.Common.{List, [], length, refl, sym, ap, ◌∙◌, subst, arith}
 use Rattle.std.proofs.lemmas.List.{take_all}
 use Rattle.book_service.specs.declared.event.Event.{Event}
-use Rattle.book_service.specs.declared.reply.Reply.{Reply}
+use Rattle.book_commands.specs.declared.reply.Reply.{Reply}
 use Rattle.book_service.specs.Faults.{FaultsMayCome}
 use Rattle.book_service.specs.Runs.{RanTo}
 use Rattle.book_service.proofs.DriveLemmas.{ran_nowhere, ran_more, faults_more, ran_few}

@@ -9,8 +9,8 @@ use Rattle.book_model.specs.Books.{Books}
 use Rattle.book_model.specs.Importing.{import_step, kept_import_step}
 use Rattle.book_model.specs.ImportLaws.{HaveDistinctUids}
 use Rattle.book_model.specs.Outcomes.{Does, Tells}
-use Rattle.book_service.specs.declared.command.Command.TheVariants.{Import}
-use Rattle.book_service.specs.declared.reply.Reply.TheVariants as reply
+use Rattle.book_commands.specs.declared.command.Command.TheVariants.{Import}
+use Rattle.book_commands.specs.declared.reply.Reply.TheVariants as reply
 use Rattle.book_service.specs.OnRows.{DoesCommand}
 use Rattle.book_service.specs.Replies.{reply_to}
 use Rattle.book_service.specs.TextReaders.{DeniesBody}

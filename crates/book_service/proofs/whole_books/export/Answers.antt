@@ -7,8 +7,8 @@ use Rattle.book_model.specs.declared.denied.Fault.TheVariants.{Memory}
 use Rattle.book_model.specs.Books.{LiveCards}
 use Rattle.book_model.specs.Outcomes.{Reads}
 use Rattle.book_model.specs.Reading.{cards_step}
-use Rattle.book_service.specs.declared.command.Command.TheVariants.{Export}
-use Rattle.book_service.specs.declared.reply.Reply.TheVariants as reply
+use Rattle.book_commands.specs.declared.command.Command.TheVariants.{Export}
+use Rattle.book_commands.specs.declared.reply.Reply.TheVariants as reply
 use Rattle.book_service.specs.OnRows.{DoesCommand}
 use Rattle.book_service.specs.Replies.{reply_to}
 use Rattle.book_service.proofs.WholeBookLemmas.{other_answer, exports, fails, cards_keep}

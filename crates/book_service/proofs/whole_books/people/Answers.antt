@@ -11,9 +11,9 @@ use Rattle.book_model.specs.declared.refusal.Refusal.TheVariants.{NoSuchCard, No
 use Rattle.book_model.specs.Bounds.{Bounds}
 use Rattle.book_model.specs.Books.{Books, LiveCards}
 use Rattle.book_model.specs.Reading.{cards_step}
-use Rattle.book_service.specs.declared.command.Command.TheVariants.{People}
-use Rattle.book_service.specs.declared.reply.Reply.{Reply}
-use Rattle.book_service.specs.declared.reply.Reply.TheVariants as reply
+use Rattle.book_commands.specs.declared.command.Command.TheVariants.{People}
+use Rattle.book_commands.specs.declared.reply.Reply.{Reply}
+use Rattle.book_commands.specs.declared.reply.Reply.TheVariants as reply
 use Rattle.book_service.specs.OnRows.{DoesCommand}
 use Rattle.book_service.specs.Replies.{denied_reply, reply_to}
 use Rattle.book_service.proofs.WholeBookLemmas.{other_answer, fails, cards_keep, people_not, tells_nobody, tells_no_group, tells_people}

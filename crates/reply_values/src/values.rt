@@ -2,7 +2,7 @@
 ghost use Rattle.std.specs.Prelude.{◌≡◌, IfOk, string_bytes};
 ghost use Rattle.serde_json.specs.View.{view};
 ghost use Rattle.vcard_text.specs.Cards.{canonical_text};
-ghost use Rattle.http_replies.specs.ReplyValues.{books_value, card_value, created_value, forgot_value, gone_value, imported_value, moved_value, people_value, put_object, put_value, tally_value};
+ghost use Rattle.reply_values.specs.ReplyValues.{books_value, card_value, created_value, forgot_value, gone_value, imported_value, moved_value, people_value, put_object, put_value, tally_value};
 
 use crate::lists::{book_values, numbers_value, text_values};
 use book_model::{BookLine, ImportTally, Moved, PutAnswer, Tally};
@@ -11,7 +11,8 @@ use serde_json::{Value, json};
 use std::alloc::Global;
 use vcard_text::{Card, Items, NoMemory, Text, write_card};
 
-pub(crate) fn created_value(alloc: Global, id: u64) -> Result<Value, NoMemory>
+/// `{"id":1}`: the id of the book that was made.
+pub fn created_value(alloc: Global, id: u64) -> Result<Value, NoMemory>
     ensures { IfOk result (λ value. view value ≡ created_value id) }
 {
     Ok(json!(in alloc; {"id": id})?)
@@ -23,7 +24,8 @@ fn put_object(alloc: Global, what: &str, version: u64) -> Result<Value, NoMemory
     Ok(json!(in alloc; {"put": what, "version": version})?)
 }
 
-pub(crate) fn put_value(alloc: Global, answer: PutAnswer) -> Result<Value, NoMemory>
+/// `{"put":"created","version":1}`: what was done, and the version that the card has then.
+pub fn put_value(alloc: Global, answer: PutAnswer) -> Result<Value, NoMemory>
     ensures { IfOk result (λ value. view value ≡ put_value answer) }
 {
     match answer {
@@ -33,20 +35,24 @@ pub(crate) fn put_value(alloc: Global, answer: PutAnswer) -> Result<Value, NoMem
     }
 }
 
-pub(crate) fn gone_value(alloc: Global, number: u64) -> Result<Value, NoMemory>
+/// `{"number":4}`: the number of the removal.
+pub fn gone_value(alloc: Global, number: u64) -> Result<Value, NoMemory>
     ensures { IfOk result (λ value. view value ≡ gone_value number) }
 {
     Ok(json!(in alloc; {"number": number})?)
 }
 
-pub(crate) fn moved_value(alloc: Global, moved: Moved) -> Result<Value, NoMemory>
+/// `{"from":5,"version":1}`: the number of the removal in the one book, and the version in the other.
+pub fn moved_value(alloc: Global, moved: Moved) -> Result<Value, NoMemory>
     ensures { IfOk result (λ value. view value ≡ moved_value moved) }
 {
     let Moved { from, version } = moved;
     Ok(json!(in alloc; {"from": from, "version": version})?)
 }
 
-pub(crate) fn imported_value(alloc: Global, tally: ImportTally) -> Result<Value, NoMemory>
+/// `{"edited":0,"new":1,"number":2,"same":0}`: how many cards were new, edited and the same, and the
+/// book's number afterwards.
+pub fn imported_value(alloc: Global, tally: ImportTally) -> Result<Value, NoMemory>
     ensures { IfOk result (λ value. view value ≡ imported_value tally) }
 {
     let ImportTally {
@@ -58,13 +64,15 @@ pub(crate) fn imported_value(alloc: Global, tally: ImportTally) -> Result<Value,
     Ok(json!(in alloc; {"edited": edited, "new": added, "number": number, "same": same})?)
 }
 
-pub(crate) fn forgot_value(alloc: Global, dropped: u64, horizon: u64) -> Result<Value, NoMemory>
+/// `{"dropped":1,"horizon":4}`: how many removed members were dropped, and the new horizon.
+pub fn forgot_value(alloc: Global, dropped: u64, horizon: u64) -> Result<Value, NoMemory>
     ensures { IfOk result (λ value. view value ≡ forgot_value dropped horizon) }
 {
     Ok(json!(in alloc; {"dropped": dropped, "horizon": horizon})?)
 }
 
-pub(crate) fn books_value(alloc: Global, books: &Items<BookLine>) -> Result<Value, NoMemory>
+/// `{"books":[{"horizon":0,"id":1,"name":"staff","number":5}]}`: a line for each book.
+pub fn books_value(alloc: Global, books: &Items<BookLine>) -> Result<Value, NoMemory>
     ensures { IfOk result (λ value. view value ≡ books_value books.now) }
 {
     let books = book_values(alloc, books.as_slice())?;
@@ -79,12 +87,9 @@ fn card_text(alloc: Global, card: &Card) -> Result<String, NoMemory>
     Ok(String::from_utf8(text).unwrap())
 }
 
-pub(crate) fn card_value(
-    alloc: Global,
-    uid: Text,
-    version: u64,
-    card: &Card,
-) -> Result<Value, NoMemory>
+/// `{"card":"..","uid":"a","version":1}`: the card's canonical text, under this UID. `NoMemory` also
+/// where the text finds no memory.
+pub fn card_value(alloc: Global, uid: Text, version: u64, card: &Card) -> Result<Value, NoMemory>
     ensures { IfOk result (λ value. view value ≡ card_value uid version card.now) }
 {
     let text = card_text(alloc, card)?;
@@ -92,7 +97,8 @@ pub(crate) fn card_value(
     Ok(json!(in alloc; {"card": text, "uid": uid, "version": version})?)
 }
 
-pub(crate) fn tally_value(alloc: Global, tally: Tally) -> Result<Value, NoMemory>
+/// The eleven numbers of a tally under their names.
+pub fn tally_value(alloc: Global, tally: Tally) -> Result<Value, NoMemory>
     ensures { IfOk result (λ value. view value ≡ tally_value tally) }
 {
     let Tally {
@@ -124,7 +130,8 @@ pub(crate) fn tally_value(alloc: Global, tally: Tally) -> Result<Value, NoMemory
     numbers_value(alloc, &rows)
 }
 
-pub(crate) fn people_value(alloc: Global, reached: &Expansion) -> Result<Value, NoMemory>
+/// `{"missing":[..],"people":[..]}`: whom a group reaches, and the members that name no card.
+pub fn people_value(alloc: Global, reached: &Expansion) -> Result<Value, NoMemory>
     ensures { IfOk result (λ value. view value ≡ people_value reached.now) }
 {
     let missing = text_values(alloc, reached.missing.as_slice())?;

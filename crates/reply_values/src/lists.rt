@@ -2,8 +2,8 @@
 ghost use Rattle.std.specs.Prelude.{◌≡◌, IfOk, OnOk, fold, map};
 ghost use Rattle.serde_json.specs.Data.{no_members, object, put, string};
 ghost use Rattle.serde_json.specs.View.{members_view, view};
-ghost use Rattle.http_replies.specs.Objects.{whole, with_row};
-ghost use Rattle.http_replies.specs.ReplyValues.{book_value};
+ghost use Rattle.reply_values.specs.Objects.{whole, with_row};
+ghost use Rattle.reply_values.specs.ReplyValues.{book_value};
 
 use book_model::BookLine;
 use serde_json::{Map, Value, json, put};

@@ -1,7 +1,7 @@
 use Rattle.std.proofs.Common.{◌≡◌, map, take}
 use Rattle.serde_json.specs.Data.{string}
 use Rattle.serde_json.specs.View.{view}
-use Rattle.http_replies.proofs.lists.text_values.Given as goal
+use Rattle.reply_values.proofs.lists.text_values.Given as goal
 
 -- the values so far are those of the texts so far
 abbrev pub invariant-loop-text : goal.invariant-loop-text

@@ -5,7 +5,7 @@ use Rattle.serde_json.specs.View.{items_of}
 use Rattle.serde_json.specs.Written.{has_float, items_have_float}
 use Rattle.book_model.specs.declared.answers.BookLine.{BookLine}
 use Rattle.card_core.specs.declared.expansion.Expansion.{Expansion}
-use Rattle.http_replies.specs.ReplyValues.{book_value, books_value, people_value}
+use Rattle.reply_values.specs.ReplyValues.{book_value, books_value, people_value}
 
 book_values_have_none : (books : List BookLine) → items_have_float (items_of (map book_value books)) ≡ false
 book_values_have_none [] = refl

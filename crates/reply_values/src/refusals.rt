@@ -1,14 +1,15 @@
 //! Refusals and faults as JSON values.
 ghost use Rattle.std.specs.Prelude.{◌≡◌, IfOk};
 ghost use Rattle.serde_json.specs.View.{view};
-ghost use Rattle.http_replies.specs.ReplyValues.{caused_value, fault_value, having_value, refusal_value, row_value};
+ghost use Rattle.reply_values.specs.ReplyValues.{caused_value, fault_value, having_value, refusal_value, row_value};
 
 use book_model::Refusal;
 use serde_json::{Value, json};
 use std::alloc::Global;
 use vcard_text::NoMemory;
 
-pub(crate) fn fault_value(alloc: Global, text: &str, number: u8) -> Result<Value, NoMemory>
+/// `{"fault":"..","number":19}`: a fault, or a refusal that has nothing more to say.
+pub fn fault_value(alloc: Global, text: &str, number: u8) -> Result<Value, NoMemory>
     ensures { IfOk result (λ value. view value ≡ fault_value text.now number) }
 {
     let number = u64::from(number);
@@ -39,7 +40,9 @@ fn row_value(alloc: Global, row: u64, cause: u8, text: &str, number: u8) -> Resu
     Ok(json!(in alloc; {"cause": cause, "fault": text, "number": number, "row": row})?)
 }
 
-pub(crate) fn refusal_value(alloc: Global, refusal: Refusal) -> Result<Value, NoMemory>
+/// `{"fault":"..","number":1}`, with the `cause` of a bad card, token or import, the `row` of an
+/// import, and the version that the server `has`.
+pub fn refusal_value(alloc: Global, refusal: Refusal) -> Result<Value, NoMemory>
     ensures { IfOk result (λ value. view value ≡ refusal_value refusal) }
 {
     let (text, number) = (refusal.text(), refusal.number());

@@ -16,7 +16,7 @@ use Rattle.book_model.specs.declared.answers.Tally.{Tally}
 use Rattle.book_model.specs.declared.refusal.Refusal.{Refusal}
 use Rattle.book_model.specs.declared.refusal.Refusal.TheVariants.{BadCard, BadImport, BadToken, VersionMismatch}
 use Rattle.card_core.specs.declared.expansion.Expansion.{Expansion}
-use Rattle.http_replies.specs.Objects.{object_of, whole}
+use Rattle.reply_values.specs.Objects.{object_of, whole}
 
 -- ---- what was done
 
