@@ -1,6 +1,6 @@
 #!/usr/bin/env python3
 """Writes the part `commands` of row_trials: 2,000 commands, drawn from a fixed seed, 1,000 more
-among asks of devices, and the rows of worked.py; and what model.py replies to each.
+among asks of devices, and the rows of worked.py; and what the model of tests/model replies to each.
 
 The program has no part in it. Where it prints another reply, one of the two is wrong."""
 
@@ -13,9 +13,12 @@ import sys
 sys.dont_write_bytecode = True
 sys.path.append(os.path.join(os.path.dirname(os.path.abspath(__file__)), "..", "row_trials"))
 import parts
-from model import COLUMNS, SYNC, Office, in_one_line, unescape
+from script import SYNC, Script, in_one_line
 from worked import sections
+from model.cards import unescape
+from model.rows import HEADERS
 
+COLUMNS = HEADERS["columns"]
 COMMANDS = 2000
 EVENTS = 1000
 BETWEEN = 100
@@ -79,7 +82,8 @@ class Drawing:
 
     def __init__(self, seed, devices=()):
         self.dice = Dice(seed)
-        self.office = Office(*LIMITS, KEEPS[0])
+        self.script = Script((*LIMITS, KEEPS[0]))
+        self.office = self.script.office
         self.tokens = {name: "" for name in BOOKS}
         self.devices = devices
         self.commands = []
@@ -89,7 +93,7 @@ class Drawing:
     def do(self, *command):
         """Adds a command, and has it done."""
         self.commands.append(command)
-        return self.office.reply(command)
+        return self.script.reply(command)
 
     def some_book(self):
         """Mostly `staff`, which takes all the changes that it may."""
@@ -99,7 +103,7 @@ class Drawing:
 
     def some_uid(self, name):
         """Mostly one that is live in the book."""
-        live = self.office.books[name].live() if name in self.office.books else []
+        live = sorted(self.office.books[name].live) if name in self.office.books else []
         return self.dice.of(*live) if live and self.dice.roll(10) < 7 else self.dice.of(*UIDS)
 
     def card_text(self, uid):
@@ -285,8 +289,8 @@ def see_that_all_come(commands, told):
 
 def replies(limits, lines):
     """What a new office replies to the lines, and nothing to `again`."""
-    office = Office(*limits)
-    return [None if line == "again" else office.reply(command_of(line)) for line in lines]
+    script = Script(limits)
+    return [None if line == "again" else script.reply(command_of(line)) for line in lines]
 
 
 def told_of(title, limits, lines):

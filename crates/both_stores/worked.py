@@ -1,7 +1,7 @@
 """The worked rows, each a title and scripts, which are done one after another over new stores.
 
 A line of a script is a line of the list and, where it was worked out by hand, what is wanted of it
-behind ` => `. rows.py sees to it that model.py tells just that. Here `.../` stands for what a token
+behind ` => `. rows.py sees to it that the model tells just that. Here `.../` stands for what a token
 begins with, `COLUMNS` for the header of rows in columns, `BOM` for a byte order mark, and
 `[UID NAME]` for the text of a card that has these and nothing else. Between two scripts the stores
 over tables are taken up again."""

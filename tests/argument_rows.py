@@ -1,0 +1,268 @@
+"""Arguments, good and bad, and the text that clap 4 has for those that ask for nothing.
+
+A text is clap's: what is wrong, then perhaps a tip, the usage, and where there is more; an empty
+line between two of them. A tip names what is near by Jaro's measure, above 0.7. The usage names
+the options that were given, where one of them matters to what is wrong, and else [OPTIONS].
+
+A row is the arguments, with a space between two, and the text; arguments with spaces are a list.
+"""
+
+# How each order is used.
+TOP = "[COMMAND]"
+TRY = "try"
+INIT = "init <FILE>"
+BOOK = "book <FILE> <BOOK>"
+SERVE = "serve [OPTIONS] <FILE>"
+IMPORT = "import <FILE> <BOOK> <KEY> <CSV>"
+EXPORT = "export [OPTIONS] <FILE> <BOOK>"
+TALLY = "tally <FILE> <BOOK>"
+FORGET = "forget <FILE> <BOOK> <UPTO>"
+MIRROR = "mirror [OPTIONS] <FILE> <BOOK>"
+EXPAND = "expand <FILE> <BOOK> <UID>"
+MIGRATE = "migrate <FILE>"
+
+
+def error(what, usage=None, tip=None):
+    """What clap writes."""
+    parts = ["error: " + what]
+    parts += ["  tip: " + tip] if tip else []
+    parts += ["Usage: contacts " + usage] if usage else []
+    return "\n\n".join([*parts, "For more information, try '--help'.\n"])
+
+
+def missing(names, usage):
+    lines = "".join(f"\n  {name}" for name in names.split())
+    return error("the following required arguments were not provided:" + lines, usage)
+
+
+def unexpected(argument, usage):
+    return error(f"unexpected argument '{argument}' found", usage)
+
+
+def unexpected_hyphen(argument, usage):
+    """Of an argument that looks like an option, to an order that has positional arguments."""
+    tip = f"to pass '{argument}' as a value, use '-- {argument}'"
+    return error(f"unexpected argument '{argument}' found", usage, tip)
+
+
+def near(argument, option, usage):
+    tip = f"a similar argument exists: '{option}'"
+    return error(f"unexpected argument '{argument}' found", usage, tip)
+
+
+def no_order(name, tip=None):
+    return error(f"unrecognized subcommand '{name}'", TOP, tip)
+
+
+def twice(option, usage):
+    return error(f"the argument '{option}' cannot be used multiple times", usage)
+
+
+def no_value(option):
+    return error(f"a value is required for '{option}' but none was supplied")
+
+
+def invalid(value, option, why):
+    return error(f"invalid value '{value}' for '{option}': {why}")
+
+
+def out_of_range(value, option, least, most):
+    return invalid(value, option, f"{value} is not in {least}..={most}")
+
+
+def no_digits(value, option):
+    return invalid(value, option, "invalid digit found in string")
+
+
+def too_large(value, option):
+    return invalid(value, option, "number too large to fit in target type")
+
+
+def empty(option):
+    return invalid("", option, "cannot parse integer from empty string")
+
+
+def no_form(value):
+    possible = "\n  [possible values: cards, columns]"
+    return error(f"invalid value '{value}' for '--form <F>'{possible}")
+
+
+MISSING = [
+    ("init", missing("<FILE>", INIT)),
+    ("book", missing("<FILE> <BOOK>", BOOK)),
+    ("book a.db", missing("<BOOK>", BOOK)),
+    ("serve", missing("<FILE>", "serve <FILE>")),
+    ("serve --port 1", missing("<FILE>", "serve --port <P> <FILE>")),
+    ("serve --connections=2 --port=1",
+     missing("<FILE>", "serve --connections <N> --port <P> <FILE>")),
+    ("import", missing("<FILE> <BOOK> <KEY> <CSV>", IMPORT)),
+    ("import a.db staff k", missing("<CSV>", IMPORT)),
+    ("export a.db", missing("<BOOK>", "export <FILE> <BOOK>")),
+    ("export --form cards a.db", missing("<BOOK>", "export --form <F> <FILE> <BOOK>")),
+    ("tally", missing("<FILE> <BOOK>", TALLY)),
+    ("tally a.db", missing("<BOOK>", TALLY)),
+    ("tally --", missing("<FILE> <BOOK>", TALLY)),
+    ("forget a.db staff", missing("<UPTO>", FORGET)),
+    ("mirror a.db", missing("<BOOK>", "mirror <FILE> <BOOK>")),
+    ("mirror --limit 1 a.db", missing("<BOOK>", "mirror --limit <L> <FILE> <BOOK>")),
+    ("expand a.db staff", missing("<UID>", EXPAND)),
+    ("migrate", missing("<FILE>", MIGRATE)),
+]
+
+TOO_MANY = [
+    ("try x", unexpected("x", TRY)),
+    ("try -- x", unexpected("x", TRY)),
+    ("init a.db b.db", unexpected("b.db", INIT)),
+    ("book a.db staff more", unexpected("more", BOOK)),
+    ("serve a.db 8080", unexpected("8080", SERVE)),
+    ("import a.db staff k a.csv b.csv", unexpected("b.csv", IMPORT)),
+    ("export a.db staff columns", unexpected("columns", EXPORT)),
+    ("tally a.db staff more", unexpected("more", TALLY)),
+    ("tally a.db staff more yet --help", unexpected("more", TALLY)),
+    ("tally a.db staff -- --form", unexpected("--form", TALLY)),
+    (["tally", "a.db", "staff", ""], unexpected("", TALLY)),
+    ("forget a.db staff 1 2", unexpected("2", FORGET)),
+    ("mirror a.db staff 10", unexpected("10", MIRROR)),
+    ("expand a.db staff a b", unexpected("b", EXPAND)),
+    ("migrate a.db b.db", unexpected("b.db", MIGRATE)),
+]
+
+UNKNOWN_ORDERS = [
+    ("delete a.db", no_order("delete")),
+    ("TALLY a.db staff", no_order("TALLY")),
+    ([""], no_order("")),
+    ("tell a.db", no_order("tell", "a similar subcommand exists: 'tally'")),
+    ("tal a.db staff", no_order("tal", "a similar subcommand exists: 'tally'")),
+    ("ex a.db", no_order("ex", "some similar subcommands exist: 'export', 'expand'")),
+    ("help nobody", no_order("nobody")),
+    ("help --help", no_order("--help")),
+    ("help tally more", error("unrecognized subcommand 'more'", TALLY)),
+    ("-- tally", error("unexpected argument 'tally' found", TOP,
+                       "subcommand 'tally' exists; to use it, remove the '--' before it")),
+]
+
+UNKNOWN_OPTIONS = [
+    ("-x", unexpected("-x", TOP)),
+    ("-V", unexpected("-V", TOP)),
+    ("--version", unexpected("--version", TOP)),
+    ("--port 1", unexpected("--port", TOP)),
+    ("--port serve a.db", error("unexpected argument '--port' found", TOP,
+                                "'serve --port' exists")),
+    ("try -x", unexpected("-x", TRY)),
+    ("try --limit 3", unexpected("--limit", TRY)),
+    ("tally -x a.db staff", unexpected_hyphen("-x", TALLY)),
+    ("tally a.db staff --form cards", unexpected_hyphen("--form", TALLY)),
+    ("serve -p 1 a.db", unexpected_hyphen("-p", SERVE)),
+    ("serve a.db --po 1", near("--po", "--port", "serve --port <P> <FILE>")),
+    ("serve a.db --connection 2",
+     near("--connection", "--connections", "serve --connections <N> <FILE>")),
+    ("export a.db staff --from cards",
+     near("--from", "--form", "export --form <F> <FILE> <BOOK>")),
+    ("export a.db staff --Form cards",
+     near("--Form", "--form", "export --form <F> <FILE> <BOOK>")),
+    ("mirror a.db staff --page=3",
+     near("--page", "--pages", "mirror --pages <P> <FILE> <BOOK>")),
+    ("tally --help=1", error("unexpected value '1' for '--help' found; no more were expected",
+                             "tally --help <FILE> <BOOK>")),
+]
+
+DOUBLED = [
+    ("serve a.db --port 1 --port 2", twice("--port <P>", SERVE)),
+    ("serve --port=1 a.db --port=1", twice("--port <P>", SERVE)),
+    ("serve a.db --connections 1 --connections 2", twice("--connections <N>", SERVE)),
+    ("export a.db staff --form cards --form cards", twice("--form <F>", EXPORT)),
+    ("mirror a.db staff --limit 1 --limit 2", twice("--limit <L>", MIRROR)),
+    ("mirror a.db staff --pages 1 --pages 2", twice("--pages <P>", MIRROR)),
+]
+
+NO_VALUES = [
+    ("serve a.db --port", no_value("--port <P>")),
+    ("serve a.db --port --", no_value("--port <P>")),
+    ("serve --port --connections 1 a.db", no_value("--port <P>")),
+    ("serve a.db --connections", no_value("--connections <N>")),
+    ("export a.db staff --form", no_value("--form <F>")),
+    ("mirror a.db staff --limit", no_value("--limit <L>")),
+    ("mirror a.db staff --pages", no_value("--pages <P>")),
+]
+
+# Numbers outside their ranges, and texts that are no numbers.
+NO_NUMBERS = [
+    ("serve a.db --port 65536", out_of_range(65536, "--port <P>", 0, 65535)),
+    ("serve a.db --port=18446744073709551615",
+     out_of_range(18446744073709551615, "--port <P>", 0, 65535)),
+    ("serve a.db --port=18446744073709551616", too_large(18446744073709551616, "--port <P>")),
+    ("serve a.db --port=", empty("--port <P>")),
+    (["serve", "a.db", "--port", ""], empty("--port <P>")),
+    ("serve a.db --port=-1", no_digits("-1", "--port <P>")),
+    ("serve a.db --port -1", unexpected_hyphen("-1", SERVE)),
+    ("serve a.db --port=+", no_digits("+", "--port <P>")),
+    ("serve a.db --port=++1", no_digits("++1", "--port <P>")),
+    ("serve a.db --port=0x10", no_digits("0x10", "--port <P>")),
+    ("serve a.db --port=1_000", no_digits("1_000", "--port <P>")),
+    ("serve a.db --port=1.0", no_digits("1.0", "--port <P>")),
+    ("serve a.db --port=8=9", no_digits("8=9", "--port <P>")),
+    (["serve", "a.db", "--port", " 1"], no_digits(" 1", "--port <P>")),
+    ("serve --port a.db", no_digits("a.db", "--port <P>")),
+    ("serve --port 99999 --help", out_of_range(99999, "--port <P>", 0, 65535)),
+    ("serve a.db --connections 0", out_of_range(0, "--connections <N>", 1, 1000000)),
+    ("serve a.db --connections 1000001", out_of_range(1000001, "--connections <N>", 1, 1000000)),
+    ("serve a.db --connections=-1", no_digits("-1", "--connections <N>")),
+    ("forget a.db staff 1000000000000000",
+     out_of_range(1000000000000000, "<UPTO>", 0, 999999999999999)),
+    ("forget a.db staff 18446744073709551616", too_large(18446744073709551616, "<UPTO>")),
+    ("forget a.db staff -1", unexpected_hyphen("-1", FORGET)),
+    ("forget a.db staff -- -1", no_digits("-1", "<UPTO>")),
+    ("forget a.db staff 1e3", no_digits("1e3", "<UPTO>")),
+    ("forget a.db staff all", no_digits("all", "<UPTO>")),
+    (["forget", "a.db", "staff", ""], empty("<UPTO>")),
+    ("mirror a.db staff --limit 1000000000000000",
+     out_of_range(1000000000000000, "--limit <L>", 0, 999999999999999)),
+    ("mirror a.db staff --limit=", empty("--limit <L>")),
+    ("mirror a.db staff --limit=ten", no_digits("ten", "--limit <L>")),
+    ("mirror a.db staff --pages 0", out_of_range(0, "--pages <P>", 1, 1000000)),
+    ("mirror a.db staff --pages 1000001", out_of_range(1000001, "--pages <P>", 1, 1000000)),
+    ("mirror a.db staff --pages=-1", no_digits("-1", "--pages <P>")),
+]
+
+NO_FORMS = [
+    ("export a.db staff --form rows", no_form("rows")),
+    ("export a.db staff --form=CARDS", no_form("CARDS")),
+]
+
+# Arguments that ask for an order on a.db, whatever the values of its options.
+GOOD = [
+    "book a.db staff",
+    "serve a.db",
+    "serve a.db --port 8 --connections 9",
+    "serve --connections=9 a.db --port=8",
+    "serve a.db --port 0",
+    "serve a.db --port 65535",
+    "serve a.db --port=0000000000000000000000008",
+    "serve a.db --port=+8",
+    "serve a.db --connections 1000000",
+    "serve --connections 1 -- a.db",
+    "import a.db staff k a.csv",
+    "import a.db staff - -",
+    "export a.db staff",
+    "export a.db staff --form columns",
+    "export --form=cards a.db staff",
+    "tally a.db staff",
+    "tally -- a.db staff",
+    "tally a.db -- staff",
+    "tally a.db staff --",
+    "forget a.db staff 0",
+    "forget a.db staff 999999999999999",
+    "forget a.db staff 007",
+    "forget a.db staff +7",
+    "mirror a.db staff",
+    "mirror a.db staff --limit 0 --pages 2",
+    "mirror --pages=1000000 a.db --limit=999999999999999 staff",
+    "expand a.db staff a",
+    "expand a.db staff -- --help",
+    "expand a.db staff --  -x",
+    "migrate a.db",
+    "migrate -- --help",
+]
+
+BAD = [*MISSING, *TOO_MANY, *UNKNOWN_ORDERS, *UNKNOWN_OPTIONS, *DOUBLED, *NO_VALUES, *NO_NUMBERS,
+       *NO_FORMS]

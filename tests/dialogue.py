@@ -1,0 +1,115 @@
+"""A client's connection to the server, beside the same connection to the model.
+
+What the server replies over a connection is wanted octet for octet as the model computes it, and
+so is whether the server closes it.
+"""
+
+import os
+import socket
+import unittest
+from contextlib import contextmanager
+
+from http_requests import books
+from model.books import Office
+from model.http import Session
+from program import Folder, Server, run
+
+# The server has read what came as soon as it sleeps; it is looked at that often at most.
+LOOKS_MAX = 100
+
+
+class ServedTest(unittest.TestCase):
+    """A test with a server over a new file, and a model beside it. `renew` begins both anew."""
+
+    def setUp(self):
+        self.renew()
+
+    def renew(self):
+        self.doCleanups()
+        folder = Folder(in_memory=True)
+        self.file = folder.__enter__() / "book"
+        self.addCleanup(folder.__exit__)
+        self.assertEqual((0, b"made\n", b""), run("init", self.file))
+        self.office = Office()
+        self.start()
+
+    def start(self, connections=1_000_000):
+        """Starts the server of the file, which ends after that many connections."""
+        self.server = Server(self.file, connections)
+        self.addCleanup(self.server.kill)
+        self.status = None
+        if os.path.isdir("/proc/self"):
+            self.status = os.open(f"/proc/{self.server.process.pid}/stat", os.O_RDONLY)
+            self.addCleanup(os.close, self.status)
+
+    def restart(self, connections=1_000_000):
+        """Starts another server of the file in place of this one."""
+        self.server.kill()
+        self.start(connections)
+
+    def serve(self, *pieces):
+        """Sends the pieces on a connection of their own, and compares all that is replied.
+
+        Where the server is to close, the client leaves its own side open: else nobody would end.
+        """
+        octets = b"".join(pieces)
+        session = Session(self.office)
+        wanted = session.feed(octets)
+        self.compare(octets, wanted, self.replies(pieces, finish=not session.closed))
+        return wanted
+
+    def serve_on(self, octets):
+        """Sends the octets, and a further request in a segment of its own, on one connection.
+
+        It is replied to where the server has left the connection open, and else it isn't.
+        """
+        session = Session(self.office)
+        wanted = session.feed(octets)
+        further = b"" if session.closed else session.feed(books())
+        with self.connection() as connection:
+            connection.send(octets)
+            self.compare(octets, wanted, connection.take(len(wanted)))
+            connection.send(books())
+            if not session.closed:
+                connection.finish()
+            self.compare(octets, further, connection.rest())
+
+    @contextmanager
+    def connection(self):
+        """A connection to the server, which is killed where it keeps its client waiting too long.
+
+        So what comes next fails at once.
+        """
+        with self.server.connect() as connection:
+            try:
+                yield connection
+            except socket.timeout:
+                self.server.kill()
+                raise
+
+    def replies(self, pieces, finish):
+        """All that the server replies to the pieces, up to the connection's end."""
+        with self.connection() as connection:
+            for piece in pieces:
+                connection.send(piece)
+                if len(pieces) > 1:
+                    self.settle()
+            if finish:
+                connection.finish()
+            return connection.rest()
+
+    def settle(self):
+        """Waits until the server has most likely read what was sent, so that pieces come apart.
+
+        Whether they do makes no difference to what is wanted.
+        """
+        for _ in range(LOOKS_MAX if self.status else 0):
+            # After the program's name in brackets comes a letter: S where it sleeps.
+            if b") S " in os.pread(self.status, 64, 0):
+                break
+
+    def compare(self, octets, wanted, replied):
+        if wanted != replied:
+            shown = octets if len(octets) < 2_000 else octets[:1_000] + b" .. " + octets[-1_000:]
+            self.assertEqual(wanted[-4_000:], replied[-4_000:], f"after {shown!r}")
+            self.fail(f"{len(replied)} octets in place of {len(wanted)} after {shown!r}")

@@ -1,0 +1,105 @@
+"""Files of the program: made by orders and requests, copied, read and changed by sqlite3."""
+
+import os
+import resource
+import shutil
+import signal
+import sqlite3
+import tempfile
+from collections import namedtuple
+from pathlib import Path
+
+from program import Ended, Folder, Server, run
+from tables import Tables
+
+# What a file holds: the statements that declare its tables, and the rows of each table.
+Contents = namedtuple("Contents", "declared rows")
+
+
+MEMORY = "/dev/shm"
+ROOM = 40_000_000  # octets, more than any of these tests writes
+
+
+class QuickFolder(Folder):
+    """A folder in memory, where the system offers that: for files that need no disk.
+
+    A file of books is written to the disk each time that it is opened, which is slow.
+    """
+
+    def __enter__(self):
+        has_room = os.access(MEMORY, os.W_OK) and shutil.disk_usage(MEMORY).free > ROOM
+        where = MEMORY if has_room else None
+        self.path = Path(tempfile.mkdtemp(prefix="contacts-test-", dir=where))
+        return self.path
+
+
+def fault(number):
+    """What the program ends with where it can't open a file."""
+    return Ended(3, b"", b"fault open %d\n" % number)
+
+
+def log_of(file):
+    return Path(f"{file}-wal")
+
+
+def make(file, *books):
+    """Makes a new file with these books, by orders."""
+    ended = [run("init", file), *(run("book", file, book) for book in books)]
+    wanted = [b"made\n", *(b"book %d\n" % number for number in range(1, 1 + len(books)))]
+    assert ended == [Ended(0, line, b"") for line in wanted], ended
+    return file
+
+
+def serve(file, *requests):
+    """What is replied to these requests, which come over one connection."""
+    with Server(file) as server:
+        return server.ask(b"".join(requests))
+
+
+def copy(file, folder):
+    """A copy of the file, and of its log where it has one, in the new folder."""
+    folder.mkdir()
+    for it in file, log_of(file):
+        if it.exists():
+            shutil.copy(it, folder / it.name)
+    return folder / file.name
+
+
+def contents(file, folder):
+    """What the file holds, which SQLite finds sound. A copy in the new folder is read."""
+    with Tables(copy(file, folder)) as tables:
+        assert tables.rows("PRAGMA integrity_check") == [(b"ok",)]
+        assert tables.rows("PRAGMA foreign_key_check") == []
+        return Contents(tables.declared(), tables.all_rows())
+
+
+def is_damaged(tables, statements):
+    """Runs the statements. Whether the tables allowed the rows that they make."""
+    try:
+        tables.run(statements)
+    except sqlite3.IntegrityError:
+        return False
+    return True
+
+
+def renew(file, octets):
+    """Makes the file one with these octets, without a log."""
+    for old in file.parent.glob(f"{file.name}*"):
+        old.unlink()
+    file.write_bytes(octets)
+    return file
+
+
+def up_to(octets, is_killed=False):
+    """For `preexec_fn`: no file grows past this size. A write past it fails, or kills the program.
+
+    So a disk that is full can be tried without one, and a crash at any write.
+    """
+
+    def limit():
+        signal.signal(signal.SIGXFSZ, signal.SIG_DFL if is_killed else signal.SIG_IGN)
+        resource.setrlimit(resource.RLIMIT_CORE, (0, 0))
+        _, most = resource.getrlimit(resource.RLIMIT_FSIZE)
+        resource.setrlimit(resource.RLIMIT_FSIZE, (octets, most))
+
+    return limit

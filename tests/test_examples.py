@@ -1,0 +1,279 @@
+"""The scripts of examples/: an office's first days, and backups with a service that is stopped.
+
+In place of systemctl the backups have commands that ask the test to stop and start its server.
+What is wanted is what the scripts and docs/OPERATING.md say of them.
+"""
+
+import fcntl
+import os
+import re
+import shutil
+import subprocess
+import threading
+import unittest
+
+from http_requests import create, get, put
+from program import PATIENCE, PROGRAM, ROOT, Folder, Server, run
+
+EXAMPLES = ROOT / "examples"
+# The commands that a backup needs, beside the shell's own.
+COMMANDS = "basename cat cp date flock grep mkdir mktemp mv rm sh sync".split()
+# Each of these waits until the test has stopped or started its server.
+STOP = 'echo stop > "$TALK/ask"; cat "$TALK/answer"'
+START = 'echo start > "$TALK/ask"; cat "$TALK/answer"'
+OLD_COPIES = ["2026-01-01-030000", "2026-01-02-030000", "2026-01-03-030000"]
+
+
+def lacking(*names):
+    """The first of these commands that this machine doesn't have, or None."""
+    return next((name for name in names if not shutil.which(name)), None)
+
+
+class Office(unittest.TestCase):
+    def test_the_first_days(self):
+        tool = lacking("curl", "jq", "sqlite3")
+        if tool:
+            self.skipTest(f"no {tool} on this machine")
+        done = subprocess.run(
+            [str(EXAMPLES / "office.sh"), PROGRAM],
+            stdout=subprocess.PIPE,
+            stderr=subprocess.STDOUT,
+            timeout=PATIENCE,
+        )
+        printed = done.stdout.decode()
+        self.assertEqual(0, done.returncode, printed)
+        self.assertTrue(printed.endswith("\noffice: all steps went as they should\n"), printed)
+
+
+class Service:
+    """A server that the commands STOP and START stop and start, as systemctl does a service."""
+
+    def __init__(self, folder):
+        self.folder = folder
+        self.file = folder / "office.db"
+        self.asked = []
+        run("init", self.file)
+        for name in "ask", "answer":
+            os.mkfifo(folder / name)
+        self.server = Server(self.file)
+        self.thread = threading.Thread(target=self._serve, daemon=True)
+        self.thread.start()
+
+    def __enter__(self):
+        return self
+
+    def __exit__(self, *_):
+        (self.folder / "ask").write_text("end\n")
+        self.thread.join(PATIENCE)
+        self.server.kill()
+
+    def _serve(self):
+        """Does what the commands ask for, until the end. Both are idempotent, as systemctl is."""
+        while True:
+            asked = (self.folder / "ask").read_text().strip()
+            if asked == "end":
+                return
+            self.asked.append(asked)
+            self.server.kill()
+            if asked == "start":
+                self.server = Server(self.file)
+            (self.folder / "answer").write_text("")
+
+
+class BackupTest(unittest.TestCase):
+    """A service with cards in `staff` and `clients`, none in `-x`, and a folder for copies."""
+
+    def setUp(self):
+        tool = lacking(*COMMANDS)
+        if tool:
+            self.skipTest(f"no {tool} on this machine")
+        folder = Folder()
+        self.folder = folder.__enter__()
+        self.addCleanup(folder.__exit__)
+        self.service = Service(self.folder)
+        self.addCleanup(self.service.__exit__)
+        for request in [
+            create("staff"),
+            create("clients"),
+            create("-x"),
+            put("staff", "a", "Ann"),
+            put("staff", "b", "Bob"),
+            put("clients", "p", "Pat"),
+        ]:
+            self.assertRegex(self.ask(request), rb"^HTTP/1\.1 201 ")
+        self.copies = self.folder / "a folder" / "copies"
+
+    def ask(self, request):
+        return self.service.server.ask(request)
+
+    def back_up(self, *arguments, **changed):
+        """Runs the script with these arguments and environment; returns status and output."""
+        environment = {
+            **os.environ,
+            "CONTACTS": PROGRAM,
+            "TALK": str(self.folder),
+            "STOP": STOP,
+            "START": START,
+            **changed,
+        }
+        done = subprocess.run(
+            [str(EXAMPLES / "backup.sh"), *map(str, arguments)],
+            env=environment,
+            stdin=subprocess.DEVNULL,
+            stdout=subprocess.PIPE,
+            stderr=subprocess.STDOUT,
+            timeout=PATIENCE,
+        )
+        return done.returncode, done.stdout.decode()
+
+    def back_up_well(self, *books, **changed):
+        """A backup that has to succeed; returns the folder of the copy."""
+        status, printed = self.back_up(self.service.file, self.copies, *books, **changed)
+        self.assertEqual(0, status, printed)
+        name = printed.strip().rpartition("/")[2]
+        self.assertEqual(f"backup: {self.copies}/{name}\n", printed)
+        return self.copies / name
+
+    def make_old_copies(self):
+        for name in OLD_COPIES:
+            (self.copies / name).mkdir(parents=True)
+            (self.copies / name / "office.db").write_bytes(b"old")
+
+    def path_without_sqlite3(self):
+        path = self.folder / "commands"
+        path.mkdir()
+        for name in COMMANDS:
+            (path / name).symlink_to(shutil.which(name))
+        return str(path)
+
+    def assert_serves(self):
+        """The service runs, with all of its cards."""
+        self.assertRegex(self.ask(get("staff", "b")), rb"^HTTP/1\.1 200 ")
+
+    def assert_whole(self, copy):
+        """The copy opens, and has both books as they were."""
+        self.assertRegex(run("tally", copy / "office.db", "staff").out, rb"(?m)^cards +2$")
+        self.assertRegex(run("tally", copy / "office.db", "clients").out, rb"(?m)^cards +1$")
+
+
+class Backups(BackupTest):
+    def test_all_books(self):
+        if lacking("sqlite3"):
+            self.skipTest("no sqlite3 on this machine")
+        copy = self.back_up_well()
+        self.assertEqual(["stop", "start"], self.service.asked)
+        self.assert_serves()
+        self.assert_whole(copy)
+        tally = (copy / "tally").read_text()
+        wanted = ["-x", "cards 0", "clients", "cards 1", "staff", "cards 2"]
+        found = re.findall(r"^(?:[a-z-]+|cards +\d+)$", tally, re.MULTILINE)
+        self.assertEqual(wanted, [re.sub(" +", " ", line) for line in found])
+
+    def test_the_file_alone_is_enough_after_a_checkpoint(self):
+        if lacking("sqlite3"):
+            self.skipTest("no sqlite3 on this machine")
+        copy = self.back_up_well()
+        alone = self.folder / "alone"
+        alone.mkdir()
+        shutil.copy(copy / "office.db", alone)
+        self.assert_whole(alone)
+
+    def test_named_books_without_sqlite3(self):
+        copy = self.back_up_well("staff", "clients", PATH=self.path_without_sqlite3())
+        self.assertEqual(["stop", "start"], self.service.asked)
+        self.assert_serves()
+        self.assert_whole(copy)
+
+    def test_only_the_owner_may_read_a_copy(self):
+        copy = self.back_up_well("staff")
+        for path, mode in [(self.copies, 0o700), (copy, 0o700), (copy / "tally", 0o600)]:
+            self.assertEqual(mode, path.stat().st_mode & 0o777)
+
+    def test_a_restore(self):
+        copy = self.back_up_well("staff")
+        self.ask(put("staff", "c", "Cy"))
+        self.service.server.kill()
+        # Both old files are removed first, and then those of the copy are put in their places.
+        for name in "office.db", "office.db-wal":
+            if (self.folder / name).exists():
+                (self.folder / name).unlink()
+        for file in copy.glob("office.db*"):
+            shutil.copy(file, self.folder)
+        self.service.server = Server(self.service.file)
+        self.assert_serves()
+        self.assertRegex(self.ask(get("staff", "c")), rb"^HTTP/1\.1 404 ")
+
+    def test_the_newest_copies_are_kept(self):
+        self.make_old_copies()
+        (self.copies / "notes").mkdir()
+        # A backup that was killed leaves a part of a copy.
+        (self.copies / "part.killed").mkdir()
+        copy = self.back_up_well("staff", KEEP="3")
+        self.assertEqual(
+            [*OLD_COPIES[1:], copy.name, "lock", "notes"],
+            sorted(it.name for it in self.copies.iterdir()),
+        )
+
+
+class FailedBackups(BackupTest):
+    """After each failure the service runs, no part of a copy is left, and older copies stay."""
+
+    def assert_fails(self, asked, *arguments, **changed):
+        self.make_old_copies()
+        status, printed = self.back_up(*arguments, **changed)
+        self.assertNotEqual(0, status, printed)
+        self.assertEqual(asked, self.service.asked, printed)
+        self.assert_serves()
+        left = sorted(it.name for it in self.copies.iterdir() if it.name != "lock")
+        self.assertEqual(OLD_COPIES, left)
+
+    def test_no_file(self):
+        missing = self.folder / "missing.db"
+        self.assert_fails(["stop", "start"], missing, self.copies, "staff")
+
+    def test_a_copy_that_does_not_open(self):
+        fails = self.folder / "fails"
+        fails.write_text("#!/bin/sh\nexit 3\n")
+        fails.chmod(0o755)
+        changed = {"CONTACTS": str(fails)}
+        self.assert_fails(["stop", "start"], self.service.file, self.copies, "staff", **changed)
+
+    def test_a_book_that_is_not_there(self):
+        self.assert_fails(["stop", "start"], self.service.file, self.copies, "nobody")
+
+    def test_the_service_does_not_stop(self):
+        changed = {"STOP": STOP + "; exit 1"}
+        self.assert_fails(["stop", "start"], self.service.file, self.copies, "staff", **changed)
+
+    def test_the_service_does_not_start(self):
+        # It is asked to start once more at the end, and does.
+        once = 'test -e "$TALK/tried" || { touch "$TALK/tried"; exit 1; }; '
+        changed = {"START": once + START}
+        self.assert_fails(["stop", "start"], self.service.file, self.copies, "staff", **changed)
+
+    def test_a_signal_while_the_service_is_stopped(self):
+        changed = {"STOP": STOP + "; kill -TERM $PPID"}
+        self.assert_fails(["stop", "start"], self.service.file, self.copies, "staff", **changed)
+
+    def test_another_backup_is_running(self):
+        self.make_old_copies()
+        with open(self.copies / "lock", "w") as lock:
+            fcntl.flock(lock, fcntl.LOCK_EX)
+            status, printed = self.back_up(self.service.file, self.copies, "staff")
+        self.assertEqual((1, "backup: another backup is running\n"), (status, printed))
+        self.assertEqual([], self.service.asked)
+
+    def test_no_copy_would_be_kept(self):
+        changed = {"KEEP": "0"}
+        self.assert_fails([], self.service.file, self.copies, "staff", **changed)
+
+    def test_no_books_and_no_sqlite3(self):
+        changed = {"PATH": self.path_without_sqlite3()}
+        self.assert_fails([], self.service.file, self.copies, **changed)
+
+    def test_no_folder(self):
+        self.assert_fails([], self.service.file)
+
+
+if __name__ == "__main__":
+    unittest.main()
