@@ -1,8 +1,8 @@
-"""What each call answers over tables, read as they stand: a row that is read and can't be is a
-fault. The calls are the same as in src/changes.rt and src/looks.rs."""
+"""What each call answers over tables, read as they are: a row that is read and can't be is a fault.
+The calls are the same as in src/changes.rt and src/looks.rt."""
 
-from model import first
-from tables import NUMBERS, Tables, canonical_card, decoded, store_tables
+from model.cards import uid_of
+from tables import NUMBERS, canonical_card, decoded, in_memory, small_store
 
 PAGE_MAX, CARDS_MAX, CHANGES_MAX, BOOKS_MAX = 100, 100, 10**6, 10
 STORE = "fault 19"
@@ -44,7 +44,7 @@ class Reader:
         self.tables = tables
 
     def rows(self, query, *values):
-        return self.tables.db.execute(query, values).fetchall()
+        return self.tables.rows(query, *values)
 
     def find(self, name):
         """The numbers of the book with the name, which add up."""
@@ -67,8 +67,7 @@ class Reader:
         return None
 
     def remembered(self, book):
-        return self.rows("SELECT count(*) FROM member WHERE book = ? AND card IS NULL AND "
-                         "changed > ?", book["id"], book["horizon"])[0][0]
+        return self.tables.remembered(book["id"], book["horizon"])
 
     def kept(self, book, key):
         for row in self.rows("SELECT added, edited, same, number FROM import_key WHERE book = ? "
@@ -83,7 +82,7 @@ class Reader:
         live = self.live(self.find("staff"), "ann")
         if live is None:
             refuse(4)
-        return f"card {live[0]} {first(live[1], 'UID')}"
+        return f"card {live[0]} {uid_of(live[1])}"
 
     def books(self):
         rows = sorted(self.rows("SELECT name, id, number, horizon FROM book"))
@@ -100,33 +99,28 @@ class Reader:
         live = [card_of(card) for uid, changed, card in rows if (text(uid), natural(changed))]
         return f"cards {sum(card is not None for card in live)}"
 
-    def tally(self, name="staff"):
-        book = self.find(as_text(name))
+    def tally(self):
+        book = self.find("staff")
         numbers = [book["number"], book["horizon"], book["cards"]]
         numbers += [book[reason] for reason in NUMBERS[2:]] + [self.remembered(book)]
         return "tally " + " ".join(map(str, numbers))
 
-    def report(self, name="staff", token=None):
-        """The members that changed after `at`, and are live or went after `base`."""
-        book = self.find(as_text(name))
+    def report(self, token=None):
+        """The initial report, or one from the token: the book's id and two numbers."""
+        book = self.find("staff")
         own, at, base = token or (book["id"], 0, book["number"])
         if own != book["id"]:
             refuse(10)
         if base < book["horizon"] or base > book["number"]:
             refuse(10)
-        rows = self.rows("SELECT uid, changed, card FROM member WHERE book = ? AND changed > ? AND "
-                         "(card IS NOT NULL OR changed > ?) ORDER BY changed", own, at, base)
+        rows = self.tables.due(own, at, base)
         assert len(rows) <= PAGE_MAX
         told = f"page {own}/{book['number']}/{book['number']}"
         for uid, changed, card in rows:
             uid, spelled = text(uid), card_of(card)
             told += f", {uid} gone" if card is None else \
-                f", {uid} {changed} {first(spelled, 'UID')}"
+                f", {uid} {changed} {uid_of(spelled)}"
         return told
-
-
-def as_text(name):
-    return name.decode() if isinstance(name, bytes) else name
 
 
 class Writer(Reader):
@@ -229,7 +223,7 @@ CALLS = [("create_book", Writer.create_book), ("put", Writer.put), ("remove", Wr
          ("import", Writer.import_cards), ("kept_import", Reader.kept_import), ("get", Reader.get),
          ("books", Reader.books), ("book", Reader.book), ("cards", Reader.cards),
          ("tally", Reader.tally), ("report", Reader.report),
-         ("report with a token", lambda reader: reader.report("staff", (1, 0, 0)))]
+         ("report with a token", lambda reader: reader.report((1, 0, 0)))]
 
 
 def answers(statements):
@@ -237,7 +231,7 @@ def answers(statements):
     import that was done already, and nothing else does."""
     lines = []
     for place, (name, call) in enumerate(CALLS):
-        tables = Tables(store_tables())
+        tables = in_memory(small_store())
         tables.run(statements)
         writer = Writer(tables)
         try:

@@ -34,7 +34,7 @@ def write_told(part, octets):
 
 
 def count_rows():
-    for part in ("cards", "formats", "orders"):
+    for part in ("cards", "formats"):
         lines = rows(part).decode().split("\n")
         count = sum(1 for line in lines if line and not line.startswith("#"))
         write_told(part, b"%d rows\n" % count)

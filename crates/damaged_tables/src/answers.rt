@@ -1,7 +1,6 @@
 //! Answers, told in one line.
 //!
 //! What is told is added to a text that is lent: so there is little to drop where memory runs out.
-use book_store::OpenFault;
 use std::alloc::{AllocError, Global};
 use sync_core::{BookLine, Denied, Entry, ImportTally, Page, PutAnswer, Tally};
 use vcard_text::{Card, NoMemory};
@@ -62,25 +61,6 @@ pub(crate) fn tell_denial(
         Ok(()) => Ok(()),
         Err(denied) => tell_denied(told, alloc, denied),
     }
-}
-
-/// Why tables weren't taken.
-pub(crate) fn tell_open_fault(
-    told: &mut String,
-    alloc: Global,
-    fault: OpenFault,
-) -> Result<(), NoMemory> {
-    let name = match fault {
-        OpenFault::OtherSchema { has } => {
-            return push_made(told, format!(in alloc; "OtherSchema {has}"));
-        }
-        OpenFault::Store => "Store",
-        OpenFault::NotOurs => "NotOurs",
-        OpenFault::Damaged => "Damaged",
-        OpenFault::NotEmpty => "NotEmpty",
-        OpenFault::Memory => "Memory",
-    };
-    Ok(told.push_str(name)?)
 }
 
 /// The book's name, id, number and horizon.

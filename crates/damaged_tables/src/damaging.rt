@@ -10,9 +10,6 @@ pub(crate) struct Damage<'a> {
     pub(crate) statements: &'a str,
 }
 
-/// Makes of the tables those of the first schema, which has no keeps.
-const TO_FIRST: &str = "DROP TABLE keeping; UPDATE meta SET val = 1";
-
 /// What is told of statements that weren't run to their end: a column or a key of a table doesn't
 /// allow it, or the database answered another error.
 fn undone_told(error: Error) -> &'static str {
@@ -41,16 +38,5 @@ pub(crate) fn is_damaged(
     damage: Damage<'_>,
 ) -> Result<bool, Stop> {
     conn.execute_batch(damage.script)?;
-    is_done(told, conn, damage.statements)
-}
-
-/// The same in tables of the first schema.
-pub(crate) fn is_first_damaged(
-    told: &mut String,
-    conn: &mut Memory,
-    damage: Damage<'_>,
-) -> Result<bool, Stop> {
-    conn.execute_batch(damage.script)?;
-    conn.execute_batch(TO_FIRST)?;
     is_done(told, conn, damage.statements)
 }

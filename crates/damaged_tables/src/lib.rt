@@ -1,8 +1,6 @@
-//! Tables that were damaged by hand: what adopting them answers, what carrying them from the first
-//! schema answers, and what each call over them does.
+//! Tables that were damaged by hand, and that nobody tested since: what each call over them does.
 #![tactic(auto)]
 
-mod adopting;
 mod answers;
 mod calls;
 mod changes;
@@ -11,7 +9,6 @@ mod damaging;
 mod laying;
 mod lines;
 mod looks;
-mod migrating;
 mod rows;
 mod stop;
 mod tables;

@@ -1,4 +1,4 @@
-//! The list: a line has a kind, a label and statements, with tabs between.
+//! The list: a line has a label and statements, with a tab between.
 use crate::answers::push_pieces;
 use crate::calls::CALLS;
 use crate::damaging::Damage;
@@ -16,30 +16,12 @@ fn tell_calls(told: &mut String, alloc: Global, damage: Damage<'_>) -> Result<()
     Ok(())
 }
 
-/// What comes of the statements.
-fn tell_outcome(
-    told: &mut String,
-    alloc: Global,
-    kind: &str,
-    damage: Damage<'_>,
-) -> Result<(), Stop> {
-    match kind {
-        "adopt" => tell_task(told, alloc, Task::Adopt(damage)),
-        "migrate" => tell_task(told, alloc, Task::Migrate(damage)),
-        "calls" => tell_calls(told, alloc, damage),
-        _ => Err(Stop::Line),
-    }
-}
-
 fn tell_line(told: &mut String, alloc: Global, script: &str, line: &str) -> Result<(), Stop> {
-    let Some((kind, rest)) = line.split_once('\t') else {
+    let Some((label, statements)) = line.split_once('\t') else {
         return Err(Stop::Line);
     };
-    let Some((label, statements)) = rest.split_once('\t') else {
-        return Err(Stop::Line);
-    };
-    push_pieces(told, &[kind, " ", label, ": "])?;
-    tell_outcome(told, alloc, kind, Damage { script, statements })?;
+    push_pieces(told, &[label, ":"])?;
+    tell_calls(told, alloc, Damage { script, statements })?;
     Ok(told.push_str("\n")?)
 }
 

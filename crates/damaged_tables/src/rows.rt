@@ -8,7 +8,7 @@ use std::alloc::Global;
 use vcard_text::NoMemory;
 
 /// All rows of each table, in the order of their keys.
-pub(crate) const META: &str = "SELECT name, val FROM meta ORDER BY name";
+const META: &str = "SELECT name, val FROM meta ORDER BY name";
 
 pub(crate) const BOOK: &str =
     "SELECT id, name, number, horizon, created, edited, imported, import_edited, \
@@ -23,12 +23,6 @@ pub(crate) const KEEPING: &str = "SELECT book, keep FROM keeping ORDER BY book";
 
 /// The tables of a store.
 pub(crate) const TABLES: [&str; 5] = [META, BOOK, MEMBER, IMPORT, KEEPING];
-
-/// Those of the first schema, which has no keeps.
-pub(crate) const FIRST: [&str; 4] = [META, BOOK, MEMBER, IMPORT];
-
-/// Those whose rows stay as they were where tables are carried.
-pub(crate) const BOOKS: [&str; 3] = [BOOK, MEMBER, IMPORT];
 
 /// Adds the number.
 pub(crate) fn push_number(told: &mut String, alloc: Global, number: i64) -> Result<(), NoMemory> {
@@ -77,35 +71,29 @@ fn push_value(told: &mut String, alloc: Global, value: ValueRef<'_>) -> Result<(
     }
 }
 
-/// Adds the row's values between bars, and the end.
-fn push_row(told: &mut String, alloc: Global, row: &Row, end: &str) -> Result<(), Stop> {
+/// Adds the row's values between bars, as a line.
+fn push_row(told: &mut String, alloc: Global, row: &Row) -> Result<(), Stop> {
     for at in 0..row.column_count() {
         if at > 0 {
             told.push_str("|")?;
         }
         push_value(told, alloc, row.get_ref(at)?)?;
     }
-    Ok(told.push_str(end)?)
+    Ok(told.push_str("\n")?)
 }
 
-/// Adds the rows, each with the end.
-fn push_all(told: &mut String, alloc: Global, rows: &[Row], end: &str) -> Result<(), Stop> {
+/// Adds the rows, a row a line.
+fn push_all(told: &mut String, alloc: Global, rows: &[Row]) -> Result<(), Stop> {
     for row in rows {
-        push_row(told, alloc, row, end)?;
+        push_row(told, alloc, row)?;
     }
     Ok(())
 }
 
-/// Adds what the query shows, each row with the end.
-pub(crate) fn push_rows(
-    told: &mut String,
-    alloc: Global,
-    conn: &mut Memory,
-    query: &str,
-    end: &str,
-) -> Result<(), Stop> {
+/// Adds what the query shows, a row a line.
+fn push_rows(told: &mut String, alloc: Global, conn: &mut Memory, query: &str) -> Result<(), Stop> {
     let rows = conn.query_all(query, params![])?;
-    let pushed = push_all(told, alloc, rows.as_slice(), end);
+    let pushed = push_all(told, alloc, rows.as_slice());
     drop(rows);
     pushed
 }
@@ -118,7 +106,7 @@ pub(crate) fn tell_rows(
     queries: &[&str],
 ) -> Result<(), Stop> {
     for query in queries {
-        push_rows(told, alloc, conn, query, "\n")?;
+        push_rows(told, alloc, conn, query)?;
     }
     Ok(())
 }

@@ -1,9 +1,7 @@
 //! New stores over tables in memory, and what is done with them.
-use crate::adopting::tell_adopting;
 use crate::calls::{Call, tell_call};
 use crate::damaging::Damage;
 use crate::laying::{Form, Store, limits, tell_laid};
-use crate::migrating::tell_migrating;
 use crate::stop::Stop;
 use book_store::SqlStore;
 use std::alloc::Global;
@@ -13,11 +11,7 @@ use std::alloc::Global;
 pub(crate) enum Task<'a> {
     /// The books that are damaged are made, and told in the form.
     Lay(Form),
-    /// The tables are adopted after the damage.
-    Adopt(Damage<'a>),
-    /// They are carried from the first schema after the damage.
-    Migrate(Damage<'a>),
-    /// They are called after the damage.
+    /// The call is made over the tables after the damage.
     Call(Damage<'a>, Call),
 }
 
@@ -25,11 +19,6 @@ pub(crate) enum Task<'a> {
 fn tell_over(told: &mut String, alloc: Global, store: Store, task: Task<'_>) -> Result<(), Stop> {
     match task {
         Task::Lay(form) => tell_laid(told, alloc, store, form),
-        Task::Adopt(damage) => tell_adopting(told, alloc, store.into_connection(), damage),
-        Task::Migrate(damage) => {
-            let mut conn = store.into_connection();
-            tell_migrating(told, alloc, &mut conn, damage)
-        }
         Task::Call(damage, call) => {
             let mut conn = store.into_connection();
             tell_call(told, alloc, &mut conn, damage, call)

@@ -6,9 +6,8 @@
 use both_stores::tell_sections;
 use card_rows::tell_cards;
 use damaged_tables::tell_lines;
+use failing_connections::print_rows;
 use format_rows::tell_formats;
-use http_rows::told_rows;
-use order_rows::tell_orders;
 use refused_memory::{tell_all, tell_chosen};
 use std::fs;
 use std::io::{Read, Write};
@@ -51,14 +50,6 @@ fn run_formats(rt: &HostRuntime, part: &str, rows: &str) -> bool {
     }
 }
 
-/// Words of the command line, and what their orders print.
-fn run_orders(rt: &HostRuntime, part: &str, rows: &str) -> bool {
-    match tell_orders(rt, rows) {
-        Ok(told) => print_part(rt, part, told.as_bytes()),
-        Err(_) => false,
-    }
-}
-
 /// Lists of commands, over three kinds of stores.
 fn run_commands(rt: &HostRuntime, part: &str, rows: &str) -> bool {
     let mut told = String::new(rt.alloc());
@@ -66,10 +57,10 @@ fn run_commands(rt: &HostRuntime, part: &str, rows: &str) -> bool {
     print_part(rt, part, told.as_bytes()) && ran
 }
 
-/// Whole connections.
+/// Connections over a store, a reader or a writer that fails.
 fn run_connections(rt: &HostRuntime, part: &str, rows: &[u8]) -> bool {
-    match told_rows(rt.alloc(), rows) {
-        Ok(told) => print_part(rt, part, told.as_slice()),
+    match print_rows(rt.alloc(), rows) {
+        Ok(printed) => print_part(rt, part, printed.as_slice()),
         Err(_) => false,
     }
 }
@@ -94,7 +85,6 @@ fn run_text(rt: &HostRuntime, part: &str, rows: &str) -> bool {
     match part {
         "cards" => run_cards(rt, part, rows),
         "formats" => run_formats(rt, part, rows),
-        "orders" => run_orders(rt, part, rows),
         "commands" => run_commands(rt, part, rows),
         "damage" => run_damage(rt, part, rows),
         "stops" => run_stops(rt, part, rows),
@@ -117,10 +107,9 @@ fn run_part(rt: &HostRuntime, part: &str) -> bool {
 }
 
 /// The parts that have rows, in the order in which they are run.
-const PARTS: [&str; 7] = [
+const PARTS: [&str; 6] = [
     "cards",
     "formats",
-    "orders",
     "commands",
     "connections",
     "damage",

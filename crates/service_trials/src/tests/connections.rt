@@ -1,5 +1,5 @@
 //! Readers that are interrupted, and readers that never end. Connections of any other kind are
-//! tried by `http_rows`, whose list is a file.
+//! tried by the suite over the built program.
 use super::new_service;
 use book_http::{ServeFault, serve};
 use std::alloc::Global;

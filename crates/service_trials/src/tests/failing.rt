@@ -1,5 +1,5 @@
 //! A store that answers a fault to each call. (What a failing store's service replies over HTTP is
-//! tried by `http_rows`.)
+//! tried by `failing_connections`.)
 use super::{devices_of, driven};
 use book_scripts::{FailingStore, replies_told};
 use book_service::mirror;

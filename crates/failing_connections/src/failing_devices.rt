@@ -1,62 +1,15 @@
 //! A row's first connection, served from a device that fails at some read or write, for each one
 //! until none fails. The row's other connections then ask the store what it holds.
 
-use crate::cuttings::Cutting;
+use crate::devices::{FailingReader, FailingWriter};
 use crate::parts::{Connection, Row};
-use crate::serving::serve_pieces;
+use crate::serving::push_replies;
 use base_types::NoMemory;
 use book_http::{ServeFault, Service, serve};
 use http_requests::Handler;
 use std::alloc::Global;
 use std::io;
-use std::io::{Read, Write};
-use sync_core::PlainStore;
-
-/// The most octets of a read, and of a write.
-const OCTETS_MAX: usize = 10;
-
-/// An input of which one read fails.
-#[derive(Drop)]
-struct FailingReader<'a> {
-    octets: &'a [u8],
-    reads: u64,
-    fails_at: u64,
-}
-
-impl<'a> Read for FailingReader<'a> {
-    fn read(&mut self, buf: &mut [u8]) -> io::Result<usize> {
-        self.reads = self.reads.saturating_add(1);
-        if self.reads == self.fails_at {
-            return Err(io::Error::from(io::ErrorKind::BrokenPipe));
-        }
-        let mut front = self.octets.get(..OCTETS_MAX).unwrap_or(self.octets);
-        let count = front.read(buf)?;
-        self.octets = self.octets.get(count..).unwrap_or_default();
-        Ok(count)
-    }
-}
-
-/// An output of which one write fails.
-#[derive(Drop)]
-struct FailingWriter {
-    octets: Vec<u8>,
-    writes: u64,
-    fails_at: u64,
-}
-
-impl Write for FailingWriter {
-    fn write(&mut self, buf: &[u8]) -> io::Result<usize> {
-        self.writes = self.writes.saturating_add(1);
-        if self.writes == self.fails_at {
-            return Err(io::Error::from(io::ErrorKind::BrokenPipe));
-        }
-        self.octets.write(buf.get(..OCTETS_MAX).unwrap_or(buf))
-    }
-
-    fn flush(&mut self) -> io::Result<()> {
-        Ok(())
-    }
-}
+use sync_core::{Limits, PlainStore};
 
 /// The device that fails.
 #[derive(Clone, Copy)]
@@ -101,15 +54,15 @@ impl Outcome {
 }
 
 /// Adds what the store replies to the connections.
-fn tell_books<H: Handler>(
+fn push_books<H: Handler>(
     alloc: Global,
     handler: &mut H,
     connections: &[Connection],
-    told: &mut Vec<u8>,
+    out: &mut Vec<u8>,
 ) -> Result<(), NoMemory> {
     for connection in connections {
-        told.extend_from_slice(b"\n")?;
-        serve_pieces(alloc, handler, connection.octets, Cutting::Whole, told)?;
+        out.extend_from_slice(b"\n")?;
+        push_replies(alloc, handler, connection.octets, out)?;
     }
     Ok(())
 }
@@ -127,21 +80,13 @@ fn serve_failing<H: Handler>(
         Device::Reader => (fails_at, 0),
         Device::Writer => (0, fails_at),
     };
-    let mut reader = FailingReader {
-        octets,
-        reads: 0,
-        fails_at: at_read,
-    };
-    let mut writer = FailingWriter {
-        octets: Vec::new(alloc),
-        writes: 0,
-        fails_at: at_write,
-    };
+    let mut reader = FailingReader::new(octets, at_read, io::ErrorKind::BrokenPipe);
+    let mut writer = FailingWriter::new(alloc, at_write);
     let ended = serve(alloc, handler, &mut reader, &mut writer);
     (ended, writer.octets)
 }
 
-/// What comes of the connections over the service, of which the first meets the device.
+/// The outcome of the connections over the service, of which the first meets the device.
 fn outcome_of<H: Handler>(
     alloc: Global,
     handler: &mut H,
@@ -158,11 +103,11 @@ fn outcome_of<H: Handler>(
         written,
         books: Vec::new(alloc),
     };
-    tell_books(alloc, handler, others, &mut outcome.books)?;
+    push_books(alloc, handler, others, &mut outcome.books)?;
     Ok(outcome)
 }
 
-/// What comes of the row where the device fails at that read or write.
+/// The outcome of the row where the device fails at that read or write.
 fn outcome_at(
     alloc: Global,
     row: &Row,
@@ -170,7 +115,7 @@ fn outcome_at(
     fails_at: u64,
 ) -> Result<Outcome, NoMemory> {
     let mut service = Service {
-        store: PlainStore::new(alloc, row.setting.limits),
+        store: PlainStore::new(alloc, Limits::standard()),
     };
     let connections = row.connections.as_slice();
     outcome_of(alloc, &mut service, connections, device, fails_at)
@@ -187,116 +132,112 @@ fn ending(ended: Result<(), ServeFault>) -> &'static str {
 }
 
 /// Tells the outcome, of which the like came first at that read or write.
-fn tell(
+fn push_outcome_line(
     alloc: Global,
     device: Device,
     fails_at: u64,
     outcome: &Outcome,
-    told: &mut Vec<u8>,
+    out: &mut Vec<u8>,
 ) -> Result<(), NoMemory> {
     let (name, end) = (device.name(), ending(outcome.ended));
     let written = outcome.written.len();
     let line = format!(in alloc;
         "\n-- failing at {name} {fails_at} and on: {end}, {written} octets written"
     )?;
-    let pushed = told.extend_from_slice(line.as_bytes());
+    let pushed = out.extend_from_slice(line.as_bytes());
     drop(line);
     pushed?;
-    Ok(told.extend_from_slice(outcome.books.as_slice())?)
+    Ok(out.extend_from_slice(outcome.books.as_slice())?)
 }
 
 /// Tells the next outcome, where it isn't like the one before.
-fn tell_outcome(
+fn push_outcome(
     alloc: Global,
     device: Device,
     fails_at: u64,
     next: &Outcome,
     whole: &Outcome,
     before: &Outcome,
-    told: &mut Vec<u8>,
+    out: &mut Vec<u8>,
 ) -> Result<(), NoMemory> {
     if !next.is_begun_of(whole) {
-        told.extend_from_slice(b"\n** no beginning of the replies was written **")?;
+        out.extend_from_slice(b"\n** no beginning of the replies was written **")?;
     }
     if next.is_like(before) {
         Ok(())
     } else {
-        tell(alloc, device, fails_at, next, told)
+        push_outcome_line(alloc, device, fails_at, next, out)
     }
 }
 
-/// Tells what comes where the device fails at that read or write, if it isn't like what came before
-/// it, in whose place it is left.
-fn tell_next(
+/// Adds the outcome where the device fails at that read or write, if it isn't like the one before
+/// it, whose place it takes.
+fn push_next(
     alloc: Global,
     row: &Row,
     device: Device,
     fails_at: u64,
     whole: &Outcome,
     before: &mut Outcome,
-    told: &mut Vec<u8>,
+    out: &mut Vec<u8>,
 ) -> Result<(), NoMemory> {
     let next = outcome_at(alloc, row, device, fails_at)?;
-    let done = tell_outcome(alloc, device, fails_at, &next, whole, before, told);
+    let done = push_outcome(alloc, device, fails_at, &next, whole, before, out);
     *before = next;
     done
 }
 
 /// Tells the first outcome, and each other that isn't like the one before, until the device doesn't
 /// fail.
-fn tell_outcomes(
+fn push_outcomes(
     alloc: Global,
     row: &Row,
     device: Device,
     whole: &Outcome,
     before: &mut Outcome,
-    told: &mut Vec<u8>,
+    out: &mut Vec<u8>,
 ) -> Result<(), NoMemory> {
-    tell(alloc, device, 1, before, told)?;
+    push_outcome_line(alloc, device, 1, before, out)?;
     for fails_at in 2..1_000u64 {
         if before.is_like(whole) {
             break;
         }
-        tell_next(alloc, row, device, fails_at, whole, before, told)?;
+        push_next(alloc, row, device, fails_at, whole, before, out)?;
     }
     Ok(())
 }
 
-/// Tells what comes where the device fails, of which this comes where it doesn't.
-fn tell_beside(
+/// Adds the outcomes where the device fails, beside the one where it doesn't.
+fn push_each(
     alloc: Global,
     row: &Row,
     device: Device,
     whole: &Outcome,
-    told: &mut Vec<u8>,
+    out: &mut Vec<u8>,
 ) -> Result<(), NoMemory> {
     let mut first = outcome_at(alloc, row, device, 1)?;
-    let done = tell_outcomes(alloc, row, device, whole, &mut first, told);
+    let done = push_outcomes(alloc, row, device, whole, &mut first, out);
     drop(first);
     done
 }
 
-/// Tells what comes where the device fails at each read or write in turn.
-fn tell_device(
+/// Adds the outcomes where the device fails at each read or write in turn.
+fn push_device(
     alloc: Global,
     row: &Row,
     device: Device,
-    told: &mut Vec<u8>,
+    out: &mut Vec<u8>,
 ) -> Result<(), NoMemory> {
     let whole = outcome_at(alloc, row, device, 0)?;
-    let done = tell_beside(alloc, row, device, &whole, told);
+    let done = push_each(alloc, row, device, &whole, out);
     drop(whole);
     done
 }
 
-/// Tells what comes of the row where its reader fails, and where its writer does.
-pub(crate) fn tell_failing_devices(
-    alloc: Global,
-    row: &Row,
-    told: &mut Vec<u8>,
-) -> Result<(), NoMemory> {
+/// Adds the outcomes of the row where its reader fails, and where its writer does.
+pub(crate) fn push_failures(alloc: Global, row: &Row, out: &mut Vec<u8>) -> Result<(), NoMemory> {
     for device in [Device::Reader, Device::Writer] {
-        tell_device(alloc, row, device, told)?;
+        push_device(alloc, row, device, out)?;
     }
     Ok(())
 }

@@ -1,11 +1,11 @@
-//! The parts of the input, each behind a mark and a line that is its title.
+//! The parts of the input. Each begins with a mark and a line that is its title.
 
 use crate::settings::{Setting, setting_in};
 use base_types::NoMemory;
 use std::alloc::Global;
 
-/// Begins a row, which has stores of its own. The title follows, up to the line's end, and then
-/// perhaps a line that is its setting.
+/// Begins a row, which has a store of its own. The title follows, up to the line's end, and then a
+/// line that is its setting.
 pub(crate) const ROW: &[u8] = b"\n#### ";
 
 /// Begins a connection of a row, in the same way; up to the next mark its octets follow.
@@ -18,14 +18,14 @@ pub(crate) struct Connection<'a> {
     pub(crate) octets: &'a [u8],
 }
 
-/// A row: what its stores are like, and the connections that come to them in turn.
+/// A row: what fails, and the connections, which come in turn.
 #[derive(Drop)]
 pub(crate) struct Row<'a> {
     pub(crate) setting: Setting,
     pub(crate) connections: Vec<Connection<'a>>,
 }
 
-/// What stands before the first place of the mark, and what follows it.
+/// What is before the first place of the mark, and what follows it.
 pub(crate) fn split_at_mark<'a>(text: &'a [u8], mark: &[u8]) -> (&'a [u8], Option<&'a [u8]>) {
     for at in 0..text.len() {
         let (front, rest) = text.split_at(at);
@@ -47,7 +47,7 @@ pub(crate) fn first_line(text: &[u8]) -> (&[u8], &[u8]) {
     (text, &[])
 }
 
-/// The connections, the first behind its mark.
+/// The connections, the first without its mark.
 fn connections_in<'a>(
     alloc: Global,
     first: Option<&'a [u8]>,
@@ -67,7 +67,7 @@ fn connections_in<'a>(
     Ok(connections)
 }
 
-/// The row that the text behind its title writes, and none where its setting isn't known.
+/// The row that the text below its title writes, and none where its setting isn't known.
 pub(crate) fn row_in<'a>(alloc: Global, text: &'a [u8]) -> Result<Option<Row<'a>>, NoMemory> {
     let (front, first) = split_at_mark(text, CONNECTION);
     match setting_in(front) {
