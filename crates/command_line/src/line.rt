@@ -105,8 +105,8 @@ fn import_line<'a>(alloc: Global) -> Result<Command<'a>, AllocError>
     let key = word(
         alloc,
         "KEY",
-        "The import's key, 1 to 64 of A-Z, a-z, 0-9, . _ -; a second import under it changes \
-         nothing",
+        "The import's key, 1 to 64 of A-Z, a-z, 0-9, . _ -; a second import under a kept key \
+         changes nothing and prints what the first printed",
     );
     let csv = word(
         alloc,
@@ -117,7 +117,9 @@ fn import_line<'a>(alloc: Global) -> Result<Command<'a>, AllocError>
         alloc,
         "import",
         "Imports the cards of a CSV file into the book",
-        "Example:\n  contacts import office.db staff monday people.csv\n\nThe header is \
+        "Example:\n  contacts import office.db staff \"$(date +%F-%H%M%S)\" people.csv\n\nUse a new \
+         key for each import: a second one under a kept key changes nothing and looks like the \
+         first.\n\nThe header is \
          `uid,vcard` for UIDs and cards' texts, or `uid,fn,family,given,email,tel,org,note` for \
          cards' parts. All cards come in or none does. A card has at most 262,144 octets, and a \
          book at most 10,000 cards.",
