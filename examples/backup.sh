@@ -1,0 +1,83 @@
+#!/bin/sh
+# Backs up a file of books. It stops the service, copies the file and its log, starts the service
+# again, and then opens the copy, which tests all of its rows. The copy is the folder
+# FOLDER/DATE-TIME. If anything fails, the service is started again, no copy is left, older copies
+# stay, and the status isn't 0.
+#
+# Usage: backup.sh FILE FOLDER [BOOK ..]
+#   Without a BOOK it counts all books, which needs sqlite3.
+# Environment:
+#   CONTACTS  the program; without it `contacts`
+#   STOP      a shell command that stops the service and waits until it has ended
+#   START     a shell command that starts it
+#   KEEP      how many copies are kept; without it 14
+set -eu
+umask 077
+
+fail() {
+    echo "backup: $*" >&2
+    exit 1
+}
+
+[ $# -ge 2 ] || fail 'usage: backup.sh FILE FOLDER [BOOK ..]'
+file=$1 folder=$2
+shift 2
+contacts=${CONTACTS:-contacts}
+stop=${STOP:-systemctl stop contacts.service}
+start=${START:-systemctl start contacts.service}
+keep=${KEEP:-14}
+[ "$keep" -ge 1 ] || fail 'KEEP is at least 1'
+[ $# -gt 0 ] || command -v sqlite3 > /dev/null || fail 'name the books, or install sqlite3'
+
+stopped= part=
+end() {
+    status=$?
+    trap - EXIT
+    [ -z "$stopped" ] || sh -c "$start" 9>&- || status=1
+    [ -z "$part" ] || rm -rf "$part"
+    exit "$status"
+}
+trap end EXIT
+trap 'exit 1' HUP INT TERM
+
+# A second backup would start the service while this one copies.
+mkdir -p "$folder"
+exec 9> "$folder/lock"
+flock -n 9 || fail 'another backup is running'
+date=$(date -u +%Y-%m-%d-%H%M%S)
+[ ! -e "$folder/$date" ] || fail "$folder/$date is there already"
+# A backup that was killed may have left a part of a copy.
+rm -rf "$folder"/part.*
+part=$(mktemp -d "$folder/part.XXXXXX")
+
+stopped=yes
+sh -c "$stop" 9>&-
+cp -p "$file" "$part/"
+[ ! -e "$file-wal" ] || cp -p "$file-wal" "$part/"
+# After a signal the service is started again, even if this start is done: that does no harm.
+sh -c "$start" 9>&-
+stopped=
+
+copy=$part/$(basename "$file")
+if command -v sqlite3 > /dev/null; then
+    # The changes of the log are written into the copy's file.
+    sqlite3 "$copy" 'PRAGMA wal_checkpoint(TRUNCATE)' | grep -q '^0|' || fail 'no checkpoint'
+    [ $# -gt 0 ] || set -- $(sqlite3 "$copy" 'SELECT name FROM book ORDER BY name')
+fi
+[ $# -gt 0 ] || fail 'the file has no book'
+for book; do
+    echo "$book"
+    # A name may begin with a hyphen.
+    "$contacts" tally "$copy" -- "$book"
+done > "$part/tally"
+sync "$part"/*
+mv "$part" "$folder/$date"
+part=
+echo "backup: $folder/$date"
+
+# The names are dates, so the first ones are the oldest.
+set -- "$folder"/[0-9][0-9][0-9][0-9]-[0-9][0-9]-[0-9][0-9]-*/
+while [ $# -gt "$keep" ]; do
+    rm -rf "$1"
+    shift
+done
