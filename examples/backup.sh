@@ -1,16 +1,16 @@
 #!/bin/sh
 # Backs up a file of books. It stops the service, copies the file and its log, starts the service
 # again, and then opens the copy, which tests all of its rows. The copy is the folder
-# FOLDER/DATE-TIME. If anything fails, the service is started again, no copy is left, older copies
-# stay, and the status isn't 0.
+# FOLDER/DATE-TIME. If anything fails, the service is started again, the new copy is removed, older
+# copies are kept, and the status isn't 0.
 #
 # Usage: backup.sh FILE FOLDER [BOOK ..]
-#   Without a BOOK it counts all books, which needs sqlite3.
+#   Without a BOOK it prints the tallies of all books, which needs sqlite3.
 # Environment:
-#   CONTACTS  the program; without it `contacts`
+#   CONTACTS  the program; by default `contacts`
 #   STOP      a shell command that stops the service and waits until it has ended
 #   START     a shell command that starts it
-#   KEEP      how many copies are kept; without it 14
+#   KEEP      the number of copies to keep; by default 14
 set -eu
 umask 077
 
@@ -40,13 +40,13 @@ end() {
 trap end EXIT
 trap 'exit 1' HUP INT TERM
 
-# A second backup would start the service while this one copies.
+# Lock, since a second backup would start the service while this one copies.
 mkdir -p "$folder"
 exec 9> "$folder/lock"
 flock -n 9 || fail 'another backup is running'
 date=$(date -u +%Y-%m-%d-%H%M%S)
 [ ! -e "$folder/$date" ] || fail "$folder/$date is there already"
-# A backup that was killed may have left a part of a copy.
+# A backup that was killed may have left an incomplete copy.
 rm -rf "$folder"/part.*
 part=$(mktemp -d "$folder/part.XXXXXX")
 
@@ -54,13 +54,13 @@ stopped=yes
 sh -c "$stop" 9>&-
 cp -p "$file" "$part/"
 [ ! -e "$file-wal" ] || cp -p "$file-wal" "$part/"
-# After a signal the service is started again, even if this start is done: that does no harm.
+# After a signal the service is started again, even if this start is done; that is harmless.
 sh -c "$start" 9>&-
 stopped=
 
 copy=$part/$(basename "$file")
 if command -v sqlite3 > /dev/null; then
-    # The changes of the log are written into the copy's file.
+    # Write the changes of the log into the copy's file.
     sqlite3 "$copy" 'PRAGMA wal_checkpoint(TRUNCATE)' | grep -q '^0|' || fail 'no checkpoint'
     [ $# -gt 0 ] || set -- $(sqlite3 "$copy" 'SELECT name FROM book ORDER BY name')
 fi

@@ -1,7 +1,7 @@
 #!/bin/sh
-# An office's first days: a file with two books, an import, a server, cards that are put, read,
-# edited, moved and removed, a phone that follows, an export, and the tables as sqlite3 shows them.
-# It needs curl, jq and sqlite3. Each step is checked; the first that fails ends it.
+# A tour: a file with two books, an import, a server, cards that are put, read, edited, moved and
+# removed, a phone that syncs, an export, and the tables as sqlite3 shows them. It needs curl, jq
+# and sqlite3. Each step is checked; the first that fails ends the script.
 #
 # Usage: office.sh [PROGRAM]
 set -eu
@@ -12,7 +12,7 @@ cd "$folder"
 server=
 trap '[ -z "$server" ] || kill "$server" 2>/dev/null || :; rm -rf "$folder"' EXIT
 
-# expect STATUS OUTPUT ARGUMENT..: runs the program, and gets the status and the output
+# expect STATUS OUTPUT ARGUMENT..: runs the program, and checks its status and its output
 expect() {
     status=$1 wanted=$2
     shift 2
@@ -24,7 +24,7 @@ expect() {
     [ "$(cat printed)" = "$wanted" ] || { echo "office: wanted $wanted"; exit 1; }
 }
 
-# ask STATUS BODY ARGUMENT..: runs curl with the arguments, and gets the status and the body
+# ask STATUS BODY ARGUMENT..: runs curl with the arguments, and checks the status and the body
 ask() {
     status=$1 wanted=$2
     shift 2
@@ -36,7 +36,7 @@ ask() {
     printf '%s' "$wanted" | cmp - body || { printf 'office: wanted %s\n' "$wanted"; exit 1; }
 }
 
-# serve COUNT: starts the server at any free port, for that many connections
+# serve COUNT: starts the server on any free port, for COUNT connections
 serve() {
     echo "\$ contacts serve office.db --connections $1 &"
     "$program" serve office.db --connections "$1" > listening &
@@ -59,12 +59,12 @@ served() {
     [ "$ended" = 0 ] || exit 1
 }
 
-# card UID NAME: makes a card in a file
+# card UID NAME: writes a card to a file
 card() {
     printf 'BEGIN:VCARD\r\nVERSION:4.0\r\nUID:%s\r\nFN:%s\r\nEND:VCARD\r\n' "$1" "$2" > "$1.vcf"
 }
 
-# phone CARDS: syncs the phone, which then has these cards
+# phone CARDS: syncs the phone, and checks that it then has these cards
 phone() {
     "$here/phone.sh" "$address" staff phone
     echo "the phone has: $(ls phone/cards | tr '\n' ' ')"
@@ -83,7 +83,7 @@ expect 3 'fault open 5' init office.db
 expect 0 'book 1' book office.db staff
 expect 0 'book 2' book office.db clients
 expect 0 'new 2 edited 0 same 0 number 2' import office.db clients "$key" people.csv
-# The same key again changes nothing, and prints the same.
+# A second import with the same key changes nothing, and prints the same.
 expect 0 'new 2 edited 0 same 0 number 2' import office.db clients "$key" people.csv
 
 # 10 connections of curl and 4 of the phone, which asks for pages of two
@@ -105,7 +105,7 @@ phone 'c.vcf '
 ask 200 '{"dropped":2,"horizon":6}' -X POST "$books/staff/forget?upto=6"
 ask 201 '{"put":"created","version":7}' -H Expect: -T b.vcf "$books/staff/cards/b"
 expect 3 'fault open 1' tally office.db staff
-# The phone has seen all that was forgotten, so its token is still good.
+# The phone has seen all forgotten removals, so its token is still valid.
 phone 'b.vcf c.vcf '
 served
 

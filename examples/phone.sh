@@ -1,7 +1,7 @@
 #!/bin/sh
-# A phone's sync in a few lines of shell. It keeps its token in one file and each card in another,
-# and asks page by page for what changed since. If a step fails it ends, and asks for the same page
-# at its next start. It needs curl and jq.
+# A phone's sync in a few lines of shell. It keeps its token in one file and each card in a file of
+# its own, and requests the changes since the token page by page. If a step fails it ends, and
+# requests the same page at its next start. It needs curl and jq.
 #
 # Usage: phone.sh ADDRESS BOOK FOLDER     for example: phone.sh 127.0.0.1:8080 staff phone
 set -eu
@@ -31,7 +31,7 @@ while [ "$truncated" = true ]; do
         esac
     done < "$folder/members"
     truncated=$(jq -r .truncated "$folder/page")
-    # The token comes last: after an interruption the phone asks for this page again.
+    # The token is written last: after an interruption the phone requests this page again.
     jq -ej .token "$folder/page" > "$folder/token.new"
     mv "$folder/token.new" "$folder/token"
 done

@@ -1,12 +1,13 @@
-"""Tries the wrong bodies that the gate doesn't try: edits.py [CRATE..]
+"""Runs the mutants that the gate doesn't run: edits.py [CRATE..]
 
-Each `edits/CRATE/NAME.edit` is one more edit of that crate, in the form of those under
-`crates/CRATE/must-fail/`, which the prover must refuse. The gate tries those alone that turn a rule
-of the promise, or what a statement means for the books, since each costs it half a minute and more,
-and the first of a crate the crate's whole proof.
+Each `edits/CRATE/NAME.edit` is an edit of that crate that makes its code wrong, in the format of
+those under `crates/CRATE/must-fail/`. The prover must refuse it. The gate runs only the edits that
+break a rule of the promise, or the meaning of a statement for the books, since each takes half a
+minute or more, and the first one of a crate also the crate's whole proof.
 
-They are tried in a copy of the repository, with what its crates' `out/` hold, so that no library is
-built there again that is built here. The status is 1 where an edit isn't refused or can't be applied.
+They are run in a copy of the repository, including the crates' `out/` folders, so that libraries
+that are built here aren't built again there. The status is 1 if an edit isn't refused or can't be
+applied.
 """
 
 import pathlib

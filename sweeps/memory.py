@@ -1,26 +1,26 @@
-"""Refuses the growths of memory of built programs, each in turn, and looks at what comes of it.
+"""Refuses each allocation of built programs in turn, and checks the outcome.
 
-    memory.py [PROGRAM]            the cases of crates/refused_memory, whose program is
-                                   crates/row_trials/out/row_trials
+    memory.py [PROGRAM]            the cases of crates/test_oom, whose program is
+                                   crates/test_all/out/test_all
     memory.py --program CONTACTS   orders of the built program `contacts` over files
-    --short                        each 50th growth alone
-    --jobs N                       processes at a time; else as many as there are processors
-    --only TEXT                    the cases whose names have the text
+    --short                        only each 50th allocation
+    --jobs N                       parallel processes; by default the number of processors
+    --only TEXT                    only the cases whose names contain the text
 
-A growth is a call of malloc, calloc or realloc. `refuse.c`, which is built with `cc` and
+An allocation is a call of malloc, calloc or realloc. `refuse.c`, which is built with `cc` and
 preloaded, refuses one: the n-th alone, and in another run the n-th and all later ones. Each is a
-run of its own of the program, which is told one case on its standard input: it prepares the case,
-writes the case's name, does the one call in which growths are refused, writes `: `, and looks at
-what there is then, with nothing refused any more. So the shim knows the call by what the program
-writes to standard output, and the program needs nothing to be able to refuse. Of `contacts` all
-growths of the process are refused in turn, from its start on.
+separate run of the program, which gets one case on its standard input: it prepares the case, writes
+the case's name, makes the one call in which allocations are refused, writes `: `, and checks the
+state, with nothing refused any more. So the shim recognizes the call by the program's standard
+output, and the program needs no support for refusals. Of `contacts` all allocations of the process
+are refused in turn, from its start on.
 
-A case's line tells how many growths it has, and of the runs, two for each growth, how many
-answered out of memory, how many as they do without refusals, and how many are findings. The status
-is 1 where there is a finding: a line that begins with `**`, another answer, a signal, a status, or
-words on standard error. Of `contacts` status 3 with `fault no-memory 20` or `fault open 6` and
-nothing printed is out of memory; the file then has the books before the order, which is asked
-again, or those after.
+The line of a case has the number of its allocations (growths), and of its runs, two for each
+allocation, the numbers that reported out of memory, that gave the result without refusals, and that
+are findings. The status is 1 if there is a finding: a line that begins with `**`, another answer, a
+signal, an unexpected status, or text on standard error. For `contacts`, status 3 with
+`fault no-memory 20` or `fault open 6` and nothing printed is out of memory; the file must then have
+the books before the order, which is repeated, or those after it.
 """
 
 import argparse
@@ -36,13 +36,13 @@ sys.dont_write_bytecode = True
 from programs import Cases, Orders  # noqa: E402
 
 HERE = pathlib.Path(__file__).resolve().parent
-PROGRAM = HERE.parent / "crates/row_trials/out/row_trials"
+PROGRAM = HERE.parent / "crates/test_all/out/test_all"
 SHOWN = 5
 KEPT = None
 
 
 def told(task):
-    """What comes of one growth that is refused, in a process that has the programs as they were."""
+    """The outcome of a run with one refused allocation. It is run in a forked process."""
     name, at, later = task
     kind, ran = KEPT.told(name, at, later)
     return at, later, kind, ran
@@ -56,13 +56,13 @@ def built(folder):
 
 
 def places(found):
-    """Which growths were refused, in short."""
+    """The refused allocations as a short text."""
     texts = [f"{at}{' and later' if later else ''}" for at, later in sorted(found)]
     return ", ".join(texts[:SHOWN]) + (" .." if len(texts) > SHOWN else "")
 
 
 def swept(name, step, jobs):
-    """Refuses each growth of the case, prints its line, and answers its counts."""
+    """Refuses each allocation of the case, prints its line, and returns its counts."""
     growths, kind = KEPT.growths(name)
     counts = collections.Counter(cases=1, growths=growths)
     if kind != "same":

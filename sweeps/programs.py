@@ -1,4 +1,4 @@
-"""What is run for each growth that is refused, and what is to come of it."""
+"""The programs that are run for each refused allocation, and the check of their outcomes."""
 
 import collections
 import hashlib
@@ -32,7 +32,7 @@ def run(words, given=b"", environment=None, folder=None):
 
 
 def refusing(shim, at, later, whole):
-    """The environment in which that growth is refused; the 0th is none."""
+    """The environment that refuses that allocation; 0 refuses none."""
     words = {"LD_PRELOAD": str(shim), "REFUSE_AT": str(at)}
     if later:
         words["REFUSE_LATER"] = "1"
@@ -42,7 +42,7 @@ def refusing(shim, at, later, whole):
 
 
 def counted(ran):
-    """The number of growths that the shim said, and the run without it."""
+    """The number of allocations that the shim reported, and the run without that line."""
     lines = ran.err.splitlines(keepends=True)
     if not lines or not lines[-1].startswith(b"growths "):
         sys.exit(f"the shim didn't count: is the program linked dynamically? {ran}")
@@ -50,7 +50,7 @@ def counted(ran):
 
 
 class Cases:
-    """The cases of refused_memory, each named on standard input."""
+    """The cases of test_oom, each named on standard input."""
 
     def __init__(self, program, shim):
         self.program, self.shim = program, shim
@@ -109,7 +109,7 @@ LIVE = [("a", 4, "Anna"), ("b", 7, "Bob")]
 
 
 def lay_first(path):
-    """Makes a file of the first schema."""
+    """Creates a file with the first schema."""
     conn = sqlite3.connect(path)
     conn.executescript(FIRST)
     for uid, changed, name in LIVE:
@@ -154,14 +154,14 @@ class Orders:
         return run([self.program, *line.split()], CARD, environment, folder)
 
     def books(self, name, folder):
-        """What is told of the order's file without refusals."""
+        """The books of the order's file, read without refusals."""
         files = [word for word in name.split() if word.endswith(".db")]
         asked = ["export {} staff", "tally {} staff", "tally {} clients", "tally {} third"]
         return [self.asked(line.format(file), folder) for file in files for line in asked]
 
     def ran(self, name, at, later):
-        """The run with that growth refused, in a folder of its own, and what it left: the books
-        before the order, those after it, or others."""
+        """The run with that allocation refused, in a folder of its own, and the state that it left:
+        the books before the order, those after it, or others."""
         with tempfile.TemporaryDirectory(dir=self.work) as folder:
             shutil.copytree(self.base, folder, dirs_exist_ok=True)
             ran = self.asked(name, folder, refusing(self.shim, at, later, True))
@@ -176,11 +176,11 @@ class Orders:
         return self.seen[digest]
 
     def state(self, name, folder):
-        """Which books the folder has. Where they aren't those after the order, it is asked again,
-        and then they are to be."""
+        """Which books the folder has. If they aren't those after the order, the order is repeated,
+        and then they must be."""
         wanted, before, after = self.wanted[name]
         books = self.books(name, folder)
-        # A file that was made may be left, empty or as a database in which no table is.
+        # `init` may leave a new file, empty or as a database without tables.
         bare = name.startswith("init") and all(it.err == b"fault open 2\n" for it in books)
         if books == after and after != before:
             return "after"

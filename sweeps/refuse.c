@@ -1,15 +1,15 @@
-/* Refuses allocations of a program from outside: preloaded, it stands before malloc, calloc and
-   realloc of the C library, which are all that Rattle's allocator calls.
+/* Refuses allocations of a program from outside. Preloaded, it overrides malloc, calloc and realloc
+   of the C library, the only functions that Rattle's allocator calls.
 
-   REFUSE_AT     the growth that is refused, from 1 on; with none, growths are only counted, and
-                 their number is said on standard error as the program ends
-   REFUSE_LATER  where it is there, each later growth is refused too
-   REFUSE_WHOLE  where it is there, all growths of the process count; else only those in a window
+   REFUSE_AT     the number of the allocation that is refused, from 1 on; with 0 or without it,
+                 allocations are only counted, and their number is written to standard error at exit
+   REFUSE_LATER  if set, each later allocation is refused too
+   REFUSE_WHOLE  if set, all allocations of the process count; else only those in a window
 
-   A window opens as the program writes something to standard output that ends no line, which is the
-   name of a case, and closes as it writes ": ".
+   A window opens when the program writes text to standard output that doesn't end with a line feed,
+   which is the name of a case, and closes when it writes ": ".
 
-   Random octets are always the same, so that runs which do the same leave the same files. */
+   Random octets are always the same, so that equal runs leave equal files. */
 
 #define _GNU_SOURCE
 #include <errno.h>

@@ -1,45 +1,45 @@
-"""The program's help, whole: of the program by itself under "", and of each order by its name.
+"""The complete help texts: the program's own under "", and each order's under its name.
 
-The layout is clap 4's: what the order does, its usage, then its arguments and its options in two
-columns, the defaults in brackets, and last an example. The texts are those that the program gives
-to clap, which doesn't wrap them: a backslash at the end of a line here joins it with the next.
+The layout is clap 4's: a description, the usage, the arguments and options in two columns with
+defaults in brackets, and an example. The program passes these texts to clap, which doesn't wrap
+them: a backslash at the end of a line here joins it with the next.
 """
 
 HELP = {}
 
 HELP[""] = """\
-Keeps address books that many devices share
+Contact server that stores address books and syncs them to many devices
 
 Usage: contacts [COMMAND]
 
 Commands:
-  try      Reads one vCard from standard input, puts it into an empty book in memory, and prints \
-the book's initial report
-  init     Makes a file for books; there must be none yet
-  book     Makes an empty book in the file, and prints its number
-  serve    Serves the file's books over HTTP at 127.0.0.1, one connection after another, and ends
-  import   Imports the cards of a CSV file into the book
-  export   Writes the book's cards as CSV
-  tally    Tells how many cards the book has, and how they came and went
-  forget   Forgets which cards were removed from the book, up to a number
-  mirror   Follows the book as a new device does, page by page, and prints what the device holds
-  expand   Lists the people of a group and of the groups in it
-  migrate  Brings a file of the first schema to the present one, and prints how many books it has
+  try      Read a vCard from standard input, add it to an empty book in memory, and print the \
+book's initial report
+  init     Create a store file; an existing file must be empty
+  book     Create an empty book and print its id
+  serve    Serve the books over HTTP on 127.0.0.1, one connection at a time
+  import   Import cards from a CSV file into a book
+  export   Write the cards of a book to standard output as CSV
+  tally    Print how many cards a book has, and counts of its changes by kind
+  forget   Forget the removals recorded in a book up to a change number
+  mirror   Sync a book to a new device page by page, and print the device's copy
+  expand   List the people in a group and in its nested groups
+  migrate  Convert a store file from schema 1 to schema 2, and print its number of books
   help     Print this message or the help of the given subcommand(s)
 
 Options:
   -h, --help  Print help
 
-Without an order it does what `try` does. `contacts help ORDER` tells an order's words, defaults \
-and limits.
+Without a command, `try` runs. `contacts help COMMAND` shows the arguments, defaults and limits of \
+a command.
 
 Example:
   contacts tally office.db staff
 """
 
 HELP["try"] = """\
-Reads one vCard from standard input, puts it into an empty book in memory, and prints the book's \
-initial report
+Read a vCard from standard input, add it to an empty book in memory, and print the book's initial \
+report
 
 Usage: contacts try
 
@@ -49,16 +49,16 @@ Options:
 Example:
   contacts try < ann.vcf
 
-A card has at most 262,144 octets, and its UID 1 to 255.
+A card may have up to 262,144 bytes, and its UID 1 to 255 bytes.
 """
 
 HELP["init"] = """\
-Makes a file for books; there must be none yet
+Create a store file; an existing file must be empty
 
 Usage: contacts init <FILE>
 
 Arguments:
-  <FILE>  The file that keeps the books
+  <FILE>  Path of the store file
 
 Options:
   -h, --help  Print help
@@ -66,17 +66,17 @@ Options:
 Example:
   contacts init office.db
 
-A file has at most 100 books.
+A store may have up to 100 books.
 """
 
 HELP["book"] = """\
-Makes an empty book in the file, and prints its number
+Create an empty book and print its id
 
 Usage: contacts book <FILE> <BOOK>
 
 Arguments:
-  <FILE>  The file that keeps the books
-  <BOOK>  The name of a book: 1 to 40 of a-z, 0-9 and -
+  <FILE>  Path of the store file
+  <BOOK>  Name of the book, 1 to 40 characters of a-z, 0-9 and -
 
 Options:
   -h, --help  Print help
@@ -84,39 +84,40 @@ Options:
 Example:
   contacts book office.db staff
 
-A file has at most 100 books, and a book at most 10,000 cards.
+A store may have up to 100 books, and a book up to 10,000 cards.
 """
 
 HELP["serve"] = """\
-Serves the file's books over HTTP at 127.0.0.1, one connection after another, and ends
+Serve the books over HTTP on 127.0.0.1, one connection at a time
 
 Usage: contacts serve [OPTIONS] <FILE>
 
 Arguments:
-  <FILE>  The file that keeps the books
+  <FILE>  Path of the store file
 
 Options:
-      --port <P>         The port, 0 to 65535; 0 is any free one [default: 0]
-      --connections <N>  How many connections are served, 1 to 1000000 [default: 1]
+      --port <P>         Port to listen on, 0 to 65535; 0 picks a free port [default: 0]
+      --connections <N>  Number of connections to serve before exiting, 1 to 1000000 [default: 1]
   -h, --help             Print help
 
 Example:
   contacts serve office.db --port 8080 --connections 1000000
 
-First it prints the address and the port. A request's body has at most 8,388,608 octets.
+Prints the address and port before accepting connections. A request body may have up to 8,388,608 \
+bytes.
 """
 
 HELP["import"] = """\
-Imports the cards of a CSV file into the book
+Import cards from a CSV file into a book
 
 Usage: contacts import <FILE> <BOOK> <KEY> <CSV>
 
 Arguments:
-  <FILE>  The file that keeps the books
-  <BOOK>  The name of a book: 1 to 40 of a-z, 0-9 and -
-  <KEY>   The import's key, 1 to 64 of A-Z, a-z, 0-9, . _ -; a second import under a kept key \
-changes nothing and prints what the first printed
-  <CSV>   A file of rows behind a header, of at most 8,388,608 octets
+  <FILE>  Path of the store file
+  <BOOK>  Name of the book, 1 to 40 characters of a-z, 0-9 and -
+  <KEY>   Import key, 1 to 64 characters of A-Z, a-z, 0-9, . _ -; repeating the key of a completed \
+import changes nothing and prints its result again
+  <CSV>   CSV file with a header row, up to 8,388,608 bytes
 
 Options:
   -h, --help  Print help
@@ -124,26 +125,26 @@ Options:
 Example:
   contacts import office.db staff "$(date +%F-%H%M%S)" people.csv
 
-Use a new key for each import: a second one under a kept key changes nothing and looks like the \
-first.
+Use a new key for each import: repeating a key imports nothing, and its output looks like that of \
+the first import.
 
-The header is `uid,vcard` for UIDs and cards' texts, or `uid,fn,family,given,email,tel,org,note` \
-for cards' parts. All cards come in or none does. A card has at most 262,144 octets, and a book \
-at most 10,000 cards.
+The header row is `uid,vcard` for a UID and a vCard per row, or \
+`uid,fn,family,given,email,tel,org,note` for one property per column. Either all cards are \
+imported or none. A card may have up to 262,144 bytes, and a book up to 10,000 cards.
 """
 
 HELP["export"] = """\
-Writes the book's cards as CSV
+Write the cards of a book to standard output as CSV
 
 Usage: contacts export [OPTIONS] <FILE> <BOOK>
 
 Arguments:
-  <FILE>  The file that keeps the books
-  <BOOK>  The name of a book: 1 to 40 of a-z, 0-9 and -
+  <FILE>  Path of the store file
+  <BOOK>  Name of the book, 1 to 40 characters of a-z, 0-9 and -
 
 Options:
-      --form <F>  What a row is: `cards`, a UID and a card's text, or `columns`, a card's parts \
-[default: cards]
+      --form <F>  CSV format: `cards` for a UID and a vCard per row, `columns` for one property \
+per column [default: cards]
   -h, --help      Print help
 
 Example:
@@ -151,13 +152,13 @@ Example:
 """
 
 HELP["tally"] = """\
-Tells how many cards the book has, and how they came and went
+Print how many cards a book has, and counts of its changes by kind
 
 Usage: contacts tally <FILE> <BOOK>
 
 Arguments:
-  <FILE>  The file that keeps the books
-  <BOOK>  The name of a book: 1 to 40 of a-z, 0-9 and -
+  <FILE>  Path of the store file
+  <BOOK>  Name of the book, 1 to 40 characters of a-z, 0-9 and -
 
 Options:
   -h, --help  Print help
@@ -167,14 +168,14 @@ Example:
 """
 
 HELP["forget"] = """\
-Forgets which cards were removed from the book, up to a number
+Forget the removals recorded in a book up to a change number
 
 Usage: contacts forget <FILE> <BOOK> <UPTO>
 
 Arguments:
-  <FILE>  The file that keeps the books
-  <BOOK>  The name of a book: 1 to 40 of a-z, 0-9 and -
-  <UPTO>  The number of the last change that is forgotten, 0 to 999999999999999
+  <FILE>  Path of the store file
+  <BOOK>  Name of the book, 1 to 40 characters of a-z, 0-9 and -
+  <UPTO>  Number of the last change to forget, 0 to 999999999999999
 
 Options:
   -h, --help  Print help
@@ -182,23 +183,23 @@ Options:
 Example:
   contacts forget office.db staff 100
 
-The number is refused below one that the book has forgotten up to, and above that of its last \
-change. Devices that haven't heard of what is forgotten start anew.
+UPTO must be from the book's horizon to its number; `contacts tally` prints both. Devices with an \
+older sync token must start over with a full sync.
 """
 
 HELP["mirror"] = """\
-Follows the book as a new device does, page by page, and prints what the device holds
+Sync a book to a new device page by page, and print the device's copy
 
 Usage: contacts mirror [OPTIONS] <FILE> <BOOK>
 
 Arguments:
-  <FILE>  The file that keeps the books
-  <BOOK>  The name of a book: 1 to 40 of a-z, 0-9 and -
+  <FILE>  Path of the store file
+  <BOOK>  Name of the book, 1 to 40 characters of a-z, 0-9 and -
 
 Options:
-      --limit <L>  The most entries of a page, 0 to 999999999999999; a page has at most 100, and \
-0 is refused [default: 100]
-      --pages <P>  The most pages, 1 to 1000000 [default: 1000]
+      --limit <L>  Maximum entries per page, 0 to 999999999999999; a page never has more than 100, \
+and 0 is refused [default: 100]
+      --pages <P>  Maximum number of pages to request, 1 to 1000000 [default: 1000]
   -h, --help       Print help
 
 Example:
@@ -206,14 +207,14 @@ Example:
 """
 
 HELP["expand"] = """\
-Lists the people of a group and of the groups in it
+List the people in a group and in its nested groups
 
 Usage: contacts expand <FILE> <BOOK> <UID>
 
 Arguments:
-  <FILE>  The file that keeps the books
-  <BOOK>  The name of a book: 1 to 40 of a-z, 0-9 and -
-  <UID>   The UID of a group, 1 to 255 octets
+  <FILE>  Path of the store file
+  <BOOK>  Name of the book, 1 to 40 characters of a-z, 0-9 and -
+  <UID>   UID of the group, 1 to 255 bytes
 
 Options:
   -h, --help  Print help
@@ -223,12 +224,12 @@ Example:
 """
 
 HELP["migrate"] = """\
-Brings a file of the first schema to the present one, and prints how many books it has
+Convert a store file from schema 1 to schema 2, and print its number of books
 
 Usage: contacts migrate <FILE>
 
 Arguments:
-  <FILE>  The file that keeps the books
+  <FILE>  Path of the store file
 
 Options:
   -h, --help  Print help
@@ -237,7 +238,7 @@ Example:
   contacts migrate office.db
 """
 
-# What clap says of its own order.
+# clap's own `help` command.
 HELP["help"] = """\
 Print this message or the help of the given subcommand(s)
 

@@ -141,7 +141,7 @@ class Launcher(unittest.TestCase):
 
     def test_removed_source_needs_the_kit(self):
         self.start()
-        self.change("crates/orders/src/lib.rt", None)
+        self.change("crates/cli_host/src/lib.rt", None)
         self.check_no_program("dist/ holds no program of these sources")
 
     def test_wrong_octet_in_dist(self):

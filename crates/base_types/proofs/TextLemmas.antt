@@ -44,7 +44,7 @@ module _ {X : Type 0} (m : finite.FinMap text_cmp X) where
   pub get-insert_here : (k : List ℕ) (v : X) → finite.get (finite.insert m k v) k ≡ Some v
   get-insert_here k v = get-insert text_total m k v k ∙ cond-true _ _ _ (same_self k)
 
-  -- writes at two keys can be turned
+  -- writes at two keys commute
   pub insert-insert : (k name : List ℕ) (v w : X) → same name k ≡ false → finite.insert (finite.insert m name w) k v ≡ finite.insert (finite.insert m k v) name w
   insert-insert k name v w ne = same_map text_total exact_bytes _ _ (λ q.
       get-insert text_total (finite.insert m name w) k v q ∙ ap (cond (same q k) (Some v)) (get-insert text_total m name w q)

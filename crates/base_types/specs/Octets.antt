@@ -1,13 +1,12 @@
--- ASCII's octets and classes of octets by their names (RFC 20; RFC 5234, appendix B.1, has the
--- classes as ALPHA and DIGIT). This project's own.
+-- Names for ASCII octets and classes of octets (RFC 20; RFC 5234, appendix B.1, calls the classes
+-- ALPHA and DIGIT). This project's own.
 --
--- Each is an `abbrev`, so it is its number wherever the prover looks: `octet == colon` is
--- `octet == 58`, which is what a body's `*octet == b':'` tests, and `is_digit octet` is what
--- `matches!(octet, b'0'..=b'9')` tests. An answer or a lemma that writes the number meets it as
--- well.
+-- Each is an `abbrev`, so the prover sees the number: `octet == colon` is `octet == 58`, which is
+-- what `*octet == b':'` tests in a body, and `is_digit octet` is what
+-- `matches!(octet, b'0'..=b'9')` tests. A proof that writes the number matches the name as well.
 use Rattle.std.specs.Prelude.{ℕ, Bool, ◌&&◌, ◌||◌, ◌==◌, nat_le, nat_lt}
 
--- ---- white space and the ends of lines
+-- ---- white space and line ends
 
 abbrev pub tab : ℕ
 tab = 9
@@ -21,7 +20,7 @@ carriage_return = 13
 abbrev pub space : ℕ
 space = 32
 
--- ---- signs
+-- ---- punctuation
 
 -- the double quote
 abbrev pub quote : ℕ
@@ -54,7 +53,7 @@ backslash = 92
 abbrev pub underscore : ℕ
 underscore = 95
 
--- ---- the letters that stand for a line's end behind a backslash (RFC 6350, section 3.4)
+-- ---- the letters that encode a newline after a backslash (RFC 6350, section 3.4)
 
 abbrev pub upper_n : ℕ
 upper_n = 78
@@ -80,6 +79,6 @@ is_letter octet = is_upper octet || is_lower octet
 abbrev pub is_digit : ℕ → Bool
 is_digit octet = nat_le 48 octet && nat_le octet 57
 
--- what is neither seen nor a space: all below the space, and the octet of DEL
+-- the control characters: all below the space, and DEL
 abbrev pub is_control : ℕ → Bool
 is_control octet = nat_lt octet space || octet == 127

@@ -1,4 +1,4 @@
--- A map whose keys are texts, seen as the finite map from their octets. This project's own.
+-- Maps with text keys, seen as finite maps from octets. This project's own.
 use Rattle.std.specs.Prelude.{ℕ, Bool, ◌&&◌, List, [], ◌∷◌, String, string_bytes, bytes_eq}
 use Rattle.std.specs.Ordering.{nat_cmp}
 use Rattle.std.specs.declared.cmp.Ordering.{Ordering}
@@ -7,7 +7,7 @@ use Rattle.std.specs.FinMap as finite
 use Rattle.std.specs.BTreeMap.{BTreeMap}
 use Rattle.std.specs.Coded.{Coded, coded_list, coded_ℕ}
 
--- the order of texts: that of their octets
+-- texts are ordered by their octets
 abbrev pub text_cmp : List ℕ → List ℕ → Ordering
 text_cmp a b = slice_cmp nat_cmp a b
 
@@ -15,15 +15,15 @@ abbrev pub coded_text : Coded (List ℕ)
 coded_text = coded_list coded_ℕ
 
 module _ {A V : Type 0} where
-  -- entries as a finite map, where the first of a key counts
-  abbrev pub by_octets : List (String A × V) → finite.FinMap text_cmp V
-  by_octets [] = finite.empty
-  by_octets (entry ∷ entries) = finite.insert (by_octets entries) (string_bytes entry.0) entry.1
+  -- entries as a finite map; of several entries with one key the first counts
+  abbrev pub entries_map : List (String A × V) → finite.FinMap text_cmp V
+  entries_map [] = finite.empty
+  entries_map (entry ∷ entries) = finite.insert (entries_map entries) (string_bytes entry.0) entry.1
 
-  -- what a `BTreeMap` with text keys has at the octets of each key
-  abbrev pub texts : BTreeMap (String A) V → finite.FinMap text_cmp V
-  texts map = by_octets map.entries
+  -- a `BTreeMap` with text keys as a finite map from octets to values
+  abbrev pub octet_map : BTreeMap (String A) V → finite.FinMap text_cmp V
+  octet_map map = entries_map map.entries
 
--- two entries have one key, and values that are equal
+-- two entries have the same key and equal values
 abbrev pub same_entry : {V : Type 0} → (V → V → Bool) → List ℕ × V → List ℕ × V → Bool
 same_entry same a b = bytes_eq a.0 b.0 && same a.1 b.1

@@ -1,5 +1,6 @@
-//! A list that contracts see as its items.
-ghost use Rattle.std.specs.Prelude.{◌≡◌, List, [], ◌∷◌, ◌++◌, ◌↔◌, OnOk, OnErr, IfOk, IsTrue, length};
+//! `Items`: a `Vec` that contracts see as the list of its items.
+ghost use Rattle.std.specs.Prelude.{◌≡◌, List, [], ◌∷◌, ◌++◌, ◌↔◌, OnOk, OnErr, IfOk, IsTrue};
+ghost use Rattle.std.specs.Prelude.{length};
 
 use crate::memory::NoMemory;
 use crate::part::Part;
@@ -7,7 +8,7 @@ use std::alloc::{AllocFailed, Global};
 use std::marker::Model;
 use std::slice;
 
-/// A `Vec` whose contracts name its items, and neither its capacity nor its place.
+/// A `Vec` whose contracts mention its items, but not its capacity or address.
 #[derive(Debug, Drop)]
 pub struct Items<T> {
     inner: Vec<T>,
@@ -22,7 +23,7 @@ impl<T> Model for Items<T> {
 }
 
 impl<T> Items<T> {
-    /// No items, which takes no memory.
+    /// An empty list. Allocates nothing.
     pub fn new(alloc: Global) -> Items<T>
         ensures { result ≡ [] }
     {
@@ -31,14 +32,14 @@ impl<T> Items<T> {
         }
     }
 
-    /// The items of a `Vec`, which takes no memory.
+    /// Wraps a `Vec`. Allocates nothing.
     pub fn from_vec(items: Vec<T>) -> Items<T>
         ensures { result ≡ items.items }
     {
         Items { inner: items }
     }
 
-    /// The `Vec` itself, which takes no memory.
+    /// Unwraps the `Vec`. Allocates nothing.
     pub fn into_vec(self) -> Vec<T>
         ensures { result.items ≡ self }
     {
@@ -46,28 +47,28 @@ impl<T> Items<T> {
         inner
     }
 
-    /// The items in their order.
+    /// The items in order.
     pub fn as_slice(&self) -> &[T]
         ensures { result.now ≡ self.now }
     {
         self.inner.as_slice()
     }
 
-    /// How many items there are.
+    /// The number of items.
     pub fn len(&self) -> usize
         ensures { result ≡ length self.now }
     {
         self.inner.len()
     }
 
-    /// Whether there are none.
+    /// Whether there are no items.
     pub fn is_empty(&self) -> bool
         ensures { IsTrue result ↔ (self.now ≡ []) }
     {
         self.inner.is_empty()
     }
 
-    /// Puts the item behind the others. An `Err` leaves the items as they were.
+    /// Appends the item. On `Err` the list is unchanged.
     pub fn push(&mut self, item: T) -> Result<(), AllocFailed<T>>
         ensures ok { OnOk result (self.new ≡ self.old ++ item ∷ []) }
         ensures err { OnErr result (self.new ≡ self.old) }
@@ -75,14 +76,14 @@ impl<T> Items<T> {
         self.inner.push(item)
     }
 
-    /// The allocator that the items are kept by.
+    /// The allocator of the underlying `Vec`.
     pub fn alloc(&self) -> Global {
         *self.inner.allocator()
     }
 }
 
 impl<T: Part> Items<T> {
-    /// Items of their own that are the same, in the same order.
+    /// A copy with the same items in the same order.
     pub fn try_copy(&self) -> Result<Items<T>, NoMemory>
         ensures { IfOk result (λ copy. copy ≡ self.now) }
     {

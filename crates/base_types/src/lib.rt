@@ -1,5 +1,5 @@
-//! Texts, lists and maps whose contracts see octets, items and finite maps, and neither capacities
-//! nor places in memory.
+//! `Text`, `Items` and `TextMap`: std's `String`, `Vec` and `BTreeMap` with contracts about octets,
+//! lists and finite maps instead of capacities and addresses.
 #![tactic(auto)]
 
 mod items;

@@ -1,4 +1,4 @@
-//! Out of memory, as the one error of a call that can fail by nothing else.
+//! `NoMemory`: the error of calls that can fail only by running out of memory.
 
 use std::alloc::{AllocError, AllocFailed};
 use std::error::Error;

@@ -1,4 +1,4 @@
-//! A text that contracts see as its octets.
+//! `Text`: a `String` that contracts see as its octets.
 ghost use Rattle.std.specs.Prelude.{◌≡◌, ◌↔◌, [], IfOk, IsTrue, length, string_bytes};
 
 use crate::memory::NoMemory;
@@ -6,7 +6,7 @@ use std::alloc::Global;
 use std::fmt;
 use std::marker::Model;
 
-/// A `String` whose contracts name its octets, and neither its capacity nor its place.
+/// A `String` whose contracts mention its octets, but not its capacity or address.
 #[derive(Debug, Drop)]
 pub struct Text {
     inner: String,
@@ -21,7 +21,7 @@ impl Model for Text {
 }
 
 impl Text {
-    /// The text of a `String`, which takes no memory.
+    /// Wraps a `String`. Allocates nothing.
     pub fn new(text: String) -> Text
         ensures { result ≡ string_bytes text }
     {
@@ -35,14 +35,14 @@ impl Text {
         Ok(Text::new(String::from_str(alloc, text)?))
     }
 
-    /// The text, borrowed.
+    /// The text as a borrowed `str`.
     pub fn as_str(&self) -> &str
         ensures { result.now ≡ self.now }
     {
         self.inner.as_str()
     }
 
-    /// The `String` itself, which takes no memory.
+    /// Unwraps the `String`. Allocates nothing.
     pub fn into_string(self) -> String
         ensures { string_bytes result ≡ self }
     {
@@ -50,21 +50,21 @@ impl Text {
         inner
     }
 
-    /// How many octets it has.
+    /// The length in octets.
     pub fn len(&self) -> usize
         ensures { result ≡ length self.now }
     {
         self.inner.len()
     }
 
-    /// Whether it has no octets.
+    /// Whether the text is empty.
     pub fn is_empty(&self) -> bool
         ensures { IsTrue result ↔ (self.now ≡ []) }
     {
         self.inner.is_empty()
     }
 
-    /// A text of its own with the same octets.
+    /// A copy with the same octets.
     pub fn try_copy(&self) -> Result<Text, NoMemory>
         ensures { IfOk result (λ copy. copy ≡ self.now) }
     {

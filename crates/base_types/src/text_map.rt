@@ -1,8 +1,9 @@
-//! A map from texts that contracts see as a finite map from their octets.
-ghost use Rattle.std.specs.Prelude.{◌≡◌, ◌↔◌, IsTrue, IfNone, IfOk, IfSome, OnOk, OnErr, string_bytes, option_copied, map, None};
+//! `TextMap`: a `BTreeMap` with text keys that contracts see as a finite map from octets.
+ghost use Rattle.std.specs.Prelude.{◌≡◌, ◌↔◌, IsTrue, IfNone, IfOk, IfSome, OnOk, OnErr};
+ghost use Rattle.std.specs.Prelude.{string_bytes, option_copied, map, None};
 ghost use Rattle.std.specs.Map.Iter.{deref_pair};
 ghost use Rattle.std.specs.FinMap as finite;
-ghost use Rattle.base_types.specs.TextMaps.{texts};
+ghost use Rattle.base_types.specs.TextMaps.{octet_map};
 
 use crate::memory::NoMemory;
 use std::alloc::Global;
@@ -10,7 +11,7 @@ use std::collections::BTreeMap;
 use std::marker::Model;
 use std::mem;
 
-/// A `BTreeMap` with text keys, whose contracts name what stands at each key.
+/// A `BTreeMap` with text keys, whose contracts mention only the value at each key.
 #[derive(Debug, Drop)]
 pub struct TextMap<V> {
     inner: BTreeMap<String, V>,
@@ -18,24 +19,24 @@ pub struct TextMap<V> {
 
 impl<V> Model for TextMap<V> {
     ghost use Rattle.std.specs.FinMap as finite;
-    ghost use Rattle.base_types.specs.TextMaps.{text_cmp, coded_text, texts};
+    ghost use Rattle.base_types.specs.TextMaps.{text_cmp, coded_text, octet_map};
 
     ghost Value = { finite.FinMap text_cmp V };
 
     ghost coded = { finite.code coded_text V.code };
 
-    ghost view = { λ text_map. texts text_map.inner };
+    ghost view = { λ text_map. octet_map text_map.inner };
 }
 
-/// What stands at the key of a `BTreeMap` with text keys.
+/// The value at the key of a `BTreeMap` with text keys.
 pub fn value_at<'a, V>(map: &'a BTreeMap<String, V>, key: &str) -> Option<&'a V>
-    ensures { option_copied result ≡ finite.get (texts map.now) key.now }
+    ensures { option_copied result ≡ finite.get (octet_map map.now) key.now }
 {
     map.get(key)
 }
 
 impl<V: Drop> TextMap<V> {
-    /// An empty map, which takes no memory.
+    /// An empty map. Allocates nothing.
     pub fn new(alloc: Global) -> TextMap<V>
         ensures { result ≡ finite.empty }
     {
@@ -44,29 +45,29 @@ impl<V: Drop> TextMap<V> {
         }
     }
 
-    /// The map of a `BTreeMap`, which takes no memory.
+    /// Wraps a `BTreeMap`. Allocates nothing.
     pub fn from_map(map: BTreeMap<String, V>) -> TextMap<V>
-        ensures { result ≡ texts map }
+        ensures { result ≡ octet_map map }
     {
         TextMap { inner: map }
     }
 
-    /// The `BTreeMap` itself, borrowed.
+    /// The underlying `BTreeMap`, borrowed.
     pub fn as_map(&self) -> &BTreeMap<String, V>
-        ensures { texts result.now ≡ self.now }
+        ensures { octet_map result.now ≡ self.now }
     {
         &self.inner
     }
 
-    /// The `BTreeMap` itself, which takes no memory.
+    /// Unwraps the `BTreeMap`. Allocates nothing.
     pub fn into_map(self) -> BTreeMap<String, V>
-        ensures { texts result ≡ self }
+        ensures { octet_map result ≡ self }
     {
         let TextMap { inner: whole } = self;
         whole
     }
 
-    /// The values, by the octets of their keys.
+    /// The values, ordered by the octets of their keys.
     pub fn into_values(self, alloc: Global) -> Result<Vec<V>, NoMemory>
         ensures { IfOk result (λ values. values.items ≡ finite.values self) }
     {
@@ -78,36 +79,36 @@ impl<V: Drop> TextMap<V> {
         Ok(values)
     }
 
-    /// How many entries there are.
+    /// The number of entries.
     pub fn len(&self) -> usize
         ensures { result ≡ finite.len self.now }
     {
         self.inner.len()
     }
 
-    /// Whether there are none.
+    /// Whether there are no entries.
     pub fn is_empty(&self) -> bool
         ensures { IsTrue result ↔ (finite.len self.now ≡ 0) }
     {
         self.len() == 0
     }
 
-    /// Takes every entry out.
+    /// Removes every entry.
     pub fn clear(&mut self)
         ensures { self.new ≡ finite.empty }
     {
         self.inner.clear();
     }
 
-    /// What stands at the key.
+    /// The value at the key.
     pub fn get(&self, key: &str) -> Option<&V>
         ensures { option_copied result ≡ finite.get self.now key.now }
     {
         value_at(&self.inner, key)
     }
 
-    /// Puts the value at the key. An `Err` leaves the map as it was, and comes only where the key
-    /// wasn't there.
+    /// Sets the value at the key. On `Err` the map is unchanged; `Err` occurs only if the key was
+    /// absent.
     pub fn insert(&mut self, key: String, value: V) -> Result<(), NoMemory>
         ensures ok { OnOk result (self.new ≡ finite.insert self.old (string_bytes key) value) }
         ensures err { OnErr result (self.new ≡ self.old) }
@@ -117,9 +118,8 @@ impl<V: Drop> TextMap<V> {
         Ok(())
     }
 
-    /// Writes the value over what stands at the key, which takes no memory, and answers what stood
-    /// there. Where nothing stands there nothing changes: the value is let go, and the answer is
-    /// `None`.
+    /// Overwrites the value at an existing key and returns the old value. Allocates nothing. If the
+    /// key is absent, the map is unchanged, the new value is dropped and the result is `None`.
     pub fn replace(&mut self, key: &str, value: V) -> Option<V>
         ensures value { result ≡ finite.get self.old key.now }
         ensures written { IfSome result (λ _. self.new ≡ finite.insert self.old key.now value) }
@@ -129,7 +129,7 @@ impl<V: Drop> TextMap<V> {
         Some(mem::replace(there, value))
     }
 
-    /// Takes the entry at the key out, and answers what stood there.
+    /// Removes the entry at the key and returns its value.
     pub fn remove(&mut self, key: &str) -> Option<V>
         ensures value { result ≡ finite.get self.old key.now }
         ensures removed { self.new ≡ finite.remove self.old key.now }
@@ -137,7 +137,7 @@ impl<V: Drop> TextMap<V> {
         self.inner.remove(key)
     }
 
-    /// The entries, by the octets of their keys.
+    /// The entries, ordered by the octets of their keys.
     pub fn entries(&self, alloc: Global) -> Result<Vec<(&str, &V)>, NoMemory>
         ensures { IfOk result (λ entries. map deref_pair entries.items ≡ finite.entries self.now) }
     {

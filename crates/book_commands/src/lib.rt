@@ -1,5 +1,5 @@
-//! What a client may ask of a store of books, and what it is answered: types alone, which
-//! `book_service` gives their meaning and offers too.
+//! The requests of a client to a store of address books, and the replies. These are types only;
+//! `book_service` performs the commands and re-exports both types.
 #![tactic(auto)]
 
 mod command;

@@ -1,57 +1,57 @@
-//! What a command is answered.
+//! The replies to commands.
 
 use book_model::{BookLine, Fault, ImportTally, Moved, Page, PutAnswer, Refusal, Tally};
 use card_core::Expansion;
 use vcard_text::{Card, Items, Text};
 
-/// What a command is answered. After `Refused` and `Fault` the books are as before.
+/// The reply to a command. `Refused` and `Fault` leave the books unchanged.
 #[derive(Debug, Drop, PartialEq, Eq)]
 pub enum Reply {
-    /// The book was made.
+    /// The book was created.
     Created {
-        /// The book's id: books of a store are counted from 1 as they are made.
+        /// The book's id; a store numbers its books from 1 in the order of their creation.
         id: u64,
     },
-    /// The lines of all books, by the octets of their names.
+    /// Name, id, number and horizon of every book, in byte order of name.
     Books(Items<BookLine>),
     /// The live card of the UID and its version.
     Card {
-        /// The UID that was asked for, which is the card's.
+        /// The requested UID, which is the card's.
         uid: Text,
-        /// The number of the change that wrote the card.
+        /// The number of the change that stored the card.
         version: u64,
-        /// The card as it was stored last.
+        /// The card as last stored.
         card: Card,
     },
-    /// What the put did.
+    /// The result of a put.
     Put(PutAnswer),
-    /// The card was taken away.
+    /// The card was removed.
     Gone {
-        /// The number of that change of the book.
+        /// The number of the removal in the book.
         number: u64,
     },
-    /// The card was moved, and these are its numbers.
+    /// The card was moved: the number of the change in each book.
     Moved(Moved),
-    /// The page of the report.
+    /// A page of a sync report.
     Page(Page),
-    /// The cards were imported under the key, now or before: so many were added, edited and the
-    /// same, and this was the book's number afterwards.
+    /// The cards were imported under the key, now or earlier: how many were added, edited and the
+    /// same, and the book's number after that import.
     Imported(ImportTally),
-    /// Removed members were forgotten.
+    /// Tombstones were dropped.
     Forgot {
-        /// How many they were.
+        /// The number of dropped tombstones.
         dropped: u64,
-        /// The number up to which the book has forgotten removals.
+        /// The book's new horizon.
         horizon: u64,
     },
-    /// The book in numbers.
+    /// The book's statistics.
     Tally(Tally),
-    /// The live cards of the book as rows of CSV, in the order of the octets of their UIDs.
+    /// The live cards of the book as CSV rows, in byte order of UID.
     Csv(Items<u8>),
-    /// Whom the group reaches, and the member values that name no live card.
+    /// The people that the group reaches, and the member values that name no live card.
     People(Expansion),
-    /// The command was refused for what it asks.
+    /// The command was refused; the refusal gives the reason.
     Refused(Refusal),
-    /// The command wasn't done, whatever it asks.
+    /// The command failed for lack of memory or a failure of the store.
     Fault(Fault),
 }

@@ -1,4 +1,4 @@
--- How a request's answer comes of what it asks for.
+-- The reply to a request, by its command.
 use Rattle.std.proofs.Common.{◌≡◌, ℕ, List, OnErr, Result, Ok, Err, subst, sym}
 use Rattle.book_model.specs.Bounds.{Bounds}
 use Rattle.book_model.specs.Books.{Books}
@@ -7,16 +7,16 @@ use Rattle.book_commands.specs.declared.command.Command.{Command}
 use Rattle.book_commands.specs.declared.reply.Reply.{Reply}
 use Rattle.http_replies.specs.Replies.{reply_octets}
 use Rattle.http_requests.specs.declared.head.Head.{Head}
-use Rattle.http_routes.specs.Commands.{asked}
-use Rattle.book_http.specs.Answering.{Answers, AnswersAsked}
-use Rattle.book_http.specs.Performing.{Performs}
+use Rattle.http_routes.specs.Commands.{requested_command}
+use Rattle.book_http.specs.RequestAnswers.{AnswersRequest, AnswersCommand}
+use Rattle.book_http.specs.StoreCommands.{PerformsOnStore}
 
 module _ {S : Type 0} (books : S → Books) (limits : S → Bounds) (premise : S → Type 0)
     (may_fault : FaultKind → Type 0) where
-  -- a command was performed, and its reply told
-  pub performed : (old new : S) (head : Head) (body octets : List ℕ) (command : Command) (r : Reply) → asked head.method head.target body ≡ Ok command → Performs books limits premise may_fault old command r new → octets ≡ reply_octets r head.close → Answers books limits premise may_fault old head body octets new
-  performed old new head body octets command r is did told =
-      subst (λ wanted. AnswersAsked books limits premise may_fault old wanted head.close octets new) (sym is) (r, did, told)
+  -- a command was performed, and this is its reply
+  pub performed : (old new : S) (head : Head) (body octets : List ℕ) (command : Command) (r : Reply) → requested_command head.method head.target body ≡ Ok command → PerformsOnStore books limits premise may_fault old command r new → octets ≡ reply_octets r head.close → AnswersRequest books limits premise may_fault old head body octets new
+  performed old new head body octets command r is did run_replies =
+      subst (λ wanted. AnswersCommand books limits premise may_fault old wanted head.close octets new) (sym is) (r, did, run_replies)
 
 -- what holds holds where memory ran out
 pub on_err : {A E : Type 0} {P : Type 0} (result : Result A E) → P → OnErr result P

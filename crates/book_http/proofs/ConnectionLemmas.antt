@@ -6,18 +6,18 @@ use Rattle.book_model.specs.declared.denied.Fault.{Fault as FaultKind}
 use Rattle.book_model.specs.Bounds.{Bounds}
 use Rattle.book_model.specs.Books.{Books}
 use Rattle.http_replies.specs.Replies.{head_fault_octets}
-use Rattle.http_requests.specs.Feeding.{Feeds, HandlesPart}
-use Rattle.http_requests.specs.Handling.{Doing, FaultReplies}
+use Rattle.http_requests.specs.SessionFeeding.{FeedsSession, HandlesSomePrefix}
+use Rattle.http_requests.specs.HandlerRuns.{HandlerRelation, FaultReplies}
 use Rattle.http_requests.proofs.RunLemmas.{answered_run, part_on}
 use Rattle.book_http.specs.declared.serve_fault.ServeFault.{ServeFault}
 use Rattle.book_http.specs.declared.serve_fault.ServeFault.TheVariants.{Read, Write, TooManyTurns, Memory}
-use Rattle.book_http.specs.OctetPromise.{ConnectionsRun, FaultsLeaveRuns, Serving}
-use Rattle.book_http.specs.Serving.{BreaksOff}
+use Rattle.book_http.specs.OctetPromise.{ConnectionsRun, FaultsLeaveRuns, ServiceStep}
+use Rattle.book_http.specs.ServedConnections.{AbortsConnection}
 use Rattle.book_http.proofs.OctetRunLemmas.{lost_pieces_run, sessions_run}
 
-module _ {State : Type 0} (does : Doing State) (fault_reply : FaultReplies) where
+module _ {State : Type 0} (does : HandlerRelation State) (fault_reply : FaultReplies) where
   -- what a session was fed was handled from the front
-  pub part_of_fed : (octets replies : List ℕ) (old new : State) (session : Option (List ℕ)) → Feeds does fault_reply octets old replies new session → HandlesPart does fault_reply octets old new
+  pub part_of_fed : (octets replies : List ℕ) (old new : State) (session : Option (List ℕ)) → FeedsSession does fault_reply octets old replies new session → HandlesSomePrefix does fault_reply octets old new
   part_of_fed octets replies old new (Some rest) fed =
       record { replies = replies; ended = false; rest = rest; runs = answered_run does fault_reply octets old replies new false rest fed.0 }
   part_of_fed octets replies old new None stop =
@@ -27,9 +27,9 @@ module _ {State : Type 0} (does : Doing State) (fault_reply : FaultReplies) wher
   pub record HandlesRead (input left : Option (List ℕ)) (old new : State) : Type 0 where
     pub octets : List ℕ
     pub read : Consumes input left octets
-    pub part : HandlesPart does fault_reply octets old new
+    pub part : HandlesSomePrefix does fault_reply octets old new
 
-  pub handles_read : (why : ServeFault) (input left output written : Option (List ℕ)) (old new : State) → BreaksOff does fault_reply why input left output written old new → HandlesRead input left old new
+  pub handles_read : (why : ServeFault) (input left output written : Option (List ℕ)) (old new : State) → AbortsConnection does fault_reply why input left output written old new → HandlesRead input left old new
   handles_read Read input left output written old new broke =
       let s = broke.serves in record { octets = s.octets; read = s.read; part = part_of_fed s.octets s.replies old new (Some broke.held) s.fed }
   handles_read Write input left output written old new broke =
@@ -61,5 +61,5 @@ module _ {S : Type 0} (books : S → Books) (limits : S → Bounds) (premise : S
 
   pub faults_leave_runs : FaultsLeaveRuns books limits premise may_fault
   faults_leave_runs now old new input left output written why starts broke =
-      let handled = handles_read (Serving books limits premise may_fault) head_fault_octets why input left output written old new broke in
+      let handled = handles_read (ServiceStep books limits premise may_fault) head_fault_octets why input left output written old new broke in
       (handled.octets, handled.read, lost_pieces_run books limits premise may_fault now old new handled.octets starts handled.part)

@@ -5,23 +5,23 @@ use Rattle.std.proofs.lemmas.List.{append-nil}
 use Rattle.book_model.specs.declared.denied.Fault.{Fault as FaultKind}
 use Rattle.book_model.specs.Bounds.{Bounds}
 use Rattle.book_model.specs.Books.{Books}
-use Rattle.book_service.specs.Runs.{Moment}
+use Rattle.book_service.specs.Runs.{SystemState}
 use Rattle.http_replies.specs.Replies.{head_fault_octets}
-use Rattle.http_requests.specs.Feeding.{Feeds, IsAnswered, IsRefused}
+use Rattle.http_requests.specs.SessionFeeding.{FeedsSession, HandlesAllRequests, RefusesHead}
 use Rattle.http_requests.specs.Requests.{Request}
 use Rattle.http_requests.proofs.PieceLemmas.{cuts_agree, pieces_are_fed}
 use Rattle.http_requests.proofs.CutLemmas.{determined}
 use Rattle.book_http.specs.declared.service.Service.{Service}
-use Rattle.book_http.specs.OctetRuns.{RunsAs}
-use Rattle.book_http.specs.OctetPromise.{CutsRunAlike, RanAlike, Serving, StartsAt}
+use Rattle.book_http.specs.OctetRuns.{RunsRequests}
+use Rattle.book_http.specs.OctetPromise.{CutsRunAlike, RanAlike, ServiceStep, StartsAt}
 use Rattle.book_http.proofs.OctetRunLemmas.{requests_run}
 use Rattle.book_http.proofs.OneRunLemmas.{AreReadInOneWay, ran_once}
 
 module _ {S : Type 0} (books : S → Books) (limits : S → Bounds) (premise : S → Type 0) (may_fault : FaultKind → Type 0) (law : AreReadInOneWay) where
   abbrev Refused : List ℕ → List ℕ → Type 0
-  Refused rest last = IsRefused (Serving books limits premise may_fault) head_fault_octets rest last
+  Refused rest last = RefusesHead (ServiceStep books limits premise may_fault) head_fault_octets rest last
 
-  -- what comes behind the replies to all requests
+  -- the octets after the replies to all requests
   abbrev Ends : Bool → List ℕ → List ℕ → Type 0
   Ends ended rest last = ((ended ≡ true) × (last ≡ [])) ⊎ ((ended ≡ false) × Refused rest last)
 
@@ -34,32 +34,32 @@ module _ {S : Type 0} (books : S → Books) (limits : S → Bounds) (premise : S
   end_alike ended rest last other (inr a) (inl b) = absurd (cc (a.0, b.0))
   end_alike ended rest last other (inr a) (inr b) = inr (a.1, b.1)
 
-  module _ (now : Moment) (octets replies others : List ℕ) (old new other : Service S) where
+  module _ (now : SystemState) (octets replies others : List ℕ) (old new other : Service S) where
     abbrev All : Service S → List ℕ → Bool → List ℕ → Type 0
-    All end told ended rest = IsAnswered (Serving books limits premise may_fault) head_fault_octets octets old told end ended rest
+    All end run_replies ended rest = HandlesAllRequests (ServiceStep books limits premise may_fault) head_fault_octets octets old run_replies end ended rest
 
     ran_alike : StartsAt books limits premise may_fault now old new → StartsAt books limits premise may_fault now old other
-        → (told told_too last last_too : List ℕ) (ended ended_too : Bool) (rest rest_too : List ℕ)
-        → All new told ended rest → All other told_too ended_too rest_too
-        → replies ≡ told ++ last → others ≡ told_too ++ last_too
+        → (run_replies run_replies_too last last_too : List ℕ) (ended ended_too : Bool) (rest rest_too : List ℕ)
+        → All new run_replies ended rest → All other run_replies_too ended_too rest_too
+        → replies ≡ run_replies ++ last → others ≡ run_replies_too ++ last_too
         → (ended_too ≡ ended → rest_too ≡ rest → EndAlike rest last last_too)
         → RanAlike books limits premise may_fault now octets replies others (books new.store) (books other.store)
-    ran_alike starts starts_too told told_too last last_too ended ended_too rest rest_too one two is is_too ends =
-        let same = determined octets two.requests one.requests ended_too ended rest_too rest two.are one.are in
-        let ran : RunsAs now one.requests told (books new.store) = requests_run books limits premise may_fault now old new one.requests told starts one.handles in
-        let ran_too : RunsAs now one.requests told_too (books other.store) =
-        subst (λ (rs : List Request). RunsAs now rs told_too (books other.store)) same.0
-        (requests_run books limits premise may_fault now old other two.requests told_too starts_too two.handles) in
+    ran_alike starts starts_too run_replies run_replies_too last last_too ended ended_too rest rest_too one two is is_too ends =
+        let same = determined octets two.requests one.requests ended_too ended rest_too rest two.requests_are one.requests_are in
+        let ran : RunsRequests now one.requests run_replies (books new.store) = requests_run books limits premise may_fault now old new one.requests run_replies starts one.handles in
+        let ran_too : RunsRequests now one.requests run_replies_too (books other.store) =
+        subst (λ (rs : List Request). RunsRequests now rs run_replies_too (books other.store)) same.0
+        (requests_run books limits premise may_fault now old other two.requests run_replies_too starts_too two.handles) in
         record {
           requests = one.requests;
           ended = ended;
           rest = rest;
-          are = one.are;
-          told = told;
+          requests_are = one.requests_are;
+          run_replies = run_replies;
           ran = ran;
-          other_told = told_too;
+          other_run_replies = run_replies_too;
           other_ran = ran_too;
-          alike = ran_once law now one.requests told told_too (books new.store) (books other.store) ran ran_too;
+          alike = ran_once law now one.requests run_replies run_replies_too (books new.store) (books other.store) ran ran_too;
           last = last;
           replies_are = is;
           other_last = last_too;
@@ -69,8 +69,8 @@ module _ {S : Type 0} (books : S → Books) (limits : S → Bounds) (premise : S
 
     fed_alike : StartsAt books limits premise may_fault now old new → StartsAt books limits premise may_fault now old other
         → (session left : Option (List ℕ)) → session ≡ left
-        → Feeds (Serving books limits premise may_fault) head_fault_octets octets old replies new session
-        → Feeds (Serving books limits premise may_fault) head_fault_octets octets old others other left
+        → FeedsSession (ServiceStep books limits premise may_fault) head_fault_octets octets old replies new session
+        → FeedsSession (ServiceStep books limits premise may_fault) head_fault_octets octets old others other left
         → RanAlike books limits premise may_fault now octets replies others (books new.store) (books other.store)
     fed_alike starts starts_too (Some rest) (Some left) same fed fed_too =
         ran_alike starts starts_too replies others [] [] false false rest left fed.0 fed_too.0 (sym (append-nil replies)) (sym (append-nil others))
@@ -92,10 +92,10 @@ module _ {S : Type 0} (books : S → Books) (limits : S → Bounds) (premise : S
 
   pub cuts_run_alike : CutsRunAlike books limits premise may_fault
   cuts_run_alike now old new other turns others session left starts starts_too takes takes_too same =
-      let fed : Feeds (Serving books limits premise may_fault) head_fault_octets (pieces turns) old (answers turns) new session =
-      pieces_are_fed (Serving books limits premise may_fault) head_fault_octets turns old new session takes in
-      let fed_too : Feeds (Serving books limits premise may_fault) head_fault_octets (pieces turns) old (answers others) other left =
-      subst (λ t. Feeds (Serving books limits premise may_fault) head_fault_octets t old (answers others) other left) (sym same)
-      (pieces_are_fed (Serving books limits premise may_fault) head_fault_octets others old other left takes_too) in
-      let held : session ≡ left = cuts_agree (Serving books limits premise may_fault) head_fault_octets (pieces turns) old new other (answers turns) (answers others) session left fed fed_too in
+      let fed : FeedsSession (ServiceStep books limits premise may_fault) head_fault_octets (pieces turns) old (answers turns) new session =
+      pieces_are_fed (ServiceStep books limits premise may_fault) head_fault_octets turns old new session takes in
+      let fed_too : FeedsSession (ServiceStep books limits premise may_fault) head_fault_octets (pieces turns) old (answers others) other left =
+      subst (λ t. FeedsSession (ServiceStep books limits premise may_fault) head_fault_octets t old (answers others) other left) (sym same)
+      (pieces_are_fed (ServiceStep books limits premise may_fault) head_fault_octets others old other left takes_too) in
+      let held : session ≡ left = cuts_agree (ServiceStep books limits premise may_fault) head_fault_octets (pieces turns) old new other (answers turns) (answers others) session left fed fed_too in
       (held, fed_alike now (pieces turns) (answers turns) (answers others) old new other starts starts_too session left held fed fed_too)

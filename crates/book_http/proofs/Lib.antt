@@ -1,3 +1,5 @@
+pub mod ListeningLemmas
+mod ListeningRunLemmas
 pub mod AnsweringLemmas
 pub mod ServingLemmas
 pub mod OctetRunLemmas

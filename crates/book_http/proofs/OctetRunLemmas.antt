@@ -5,130 +5,130 @@ use Rattle.book_model.specs.Bounds.{Bounds}
 use Rattle.book_model.specs.Books.{Books}
 use Rattle.book_commands.specs.declared.command.Command.{Command}
 use Rattle.book_service.specs.declared.event.Event.TheVariants.{Do}
-use Rattle.book_service.specs.Runs.{Moment, Happening, Run, end_of, IsAt}
+use Rattle.book_service.specs.Runs.{SystemState, TraceStep, Run, end_of, MatchesRows}
 use Rattle.book_service.proofs.StepLemmas.{end-append, run_limits, runs_join}
 use Rattle.http_replies.specs.Replies.{head_fault_octets}
-use Rattle.http_requests.specs.Feeding.{IsAnswered}
-use Rattle.http_requests.specs.Fields.{fault}
-use Rattle.http_requests.specs.FoundHeads.{head_of}
-use Rattle.http_requests.specs.Handling.{Handles, RepliesBy}
+use Rattle.http_requests.specs.SessionFeeding.{HandlesAllRequests}
+use Rattle.http_requests.specs.Fields.{fault_of_head}
+use Rattle.http_requests.specs.ParsedHeads.{head_of}
+use Rattle.http_requests.specs.HandlerRuns.{HandlesRequests, RepliesGivenFault}
 use Rattle.http_requests.specs.Requests.{Request}
 use Rattle.http_requests.specs.declared.head_fault.HeadFault.{HeadFault}
-use Rattle.http_routes.specs.Commands.{asked}
+use Rattle.http_routes.specs.Commands.{requested_command}
 use Rattle.http_routes.specs.declared.fault.RouteFault.{RouteFault}
 use Rattle.book_http.specs.declared.service.Service.{Service}
-use Rattle.book_http.specs.Answering.{AnswersAsked}
-use Rattle.book_http.specs.OctetRuns.{RunsAs, RunsAll, Tells, TellsAsked, TellsFound, TellsRequest}
-use Rattle.book_http.specs.OctetPromise.{LostPiecesRun, RequestsRun, Serving, SessionsRun, StartsAt}
+use Rattle.book_http.specs.RequestAnswers.{AnswersCommand}
+use Rattle.book_http.specs.OctetRuns.{RunsRequests, RunsAllRequests, AreReplies, IsReplyToCommand, IsReplyGivenFault, IsReplyToRequest}
+use Rattle.book_http.specs.OctetPromise.{LostPiecesRun, RequestsRun, ServiceStep, SessionsRun, StartsAt}
 
 module _ {S : Type 0} (books : S → Books) (limits : S → Bounds) (premise : S → Type 0) (may_fault : FaultKind → Type 0) where
   -- ---- the premise
 
-  asked_premise : (old new : S) (wanted : Result Command RouteFault) (close : Bool) (octets : List ℕ) → AnswersAsked books limits premise may_fault old wanted close octets new → premise new → premise old
+  asked_premise : (old new : S) (wanted : Result Command RouteFault) (close : Bool) (octets : List ℕ) → AnswersCommand books limits premise may_fault old wanted close octets new → premise new → premise old
   asked_premise old new (Ok command) close octets answers holds = answers.1.premises holds
   asked_premise old new (Err found) close octets answers holds = subst premise (sym answers.1) holds
 
   found_premise : (old new : Service S) (request : Request) (found : Option HeadFault) (octets : List ℕ)
-      → RepliesBy (Serving books limits premise may_fault) head_fault_octets old request octets new found → premise new.store → premise old.store
+      → RepliesGivenFault (ServiceStep books limits premise may_fault) head_fault_octets old request octets new found → premise new.store → premise old.store
   found_premise old new request None octets replied holds =
-      asked_premise old.store new.store (asked request.head.method request.head.target request.body) (head_of request.head).close octets replied holds
+      asked_premise old.store new.store (requested_command request.head.method request.head.target request.body) (head_of request.head).close octets replied holds
   found_premise old new request (Some found) octets replied holds = subst (λ (s : Service S). premise s.store) (sym replied.1) holds
 
-  pub all_premise : (requests : List Request) (old new : Service S) (octets : List ℕ) → Handles (Serving books limits premise may_fault) head_fault_octets old requests octets new → premise new.store → premise old.store
-  unfolding Handles
+  pub all_premise : (requests : List Request) (old new : Service S) (octets : List ℕ) → HandlesRequests (ServiceStep books limits premise may_fault) head_fault_octets old requests octets new → premise new.store → premise old.store
+  unfolding HandlesRequests
   all_premise [] old new octets handles holds = subst (λ (s : Service S). premise s.store) (sym handles.1) holds
   all_premise (request ∷ requests) old new octets handles holds =
-      found_premise old handles.2 request (fault request.head) handles.0 handles.3 (all_premise requests handles.2 new handles.1 handles.4 holds)
+      found_premise old handles.2 request (fault_of_head request.head) handles.0 handles.3 (all_premise requests handles.2 new handles.1 handles.4 holds)
 
   -- ---- the limits
 
-  asked_limits : (old new : S) (wanted : Result Command RouteFault) (close : Bool) (octets : List ℕ) → AnswersAsked books limits premise may_fault old wanted close octets new → limits new ≡ limits old
+  asked_limits : (old new : S) (wanted : Result Command RouteFault) (close : Bool) (octets : List ℕ) → AnswersCommand books limits premise may_fault old wanted close octets new → limits new ≡ limits old
   asked_limits old new (Ok command) close octets answers = answers.1.limits_are
   asked_limits old new (Err found) close octets answers = ap limits (sym answers.1)
 
   found_limits : (old new : Service S) (request : Request) (found : Option HeadFault) (octets : List ℕ)
-      → RepliesBy (Serving books limits premise may_fault) head_fault_octets old request octets new found → limits new.store ≡ limits old.store
+      → RepliesGivenFault (ServiceStep books limits premise may_fault) head_fault_octets old request octets new found → limits new.store ≡ limits old.store
   found_limits old new request None octets replied =
-      asked_limits old.store new.store (asked request.head.method request.head.target request.body) (head_of request.head).close octets replied
+      asked_limits old.store new.store (requested_command request.head.method request.head.target request.body) (head_of request.head).close octets replied
   found_limits old new request (Some found) octets replied = ap (λ (s : Service S). limits s.store) (sym replied.1)
 
   -- requests change no limits
-  pub all_limits : (requests : List Request) (old new : Service S) (octets : List ℕ) → Handles (Serving books limits premise may_fault) head_fault_octets old requests octets new → limits new.store ≡ limits old.store
-  unfolding Handles
+  pub all_limits : (requests : List Request) (old new : Service S) (octets : List ℕ) → HandlesRequests (ServiceStep books limits premise may_fault) head_fault_octets old requests octets new → limits new.store ≡ limits old.store
+  unfolding HandlesRequests
   all_limits [] old new octets handles = ap (λ (s : Service S). limits s.store) (sym handles.1)
   all_limits (request ∷ requests) old new octets handles =
-      all_limits requests handles.2 new handles.1 handles.4 ∙ found_limits old handles.2 request (fault request.head) handles.0 handles.3
+      all_limits requests handles.2 new handles.1 handles.4 ∙ found_limits old handles.2 request (fault_of_head request.head) handles.0 handles.3
 
   -- ---- one request
 
   -- what happened by a request that leads the store from one state to the next
-  pub record Happens (now : Moment) (tells : List Happening → Type 0) (new : S) : Type 0 where
-    pub own : List Happening
+  pub record Happens (now : SystemState) (are_replies : List TraceStep → Type 0) (new : S) : Type 0 where
+    pub own : List TraceStep
     pub runs : Run now own
-    pub tells_own : tells own
-    pub at : IsAt (end_of now own) (limits new) (books new)
+    pub replies_own : are_replies own
+    pub at : MatchesRows (end_of now own) (limits new) (books new)
     pub devices_are : (end_of now own).devices ≡ now.devices
 
-  nothing_happens : (now : Moment) (tells : List Happening → Type 0) (old new : S) → tells [] → old ≡ new → IsAt now (limits old) (books old) → Happens now tells new
-  nothing_happens now tells old new told same at = record { own = []; runs = tt; tells_own = told; at = subst (λ (s : S). IsAt now (limits s) (books s)) same at; devices_are = refl }
+  nothing_happens : (now : SystemState) (are_replies : List TraceStep → Type 0) (old new : S) → are_replies [] → old ≡ new → MatchesRows now (limits old) (books old) → Happens now are_replies new
+  nothing_happens now are_replies old new run_replies same at = record { own = []; runs = tt; replies_own = run_replies; at = subst (λ (s : S). MatchesRows now (limits s) (books s)) same at; devices_are = refl }
 
-  asked_happens : (now : Moment) (old new : S) (wanted : Result Command RouteFault) (close : Bool) (octets : List ℕ) → AnswersAsked books limits premise may_fault old wanted close octets new
-      → premise new → IsAt now (limits old) (books old) → Happens now (λ own. TellsAsked wanted close own octets) new
+  asked_happens : (now : SystemState) (old new : S) (wanted : Result Command RouteFault) (close : Bool) (octets : List ℕ) → AnswersCommand books limits premise may_fault old wanted close octets new
+      → premise new → MatchesRows now (limits old) (books old) → Happens now (λ own. IsReplyToCommand wanted close own octets) new
   asked_happens now old new (Ok command) close octets answers holds at =
       let led = answers.1.step holds now at in
-      let h : Happening = record { event = Do command; reply = answers.0; after = led.next } in
+      let h : TraceStep = record { event = Do command; reply = answers.0; after = led.next } in
       record {
         own = h ∷ [];
         runs = (led.step, tt);
-        tells_own = (h, refl, refl, answers.2);
-        at = record { limits_are = led.at.limits_are ∙ at.limits_are ∙ sym answers.1.limits_are; stories = led.at.stories };
+        replies_own = (h, refl, refl, answers.2);
+        at = record { limits_are = led.at.limits_are ∙ at.limits_are ∙ sym answers.1.limits_are; histories = led.at.histories };
         devices_are = led.devices_are;
       }
   asked_happens now old new (Err found) close octets answers holds at =
-      nothing_happens now (λ own. TellsAsked (Err found) close own octets) old new (refl, answers.0) answers.1 at
+      nothing_happens now (λ own. IsReplyToCommand (Err found) close own octets) old new (refl, answers.0) answers.1 at
 
-  found_happens : (now : Moment) (old new : Service S) (request : Request) (found : Option HeadFault) (octets : List ℕ)
-      → RepliesBy (Serving books limits premise may_fault) head_fault_octets old request octets new found
-      → premise new.store → IsAt now (limits old.store) (books old.store) → Happens now (λ own. TellsFound found request own octets) new.store
+  found_happens : (now : SystemState) (old new : Service S) (request : Request) (found : Option HeadFault) (octets : List ℕ)
+      → RepliesGivenFault (ServiceStep books limits premise may_fault) head_fault_octets old request octets new found
+      → premise new.store → MatchesRows now (limits old.store) (books old.store) → Happens now (λ own. IsReplyGivenFault found request own octets) new.store
   found_happens now old new request None octets replied holds at =
-      asked_happens now old.store new.store (asked request.head.method request.head.target request.body) (head_of request.head).close octets replied holds at
+      asked_happens now old.store new.store (requested_command request.head.method request.head.target request.body) (head_of request.head).close octets replied holds at
   found_happens now old new request (Some found) octets replied holds at =
-      nothing_happens now (λ own. TellsFound (Some found) request own octets) old.store new.store (refl, replied.0) (ap (λ (s : Service S). s.store) replied.1) at
+      nothing_happens now (λ own. IsReplyGivenFault (Some found) request own octets) old.store new.store (refl, replied.0) (ap (λ (s : Service S). s.store) replied.1) at
 
   -- ---- requests in turn
 
-  runs_none : (now : Moment) (old new : Service S) (octets : List ℕ) → octets ≡ [] → old ≡ new → IsAt now (limits old.store) (books old.store) → RunsAs now [] octets (books new.store)
-  unfolding Tells
+  runs_none : (now : SystemState) (old new : Service S) (octets : List ℕ) → octets ≡ [] → old ≡ new → MatchesRows now (limits old.store) (books old.store) → RunsRequests now [] octets (books new.store)
+  unfolding AreReplies
   runs_none now old new octets none same at = record {
     run = [];
     runs = tt;
-    tells = (refl, none);
-    at = record { limits_are = refl; stories = (subst (λ (s : Service S). IsAt now (limits s.store) (books s.store)) same at).stories };
+    are_replies = (refl, none);
+    at = record { limits_are = refl; histories = (subst (λ (s : Service S). MatchesRows now (limits s.store) (books s.store)) same at).histories };
     devices_are = refl;
   }
 
-  runs_on : (now : Moment) (middle new : S) (request : Request) (requests : List Request) (told rest octets : List ℕ) (h : Happens now (λ own. TellsRequest request own told) middle)
-      → RunsAs (end_of now h.own) requests rest (books new) → octets ≡ told ++ rest → RunsAs now (request ∷ requests) octets (books new)
-  unfolding Tells
-  runs_on now middle new request requests told rest octets h more is =
+  runs_on : (now : SystemState) (middle new : S) (request : Request) (requests : List Request) (run_replies rest octets : List ℕ) (h : Happens now (λ own. IsReplyToRequest request own run_replies) middle)
+      → RunsRequests (end_of now h.own) requests rest (books new) → octets ≡ run_replies ++ rest → RunsRequests now (request ∷ requests) octets (books new)
+  unfolding AreReplies
+  runs_on now middle new request requests run_replies rest octets h more is =
       let end : end_of now (h.own ++ more.run) ≡ end_of (end_of now h.own) more.run = end-append now h.own more.run in
       let same = run_limits now h.own h.runs in
       record {
         run = h.own ++ more.run;
         runs = runs_join now h.own more.run h.runs more.runs;
-        tells = (h.own, more.run, told, rest, h.tells_own, more.tells, refl, is);
-        at = subst (λ (m : Moment). IsAt m now.world.limits (books new)) (sym end) (record { limits_are = more.at.limits_are ∙ same; stories = more.at.stories });
-        devices_are = ap (λ (m : Moment). m.devices) end ∙ more.devices_are ∙ h.devices_are;
+        are_replies = (h.own, more.run, run_replies, rest, h.replies_own, more.are_replies, refl, is);
+        at = subst (λ (m : SystemState). MatchesRows m now.model.limits (books new)) (sym end) (record { limits_are = more.at.limits_are ∙ same; histories = more.at.histories });
+        devices_are = ap (λ (m : SystemState). m.devices) end ∙ more.devices_are ∙ h.devices_are;
       }
 
-  handled_run : (requests : List Request) (now : Moment) (old new : Service S) (octets : List ℕ) → premise new.store → IsAt now (limits old.store) (books old.store)
-      → Handles (Serving books limits premise may_fault) head_fault_octets old requests octets new → RunsAs now requests octets (books new.store)
-  unfolding Handles
+  handled_run : (requests : List Request) (now : SystemState) (old new : Service S) (octets : List ℕ) → premise new.store → MatchesRows now (limits old.store) (books old.store)
+      → HandlesRequests (ServiceStep books limits premise may_fault) head_fault_octets old requests octets new → RunsRequests now requests octets (books new.store)
+  unfolding HandlesRequests
   handled_run [] now old new octets holds at handles = runs_none now old new octets handles.0 handles.1 at
   handled_run (request ∷ requests) now old new octets holds at handles =
       let middle : Service S = handles.2 in
       let held = all_premise requests middle new handles.1 handles.4 holds in
-      let h = found_happens now old middle request (fault request.head) handles.0 handles.3 held at in
+      let h = found_happens now old middle request (fault_of_head request.head) handles.0 handles.3 held at in
       runs_on now middle.store new.store request requests handles.0 handles.1 octets h (handled_run requests (end_of now h.own) middle new handles.1 holds h.at handles.4) handles.5
 
   pub requests_run : RequestsRun books limits premise may_fault
@@ -136,11 +136,11 @@ module _ {S : Type 0} (books : S → Books) (limits : S → Bounds) (premise : S
 
   -- ---- sessions
 
-  pub all_run : (now : Moment) (old new : Service S) (octets replies : List ℕ) (ended : Bool) (rest : List ℕ) → StartsAt books limits premise may_fault now old new
-      → IsAnswered (Serving books limits premise may_fault) head_fault_octets octets old replies new ended rest → RunsAll now octets replies (books new.store) ended rest
+  pub all_run : (now : SystemState) (old new : Service S) (octets replies : List ℕ) (ended : Bool) (rest : List ℕ) → StartsAt books limits premise may_fault now old new
+      → HandlesAllRequests (ServiceStep books limits premise may_fault) head_fault_octets octets old replies new ended rest → RunsAllRequests now octets replies (books new.store) ended rest
   all_run now old new octets replies ended rest starts all = record {
     requests = all.requests;
-    are = all.are;
+    requests_are = all.requests_are;
     ran = requests_run now old new all.requests replies starts all.handles;
   }
 

@@ -1,6 +1,8 @@
-pub mod Performing
-pub mod Answering
+pub mod Listening
+pub mod ListeningRuns
+pub mod StoreCommands
+pub mod RequestAnswers
 pub mod ServeFaults
-pub mod Serving
+pub mod ServedConnections
 pub mod OctetRuns
 pub mod OctetPromise

@@ -1,6 +1,6 @@
-//! One request, answered.
+//! Performs one request and formats its reply.
 ghost use Rattle.std.specs.Prelude.{◌≡◌, ◌⊎◌, ℕ, List, IfOk, OnErr};
-ghost use Rattle.book_http.specs.Answering.{Answers};
+ghost use Rattle.book_http.specs.RequestAnswers.{AnswersRequest};
 
 use base_types::NoMemory;
 use book_service::perform;
@@ -10,11 +10,10 @@ use http_routes::{NoCommand, read_request};
 use std::alloc::Global;
 use sync_core::BookStore;
 
-/// Answers a whole request with the octets of the whole reply: the command that its method, target
-/// and body ask for is performed, and its reply is told; a request that asks for nothing is told
-/// its first fault, and changes nothing.
+/// Performs the command of a complete request and returns the octets of the reply. A request that
+/// asks for no command changes nothing, and its reply is its first fault.
 ///
-/// `NoMemory` where an allocation fails: the request was done wholly or not at all.
+/// `NoMemory` if an allocation fails: the request was performed completely or not at all.
 pub fn answer<S: BookStore>(
     alloc: Global,
     store: &mut S,
@@ -22,10 +21,10 @@ pub fn answer<S: BookStore>(
     body: &[u8],
 ) -> Result<Vec<u8>, NoMemory>
     ensures done { IfOk result (λ reply.
-        Answers S.books S.limits S.premise S.may_fault
+        AnswersRequest S.books S.limits S.premise S.may_fault
         store.old head.now body.now reply.items store.new) }
     ensures no_memory { OnErr result ((store.old ≡ store.new)
-        ⊎ ((reply : List ℕ) × Answers S.books S.limits S.premise S.may_fault
+        ⊎ ((reply : List ℕ) × AnswersRequest S.books S.limits S.premise S.may_fault
         store.old head.now body.now reply store.new)) }
 {
     match read_request(alloc, head.method.as_str(), head.target.as_str(), body) {

@@ -1,13 +1,22 @@
-//! The service over HTTP (RFC 9110, RFC 9112): requests in octets, and replies in octets.
+//! Serves the contact service over HTTP/1.1 (RFC 9110, RFC 9112).
 #![tactic(auto)]
 
 mod answering;
+mod connection;
 pub mod laws;
+mod listen_fault;
+mod listener;
+pub mod listener_laws;
+mod listening;
 mod serve_fault;
 mod service;
 mod serving;
 
 pub use answering::answer;
+pub use connection::Connection;
+pub use listen_fault::ListenFault;
+pub use listener::Listener;
+pub use listening::serve_listener;
 pub use serve_fault::ServeFault;
 pub use service::Service;
 pub use serving::serve;

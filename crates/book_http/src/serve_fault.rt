@@ -1,27 +1,27 @@
-//! Why a connection is given up.
+//! The error of serving a connection.
 ghost use Rattle.std.specs.Prelude.{◌≡◌};
-ghost use Rattle.book_http.specs.ServeFaults.{fault_number};
+ghost use Rattle.book_http.specs.ServeFaults.{serve_fault_number};
 
 use base_types::NoMemory;
 use std::alloc::AllocError;
 
-/// Why a connection is served no further. Whatever was acknowledged on it stands.
+/// Why a connection was aborted. Changes that were acknowledged on it remain.
 #[derive(Clone, Copy, Debug, PartialEq, Eq)]
 pub enum ServeFault {
     /// The reader failed.
     Read,
     /// The writer failed.
     Write,
-    /// There were 1,000,000 reads, and neither the end of the input nor a reply that closes.
+    /// 1,000,000 reads reached neither the end of the input nor a request that closes.
     TooManyTurns,
     /// Out of memory.
     Memory,
 }
 
 impl ServeFault {
-    /// The number under which the fault is reported: 1 to 4, in the order of the variants.
+    /// The number of the fault: 1 to 4, in the order of the variants.
     pub fn number(self) -> u8
-        ensures { result ≡ fault_number self }
+        ensures { result ≡ serve_fault_number self }
     {
         match self {
             ServeFault::Read => 1,

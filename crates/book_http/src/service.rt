@@ -1,4 +1,4 @@
-//! The service as what handles the requests of connections.
+//! The handler of HTTP requests over a store of books.
 ghost use Rattle.std.specs.Prelude.{◌≡◌};
 
 use crate::answering::answer;
@@ -8,19 +8,19 @@ use http_requests::{Handler, Head, HeadFault};
 use std::alloc::Global;
 use sync_core::BookStore;
 
-/// The service over a store of books, which handles the requests of connections in turn.
+/// Handles the requests of connections over a store of books.
 #[derive(Drop)]
 pub struct Service<S> {
-    /// The store, as the requests so far left it.
+    /// The store.
     pub store: S,
 }
 
 impl<S: BookStore> Handler for Service<S> {
-    ghost use Rattle.book_http.specs.Answering.{Answers};
+    ghost use Rattle.book_http.specs.RequestAnswers.{AnswersRequest};
     ghost use Rattle.http_replies.specs.Replies.{head_fault_octets};
 
     ghost does = { λ old head body reply new.
-        Answers S.books S.limits S.premise S.may_fault old.store head body reply new.store };
+        AnswersRequest S.books S.limits S.premise S.may_fault old.store head body reply new.store };
 
     ghost fault_reply = { head_fault_octets };
 

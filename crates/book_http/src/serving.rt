@@ -1,7 +1,8 @@
-//! A connection's requests, read and answered.
+//! Reads the requests of a connection and writes the replies.
 ghost use Rattle.std.specs.Prelude.{◌≡◌, ◌<◌, ◌↔◌, None, length, IfOk, IfErr, IsTrue, OnOk};
 ghost use Rattle.std.specs.Io.KnownBytes.{Appends};
-ghost use Rattle.book_http.specs.Serving.{BreaksOff, LosesTurn, ServesAll, TakesTurn};
+ghost use Rattle.book_http.specs.ServedConnections.{AbortsConnection, FailsPiece, ServesToEnd};
+ghost use Rattle.book_http.specs.ServedConnections.{AnswersPiece};
 ghost use Rattle.book_http.specs.declared.serve_fault.ServeFault.{ServeFault as TheFault};
 
 use crate::serve_fault::ServeFault;
@@ -9,13 +10,13 @@ use http_requests::{Handler, Session};
 use std::alloc::Global;
 use std::io::{ErrorKind, Read, Write};
 
-/// The most octets of one piece.
+/// The most octets of one read.
 const PIECE_OCTETS_MAX: usize = 16_384;
 
-/// The most reads of one connection, those that were interrupted included.
+/// The most reads of one connection, including interrupted ones.
 const READS_MAX: u32 = 1_000_000;
 
-/// Writes the replies and flushes them, so that they are on their way before more is read.
+/// Writes the replies and flushes them, before more is read.
 fn send<W: Write>(writer: &mut W, replies: &[u8]) -> Result<(), ServeFault>
     ensures sent { OnOk result (Appends (W.contents writer.old) (W.contents writer.new)
         replies.now) }
@@ -30,7 +31,7 @@ fn send<W: Write>(writer: &mut W, replies: &[u8]) -> Result<(), ServeFault>
     }
 }
 
-/// Feeds the session a piece, writes the replies to it, and tells whether it is closed then.
+/// Feeds the session a piece and writes the replies. Returns whether the session is closed.
 fn answer_piece<H: Handler, W: Write>(
     alloc: Global,
     session: &mut Session,
@@ -38,10 +39,11 @@ fn answer_piece<H: Handler, W: Write>(
     writer: &mut W,
     piece: &[u8],
 ) -> Result<bool, ServeFault>
-    ensures takes { OnOk result (TakesTurn H.does H.fault_reply session.old handler.old piece.now
+    ensures answered { OnOk result (AnswersPiece H.does H.fault_reply
+        session.old handler.old piece.now
         (W.contents writer.old) (W.contents writer.new) handler.new session.new) }
     ensures closed { IfOk result (λ closed. IsTrue closed ↔ (session.new ≡ None)) }
-    ensures loses { IfErr result (λ fault. LosesTurn H.does H.fault_reply fault session.old
+    ensures failed { IfErr result (λ fault. FailsPiece H.does H.fault_reply fault session.old
         handler.old piece.now (W.contents writer.old) (W.contents writer.new)
         handler.new session.new) }
 {
@@ -50,7 +52,7 @@ fn answer_piece<H: Handler, W: Write>(
     Ok(session.closed())
 }
 
-/// Serves a new connection, whose pieces are read into the room.
+/// Serves a new connection, with the buffer for the reads.
 fn serve_in<H: Handler, R: Read, W: Write>(
     alloc: Global,
     handler: &mut H,
@@ -59,10 +61,10 @@ fn serve_in<H: Handler, R: Read, W: Write>(
     room: &mut [u8],
 ) -> Result<(), ServeFault>
     requires some { 0 < length room.old }
-    ensures all { OnOk result (ServesAll H.does H.fault_reply
+    ensures served { OnOk result (ServesToEnd H.does H.fault_reply
         (R.remaining reader.old) (R.remaining reader.new)
         (W.contents writer.old) (W.contents writer.new) handler.old handler.new) }
-    ensures fault { IfErr result (λ fault. BreaksOff H.does H.fault_reply fault
+    ensures fault { IfErr result (λ fault. AbortsConnection H.does H.fault_reply fault
         (R.remaining reader.old) (R.remaining reader.new)
         (W.contents writer.old) (W.contents writer.new) handler.old handler.new) }
 {
@@ -86,26 +88,26 @@ fn serve_in<H: Handler, R: Read, W: Write>(
     Err(ServeFault::TooManyTurns)
 }
 
-/// Serves one connection: its requests are read in pieces of at most 16,384 octets and handled as
-/// they become whole, and the replies to a piece are written before more is read. It ends with the
-/// input, or with the request that closes. A request that isn't whole at the end isn't handled.
+/// Serves one connection. It reads pieces of at most 16,384 octets, handles each request once it is
+/// complete, and writes the replies to a piece before the next read. It returns at the end of the
+/// input or after the request that closes. An incomplete request at the end isn't handled.
 ///
-/// `Read` and `Write` where the reader or the writer fails; `TooManyTurns` after 1,000,000 reads
-/// that met neither end; `Memory` where an allocation fails. Then requests at the front of what
-/// was read were handled, each wholly. A read that was interrupted is made again.
+/// `Read` or `Write` if the reader or the writer fails; `TooManyTurns` after 1,000,000 reads
+/// that reached neither end; `Memory` if an allocation fails. After an error, some requests of
+/// the octets read, from the first on, were handled completely. Interrupted reads are retried.
 pub fn serve<H: Handler, R: Read, W: Write>(
     alloc: Global,
     handler: &mut H,
     reader: &mut R,
     writer: &mut W,
 ) -> Result<(), ServeFault>
-    // All requests of what was read were handled in turn, and their replies are what was written.
-    ensures all { OnOk result (ServesAll H.does H.fault_reply
+    // All requests of the octets read were handled in turn, and their replies were written.
+    ensures served { OnOk result (ServesToEnd H.does H.fault_reply
         (R.remaining reader.old) (R.remaining reader.new)
         (W.contents writer.old) (W.contents writer.new) handler.old handler.new) }
 
-    // So it was up to the fault, but that replies are lost where it is the writer's, or memory's.
-    ensures fault { IfErr result (λ fault. BreaksOff H.does H.fault_reply fault
+    // The same up to the fault; replies are lost if the writer failed or memory ran out.
+    ensures fault { IfErr result (λ fault. AbortsConnection H.does H.fault_reply fault
         (R.remaining reader.old) (R.remaining reader.new)
         (W.contents writer.old) (W.contents writer.new) handler.old handler.new) }
 {

@@ -4,20 +4,20 @@ use Rattle.std.specs.List.{AllByRecursion}
 use Rattle.std.proofs.lemmas.Bool.{cases_Bool, or_cases, or_left, or_right, and_parts, both_ways, false_from_ne_true, ltb-true, lt-ltb}
 use Rattle.std.proofs.lemmas.Map.Views.{any-filter_same, Contains-from_any, list_any-from_Contains}
 use Rattle.book_model.specs.declared.token.Mark.{Mark}
-use Rattle.book_laws.specs.Histories.{BookEvent, same_uid, last, touched_uids, HasEventAbove}
-use Rattle.book_laws.specs.Reports.{is_due, due}
-use Rattle.book_laws.specs.ReportLaws.{DueHaveEvents}
+use Rattle.book_laws.specs.EventLogs.{BookEvent, same_uid, last_number, touched_uids, HasEventAbove}
+use Rattle.book_laws.specs.Reports.{is_due_member, due}
+use Rattle.book_laws.specs.ReportLaws.{DueMembersHaveEvents}
 use Rattle.book_model.proofs.BasicLemmas.{both}
 use Rattle.base_types.proofs.TextLemmas.{same_equiv, same-equal}
 use Rattle.book_laws.proofs.HistoryLemmas.{has, last_event, event-le, has-touched, Rises, touched-rises}
 
 -- who is due is in the list
-pub has-due : (h : List BookEvent) (mark : Mark) (uid : List ℕ) → is_due h mark uid ≡ true → has (due h mark) uid ≡ true
+pub has-due : (h : List BookEvent) (mark : Mark) (uid : List ℕ) → is_due_member h mark uid ≡ true → has (due h mark) uid ≡ true
 has-due h mark uid d =
     let parts = and_parts _ _ d in
-    let since : mark.at < last h uid = ltb-true _ _ parts.0 in
-    any-filter_same (same_uid uid) (is_due h mark) true
-    (λ v is. subst (λ (u : List ℕ). is_due h mark u ≡ true) (same-equal uid v is) d) (touched_uids h)
+    let since : mark.at < last_number h uid = ltb-true _ _ parts.0 in
+    any-filter_same (same_uid uid) (is_due_member h mark) true
+    (λ v is. subst (λ (u : List ℕ). is_due_member h mark u ≡ true) (same-equal uid v is) d) (touched_uids h)
     ∙ has-touched h uid (omega arith)
 
 pub any_passes : (p : List ℕ → Bool) (u : List ℕ) (uids : List (List ℕ)) → has (filter p uids) u ≡ true → p u ≡ true
@@ -30,16 +30,16 @@ any_passes p u (v ∷ uids) h =
 
 -- ---- the tests on last events, in the words of events
 
-above_last : (h : List BookEvent) (bound : ℕ) (uid : List ℕ) → bound < last h uid → HasEventAbove h bound uid
-above_last h bound uid less = record { number = last h uid; above = less; event = last_event h uid (omega arith) }
+above_last : (h : List BookEvent) (bound : ℕ) (uid : List ℕ) → bound < last_number h uid → HasEventAbove h bound uid
+above_last h bound uid less = record { number = last_number h uid; above = less; event = last_event h uid (omega arith) }
 
-last_above : (h : List BookEvent) (bound : ℕ) (uid : List ℕ) → HasEventAbove h bound uid → bound < last h uid
+last_above : (h : List BookEvent) (bound : ℕ) (uid : List ℕ) → HasEventAbove h bound uid → bound < last_number h uid
 last_above h bound uid has = let more = event-le h has.number uid has.event in let above = has.above in omega (arith, more, above)
 
-pub due_have_events : DueHaveEvents
+pub due_have_events : DueMembersHaveEvents
 due_have_events h mark uid = (
   λ c.
-      let d : is_due h mark uid ≡ true = any_passes (is_due h mark) uid (touched_uids h) (list_any-from_Contains same_equiv uid (due h mark) c) in
+      let d : is_due_member h mark uid ≡ true = any_passes (is_due_member h mark) uid (touched_uids h) (list_any-from_Contains same_equiv uid (due h mark) c) in
       let parts = and_parts _ _ d in (
         above_last h mark.at uid (ltb-true _ _ parts.0),
         ⊎_elim (λ here. inl here) (λ late. inr (above_last h mark.base uid (ltb-true _ _ late))) (or_cases _ _ parts.1),
@@ -53,7 +53,7 @@ due_have_events h mark uid = (
 
 -- ---- lists that rise
 
--- of a list that rises by f, what comes after is above
+-- in a list that rises by f, later elements are above
 module _ (f : List ℕ → ℕ) where
   pub above_first : (uid : List ℕ) (n : ℕ) (uids : List (List ℕ)) → AllByRecursion (λ v. n < f v) uids → has uids uid ≡ true → n < f uid
   above_first uid n [] a h = absurd (both_ways false refl h)
@@ -99,5 +99,5 @@ module _ (f : List ℕ → ℕ) where
       (cases_Bool (same_uid u x))) in
       ap (λ v. v ∷ xs) is ∙ ap (λ vs. y ∷ vs) rest
 
-pub due-rises : (h : List BookEvent) (mark : Mark) → Rises (last h) (due h mark)
-due-rises h mark = rises-filter (last h) (is_due h mark) (touched_uids h) (touched-rises h)
+pub due-rises : (h : List BookEvent) (mark : Mark) → Rises (last_number h) (due h mark)
+due-rises h mark = rises-filter (last_number h) (is_due_member h mark) (touched_uids h) (touched-rises h)

@@ -5,7 +5,7 @@ use Rattle.std.specs.Option.{option_map_or}
 use Rattle.std.proofs.Math.Nat.{min-eq_left, min-eq_right}
 use Rattle.std.proofs.lemmas.Bool.{cases_Bool, cases_lt, cond-true, cond-false}
 use Rattle.std.proofs.lemmas.Option.{same_Some}
-use Rattle.book_model.specs.Changing.{least}
+use Rattle.book_model.specs.BookChanges.{least}
 
 module _ {X : Type 0} where
   -- those that pass two tests

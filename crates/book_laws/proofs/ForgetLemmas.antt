@@ -1,23 +1,23 @@
--- Forgetting in the rows, beside what it means on histories.
+-- Forgetting in the rows refines that on histories.
 use Rattle.std.proofs.Common.{◌≤◌, length}
 use Rattle.std.proofs.lemmas.Bool.{and_parts, leb-true}
 use Rattle.book_model.specs.declared.refusal.Refusal.TheVariants.{BadForget}
 use Rattle.book_model.specs.Forgetting.{book_after_forget, may_forget}
-use Rattle.book_laws.specs.ChangeLaws.{ForgettingFollows}
-use Rattle.book_laws.specs.Worlds.{book_of}
-use Rattle.book_laws.specs.WorldChanges.{with_horizon}
-use Rattle.book_laws.proofs.FollowLemmas.{follow_named, follow_test}
+use Rattle.book_laws.specs.ChangeRefinement.{ForgetRefines}
+use Rattle.book_laws.specs.StoreHistories.{book_of_history}
+use Rattle.book_laws.specs.HistoryChanges.{with_horizon}
+use Rattle.book_laws.proofs.RefinementLemmas.{follow_named, follow_test}
 use Rattle.book_laws.proofs.PassingRows.{dropped_is, book_forgotten}
 use Rattle.book_laws.proofs.RememberLemmas.{sound_forgotten}
-use Rattle.book_laws.proofs.WorldLemmas.{wrote_story}
+use Rattle.book_laws.proofs.StoreHistoryLemmas.{wrote_history}
 
-pub forgetting_follows : ForgettingFollows
-forgetting_follows stories name upto all =
-    follow_named stories name _ _ all (λ story at sound.
-    follow_test (may_forget story.horizon (length story.history) upto) BadForget _ _ (λ allowed.
+pub forgetting_follows : ForgetRefines
+forgetting_follows histories name upto all =
+    follow_named histories name _ _ all (λ history at sound.
+    follow_test (may_forget history.horizon (length history.log) upto) BadForget _ _ (λ allowed.
     let parts = and_parts _ _ allowed in
-    let rises : story.horizon ≤ upto = leb-true _ _ parts.0 in
-    let past : upto ≤ length story.history = leb-true _ _ parts.1 in (
-      dropped_is story upto,
-      wrote_story stories name (with_horizon story upto) (book_after_forget (book_of story) upto) all (sound_forgotten story upto sound rises past) (book_forgotten story upto rises),
+    let rises : history.horizon ≤ upto = leb-true _ _ parts.0 in
+    let within_log : upto ≤ length history.log = leb-true _ _ parts.1 in (
+      dropped_is history upto,
+      wrote_history histories name (with_horizon history upto) (book_after_forget (book_of_history history) upto) all (sound_forgotten history upto sound rises within_log) (book_forgotten history upto rises),
     )))

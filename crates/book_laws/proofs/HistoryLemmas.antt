@@ -11,7 +11,7 @@ use Rattle.base_types.specs.TextMaps.{text_cmp}
 use Rattle.book_model.specs.declared.answers.Stored.{Stored}
 use Rattle.book_model.specs.declared.change.Change.{Change}
 use Rattle.book_model.specs.declared.change.Change.TheVariants.{Stores, TakesAway}
-use Rattle.book_laws.specs.Histories.{BookEvent, IsEventOf, same_uid, cards_after_change, live, last, touched_uids}
+use Rattle.book_laws.specs.EventLogs.{BookEvent, IsEventOf, same_uid, cards_after_change, live, last_number, touched_uids}
 use Rattle.book_model.specs.Books.{LiveCards}
 use Rattle.base_types.proofs.TextLemmas.{text_total, same_self, same-equal}
 
@@ -19,16 +19,16 @@ use Rattle.base_types.proofs.TextLemmas.{text_total, same_self, same-equal}
 abbrev pub has : List (List ℕ) → List ℕ → Bool
 has uids uid = list_any (same_uid uid) uids
 
-pub last_here : (h : List BookEvent) (e : BookEvent) (uid : List ℕ) → same_uid uid e.uid ≡ true → last (e ∷ h) uid ≡ length h + 1
-last_here h e uid here = cond-true (same_uid uid e.uid) (length h + 1) (last h uid) here
+pub last_here : (h : List BookEvent) (e : BookEvent) (uid : List ℕ) → same_uid uid e.uid ≡ true → last_number (e ∷ h) uid ≡ length h + 1
+last_here h e uid here = cond-true (same_uid uid e.uid) (length h + 1) (last_number h uid) here
 
-pub last_other : (h : List BookEvent) (e : BookEvent) (uid : List ℕ) → same_uid uid e.uid ≡ false → last (e ∷ h) uid ≡ last h uid
-last_other h e uid other = cond-false (same_uid uid e.uid) (length h + 1) (last h uid) other
+pub last_other : (h : List BookEvent) (e : BookEvent) (uid : List ℕ) → same_uid uid e.uid ≡ false → last_number (e ∷ h) uid ≡ last_number h uid
+last_other h e uid other = cond-false (same_uid uid e.uid) (length h + 1) (last_number h uid) other
 
-pub last-le : (h : List BookEvent) (uid : List ℕ) → last h uid ≤ length h
+pub last-le : (h : List BookEvent) (uid : List ℕ) → last_number h uid ≤ length h
 last-le [] uid = omega arith
 last-le (e ∷ h) uid =
-    elim (same_uid uid e.uid) as (λ b. cond b (length h + 1) (last h uid) ≤ length (e ∷ h)) [
+    elim (same_uid uid e.uid) as (λ b. cond b (length h + 1) (last_number h uid) ≤ length (e ∷ h)) [
       | true ↦ omega arith
       | false ↦ omega (arith, last-le h uid)
     ]
@@ -36,7 +36,7 @@ last-le (e ∷ h) uid =
 -- ---- events by their numbers
 
 -- the last event has its number
-pub last_event : (h : List BookEvent) (uid : List ℕ) → 0 < last h uid → IsEventOf h (last h uid) uid
+pub last_event : (h : List BookEvent) (uid : List ℕ) → 0 < last_number h uid → IsEventOf h (last_number h uid) uid
 last_event [] uid some = absurd (omega arith)
 last_event (e ∷ h) uid some = ⊎_elim
     (λ here. record { later = []; event = e; earlier = h; parts = refl; number_is = last_here h e uid here; uid_is = sym (same-equal uid e.uid here) })
@@ -45,34 +45,34 @@ last_event (e ∷ h) uid some = ⊎_elim
     record { later = e ∷ before.later; event = before.event; earlier = before.earlier; parts = ap (λ es. e ∷ es) before.parts; number_is = last_other h e uid other ∙ before.number_is; uid_is = before.uid_is })
     (cases_Bool (same_uid uid e.uid))
 
-event_at : (later : List BookEvent) (e : BookEvent) (earlier : List BookEvent) (uid : List ℕ) → e.uid ≡ uid → length earlier + 1 ≤ last (later ++ e ∷ earlier) uid
+event_at : (later : List BookEvent) (e : BookEvent) (earlier : List BookEvent) (uid : List ℕ) → e.uid ≡ uid → length earlier + 1 ≤ last_number (later ++ e ∷ earlier) uid
 event_at [] e earlier uid is = let top = last_here earlier e uid (ap (same_uid uid) is ∙ same_self uid) in omega (arith, top)
 event_at (d ∷ ds) e earlier uid is =
     let more = event_at ds e earlier uid is in
     let most = last-le (ds ++ e ∷ earlier) uid in
-    elim (same_uid uid d.uid) as (λ b. length earlier + 1 ≤ cond b (length (ds ++ e ∷ earlier) + 1) (last (ds ++ e ∷ earlier) uid)) [
+    elim (same_uid uid d.uid) as (λ b. length earlier + 1 ≤ cond b (length (ds ++ e ∷ earlier) + 1) (last_number (ds ++ e ∷ earlier) uid)) [
       | true ↦ omega (arith, more, most)
       | false ↦ more
     ]
 
 -- and no event of the UID has a greater one
-pub event-le : (h : List BookEvent) (number : ℕ) (uid : List ℕ) → IsEventOf h number uid → number ≤ last h uid
+pub event-le : (h : List BookEvent) (number : ℕ) (uid : List ℕ) → IsEventOf h number uid → number ≤ last_number h uid
 event-le h number uid is =
     let at = event_at is.later is.event is.earlier uid is.uid_is in
-    let so : length is.earlier + 1 ≤ last h uid = subst (λ (es : List BookEvent). length is.earlier + 1 ≤ last es uid) (sym is.parts) at in
+    let so : length is.earlier + 1 ≤ last_number h uid = subst (λ (es : List BookEvent). length is.earlier + 1 ≤ last_number es uid) (sym is.parts) at in
     let n = is.number_is in omega (arith, so, n)
 
 -- ---- the touched UIDs
 
 -- a UID with an event is among them
-pub has-touched : (h : List BookEvent) (uid : List ℕ) → 0 < last h uid → has (touched_uids h) uid ≡ true
+pub has-touched : (h : List BookEvent) (uid : List ℕ) → 0 < last_number h uid → has (touched_uids h) uid ≡ true
 has-touched [] uid some = absurd (omega arith)
 has-touched (e ∷ h) uid some =
     let others = filter (λ v. not (same_uid v e.uid)) (touched_uids h) in
     ⊎_elim
     (λ here. list_any-append (same_uid uid) others (e.uid ∷ []) ∙ or_right (has others uid) _ (or_left _ _ here))
     (λ other.
-    let before : 0 < last h uid = subst (λ n. 0 < n) (last_other h e uid other) some in
+    let before : 0 < last_number h uid = subst (λ n. 0 < n) (last_other h e uid other) some in
     list_any-append (same_uid uid) others (e.uid ∷ [])
     ∙ or_left (has others uid) _
     (any-filter_same (same_uid uid) (λ v. not (same_uid v e.uid)) true
@@ -106,14 +106,14 @@ module _ (f g : List ℕ → ℕ) (p : List ℕ → Bool) (top : List ℕ) (agre
         | false ↦ λ e. rest
       ] refl
 
--- they stand in the order of their last events
-pub touched-rises : (h : List BookEvent) → Rises (last h) (touched_uids h)
+-- they are in the order of their last events
+pub touched-rises : (h : List BookEvent) → Rises (last_number h) (touched_uids h)
 touched-rises [] = tt
 touched-rises (e ∷ h) =
     let kept = λ (v : List ℕ). not (same_uid v e.uid) in
-    let agree : (v : List ℕ) → kept v ≡ true → last (e ∷ h) v ≡ last h v = λ v k. last_other h e v (not-true _ k) in
-    let newest : last (e ∷ h) e.uid ≡ length h + 1 = last_here h e e.uid (same_self e.uid) in
-    rises-pushed (last h) (last (e ∷ h)) kept e.uid agree
+    let agree : (v : List ℕ) → kept v ≡ true → last_number (e ∷ h) v ≡ last_number h v = λ v k. last_other h e v (not-true _ k) in
+    let newest : last_number (e ∷ h) e.uid ≡ length h + 1 = last_here h e e.uid (same_self e.uid) in
+    rises-pushed (last_number h) (last_number (e ∷ h)) kept e.uid agree
     (λ v k. let is = agree v k in omega (arith, last-le h v, is, newest)) (touched_uids h) (touched-rises h)
 
 -- ---- the live cards
@@ -124,7 +124,7 @@ get-changed cards v uid (Stores card why) n other = get-insert text_total cards 
 get-changed cards v uid (TakesAway why) n other = get-remove text_total cards v uid ∙ cond-false _ _ _ other
 
 -- a version is the number of the last event
-pub version_is : (h : List BookEvent) (uid : List ℕ) (s : Stored) → finite.get (live h) uid ≡ Some s → s.version ≡ last h uid
+pub version_is : (h : List BookEvent) (uid : List ℕ) (s : Stored) → finite.get (live h) uid ≡ Some s → s.version ≡ last_number h uid
 version_is [] uid s e = absurd (none_some (sym (get-empty text_cmp uid) ∙ e))
   where
     none_some : None ≡ Some s → ⊥

@@ -12,8 +12,8 @@ use Rattle.book_model.specs.declared.change.Change.{Change}
 use Rattle.book_model.specs.declared.change.Change.TheVariants.{Stores, TakesAway}
 use Rattle.book_model.specs.declared.change.StoreReason.{StoreReason}
 use Rattle.base_types.proofs.TextLemmas.{text_total, same_self, same-equal, same-other}
-use Rattle.book_laws.specs.Histories.{BookEvent, same_uid, cards_after_change, live}
-use Rattle.book_laws.specs.LiveLaws.{LiveAreStoredLast}
+use Rattle.book_laws.specs.EventLogs.{BookEvent, same_uid, cards_after_change, live}
+use Rattle.book_laws.specs.LiveLaws.{LiveCardsAreStoredLast}
 use Rattle.book_laws.specs.LastChanges.{IsStoredLast}
 use Rattle.book_laws.proofs.HistoryLemmas.{get-changed}
 
@@ -69,19 +69,19 @@ is_stored_last (e ∷ h) uid stored g = ⊎_elim
 
 -- ---- what was stored last is live
 
-live_behind : (uid : List ℕ) (card : List Line) (why : StoreReason) (earlier later : List BookEvent) → All (IsOfAnother uid) later
+stored_after_last : (uid : List ℕ) (card : List Line) (why : StoreReason) (earlier later : List BookEvent) → All (IsOfAnother uid) later
     → finite.get (live (later ++ record { uid = uid; change = Stores card why } ∷ earlier)) uid ≡ Some (record { version = length earlier + 1; card = card })
-live_behind uid card why earlier [] others = get-insert text_total (live earlier) uid (record { version = length earlier + 1; card = card }) uid ∙ cond-true _ _ _ (same_self uid)
-live_behind uid card why earlier (e ∷ later) others =
+stored_after_last uid card why earlier [] others = get-insert text_total (live earlier) uid (record { version = length earlier + 1; card = card }) uid ∙ cond-true _ _ _ (same_self uid)
+stored_after_last uid card why earlier (e ∷ later) others =
     let h : List BookEvent = later ++ record { uid = uid; change = Stores card why } ∷ earlier in
     let other : same_uid uid e.uid ≡ false = same-other uid e.uid (λ is. All-head (IsOfAnother uid) e later others (sym is)) in
-    get-changed (live h) e.uid uid e.change (length h + 1) other ∙ live_behind uid card why earlier later (All-tail (IsOfAnother uid) e later others)
+    get-changed (live h) e.uid uid e.change (length h + 1) other ∙ stored_after_last uid card why earlier later (All-tail (IsOfAnother uid) e later others)
 
 is_live : (h : List BookEvent) (uid : List ℕ) (stored : Stored) → IsStoredLast h uid stored → finite.get (live h) uid ≡ Some stored
 is_live h uid stored s =
     ap (λ (xs : List BookEvent). finite.get (live xs) uid) s.change.parts
-    ∙ live_behind uid stored.card s.why s.change.earlier s.change.later s.change.others
+    ∙ stored_after_last uid stored.card s.why s.change.earlier s.change.later s.change.others
     ∙ ap (λ (n : ℕ). Some (record { version = n; card = stored.card })) (sym s.change.number_is)
 
-pub live_are_stored_last : LiveAreStoredLast
+pub live_are_stored_last : LiveCardsAreStoredLast
 live_are_stored_last h uid stored = (is_stored_last h uid stored, is_live h uid stored)

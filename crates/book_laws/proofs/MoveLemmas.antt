@@ -19,15 +19,15 @@ use Rattle.book_model.specs.declared.refusal.Refusal.{Refusal}
 use Rattle.book_model.specs.declared.refusal.Refusal.TheVariants.{NoSuchBook, SameBook, BookFull, ChangesSpent}
 use Rattle.book_model.specs.Bounds.{Bounds}
 use Rattle.book_model.specs.Books.{same_name, LiveCards}
-use Rattle.book_laws.specs.Histories.{live}
-use Rattle.book_laws.specs.MoveLaws.{MoveCallsTakeOneCard}
-use Rattle.book_laws.specs.CardMoves.{cards_in, TakesOneCard}
+use Rattle.book_laws.specs.EventLogs.{live}
+use Rattle.book_laws.specs.MoveLaws.{MoveCallsTransferOneCard}
+use Rattle.book_laws.specs.CardMoves.{live_card_count, TransfersOneCard}
 use Rattle.book_model.specs.Moving.{Moving, move_numbers, move_answer}
-use Rattle.book_model.specs.Outcomes.{◌>>=◌, provided}
-use Rattle.book_model.specs.Putting.{Found, is_expected}
-use Rattle.book_laws.specs.Worlds.{Story, Stories}
-use Rattle.book_laws.specs.WorldChanges.{event, stories_after_move}
-use Rattle.book_laws.specs.WorldSteps.{with_event, story_named, found_of}
+use Rattle.book_model.specs.CallOutcomes.{◌>>=◌, refuse_unless}
+use Rattle.book_model.specs.Putting.{FoundMember, is_expected}
+use Rattle.book_laws.specs.StoreHistories.{BookHistory, BookHistories}
+use Rattle.book_laws.specs.HistoryChanges.{event, histories_after_move}
+use Rattle.book_laws.specs.HistorySteps.{with_event, history_named, found_in_history}
 use Rattle.book_model.proofs.BasicLemmas.{T_parts, T_both}
 use Rattle.book_model.proofs.AnswerLemmas.{found_to_move, live_first, free_first, expected_first, same_answer, no_answer}
 use Rattle.book_laws.proofs.CountLemmas.{len-removed}
@@ -66,9 +66,9 @@ module _ {X : Type 0} (weight : X → ℕ) where
       elim (text_cmp k e.0) as (λ o. text_cmp k e.0 ≡ o → cond (is_eq o) (Some e.1) (find text_cmp k es) ≡ Some old → total (by_order o ((k, v) ∷ e ∷ es) ((e.0, v) ∷ es) (e ∷ put text_cmp k v es)) + weight old ≡ total (e ∷ es) + weight v) [
         | Less ↦ λ p g. absurd (no_some old (sym (none_below k es (below_by k e.0 es p parts.0)) ∙ g))
         | Equal ↦ λ p g.
-            let is = ap weight (same_Some e.1 old g) in
+            let new_named = ap weight (same_Some e.1 old g) in
             let new = sum_by-cons (λ (d : List ℕ × X). weight d.1) (e.0, v) es in
-            omega (arith, all, new, is)
+            omega (arith, all, new, new_named)
         | Greater ↦ λ p g.
             let rest = written_over k v old es parts.1 g in
             let new = sum_by-cons (λ (d : List ℕ × X). weight d.1) e (put text_cmp k v es) in
@@ -78,57 +78,57 @@ module _ {X : Type 0} (weight : X → ℕ) where
   pub total-insert : (m : finite.FinMap text_cmp X) (k : List ℕ) (v old : X) → finite.get m k ≡ Some old → total (finite.entries (finite.insert m k v)) + weight old ≡ total (finite.entries m) + weight v
   total-insert m k v old f =
       let w = written_over k v old (finite.entries m) (finite.entries_sorted m) (sym (finite.get-entries m k) ∙ f) in
-      let is = ap total (entries-insert text_total m k v) in
-      omega (arith, w, is)
+      let new_named = ap total (entries-insert text_total m k v) in
+      omega (arith, w, new_named)
 
 -- ---- what a move that was answered found
 
-numbers_are : (room left right : Bool) (n m : ℕ) (moved : Moved)
-    → (provided room BookFull >>= λ _. (provided left ChangesSpent >>= λ _. Ok n) >>= λ from. (provided right ChangesSpent >>= λ _. Ok m) >>= λ version. Ok (record { from = from; version = version })) ≡ Ok moved
+numbers_are : (room source_change right : Bool) (n m : ℕ) (moved : Moved)
+    → (refuse_unless room BookFull >>= λ _. (refuse_unless source_change ChangesSpent >>= λ _. Ok n) >>= λ from. (refuse_unless right ChangesSpent >>= λ _. Ok m) >>= λ version. Ok (record { from = from; version = version })) ≡ Ok moved
     → moved ≡ record { from = n; version = m }
 numbers_are true true true n m moved e = sym (same_answer _ moved e)
 numbers_are true true false n m moved e = absurd (no_answer ChangesSpent moved e)
 numbers_are true false right n m moved e = absurd (no_answer ChangesSpent moved e)
-numbers_are false left right n m moved e = absurd (no_answer BookFull moved e)
+numbers_are false source_change right n m moved e = absurd (no_answer BookFull moved e)
 
 -- both books of a move that was answered, and what was answered
-record Moves (limits : Bounds) (stories : Stories) (from to uid : List ℕ) (expect : Option ℕ) (moved : Moved) (after : Stories) : Type 0 where
-  source : Story
-  target : Story
-  found_source : finite.get stories from ≡ Some source
-  found_target : finite.get stories to ≡ Some target
+record MoveCall (limits : Bounds) (histories : BookHistories) (from to uid : List ℕ) (expect : Option ℕ) (moved : Moved) (after : BookHistories) : Type 0 where
+  source : BookHistory
+  target : BookHistory
+  found_source : finite.get histories from ≡ Some source
+  found_target : finite.get histories to ≡ Some target
   apart : same_name from to ≡ false
   moving : Moving
-  given : move_answer limits (found_of source.history uid) (found_of target.history uid) expect ≡ Ok moving
+  given : move_answer limits (found_in_history source.log uid) (found_in_history target.log uid) expect ≡ Ok moving
   moved_is : moving.numbers ≡ moved
-  after_is : stories_after_move stories from to uid source target moving.card ≡ after
+  after_is : histories_after_move histories from to uid source target moving.card ≡ after
 
-module _ (limits : Bounds) (stories : Stories) (from to uid : List ℕ) (expect : Option ℕ) (moved : Moved) (after : Stories) where
-  abbrev answer : Story → Story → Moving → Result (Moved × Stories) Refusal
-  answer source target moving = Ok (moving.numbers, stories_after_move stories from to uid source target moving.card)
+module _ (limits : Bounds) (histories : BookHistories) (from to uid : List ℕ) (expect : Option ℕ) (moved : Moved) (after : BookHistories) where
+  abbrev answer : BookHistory → BookHistory → Moving → Result (Moved × BookHistories) Refusal
+  answer source target moving = Ok (moving.numbers, histories_after_move histories from to uid source target moving.card)
 
-  by_answer : (source target : Story) → finite.get stories from ≡ Some source → finite.get stories to ≡ Some target → same_name from to ≡ false
-      → (given : Result Moving Refusal) → move_answer limits (found_of source.history uid) (found_of target.history uid) expect ≡ given → (given >>= answer source target) ≡ Ok (moved, after) → Moves limits stories from to uid expect moved after
+  by_answer : (source target : BookHistory) → finite.get histories from ≡ Some source → finite.get histories to ≡ Some target → same_name from to ≡ false
+      → (given : Result Moving Refusal) → move_answer limits (found_in_history source.log uid) (found_in_history target.log uid) expect ≡ given → (given >>= answer source target) ≡ Ok (moved, after) → MoveCall limits histories from to uid expect moved after
   by_answer source target s t apart (Ok moving) given e =
-      let is = same_answer (moving.numbers, stories_after_move stories from to uid source target moving.card) (moved, after) e in
-      record { source = source; target = target; found_source = s; found_target = t; apart = apart; moving = moving; given = given; moved_is = ap (λ p. p.0) is; after_is = ap (λ p. p.1) is }
+      let new_named = same_answer (moving.numbers, histories_after_move histories from to uid source target moving.card) (moved, after) e in
+      record { source = source; target = target; found_source = s; found_target = t; apart = apart; moving = moving; given = given; moved_is = ap (λ p. p.0) new_named; after_is = ap (λ p. p.1) new_named }
   by_answer source target s t apart (Err refusal) given e = absurd (no_answer refusal (moved, after) e)
 
-  by_apart : (source target : Story) → finite.get stories from ≡ Some source → finite.get stories to ≡ Some target → (test : Bool) → same_name from to ≡ test
-      → (provided (not test) SameBook >>= λ _. move_answer limits (found_of source.history uid) (found_of target.history uid) expect >>= answer source target) ≡ Ok (moved, after) → Moves limits stories from to uid expect moved after
-  by_apart source target s t false apart e = by_answer source target s t apart (move_answer limits (found_of source.history uid) (found_of target.history uid) expect) refl e
+  by_apart : (source target : BookHistory) → finite.get histories from ≡ Some source → finite.get histories to ≡ Some target → (test : Bool) → same_name from to ≡ test
+      → (refuse_unless (not test) SameBook >>= λ _. move_answer limits (found_in_history source.log uid) (found_in_history target.log uid) expect >>= answer source target) ≡ Ok (moved, after) → MoveCall limits histories from to uid expect moved after
+  by_apart source target s t false apart e = by_answer source target s t apart (move_answer limits (found_in_history source.log uid) (found_in_history target.log uid) expect) refl e
   by_apart source target s t true apart e = absurd (no_answer SameBook (moved, after) e)
 
-  by_target : (source : Story) → finite.get stories from ≡ Some source → (o : Option Story) → finite.get stories to ≡ o
-      → (option_map_or Ok o (Err NoSuchBook) >>= λ target. provided (not (same_name from to)) SameBook >>= λ _. move_answer limits (found_of source.history uid) (found_of target.history uid) expect >>= answer source target) ≡ Ok (moved, after)
-      → Moves limits stories from to uid expect moved after
+  by_target : (source : BookHistory) → finite.get histories from ≡ Some source → (o : Option BookHistory) → finite.get histories to ≡ o
+      → (option_map_or Ok o (Err NoSuchBook) >>= λ target. refuse_unless (not (same_name from to)) SameBook >>= λ _. move_answer limits (found_in_history source.log uid) (found_in_history target.log uid) expect >>= answer source target) ≡ Ok (moved, after)
+      → MoveCall limits histories from to uid expect moved after
   by_target source s (Some target) t e = by_apart source target s t (same_name from to) refl e
   by_target source s None t e = absurd (no_answer NoSuchBook (moved, after) e)
 
-  by_source : (o : Option Story) → finite.get stories from ≡ o
-      → (option_map_or Ok o (Err NoSuchBook) >>= λ source. story_named stories to >>= λ target. provided (not (same_name from to)) SameBook >>= λ _. move_answer limits (found_of source.history uid) (found_of target.history uid) expect >>= answer source target) ≡ Ok (moved, after)
-      → Moves limits stories from to uid expect moved after
-  by_source (Some source) s e = by_target source s (finite.get stories to) refl e
+  by_source : (o : Option BookHistory) → finite.get histories from ≡ o
+      → (option_map_or Ok o (Err NoSuchBook) >>= λ source. history_named histories to >>= λ target. refuse_unless (not (same_name from to)) SameBook >>= λ _. move_answer limits (found_in_history source.log uid) (found_in_history target.log uid) expect >>= answer source target) ≡ Ok (moved, after)
+      → MoveCall limits histories from to uid expect moved after
+  by_source (Some source) s e = by_target source s (finite.get histories to) refl e
   by_source None s e = absurd (no_answer NoSuchBook (moved, after) e)
 
 -- ---- the whole
@@ -136,85 +136,85 @@ module _ (limits : Bounds) (stories : Stories) (from to uid : List ℕ) (expect 
 some_key : (cards : LiveCards) (uid : List ℕ) (s : Stored) → finite.get cards uid ≡ Some s → finite.contains_key cards uid ≡ true
 some_key cards uid s e = ap is_some e
 
-module _ (stories : Stories) (from to uid : List ℕ) (source target : Story) (stored : Stored) (card : List Line) (s : finite.get stories from ≡ Some source) (t : finite.get stories to ≡ Some target) (apart : same_name from to ≡ false)
-    (at : finite.get (live source.history) uid ≡ Some stored) (free : finite.get (live target.history) uid ≡ None) where
-  abbrev left : Story
-  left = with_event source (event uid (TakesAway MoveOut))
+module _ (histories : BookHistories) (from to uid : List ℕ) (source target : BookHistory) (stored : Stored) (card : List Line) (s : finite.get histories from ≡ Some source) (t : finite.get histories to ≡ Some target) (apart : same_name from to ≡ false)
+    (at : finite.get (live source.log) uid ≡ Some stored) (free : finite.get (live target.log) uid ≡ None) where
+  abbrev source_change : BookHistory
+  source_change = with_event source (event uid (TakesAway MoveOut))
 
-  abbrev came : Story
-  came = with_event target (event uid (Stores card MoveIn))
+  abbrev target_change : BookHistory
+  target_change = with_event target (event uid (Stores card MoveIn))
 
-  first : Stories
-  first = finite.insert stories to came
+  first : BookHistories
+  first = finite.insert histories to target_change
 
   source_still : finite.get first from ≡ Some source
   unfolding first
-  source_still = get-insert text_total stories to came from ∙ cond-false _ _ _ apart ∙ s
+  source_still = get-insert text_total histories to target_change from ∙ cond-false _ _ _ apart ∙ s
 
   apart_turned : same_name to from ≡ false
   apart_turned = same_equiv.symm to from ∙ apart
 
-  target_there : finite.get (stories_after_move stories from to uid source target card) to ≡ Some came
-  target_there = get-insert text_total (finite.insert stories to came) from left to ∙ cond-false _ _ _ apart_turned ∙ get-insert_here stories to came
+  target_there : finite.get (histories_after_move histories from to uid source target card) to ≡ Some target_change
+  target_there = get-insert text_total (finite.insert histories to target_change) from source_change to ∙ cond-false _ _ _ apart_turned ∙ get-insert_here histories to target_change
 
-  others : (name : List ℕ) → same_name name from ≡ false → same_name name to ≡ false → finite.get (stories_after_move stories from to uid source target card) name ≡ finite.get stories name
-  others name a b = get-insert text_total (finite.insert stories to came) from left name ∙ cond-false _ _ _ a ∙ get-insert text_total stories to came name ∙ cond-false _ _ _ b
+  others : (name : List ℕ) → same_name name from ≡ false → same_name name to ≡ false → finite.get (histories_after_move histories from to uid source target card) name ≡ finite.get histories name
+  others name a b = get-insert text_total (finite.insert histories to target_change) from source_change name ∙ cond-false _ _ _ a ∙ get-insert text_total histories to target_change name ∙ cond-false _ _ _ b
 
-  one_less : finite.len (live left.history) + 1 ≡ finite.len (live source.history)
-  one_less = len-removed (live source.history) uid (some_key (live source.history) uid stored at)
+  one_less : finite.len (live source_change.log) + 1 ≡ finite.len (live source.log)
+  one_less = len-removed (live source.log) uid (some_key (live source.log) uid stored at)
 
-  one_more : finite.len (live came.history) ≡ finite.len (live target.history) + 1
-  one_more = len-insert text_total (live target.history) uid (record { version = length target.history + 1; card = card }) ∙ cond-false _ _ _ (ap is_some free)
+  one_more : finite.len (live target_change.log) ≡ finite.len (live target.log) + 1
+  one_more = len-insert text_total (live target.log) uid (record { version = length target.log + 1; card = card }) ∙ cond-false _ _ _ (ap is_some free)
 
-  as_many : cards_in (stories_after_move stories from to uid source target card) ≡ cards_in stories
+  same_card_count : live_card_count (histories_after_move histories from to uid source target card) ≡ live_card_count histories
   unfolding first
-  as_many =
-      let a = total-insert (λ (story : Story). finite.len (live story.history)) stories to came target t in
-      let b = total-insert (λ (story : Story). finite.len (live story.history)) first from left source source_still in
+  same_card_count =
+      let a = total-insert (λ (history : BookHistory). finite.len (live history.log)) histories to target_change target t in
+      let b = total-insert (λ (history : BookHistory). finite.len (live history.log)) first from source_change source source_still in
       let less = one_less in
       let more = one_more in
       omega (arith, a, b, less, more)
 
-pub moves_take_one_card : MoveCallsTakeOneCard
-moves_take_one_card world from to uid expect moved after e =
-    let m = by_source world.limits world.books from to uid expect moved after (finite.get world.books from) refl e in
-    let f = found_to_move world.limits (found_of m.source.history uid) (found_of m.target.history uid) expect m.moving m.given in
-    let numbers = moved_numbers world.limits (found_of m.source.history uid) (found_of m.target.history uid) expect m.moving m.given in
-    subst (λ (stories : Stories). TakesOneCard world.books from to uid moved stories) m.after_is
-    (subst (λ (card : List Line). TakesOneCard world.books from to uid moved (stories_after_move world.books from to uid m.source m.target card)) (sym f.card)
+pub moves_transfer_one_card : MoveCallsTransferOneCard
+moves_transfer_one_card store from to uid expect moved after e =
+    let m = by_source store.limits store.books from to uid expect moved after (finite.get store.books from) refl e in
+    let f = found_to_move store.limits (found_in_history m.source.log uid) (found_in_history m.target.log uid) expect m.moving m.given in
+    let numbers = moved_numbers store.limits (found_in_history m.source.log uid) (found_in_history m.target.log uid) expect m.moving m.given in
+    subst (λ (histories : BookHistories). TransfersOneCard store.books from to uid moved histories) m.after_is
+    (subst (λ (card : List Line). TransfersOneCard store.books from to uid moved (histories_after_move store.books from to uid m.source m.target card)) (sym f.card)
     (record {
       stored = f.stored;
-      left = record {
+      source_change = record {
         old = m.source;
         new = with_event m.source (event uid (TakesAway MoveOut));
-        was = m.found_source;
-        is = get-insert_here (finite.insert world.books to (with_event m.target (event uid (Stores f.stored.card MoveIn)))) from (with_event m.source (event uid (TakesAway MoveOut)));
-        goes_on = refl;
-        member = get-remove text_total (live m.source.history) uid uid ∙ cond-true _ _ _ (same_self uid);
-        others = λ other differs. get-remove text_total (live m.source.history) uid other ∙ cond-false _ _ _ (same-other other uid differs);
+        old_named = m.found_source;
+        new_named = get-insert_here (finite.insert store.books to (with_event m.target (event uid (Stores f.stored.card MoveIn)))) from (with_event m.source (event uid (TakesAway MoveOut)));
+        extended_by = refl;
+        member = get-remove text_total (live m.source.log) uid uid ∙ cond-true _ _ _ (same_self uid);
+        others = λ other differs. get-remove text_total (live m.source.log) uid other ∙ cond-false _ _ _ (same-other other uid differs);
       };
-      came = record {
+      target_change = record {
         old = m.target;
         new = with_event m.target (event uid (Stores f.stored.card MoveIn));
-        was = m.found_target;
-        is = target_there world.books from to uid m.source m.target f.stored f.stored.card m.found_source m.found_target m.apart f.live f.free;
-        goes_on = refl;
+        old_named = m.found_target;
+        new_named = target_there store.books from to uid m.source m.target f.stored f.stored.card m.found_source m.found_target m.apart f.live f.free;
+        extended_by = refl;
         member =
-            get-insert_here (live m.target.history) uid (record { version = length m.target.history + 1; card = f.stored.card })
+            get-insert_here (live m.target.log) uid (record { version = length m.target.log + 1; card = f.stored.card })
             ∙ ap (λ n. Some (version_card n f.stored.card)) (sym (ap (λ (x : Moved). x.version) (sym m.moved_is ∙ numbers)));
-        others = λ other differs. get-insert text_total (live m.target.history) uid (record { version = length m.target.history + 1; card = f.stored.card }) other ∙ cond-false _ _ _ (same-other other uid differs);
+        others = λ other differs. get-insert text_total (live m.target.log) uid (record { version = length m.target.log + 1; card = f.stored.card }) other ∙ cond-false _ _ _ (same-other other uid differs);
       };
       card = f.live;
       free = f.free;
       numbers = sym m.moved_is ∙ numbers;
-      other_books = λ name a b. others world.books from to uid m.source m.target f.stored f.stored.card m.found_source m.found_target m.apart f.live f.free name (same-other name from a) (same-other name to b);
-      as_many = as_many world.books from to uid m.source m.target f.stored f.stored.card m.found_source m.found_target m.apart f.live f.free;
+      other_books = λ name a b. others store.books from to uid m.source m.target f.stored f.stored.card m.found_source m.found_target m.apart f.live f.free name (same-other name from a) (same-other name to b);
+      same_card_count = same_card_count store.books from to uid m.source m.target f.stored f.stored.card m.found_source m.found_target m.apart f.live f.free;
     }))
   where
     version_card : ℕ → List Line → Stored
     version_card n card = record { version = n; card = card }
 
-    moved_numbers : (limits : Bounds) (a b : Found) (expect : Option ℕ) (moving : Moving) → move_answer limits a b expect ≡ Ok moving → moving.numbers ≡ record { from = a.number + 1; version = b.number + 1 }
+    moved_numbers : (limits : Bounds) (a b : FoundMember) (expect : Option ℕ) (moving : Moving) → move_answer limits a b expect ≡ Ok moving → moving.numbers ≡ record { from = a.number + 1; version = b.number + 1 }
     moved_numbers limits a b expect moving given =
         let l = live_first a.live _ moving given in
         let f = free_first b.live _ moving l.2 in

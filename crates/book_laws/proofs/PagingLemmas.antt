@@ -9,19 +9,19 @@ use Rattle.std.proofs.lemmas.List.{take_all, length-take, length-drop, length-ma
 use Rattle.std.proofs.lemmas.List.Elements.{filter-append, filter_passes, All-get_or}
 use Rattle.book_model.specs.declared.token.Mark.{Mark}
 use Rattle.book_model.specs.declared.token.Token.{Token}
-use Rattle.book_laws.specs.Histories.{BookEvent, same_uid, live, last, touched_uids}
+use Rattle.book_laws.specs.EventLogs.{BookEvent, same_uid, live, last_number, touched_uids}
 use Rattle.book_model.specs.Books.{LiveCards}
-use Rattle.book_model.specs.Pages.{Answer, mark_after}
-use Rattle.book_laws.specs.Reports.{is_due, due, entry_of, cut_page, whole_page, report}
-use Rattle.book_laws.specs.Worlds.{Story}
-use Rattle.book_model.specs.Devices.{copy_after, copy_under, after_page}
-use Rattle.book_laws.specs.RightDevices.{Agrees}
-use Rattle.book_laws.specs.DeviceLaws.{DueRises, EntriesAreFirstDue, PagesFit}
-use Rattle.book_laws.specs.Paging.{Place, mark_under, page_for, with_events, next_report, after_turn, due_count, one_where, truncated_in_turns, events_to_last, after_pages}
-use Rattle.book_laws.specs.PagingLaws.{EventsAddAtMostOne, TruncatedPagesLeaveRest, TruncatedPagesLeaveFewer, LastPagesLeaveNobody, TruncatedPagesAreBounded, QuietBooksAreToldWhole, QuietDevicesCatchUp}
+use Rattle.book_model.specs.Pages.{ReportAnswer, mark_after}
+use Rattle.book_laws.specs.Reports.{is_due_member, due, entry_of, truncated_log_page, complete_log_page, report}
+use Rattle.book_laws.specs.StoreHistories.{BookHistory}
+use Rattle.book_model.specs.Devices.{copy_after_entries, copy_before_page, device_after_page}
+use Rattle.book_laws.specs.DeviceConsistency.{Agrees}
+use Rattle.book_laws.specs.DeviceLaws.{DueMembersAreInOrder, EntriesAreFirstDue, PageSizesAreExact}
+use Rattle.book_laws.specs.Paging.{SyncState, mark_of_token, page_for_device, sync_after_events, next_report, sync_after_turn, due_count, one_if_true, truncated_page_count, events_until_last_truncated, device_after_pages}
+use Rattle.book_laws.specs.PagingLaws.{EventsAddAtMostOneDue, TruncatedPagesLeaveRest, TruncatedPagesLeaveFewer, LastPagesLeaveNoneDue, TruncatedPagesAreBounded, QuietBooksSyncFully, QuietDevicesCatchUp}
 use Rattle.book_laws.proofs.HistoryLemmas.{Rises, last-le, last_other, get-changed}
 use Rattle.book_laws.proofs.DueLemmas.{due-rises}
-use Rattle.book_laws.proofs.DeviceLemmas.{whole_pages_keep_copies_right, nobody_due_is_complete, ready}
+use Rattle.book_laws.proofs.DeviceLemmas.{whole_page_keeps_copy, nobody_due_is_complete, ready}
 
 -- ---- which members a report has
 
@@ -46,17 +46,17 @@ module _ (f : List ℕ → ℕ) where
       let next : i + 1 ≡ suc i = omega arith in
       subst (λ j. get_or (map f xs) i 0 < get_or (map f xs) j 0) (sym next) (rises_at xs r i (omega (arith, l)))
 
-pub due_rises : DueRises
-due_rises h mark = increasing (last h) (due h mark) (due-rises h mark)
+pub due_rises : DueMembersAreInOrder
+due_rises h mark = increasing (last_number h) (due h mark) (due-rises h mark)
 
 pub entries_are_first_due : EntriesAreFirstDue
 entries_are_first_due h mark k =
-    elim (nat_lt k (length (due h mark))) as (λ b. nat_lt k (length (due h mark)) ≡ b → (cond b (cut_page h mark k) (whole_page h mark)).entries ≡ map (entry_of h) (take k (due h mark))) [
+    elim (nat_lt k (length (due h mark))) as (λ b. nat_lt k (length (due h mark)) ≡ b → (cond b (truncated_log_page h mark k) (complete_log_page h mark)).entries ≡ map (entry_of h) (take k (due h mark))) [
       | true ↦ λ more. refl
       | false ↦ λ all. ap (map (entry_of h)) (sym (take_all k (due h mark) (ltb-false _ _ all)))
     ] refl
 
-pub pages_fit : PagesFit
+pub pages_fit : PageSizesAreExact
 pages_fit h mark k = ap length (entries_are_first_due h mark k) ∙ length-map (take k (due h mark)) (entry_of h) ∙ length-take k (due h mark)
 
 -- ---- an event
@@ -79,19 +79,19 @@ few_pass p q r h (x ∷ xs) =
 one_at_most : {A : Type 0} (p : A → Bool) (x : A) → length (filter p (x ∷ [])) ≤ 1
 one_at_most p x = elim (p x) as (λ t. length (cond t (x ∷ []) []) ≤ 1) [ true ↦ omega arith | false ↦ omega arith ]
 
--- nobody else becomes due
-pub events_add_at_most_one : EventsAddAtMostOne
+-- no other member becomes due
+pub events_add_at_most_one : EventsAddAtMostOneDue
 events_add_at_most_one h e mark =
     let others = filter (λ v. not (same_uid v e.uid)) (touched_uids h) in
-    let split = ap length (filter-append (is_due (e ∷ h) mark) others (e.uid ∷ [])) ∙ length-append (filter (is_due (e ∷ h) mark) others) (filter (is_due (e ∷ h) mark) (e.uid ∷ [])) in
-    let few = few_pass (λ v. not (same_uid v e.uid)) (is_due (e ∷ h) mark) (is_due h mark) (λ v other d. sym (still v (not-true _ other)) ∙ d) (touched_uids h) in
-    let one = one_at_most (is_due (e ∷ h) mark) e.uid in
+    let split = ap length (filter-append (is_due_member (e ∷ h) mark) others (e.uid ∷ [])) ∙ length-append (filter (is_due_member (e ∷ h) mark) others) (filter (is_due_member (e ∷ h) mark) (e.uid ∷ [])) in
+    let few = few_pass (λ v. not (same_uid v e.uid)) (is_due_member (e ∷ h) mark) (is_due_member h mark) (λ v other d. sym (still v (not-true _ other)) ∙ d) (touched_uids h) in
+    let one = one_at_most (is_due_member (e ∷ h) mark) e.uid in
     omega (arith, split, few, one)
   where
-    still : (v : List ℕ) → same_uid v e.uid ≡ false → is_due (e ∷ h) mark v ≡ is_due h mark v
+    still : (v : List ℕ) → same_uid v e.uid ≡ false → is_due_member (e ∷ h) mark v ≡ is_due_member h mark v
     still v other =
         ap (λ n. nat_lt mark.at n && (is_some (finite.get (live (e ∷ h)) v) || nat_lt mark.base n)) (last_other h e v other)
-        ∙ ap (λ o. nat_lt mark.at (last h v) && (is_some o || nat_lt mark.base (last h v))) (get-changed (live h) e.uid v e.change (length h + 1) other)
+        ∙ ap (λ o. nat_lt mark.at (last_number h v) && (is_some o || nat_lt mark.base (last_number h v))) (get-changed (live h) e.uid v e.change (length h + 1) other)
 
 events_add : (h : List BookEvent) (events : List BookEvent) (mark : Mark) → length (due (events ++ h) mark) ≤ length (due h mark) + length events
 events_add h [] mark = omega arith
@@ -117,26 +117,26 @@ filter_both p q r h (x ∷ xs) =
       ]
     ]
 
--- of a list that rises by f, those above the one at a place are those behind it
+-- in a list that rises by f, the elements above the one at an index are those after it
 module _ (f : List ℕ → ℕ) where
   all_above : (m : ℕ) (xs : List (List ℕ)) → AllByRecursion (λ v. m < f v) xs → filter (λ v. nat_lt m (f v)) xs ≡ xs
   all_above m [] a = refl
   all_above m (x ∷ xs) a = cond-true _ _ _ (lt-ltb _ _ a.0) ∙ ap (λ ys. x ∷ ys) (all_above m xs a.1)
 
-  behind : (xs : List (List ℕ)) (n : ℕ) → n < length xs → Rises f xs → filter (λ v. nat_lt (f (get_or xs n [])) (f v)) xs ≡ drop (suc n) xs
-  behind [] n l r = absurd (omega arith)
-  behind (x ∷ xs) zero l r = cond-false _ _ _ (le-ltb (f x) (f x) (omega arith)) ∙ all_above (f x) xs r.0
-  behind (x ∷ xs) (suc n) l r =
+  rest_after : (xs : List (List ℕ)) (n : ℕ) → n < length xs → Rises f xs → filter (λ v. nat_lt (f (get_or xs n [])) (f v)) xs ≡ drop (suc n) xs
+  rest_after [] n l r = absurd (omega arith)
+  rest_after (x ∷ xs) zero l r = cond-false _ _ _ (le-ltb (f x) (f x) (omega arith)) ∙ all_above (f x) xs r.0
+  rest_after (x ∷ xs) (suc n) l r =
       let below : f x < f (get_or xs n []) = at_place (λ v. f x < f v) xs n (omega arith) r.0 in
-      cond-false _ _ _ (le-ltb (f (get_or xs n [])) (f x) (omega (arith, below))) ∙ behind xs n (omega arith) r.1
+      cond-false _ _ _ (le-ltb (f (get_or xs n [])) (f x) (omega (arith, below))) ∙ rest_after xs n (omega arith) r.1
 
--- after a cut page those are due that stand behind its last entry
-cut_leaves : (h : List BookEvent) (mark : Mark) (k : ℕ) → 0 < k → k < length (due h mark) → due h (mark_after mark (last h (get_or (due h mark) (k - 1) []))) ≡ drop k (due h mark)
+-- after a truncated page the members after its last entry are due
+cut_leaves : (h : List BookEvent) (mark : Mark) (k : ℕ) → 0 < k → k < length (due h mark) → due h (mark_after mark (last_number h (get_or (due h mark) (k - 1) []))) ≡ drop k (due h mark)
 cut_leaves h mark zero some more = absurd (omega arith)
 cut_leaves h mark (suc n) some more =
-    ap (λ m. due h (mark_after mark (last h (get_or (due h mark) m [])))) back
-    ∙ filter_both (is_due h mark) (λ v. nat_lt (last h edge) (last h v)) (is_due h (mark_after mark (last h edge))) (λ v. tests mark.at mark.base (last h edge) (last h v) (is_some (finite.get (live h) v)) since) (touched_uids h)
-    ∙ behind (last h) (due h mark) n (omega arith) (due-rises h mark)
+    ap (λ m. due h (mark_after mark (last_number h (get_or (due h mark) m [])))) back
+    ∙ filter_both (is_due_member h mark) (λ v. nat_lt (last_number h edge) (last_number h v)) (is_due_member h (mark_after mark (last_number h edge))) (λ v. tests mark.at mark.base (last_number h edge) (last_number h v) (is_some (finite.get (live h) v)) since) (touched_uids h)
+    ∙ rest_after (last_number h) (due h mark) n (omega arith) (due-rises h mark)
   where
     back : suc n - 1 ≡ n
     back = omega arith
@@ -144,24 +144,24 @@ cut_leaves h mark (suc n) some more =
     edge : List ℕ
     edge = get_or (due h mark) n []
 
-    since : mark.at < last h edge
-    since = ltb-true _ _ (and_parts _ _ (All-get_or (λ v. is_due h mark v ≡ true) (due h mark) n [] (omega arith) (filter_passes (is_due h mark) (touched_uids h)))).0
+    since : mark.at < last_number h edge
+    since = ltb-true _ _ (and_parts _ _ (All-get_or (λ v. is_due_member h mark v ≡ true) (due h mark) n [] (omega arith) (filter_passes (is_due_member h mark) (touched_uids h)))).0
 
--- after all events nobody is due
-none_newer : (h : List BookEvent) (uids : List (List ℕ)) → filter (is_due h (record { at = length h; base = length h })) uids ≡ []
+-- at a mark after all events no member is due
+none_newer : (h : List BookEvent) (uids : List (List ℕ)) → filter (is_due_member h (record { at = length h; base = length h })) uids ≡ []
 none_newer h [] = refl
-none_newer h (uid ∷ uids) = cond-false _ _ _ (ap (λ t. t && (is_some (finite.get (live h) uid) || nat_lt (length h) (last h uid))) (le-ltb _ _ (last-le h uid))) ∙ none_newer h uids
+none_newer h (uid ∷ uids) = cond-false _ _ _ (ap (λ t. t && (is_some (finite.get (live h) uid) || nat_lt (length h) (last_number h uid))) (le-ltb _ _ (last-le h uid))) ∙ none_newer h uids
 
--- either the page is cut, or it has all that is due
+-- either the page is truncated, or it lists all due members
 module _ (h : List BookEvent) (mark : Mark) (k : ℕ) where
   cut_where : (report h mark k).truncated ≡ true → k < length (due h mark)
-  cut_where = elim (nat_lt k (length (due h mark))) as (λ b. nat_lt k (length (due h mark)) ≡ b → (cond b (cut_page h mark k) (whole_page h mark)).truncated ≡ true → k < length (due h mark)) [
+  cut_where = elim (nat_lt k (length (due h mark))) as (λ b. nat_lt k (length (due h mark)) ≡ b → (cond b (truncated_log_page h mark k) (complete_log_page h mark)).truncated ≡ true → k < length (due h mark)) [
     | true ↦ λ more t. ltb-true _ _ more
     | false ↦ λ all t. absurd (false≢true t)
   ] refl
 
   whole_where : (report h mark k).truncated ≡ false → nat_lt k (length (due h mark)) ≡ false
-  whole_where = elim (nat_lt k (length (due h mark))) as (λ b. (cond b (cut_page h mark k) (whole_page h mark)).truncated ≡ false → b ≡ false) [
+  whole_where = elim (nat_lt k (length (due h mark))) as (λ b. (cond b (truncated_log_page h mark k) (complete_log_page h mark)).truncated ≡ false → b ≡ false) [
     | true ↦ λ t. absurd (false≢true (sym t))
     | false ↦ λ t. refl
   ]
@@ -169,7 +169,7 @@ module _ (h : List BookEvent) (mark : Mark) (k : ℕ) where
 pub truncated_pages_leave_rest : TruncatedPagesLeaveRest
 truncated_pages_leave_rest h mark k some t =
     let more = cut_where h mark k t in
-    ap (λ (a : Answer). due h a.mark) (cond-true (nat_lt k (length (due h mark))) (cut_page h mark k) (whole_page h mark) (lt-ltb _ _ more))
+    ap (λ (a : ReportAnswer). due h a.mark) (cond-true (nat_lt k (length (due h mark))) (truncated_log_page h mark k) (complete_log_page h mark) (lt-ltb _ _ more))
     ∙ cut_leaves h mark k some more
 
 pub truncated_pages_leave_fewer : TruncatedPagesLeaveFewer
@@ -178,9 +178,9 @@ truncated_pages_leave_fewer h mark k some t =
     let rest = ap length (truncated_pages_leave_rest h mark k some t) ∙ length-drop k (due h mark) in
     omega (arith, more, rest)
 
-pub last_pages_leave_nobody : LastPagesLeaveNobody
+pub last_pages_leave_nobody : LastPagesLeaveNoneDue
 last_pages_leave_nobody h mark k t =
-    ap (λ (a : Answer). due h a.mark) (cond-false (nat_lt k (length (due h mark))) (cut_page h mark k) (whole_page h mark) (whole_where h mark k t))
+    ap (λ (a : ReportAnswer). due h a.mark) (cond-false (nat_lt k (length (due h mark))) (truncated_log_page h mark k) (complete_log_page h mark) (whole_where h mark k t))
     ∙ none_newer h (touched_uids h)
 
 -- ---- turns
@@ -188,78 +188,78 @@ last_pages_leave_nobody h mark k t =
 times_next : (n k : ℕ) → (1 + n) * k ≡ k + n * k
 times_next n k = search arith
 
--- one page more was truncated, and it had k of those that were due
+-- one more page was truncated, and it listed k of the due members
 one_more : (k t before after w : ℕ) → after + k ≡ before → k < before → (0 < t → t * k < after + w) → (1 + t) * k < before + w
 one_more k zero before after w took more later = let one = times_next 0 k in let none : 0 * k ≡ 0 = search arith in omega (arith, one, none, more)
 one_more k (suc t) before after w took more later = let next = times_next (suc t) k in let rest = later (omega arith) in omega (arith, next, rest, took)
 
 module _ (k : ℕ) (some : 0 < k) where
   -- after the first ask the rest of the turns adds what it adds
-  first_bounded : (place : Place) (events : List BookEvent) (turns : List (List BookEvent))
-      → (0 < truncated_in_turns k (after_turn k place events) turns → truncated_in_turns k (after_turn k place events) turns * k < due_count (after_turn k place events) + events_to_last k (after_turn k place events) turns)
-      → 0 < truncated_in_turns k place (events ∷ turns)
-      → truncated_in_turns k place (events ∷ turns) * k < due_count (with_events place events) + events_to_last k (after_turn k place events) turns
-  first_bounded place events turns later =
-      elim (next_report k (with_events place events)).truncated as (λ b. (next_report k (with_events place events)).truncated ≡ b → 0 < one_where b + t → (one_where b + t) * k < due_count (with_events place events) + w) [
-        | true ↦ λ cut _. one_more k t (due_count (with_events place events)) (due_count (after_turn k place events)) w
-            (truncated_pages_leave_fewer (events ++ place.history) place.mark k some cut) (cut_where (events ++ place.history) place.mark k cut) later
+  first_bounded : (state : SyncState) (events : List BookEvent) (turns : List (List BookEvent))
+      → (0 < truncated_page_count k (sync_after_turn k state events) turns → truncated_page_count k (sync_after_turn k state events) turns * k < due_count (sync_after_turn k state events) + events_until_last_truncated k (sync_after_turn k state events) turns)
+      → 0 < truncated_page_count k state (events ∷ turns)
+      → truncated_page_count k state (events ∷ turns) * k < due_count (sync_after_events state events) + events_until_last_truncated k (sync_after_turn k state events) turns
+  first_bounded state events turns later =
+      elim (next_report k (sync_after_events state events)).truncated as (λ b. (next_report k (sync_after_events state events)).truncated ≡ b → 0 < one_if_true b + t → (one_if_true b + t) * k < due_count (sync_after_events state events) + w) [
+        | true ↦ λ cut _. one_more k t (due_count (sync_after_events state events)) (due_count (sync_after_turn k state events)) w
+            (truncated_pages_leave_fewer (events ++ state.log) state.mark k some cut) (cut_where (events ++ state.log) state.mark k cut) later
         | false ↦ λ all more.
-            let none = ap length (last_pages_leave_nobody (events ++ place.history) place.mark k all) in
+            let none = ap length (last_pages_leave_nobody (events ++ state.log) state.mark k all) in
             let same : 0 + t ≡ t = omega arith in
             let rest = later (omega (arith, more)) in
-            subst (λ n. n * k < due_count (with_events place events) + w) (sym same) (omega (arith, none, rest))
+            subst (λ n. n * k < due_count (sync_after_events state events) + w) (sym same) (omega (arith, none, rest))
       ] refl
     where
       t : ℕ
-      t = truncated_in_turns k (after_turn k place events) turns
+      t = truncated_page_count k (sync_after_turn k state events) turns
 
       w : ℕ
-      w = events_to_last k (after_turn k place events) turns
+      w = events_until_last_truncated k (sync_after_turn k state events) turns
 
-  turns_bounded : (turns : List (List BookEvent)) (place : Place) → 0 < truncated_in_turns k place turns → truncated_in_turns k place turns * k < due_count place + events_to_last k place turns
-  turns_bounded [] place more = absurd (omega arith)
-  turns_bounded (events ∷ turns) place more =
-      let first = first_bounded place events turns (turns_bounded turns (after_turn k place events)) more in
-      let add = events_add place.history events place.mark in
-      let up_to : events_to_last k place (events ∷ turns) ≡ length events + events_to_last k (after_turn k place events) turns = cond-true (nat_lt 0 (truncated_in_turns k place (events ∷ turns))) _ _ (lt-ltb _ _ more) in
+  turns_bounded : (turns : List (List BookEvent)) (state : SyncState) → 0 < truncated_page_count k state turns → truncated_page_count k state turns * k < due_count state + events_until_last_truncated k state turns
+  turns_bounded [] state more = absurd (omega arith)
+  turns_bounded (events ∷ turns) state more =
+      let first = first_bounded state events turns (turns_bounded turns (sync_after_turn k state events)) more in
+      let add = events_add state.log events state.mark in
+      let up_to : events_until_last_truncated k state (events ∷ turns) ≡ length events + events_until_last_truncated k (sync_after_turn k state events) turns = cond-true (nat_lt 0 (truncated_page_count k state (events ∷ turns))) _ _ (lt-ltb _ _ more) in
       omega (arith, first, add, up_to)
 
 pub truncated_pages_bounded : TruncatedPagesAreBounded
-truncated_pages_bounded k place events turns some more = first_bounded k some place events turns (turns_bounded k some turns (after_turn k place events)) more
+truncated_pages_bounded k state events turns some more = first_bounded k some state events turns (turns_bounded k some turns (sync_after_turn k state events)) more
 
 -- a turn without events leaves k fewer, or none
-quiet_turn : (k : ℕ) (place : Place) (n : ℕ) → 0 < k → due_count place ≤ (1 + n) * k → due_count (after_turn k place []) ≤ n * k
-quiet_turn k place n some le =
-    elim (next_report k place).truncated as (λ b. (next_report k place).truncated ≡ b → due_count (after_turn k place []) ≤ n * k) [
-      | true ↦ λ cut. let fewer = truncated_pages_leave_fewer place.history place.mark k some cut in let next = times_next n k in omega (arith, fewer, next, le)
-      | false ↦ λ all. let none = ap length (last_pages_leave_nobody place.history place.mark k all) in omega (arith, none)
+quiet_turn : (k : ℕ) (state : SyncState) (n : ℕ) → 0 < k → due_count state ≤ (1 + n) * k → due_count (sync_after_turn k state []) ≤ n * k
+quiet_turn k state n some le =
+    elim (next_report k state).truncated as (λ b. (next_report k state).truncated ≡ b → due_count (sync_after_turn k state []) ≤ n * k) [
+      | true ↦ λ cut. let fewer = truncated_pages_leave_fewer state.log state.mark k some cut in let next = times_next n k in omega (arith, fewer, next, le)
+      | false ↦ λ all. let none = ap length (last_pages_leave_nobody state.log state.mark k all) in omega (arith, none)
     ] refl
 
 none_left : (uids : List (List ℕ)) → length uids ≤ 0 → uids ≡ []
 none_left [] le = refl
 none_left (uid ∷ uids) le = absurd (omega (arith, le))
 
-pub quiet_books_are_told_whole : QuietBooksAreToldWhole
-quiet_books_are_told_whole k place zero some le = none_left (due place.history place.mark) (let none : 0 * k ≡ 0 = search arith in omega (arith, none, le))
-quiet_books_are_told_whole k place (suc n) some le =
-    quiet_books_are_told_whole k (after_turn k place []) n some
-    (quiet_turn k place n some (let same : suc n ≡ 1 + n = omega arith in subst (λ m. due_count place ≤ m * k) same le))
+pub quiet_books_sync_fully : QuietBooksSyncFully
+quiet_books_sync_fully k state zero some le = none_left (due state.log state.mark) (let none : 0 * k ≡ 0 = search arith in omega (arith, none, le))
+quiet_books_sync_fully k state (suc n) some le =
+    quiet_books_sync_fully k (sync_after_turn k state []) n some
+    (quiet_turn k state n some (let same : suc n ≡ 1 + n = omega arith in subst (λ m. due_count state ≤ m * k) same le))
 
 -- a device with a token
-caught_up : (k : ℕ) (story : Story) (n : ℕ) (book : List ℕ) (copy : LiveCards) (token : Token) → 0 < k → Agrees copy token.mark story.history
-    → length (due story.history token.mark) ≤ n * k → (after_pages k story n (record { book = book; copy = copy; token = Some token })).copy ≡ live story.history
-caught_up k story zero book copy token some agrees le =
-    nobody_due_is_complete copy token.mark story.history agrees (none_left (due story.history token.mark) (let none : 0 * k ≡ 0 = search arith in omega (arith, none, le)))
-caught_up k story (suc n) book copy token some agrees le =
-    let next : Token = record { book = story.id; mark = (report story.history token.mark k).mark } in
-    caught_up k story n book (copy_after copy (report story.history token.mark k).entries) next some (whole_pages_keep_copies_right copy token.mark story.history k some agrees)
-    (quiet_turn k (record { history = story.history; mark = token.mark }) n some (let same : suc n ≡ 1 + n = omega arith in subst (λ m. length (due story.history token.mark) ≤ m * k) same le))
+caught_up : (k : ℕ) (history : BookHistory) (n : ℕ) (book : List ℕ) (copy : LiveCards) (token : Token) → 0 < k → Agrees copy token.mark history.log
+    → length (due history.log token.mark) ≤ n * k → (device_after_pages k history n (record { book = book; copy = copy; token = Some token })).copy ≡ live history.log
+caught_up k history zero book copy token some agrees le =
+    nobody_due_is_complete copy token.mark history.log agrees (none_left (due history.log token.mark) (let none : 0 * k ≡ 0 = search arith in omega (arith, none, le)))
+caught_up k history (suc n) book copy token some agrees le =
+    let next : Token = record { book = history.id; mark = (report history.log token.mark k).mark } in
+    caught_up k history n book (copy_after_entries copy (report history.log token.mark k).entries) next some (whole_page_keeps_copy copy token.mark history.log k some agrees)
+    (quiet_turn k (record { log = history.log; mark = token.mark }) n some (let same : suc n ≡ 1 + n = omega arith in subst (λ m. length (due history.log token.mark) ≤ m * k) same le))
 
 pub quiet_devices_catch_up : QuietDevicesCatchUp
-quiet_devices_catch_up stories device story k zero some pages right found le = absurd (omega arith)
-quiet_devices_catch_up stories device story k (suc n) some pages right found le =
-    let mark = mark_under story.history device.token in
-    let next : Token = record { book = story.id; mark = (report story.history mark k).mark } in
-    caught_up k story n device.book (after_page device (page_for story device k)).copy next some
-    (whole_pages_keep_copies_right (copy_under device.token device.copy) mark story.history k some (ready stories device story found right))
-    (quiet_turn k (record { history = story.history; mark = mark }) n some (let same : suc n ≡ 1 + n = omega arith in subst (λ m. length (due story.history mark) ≤ m * k) same le))
+quiet_devices_catch_up histories device history k zero some pages right found le = absurd (omega arith)
+quiet_devices_catch_up histories device history k (suc n) some pages right found le =
+    let mark = mark_of_token history.log device.token in
+    let next : Token = record { book = history.id; mark = (report history.log mark k).mark } in
+    caught_up k history n device.book (device_after_page device (page_for_device history device k)).copy next some
+    (whole_page_keeps_copy (copy_before_page device.token device.copy) mark history.log k some (ready histories device history found right))
+    (quiet_turn k (record { log = history.log; mark = mark }) n some (let same : suc n ≡ 1 + n = omega arith in subst (λ m. length (due history.log mark) ≤ m * k) same le))

@@ -13,13 +13,13 @@ use Rattle.base_types.specs.TextMaps.{text_cmp}
 use Rattle.book_model.specs.declared.answers.Stored.{Stored}
 use Rattle.book_model.specs.declared.row.Row.{Row}
 use Rattle.book_model.specs.Books.{Book}
-use Rattle.book_model.specs.Changing.{card_after}
-use Rattle.book_laws.specs.HistoryCounts.{counts_of}
-use Rattle.book_model.specs.Forgetting.{is_row_kept, dropped_rows, book_after_forget}
-use Rattle.book_laws.specs.Histories.{BookEvent, same_uid, live, last, touched_uids}
-use Rattle.book_laws.specs.Rows.{all_rows, is_kept, kept_rows}
-use Rattle.book_laws.specs.Worlds.{Story, book_of}
-use Rattle.book_laws.specs.WorldChanges.{is_forgotten, with_horizon}
+use Rattle.book_model.specs.BookChanges.{card_after}
+use Rattle.book_laws.specs.LogCounts.{counts_of_log}
+use Rattle.book_model.specs.Forgetting.{is_row_kept, dropped_row_count, book_after_forget}
+use Rattle.book_laws.specs.EventLogs.{BookEvent, same_uid, live, last_number, touched_uids}
+use Rattle.book_laws.specs.LogRows.{all_rows_of_log, is_row_of_log, rows_of_log}
+use Rattle.book_laws.specs.StoreHistories.{BookHistory, book_of_history}
+use Rattle.book_laws.specs.HistoryChanges.{is_dropped_tombstone, with_horizon}
 use Rattle.book_model.proofs.BasicLemmas.{is_some-map}
 use Rattle.book_laws.proofs.FilterLemmas.{filter_both}
 use Rattle.book_laws.proofs.ReportLemmas.{each_found}
@@ -77,7 +77,7 @@ empty_still p = same_map text_total exact_bytes _ _ (λ q. get-retain_keys no_ro
     none false = refl
 
 -- the rows whose UIDs pass are as many as the touched UIDs that pass
-pub len_retained : (h : List BookEvent) (p : List ℕ → Bool) → finite.len (finite.retain_keys (all_rows h) p) ≡ length (filter p (touched_uids h))
+pub len_retained : (h : List BookEvent) (p : List ℕ → Bool) → finite.len (finite.retain_keys (all_rows_of_log h) p) ≡ length (filter p (touched_uids h))
 len_retained [] p = ap finite.len (empty_still p) ∙ len-empty text_cmp Row
 len_retained (e ∷ h) p =
     let row : Row = record { changed = length h + 1; card = card_after e.change } in
@@ -85,7 +85,7 @@ len_retained (e ∷ h) p =
     let seen = filter-append p (filter (λ u. not (same_uid u e.uid)) (touched_uids h)) (e.uid ∷ []) ∙ ap (λ us. us ++ filter p (e.uid ∷ [])) (filter_both p (λ u. not (same_uid u e.uid)) (touched_uids h)) in
     ⊎_elim
     (λ passes.
-    let one = len-retained_in (all_rows h) e.uid row p passes in
+    let one = len-retained_in (all_rows_of_log h) e.uid row p passes in
     let last_one : filter p (e.uid ∷ []) ≡ e.uid ∷ [] = cond-true (p e.uid) (e.uid ∷ []) [] passes in
     let total = ap length seen ∙ length-append (filter (λ u. not (same_uid u e.uid) && p u) (touched_uids h)) (filter p (e.uid ∷ [])) in
     let one_more = ap length last_one in
@@ -94,7 +94,7 @@ len_retained (e ∷ h) p =
     let none : filter p (e.uid ∷ []) ≡ [] = cond-false (p e.uid) (e.uid ∷ []) [] fails in
     let total = ap length seen ∙ length-append (filter (λ u. not (same_uid u e.uid) && p u) (touched_uids h)) (filter p (e.uid ∷ [])) in
     let no_more = ap length none in
-    let same = ap finite.len (retained_out (all_rows h) e.uid row p fails) in
+    let same = ap finite.len (retained_out (all_rows_of_log h) e.uid row p fails) in
     omega (arith, same, rest, total, no_more))
     (cases_Bool (p e.uid))
 
@@ -106,13 +106,13 @@ at_row test members uid = option_map_or test (finite.get members uid) false
 
 -- the rows that pass a test, of those that were kept, are the rows whose UIDs pass it on the history
 pub retained_rows : (h : List BookEvent) (horizon : ℕ) (test : Row → Bool) (wanted : List ℕ → Bool)
-    → ((uid : List ℕ) → 0 < last h uid → (is_kept h horizon uid && test (row_at h uid)) ≡ wanted uid)
-    → finite.retain_keys (kept_rows h horizon) (at_row test (kept_rows h horizon)) ≡ finite.retain_keys (all_rows h) wanted
+    → ((uid : List ℕ) → 0 < last_number h uid → (is_row_of_log h horizon uid && test (row_at h uid)) ≡ wanted uid)
+    → finite.retain_keys (rows_of_log h horizon) (at_row test (rows_of_log h horizon)) ≡ finite.retain_keys (all_rows_of_log h) wanted
 retained_rows h horizon test wanted agree = same_map text_total exact_bytes _ _ (λ q.
-    get-retain_keys (kept_rows h horizon) (at_row test (kept_rows h horizon)) q (λ x e. ap (at_row test (kept_rows h horizon)) (sym (exact_bytes q x e)))
-    ∙ ap (λ (o : Option Row). cond (option_map_or test o false) o None) (get-kept_rows h horizon q ∙ ap (λ o. cond (is_kept h horizon q) o None) (get-all_rows h q))
+    get-retain_keys (rows_of_log h horizon) (at_row test (rows_of_log h horizon)) q (λ x e. ap (at_row test (rows_of_log h horizon)) (sym (exact_bytes q x e)))
+    ∙ ap (λ (o : Option Row). cond (option_map_or test o false) o None) (get-kept_rows h horizon q ∙ ap (λ o. cond (is_row_of_log h horizon q) o None) (get-all_rows h q))
     ∙ by q
-    ∙ sym (get-retain_keys (all_rows h) wanted q (λ x e. ap wanted (sym (exact_bytes q x e))) ∙ ap (λ o. cond (wanted q) o None) (get-all_rows h q)))
+    ∙ sym (get-retain_keys (all_rows_of_log h) wanted q (λ x e. ap wanted (sym (exact_bytes q x e))) ∙ ap (λ o. cond (wanted q) o None) (get-all_rows h q)))
   where
     chosen : (kept passes : Bool) (row : Row) → test row ≡ passes → cond (option_map_or test (cond kept (Some row) None) false) (cond kept (Some row) None) None ≡ cond (kept && passes) (Some row) None
     chosen true passes row e = ap (λ b. cond b (Some row) None) e
@@ -127,12 +127,12 @@ retained_rows h horizon test wanted agree = same_map text_total exact_bytes _ _ 
     nothing false true = refl
     nothing false false = refl
 
-    by : (q : List ℕ) → cond (option_map_or test (cond (is_kept h horizon q) (cond (nat_lt 0 (last h q)) (Some (row_at h q)) None) None) false) (cond (is_kept h horizon q) (cond (nat_lt 0 (last h q)) (Some (row_at h q)) None) None) None
-        ≡ cond (wanted q) (cond (nat_lt 0 (last h q)) (Some (row_at h q)) None) None
-    by q = elim (nat_lt 0 (last h q)) as (λ b. nat_lt 0 (last h q) ≡ b → cond (option_map_or test (cond (is_kept h horizon q) (cond b (Some (row_at h q)) None) None) false) (cond (is_kept h horizon q) (cond b (Some (row_at h q)) None) None) None
+    by : (q : List ℕ) → cond (option_map_or test (cond (is_row_of_log h horizon q) (cond (nat_lt 0 (last_number h q)) (Some (row_at h q)) None) None) false) (cond (is_row_of_log h horizon q) (cond (nat_lt 0 (last_number h q)) (Some (row_at h q)) None) None) None
+        ≡ cond (wanted q) (cond (nat_lt 0 (last_number h q)) (Some (row_at h q)) None) None
+    by q = elim (nat_lt 0 (last_number h q)) as (λ b. nat_lt 0 (last_number h q) ≡ b → cond (option_map_or test (cond (is_row_of_log h horizon q) (cond b (Some (row_at h q)) None) None) false) (cond (is_row_of_log h horizon q) (cond b (Some (row_at h q)) None) None) None
         ≡ cond (wanted q) (cond b (Some (row_at h q)) None) None) [
-          | true ↦ λ some. chosen (is_kept h horizon q) (test (row_at h q)) (row_at h q) refl ∙ ap (λ b. cond b (Some (row_at h q)) None) (agree q (ltb-true 0 (last h q) some))
-          | false ↦ λ some. nothing (is_kept h horizon q) (wanted q)
+          | true ↦ λ some. chosen (is_row_of_log h horizon q) (test (row_at h q)) (row_at h q) refl ∙ ap (λ b. cond b (Some (row_at h q)) None) (agree q (ltb-true 0 (last_number h q) some))
+          | false ↦ λ some. nothing (is_row_of_log h horizon q) (wanted q)
         ] refl
 
 -- ---- how many rows pass a test
@@ -161,11 +161,11 @@ module _ (m : finite.FinMap text_cmp Row) (test : Row → Bool) where
 
 -- the rows that were kept and pass a test are as many as the touched UIDs that pass it on the history
 pub passing_rows : (h : List BookEvent) (horizon : ℕ) (test : Row → Bool) (wanted : List ℕ → Bool)
-    → ((uid : List ℕ) → 0 < last h uid → (is_kept h horizon uid && test (row_at h uid)) ≡ wanted uid)
-    → length (filter (λ (member : List ℕ × Row). test member.1) (finite.entries (kept_rows h horizon))) ≡ length (filter wanted (touched_uids h))
+    → ((uid : List ℕ) → 0 < last_number h uid → (is_row_of_log h horizon uid && test (row_at h uid)) ≡ wanted uid)
+    → length (filter (λ (member : List ℕ × Row). test member.1) (finite.entries (rows_of_log h horizon))) ≡ length (filter wanted (touched_uids h))
 passing_rows h horizon test wanted agree =
-    ap length (sym (entries-retained (kept_rows h horizon) test))
-    ∙ sym (finite.len-entries (finite.retain_keys (kept_rows h horizon) (at_row test (kept_rows h horizon))))
+    ap length (sym (entries-retained (rows_of_log h horizon) test))
+    ∙ sym (finite.len-entries (finite.retain_keys (rows_of_log h horizon) (at_row test (rows_of_log h horizon))))
     ∙ ap finite.len (retained_rows h horizon test wanted agree)
     ∙ len_retained h wanted
 
@@ -193,27 +193,27 @@ not_above upto n = ⊎_elim
     ap not none ∙ sym (le-leb n upto below))
     (cases_lt upto n)
 
-module _ (story : Story) (upto : ℕ) where
-  still_kept : story.horizon ≤ upto → (uid : List ℕ) → 0 < last story.history uid → (is_kept story.history story.horizon uid && is_row_kept upto (row_at story.history uid)) ≡ is_kept story.history upto uid
+module _ (history : BookHistory) (upto : ℕ) where
+  still_kept : history.horizon ≤ upto → (uid : List ℕ) → 0 < last_number history.log uid → (is_row_of_log history.log history.horizon uid && is_row_kept upto (row_at history.log uid)) ≡ is_row_of_log history.log upto uid
   still_kept rises uid some =
-      ap (λ b. is_kept story.history story.horizon uid && (b || nat_lt upto (last story.history uid))) (is_some-map (λ (s : Stored). s.card) (finite.get (live story.history) uid))
-      ∙ elim (is_some (finite.get (live story.history) uid)) as (λ b. ((b || nat_lt story.horizon (last story.history uid)) && (b || nat_lt upto (last story.history uid))) ≡ (b || nat_lt upto (last story.history uid))) [
+      ap (λ b. is_row_of_log history.log history.horizon uid && (b || nat_lt upto (last_number history.log uid))) (is_some-map (λ (s : Stored). s.card) (finite.get (live history.log) uid))
+      ∙ elim (is_some (finite.get (live history.log) uid)) as (λ b. ((b || nat_lt history.horizon (last_number history.log uid)) && (b || nat_lt upto (last_number history.log uid))) ≡ (b || nat_lt upto (last_number history.log uid))) [
         | true ↦ refl
-        | false ↦ both_above story.horizon upto (last story.history uid) rises
+        | false ↦ both_above history.horizon upto (last_number history.log uid) rises
       ]
 
-  pub book_forgotten : story.horizon ≤ upto → book_of (with_horizon story upto) ≡ book_after_forget (book_of story) upto
+  pub book_forgotten : history.horizon ≤ upto → book_of_history (with_horizon history upto) ≡ book_after_forget (book_of_history history) upto
   book_forgotten rises =
-      let B : finite.FinMap text_cmp Row → Book = λ members. record { id = story.id; number = length story.history; horizon = upto; keep = story.keep; counts = counts_of story.history; members = members; imports = story.imports } in
-      ap B (sym (retained_rows story.history story.horizon (is_row_kept upto) (is_kept story.history upto) (still_kept rises)))
+      let B : finite.FinMap text_cmp Row → Book = λ members. record { id = history.id; number = length history.log; horizon = upto; keep = history.keep; counts = counts_of_log history.log; members = members; imports = history.imports } in
+      ap B (sym (retained_rows history.log history.horizon (is_row_kept upto) (is_row_of_log history.log upto) (still_kept rises)))
 
-  dropped : (uid : List ℕ) → 0 < last story.history uid → (is_kept story.history story.horizon uid && not (is_row_kept upto (row_at story.history uid))) ≡ is_forgotten story upto uid
+  dropped : (uid : List ℕ) → 0 < last_number history.log uid → (is_row_of_log history.log history.horizon uid && not (is_row_kept upto (row_at history.log uid))) ≡ is_dropped_tombstone history upto uid
   dropped uid some =
-      ap (λ b. is_kept story.history story.horizon uid && not (b || nat_lt upto (last story.history uid))) (is_some-map (λ (s : Stored). s.card) (finite.get (live story.history) uid))
-      ∙ elim (is_some (finite.get (live story.history) uid)) as (λ b. ((b || nat_lt story.horizon (last story.history uid)) && not (b || nat_lt upto (last story.history uid))) ≡ (not b && nat_lt story.horizon (last story.history uid) && nat_le (last story.history uid) upto)) [
+      ap (λ b. is_row_of_log history.log history.horizon uid && not (b || nat_lt upto (last_number history.log uid))) (is_some-map (λ (s : Stored). s.card) (finite.get (live history.log) uid))
+      ∙ elim (is_some (finite.get (live history.log) uid)) as (λ b. ((b || nat_lt history.horizon (last_number history.log uid)) && not (b || nat_lt upto (last_number history.log uid))) ≡ (not b && nat_lt history.horizon (last_number history.log uid) && nat_le (last_number history.log uid) upto)) [
         | true ↦ refl
-        | false ↦ ap (λ b. nat_lt story.horizon (last story.history uid) && b) (not_above upto (last story.history uid))
+        | false ↦ ap (λ b. nat_lt history.horizon (last_number history.log uid) && b) (not_above upto (last_number history.log uid))
       ]
 
-  pub dropped_is : dropped_rows (book_of story).members upto ≡ length (filter (is_forgotten story upto) (touched_uids story.history))
-  dropped_is = passing_rows story.history story.horizon (λ row. not (is_row_kept upto row)) (is_forgotten story upto) dropped
+  pub dropped_is : dropped_row_count (book_of_history history).members upto ≡ length (filter (is_dropped_tombstone history upto) (touched_uids history.log))
+  dropped_is = passing_rows history.log history.horizon (λ row. not (is_row_kept upto row)) (is_dropped_tombstone history upto) dropped

@@ -10,41 +10,41 @@ use Rattle.book_model.specs.declared.answers.PutAnswer.TheVariants.{Created, Edi
 use Rattle.book_model.specs.declared.answers.Stored.{Stored}
 use Rattle.book_model.specs.declared.refusal.Refusal.{Refusal}
 use Rattle.book_model.specs.Bounds.{Bounds}
-use Rattle.book_laws.specs.Lawful.{MayStore}
-use Rattle.book_model.specs.Outcomes.{◌>>=◌, provided}
-use Rattle.book_model.specs.Putting.{Found, answer_over, put_answer, reason_for, is_expected, version_of}
+use Rattle.book_laws.specs.ValidLogs.{MayStore}
+use Rattle.book_model.specs.CallOutcomes.{◌>>=◌, refuse_unless}
+use Rattle.book_model.specs.Putting.{FoundMember, answer_over_live, put_answer, put_store_reason, is_expected, version_of}
 use Rattle.book_model.specs.SameCards.{same_card}
 use Rattle.book_model.proofs.SameCardLemmas.{card-Decides}
 
-module _ (card : List Line) (answer : PutAnswer) (why : StoreReason) (reason : reason_for answer ≡ Some why) where
-  new_may : (room left : Bool) (n : ℕ) → (provided room BookFull >>= λ _. (provided left ChangesSpent >>= λ _. Ok n) >>= λ version. Ok (Created version)) ≡ Ok answer → MayStore why card None
+module _ (card : List Line) (answer : PutAnswer) (why : StoreReason) (reason : put_store_reason answer ≡ Some why) where
+  new_may : (room left : Bool) (n : ℕ) → (refuse_unless room BookFull >>= λ _. (refuse_unless left ChangesSpent >>= λ _. Ok n) >>= λ version. Ok (Created version)) ≡ Ok answer → MayStore why card None
   new_may true true n e =
       let is : Created n ≡ answer = cc in
-      let same : Some Creation ≡ Some why = ap reason_for is ∙ reason in
+      let same : Some Creation ≡ Some why = ap put_store_reason is ∙ reason in
       let because : Creation ≡ why = cc in subst (λ (w : StoreReason). MayStore w card None) because refl
   new_may true false n e = cc
   new_may false left n e = cc
 
-  over_may : (stored : Stored) (same left : Bool) (n : ℕ) → same_card stored.card card ≡ same → cond same (Ok (Unchanged stored.version)) ((provided left ChangesSpent >>= λ _. Ok n) >>= λ version. Ok (Edited version)) ≡ Ok answer → MayStore why card (Some stored)
+  over_may : (stored : Stored) (same left : Bool) (n : ℕ) → same_card stored.card card ≡ same → cond same (Ok (Unchanged stored.version)) ((refuse_unless left ChangesSpent >>= λ _. Ok n) >>= λ version. Ok (Edited version)) ≡ Ok answer → MayStore why card (Some stored)
   over_may stored true left n s e =
       let is : Unchanged stored.version ≡ answer = cc in
-      let none : None ≡ Some why = ap reason_for is ∙ reason in cc
+      let none : None ≡ Some why = ap put_store_reason is ∙ reason in cc
   over_may stored false true n s e =
       let is : Edited n ≡ answer = cc in
-      let same : Some Edit ≡ Some why = ap reason_for is ∙ reason in
+      let same : Some Edit ≡ Some why = ap put_store_reason is ∙ reason in
       let because : Edit ≡ why = cc in
       subst (λ (w : StoreReason). MayStore w card (Some stored)) because (λ eq. both_ways _ s ((card-Decides stored.card card).1 eq))
   over_may stored false false n s e = cc
 
-  pub answer_may : (limits : Bounds) (found : Found) (live : Option Stored) → answer_over limits found card live ≡ Ok answer → MayStore why card live
+  pub answer_may : (limits : Bounds) (found : FoundMember) (live : Option Stored) → answer_over_live limits found card live ≡ Ok answer → MayStore why card live
   answer_may limits found None e = new_may (nat_lt found.cards limits.cards_max) (nat_lt found.number limits.changes_max) (found.number + 1) e
   answer_may limits found (Some stored) e = over_may stored (same_card stored.card card) (nat_lt found.number limits.changes_max) (found.number + 1) refl e
 
-past_test : (b : Bool) (refusal : Refusal) (r : Result PutAnswer Refusal) (answer : PutAnswer) → (provided b refusal >>= λ _. r) ≡ Ok answer → r ≡ Ok answer
+past_test : (b : Bool) (refusal : Refusal) (r : Result PutAnswer Refusal) (answer : PutAnswer) → (refuse_unless b refusal >>= λ _. r) ≡ Ok answer → r ≡ Ok answer
 past_test true refusal r answer e = e
 past_test false refusal r answer e = cc
 
-pub may_store : (limits : Bounds) (found : Found) (card : List Line) (expect : Option ℕ) (answer : PutAnswer) (why : StoreReason) → put_answer limits found card expect ≡ Ok answer → reason_for answer ≡ Some why → MayStore why card found.live
+pub may_store : (limits : Bounds) (found : FoundMember) (card : List Line) (expect : Option ℕ) (answer : PutAnswer) (why : StoreReason) → put_answer limits found card expect ≡ Ok answer → put_store_reason answer ≡ Some why → MayStore why card found.live
 may_store limits found card expect answer why e reason =
     answer_may card answer why reason limits found found.live
-    (past_test (is_expected expect (version_of found.live)) (VersionMismatch (version_of found.live)) (answer_over limits found card found.live) answer e)
+    (past_test (is_expected expect (version_of found.live)) (VersionMismatch (version_of found.live)) (answer_over_live limits found card found.live) answer e)

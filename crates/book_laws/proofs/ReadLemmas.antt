@@ -1,4 +1,4 @@
--- What the rows tell of a book, beside what its history tells.
+-- Each call that only reads returns the same from rows as from histories.
 use Rattle.std.proofs.Common.{◌≡◌, ℕ, List, [], ◌∷◌, map, flat_map, length, Option, Some, None, Result, Ok, Err, refl, sym, ap, ◌∙◌}
 use Rattle.std.specs.Option.{option_map, option_map_or, option_and_then}
 use Rattle.std.specs.FinMap as finite
@@ -8,76 +8,76 @@ use Rattle.base_types.specs.TextMaps.{text_cmp}
 use Rattle.book_model.specs.declared.refusal.Refusal.{Refusal}
 use Rattle.book_model.specs.declared.refusal.Refusal.TheVariants.{NoSuchBook}
 use Rattle.book_model.specs.declared.row.Row.{Row}
-use Rattle.book_model.specs.Books.{Book, book_named, stored_in}
-use Rattle.book_laws.specs.HistoryCounts.{counts_of}
-use Rattle.book_laws.specs.Histories.{live}
-use Rattle.book_model.specs.Outcomes.{◌>>=◌}
-use Rattle.book_laws.specs.ReadLaws.{BooksFollow, BookLinesFollow, GettingFollows, CardsFollow, KeptImportsFollow, TalliesFollow}
-use Rattle.book_model.specs.Reading.{book_line, live_entry, live_cards, tally_with, remembered_in, tally_of}
-use Rattle.book_model.specs.Books.{live_card}
-use Rattle.book_laws.specs.Rows.{kept_rows}
-use Rattle.book_laws.specs.Worlds.{Story, Stories, IsSound, book_of, rows}
-use Rattle.book_laws.specs.WorldReads.{story_line, tally_of_story}
-use Rattle.book_laws.specs.WorldSteps.{story_named}
+use Rattle.book_model.specs.Books.{Book, book_named, stored_in_row}
+use Rattle.book_laws.specs.LogCounts.{counts_of_log}
+use Rattle.book_laws.specs.EventLogs.{live}
+use Rattle.book_model.specs.CallOutcomes.{◌>>=◌}
+use Rattle.book_laws.specs.QueryRefinement.{BooksRefine, BookLinesRefine, GetRefines, CardsRefine, KeptImportsRefine, TalliesRefine}
+use Rattle.book_model.specs.BookQueries.{book_line_in_rows, live_card_entry, live_cards, tally_with, tombstone_count, book_tally}
+use Rattle.book_model.specs.Books.{live_or_no_such_card}
+use Rattle.book_laws.specs.LogRows.{rows_of_log}
+use Rattle.book_laws.specs.StoreHistories.{BookHistory, BookHistories, IsSoundHistory, book_of_history, rows_of}
+use Rattle.book_laws.specs.HistoryQueries.{history_line, history_tally}
+use Rattle.book_laws.specs.HistorySteps.{history_named}
 use Rattle.book_laws.proofs.CountLemmas.{live_count_is}
 use Rattle.book_laws.proofs.DropLemmas.{remembered_is}
 use Rattle.book_laws.proofs.RowLemmas.{live_by_row}
 use Rattle.base_types.proofs.TextLemmas.{text_total}
 use Rattle.book_model.proofs.LiveCardLemmas.{find_live}
-use Rattle.book_laws.proofs.WorldLemmas.{get-rows, entries-rows}
+use Rattle.book_laws.proofs.StoreHistoryLemmas.{get-rows, entries-rows}
 
--- the same is told of the book of a name and of its story
-told_named : {A : Type 0} (stories : Stories) (name : List ℕ) (f : Book → Result A Refusal) (g : Story → Result A Refusal) → ((story : Story) → finite.get stories name ≡ Some story → f (book_of story) ≡ g story)
-    → (book_named (rows stories) name >>= f) ≡ (story_named stories name >>= g)
-told_named {A} stories name f g each =
-    ap (λ (o : Option Book). option_map_or Ok o (Err NoSuchBook) >>= f) (get-rows stories name)
-    ∙ by_story (finite.get stories name) each
+-- the same result for the book of a name and for its history
+same_result_named : {A : Type 0} (histories : BookHistories) (name : List ℕ) (f : Book → Result A Refusal) (g : BookHistory → Result A Refusal) → ((history : BookHistory) → finite.get histories name ≡ Some history → f (book_of_history history) ≡ g history)
+    → (book_named (rows_of histories) name >>= f) ≡ (history_named histories name >>= g)
+same_result_named {A} histories name f g each =
+    ap (λ (o : Option Book). option_map_or Ok o (Err NoSuchBook) >>= f) (get-rows histories name)
+    ∙ by_history (finite.get histories name) each
   where
-    by_story : (o : Option Story) → ((story : Story) → o ≡ Some story → f (book_of story) ≡ g story)
-        → (option_map_or Ok (option_map book_of o) (Err NoSuchBook) >>= f) ≡ (option_map_or Ok o (Err NoSuchBook) >>= g)
-    by_story None each = refl
-    by_story (Some story) each = each story refl
+    by_history : (o : Option BookHistory) → ((history : BookHistory) → o ≡ Some history → f (book_of_history history) ≡ g history)
+        → (option_map_or Ok (option_map book_of_history o) (Err NoSuchBook) >>= f) ≡ (option_map_or Ok o (Err NoSuchBook) >>= g)
+    by_history None each = refl
+    by_history (Some history) each = each history refl
 
 -- ---- lines of books
 
-lines_are : (named : List (List ℕ × Story)) → map book_line (map (λ (n : List ℕ × Story). (n.0, book_of n.1)) named) ≡ map story_line named
+lines_are : (named : List (List ℕ × BookHistory)) → map book_line_in_rows (map (λ (n : List ℕ × BookHistory). (n.0, book_of_history n.1)) named) ≡ map history_line named
 lines_are [] = refl
-lines_are (n ∷ ns) = ap (λ t. story_line n ∷ t) (lines_are ns)
+lines_are (n ∷ ns) = ap (λ t. history_line n ∷ t) (lines_are ns)
 
-pub books_follow : BooksFollow
-books_follow stories = ap (map book_line) (entries-rows stories) ∙ lines_are (finite.entries stories)
+pub books_follow : BooksRefine
+books_follow histories = ap (map book_line_in_rows) (entries-rows histories) ∙ lines_are (finite.entries histories)
 
-pub book_lines_follow : BookLinesFollow
-book_lines_follow stories name = told_named stories name _ _ (λ story at. refl)
+pub book_lines_follow : BookLinesRefine
+book_lines_follow histories name = same_result_named histories name _ _ (λ history at. refl)
 
 -- ---- cards
 
-pub getting_follows : GettingFollows
-getting_follows stories name uid = told_named stories name _ _ (λ story at. ap live_card (live_by_row story.history story.horizon uid))
+pub getting_follows : GetRefines
+getting_follows histories name uid = same_result_named histories name _ _ (λ history at. ap live_or_no_such_card (live_by_row history.log history.horizon uid))
 
-pub live_cards_are : (story : Story) → live_cards (book_of story) ≡ live story.history
-live_cards_are story = same_map text_total exact_bytes _ _ (λ q.
-    get-from_entries text_total (flat_map live_entry (finite.entries members)) q
+pub live_cards_are : (history : BookHistory) → live_cards (book_of_history history) ≡ live history.log
+live_cards_are history = same_map text_total exact_bytes _ _ (λ q.
+    get-from_entries text_total (flat_map live_card_entry (finite.entries members)) q
     ∙ find_live q (finite.entries members) (finite.entries_sorted members)
-    ∙ ap (option_and_then stored_in) (sym (finite.get-entries members q))
-    ∙ live_by_row story.history story.horizon q)
+    ∙ ap (option_and_then stored_in_row) (sym (finite.get-entries members q))
+    ∙ live_by_row history.log history.horizon q)
   where
     members : finite.FinMap text_cmp Row
-    members = kept_rows story.history story.horizon
+    members = rows_of_log history.log history.horizon
 
-pub cards_follow : CardsFollow
-cards_follow stories name = told_named stories name _ _ (λ story at. ap Ok (live_cards_are story))
+pub cards_follow : CardsRefine
+cards_follow histories name = same_result_named histories name _ _ (λ history at. ap Ok (live_cards_are history))
 
-pub kept_imports_follow : KeptImportsFollow
-kept_imports_follow stories name key = told_named stories name _ _ (λ story at. refl)
+pub kept_imports_follow : KeptImportsRefine
+kept_imports_follow histories name key = same_result_named histories name _ _ (λ history at. refl)
 
--- ---- a book in numbers
+-- ---- tallies
 
-module _ (story : Story) where
-  tally_is : IsSound story → tally_of (book_of story) ≡ tally_of_story story
+module _ (history : BookHistory) where
+  tally_is : IsSoundHistory history → book_tally (book_of_history history) ≡ history_tally history
   tally_is sound =
-      ap (λ n. tally_with (length story.history) story.horizon n (counts_of story.history) (remembered_in (book_of story))) (live_count_is story.history sound.lawful)
-      ∙ ap (tally_with (length story.history) story.horizon (finite.len (live story.history)) (counts_of story.history)) (remembered_is story)
+      ap (λ n. tally_with (length history.log) history.horizon n (counts_of_log history.log) (tombstone_count (book_of_history history))) (live_count_is history.log sound.valid_log)
+      ∙ ap (tally_with (length history.log) history.horizon (finite.len (live history.log)) (counts_of_log history.log)) (remembered_is history)
 
-pub tallies_follow : TalliesFollow
-tallies_follow stories name sound = told_named stories name _ _ (λ story at. ap Ok (tally_is story (sound name story at)))
+pub tallies_follow : TalliesRefine
+tallies_follow histories name sound = same_result_named histories name _ _ (λ history at. ap Ok (tally_is history (sound name history at)))

@@ -14,33 +14,33 @@ use Rattle.book_model.specs.declared.refusal.TokenCause.TheVariants.{OtherBook, 
 use Rattle.book_model.specs.declared.token.Mark.{Mark}
 use Rattle.book_model.specs.declared.token.Token.{Token}
 use Rattle.book_model.specs.Bounds.{Bounds}
-use Rattle.book_laws.specs.Calls.{Call, stories_after, stories_after_all}
-use Rattle.book_laws.specs.Histories.{last}
-use Rattle.book_model.specs.Outcomes.{◌>>=◌, provided}
-use Rattle.book_model.specs.Pages.{mark_asked, page_size, page_of, token_of}
-use Rattle.book_laws.specs.Reports.{due, cut_page, whole_page, report}
-use Rattle.book_laws.specs.Losses.{LostMoreThanKept}
-use Rattle.book_laws.specs.TokenLaws.{ForgotAbove, NewTokensAreTaken, TokensStayGood}
-use Rattle.book_laws.specs.Worlds.{Story, Stories, IsSound, AreSound, World}
-use Rattle.book_laws.specs.WorldSteps.{report_meaning}
+use Rattle.book_laws.specs.Calls.{Call, histories_after_call, histories_after_calls}
+use Rattle.book_laws.specs.EventLogs.{last_number}
+use Rattle.book_model.specs.CallOutcomes.{◌>>=◌, refuse_unless}
+use Rattle.book_model.specs.Pages.{requested_mark, page_size, page_of, token_of}
+use Rattle.book_laws.specs.Reports.{due, truncated_log_page, complete_log_page, report}
+use Rattle.book_laws.specs.RemovalCounts.{RemovalsExceedKeep}
+use Rattle.book_laws.specs.TokenLaws.{ForgotAbove, FreshTokensAreAccepted, TokensStayValid}
+use Rattle.book_laws.specs.StoreHistories.{BookHistory, BookHistories, IsSoundHistory, AreSoundHistories, StoreHistory}
+use Rattle.book_laws.specs.HistorySteps.{report_on_histories}
 use Rattle.book_model.proofs.AnswerLemmas.{same_answer, no_answer}
-use Rattle.book_laws.proofs.GoingOnLemmas.{call_continues, books_go_on}
+use Rattle.book_laws.proofs.ExtensionLemmas.{call_continues, calls_extend_histories}
 use Rattle.book_laws.proofs.HistoryLemmas.{last-le}
-use Rattle.book_laws.proofs.LossLemmas.{still_lost}
+use Rattle.book_laws.proofs.RemovalCountLemmas.{still_lost}
 
 -- ---- a page of a book
 
--- where a page's mark stands in the history
-record IsWithin (story : Story) (mark : Mark) : Type 0 where
-  at : mark.at ≤ length story.history
-  base : mark.base ≤ length story.history
-  remembered : story.horizon ≤ mark.base
+-- the position of a page's mark in the log
+record IsWithin (history : BookHistory) (mark : Mark) : Type 0 where
+  at : mark.at ≤ length history.log
+  base : mark.base ≤ length history.log
+  remembered : history.horizon ≤ mark.base
 
-first_within : (story : Story) → IsSound story → IsWithin story (record { at = 0; base = length story.history })
-first_within story sound = record { at = omega arith; base = omega arith; remembered = sound.past }
+first_within : (history : BookHistory) → IsSoundHistory history → IsWithin history (record { at = 0; base = length history.log })
+first_within history sound = record { at = omega arith; base = omega arith; remembered = sound.within_log }
 
--- a token that was taken
-taken : (own at base old : Bool) (mark asked : Mark) → (provided own (BadToken OtherBook) >>= λ _. provided (at && base) (BadToken TooNew) >>= λ _. provided old (BadToken TooOld) >>= λ _. Ok mark) ≡ Ok asked
+-- a token that was accepted
+taken : (own at base old : Bool) (mark asked : Mark) → (refuse_unless own (BadToken OtherBook) >>= λ _. refuse_unless (at && base) (BadToken TooNew) >>= λ _. refuse_unless old (BadToken TooOld) >>= λ _. Ok mark) ≡ Ok asked
     → (at ≡ true) × (base ≡ true) × (old ≡ true) × (mark ≡ asked)
 taken true true true true mark asked e = (refl, refl, refl, same_answer mark asked e)
 taken true true true false mark asked e = absurd (no_answer (BadToken TooOld) asked e)
@@ -48,55 +48,55 @@ taken true true false old mark asked e = absurd (no_answer (BadToken TooNew) ask
 taken true false base old mark asked e = absurd (no_answer (BadToken TooNew) asked e)
 taken false at base old mark asked e = absurd (no_answer (BadToken OtherBook) asked e)
 
-asked_within : (story : Story) → IsSound story → (token : Option Token) (mark : Mark) → mark_asked story.id (length story.history) story.horizon token ≡ Ok mark → IsWithin story mark
-asked_within story sound None mark e = subst (IsWithin story) (same_answer _ mark e) (first_within story sound)
-asked_within story sound (Some token) mark e =
-    let t = taken (token.book == story.id) (nat_le token.mark.at (length story.history)) (nat_le token.mark.base (length story.history)) (nat_le story.horizon token.mark.base) token.mark mark e in
-    subst (IsWithin story) t.3 (record { at = leb-true _ _ t.0; base = leb-true _ _ t.1; remembered = leb-true _ _ t.2 })
+asked_within : (history : BookHistory) → IsSoundHistory history → (token : Option Token) (mark : Mark) → requested_mark history.id (length history.log) history.horizon token ≡ Ok mark → IsWithin history mark
+asked_within history sound None mark e = subst (IsWithin history) (same_answer _ mark e) (first_within history sound)
+asked_within history sound (Some token) mark e =
+    let t = taken (token.book == history.id) (nat_le token.mark.at (length history.log)) (nat_le token.mark.base (length history.log)) (nat_le history.horizon token.mark.base) token.mark mark e in
+    subst (IsWithin history) t.3 (record { at = leb-true _ _ t.0; base = leb-true _ _ t.1; remembered = leb-true _ _ t.2 })
 
-report_within : (story : Story) → IsSound story → (mark : Mark) (k : ℕ) → IsWithin story mark → IsWithin story (report story.history mark k).mark
-report_within story sound mark k w =
-    let h = story.history in
-    let number = last h (get_or (due h mark) (k - 1) []) in
+report_within : (history : BookHistory) → IsSoundHistory history → (mark : Mark) (k : ℕ) → IsWithin history mark → IsWithin history (report history.log mark k).mark
+report_within history sound mark k w =
+    let h = history.log in
+    let number = last_number h (get_or (due h mark) (k - 1) []) in
     let low = last-le h (get_or (due h mark) (k - 1) []) in
     let base = w.base in
-    let past = w.remembered in
-    elim (nat_lt k (length (due h mark))) as (λ b. IsWithin story (cond b (cut_page h mark k) (whole_page h mark)).mark) [
-      | true ↦ record { at = low; base = omega (arith, low, base); remembered = omega (arith, past) }
-      | false ↦ record { at = omega arith; base = omega arith; remembered = sound.past }
+    let within_log = w.remembered in
+    elim (nat_lt k (length (due h mark))) as (λ b. IsWithin history (cond b (truncated_log_page h mark k) (complete_log_page h mark)).mark) [
+      | true ↦ record { at = low; base = omega (arith, low, base); remembered = omega (arith, within_log) }
+      | false ↦ record { at = omega arith; base = omega arith; remembered = sound.within_log }
     ]
 
--- what a report that was answered says
-record Answered (stories : Stories) (name : List ℕ) (page : Page) : Type 0 where
-  story : Story
-  found : finite.get stories name ≡ Some story
-  book : page.book ≡ story.id
-  within : IsWithin story page.mark
+-- what an accepted report implies
+record Answered (histories : BookHistories) (name : List ℕ) (page : Page) : Type 0 where
+  history : BookHistory
+  found : finite.get histories name ≡ Some history
+  book : page.book ≡ history.id
+  within : IsWithin history page.mark
 
-answered : (world : World) (name : List ℕ) (token : Option Token) (limit : Option ℕ) (page : Page) → AreSound world.books → report_meaning world.limits world.books name token limit ≡ Ok page → Answered world.books name page
-answered world name token limit page sound = by_story (finite.get world.books name) refl
+answered : (store : StoreHistory) (name : List ℕ) (token : Option Token) (limit : Option ℕ) (page : Page) → AreSoundHistories store.books → report_on_histories store.limits store.books name token limit ≡ Ok page → Answered store.books name page
+answered store name token limit page sound = by_history (finite.get store.books name) refl
   where
-    by_size : (story : Story) → finite.get world.books name ≡ Some story → (mark : Mark) → IsWithin story mark → (size : Result ℕ Refusal) → (size >>= λ k. Ok (page_of story.id (report story.history mark k))) ≡ Ok page → Answered world.books name page
-    by_size story found mark w (Ok k) e =
-        let is = same_answer _ page e in
+    by_size : (history : BookHistory) → finite.get store.books name ≡ Some history → (mark : Mark) → IsWithin history mark → (size : Result ℕ Refusal) → (size >>= λ k. Ok (page_of history.id (report history.log mark k))) ≡ Ok page → Answered store.books name page
+    by_size history found mark w (Ok k) e =
+        let found_history = same_answer _ page e in
         record {
-          story = story;
+          history = history;
           found = found;
-          book = ap (λ (p : Page). p.book) (sym is);
-          within = subst (λ (p : Page). IsWithin story p.mark) is (report_within story (sound name story found) mark k w);
+          book = ap (λ (p : Page). p.book) (sym found_history);
+          within = subst (λ (p : Page). IsWithin history p.mark) found_history (report_within history (sound name history found) mark k w);
         }
-    by_size story found mark w (Err refusal) e = absurd (no_answer refusal page e)
+    by_size history found mark w (Err refusal) e = absurd (no_answer refusal page e)
 
-    by_mark : (story : Story) → finite.get world.books name ≡ Some story → (mark : Result Mark Refusal) → mark_asked story.id (length story.history) story.horizon token ≡ mark
-        → (mark >>= λ m. page_size world.limits.page_max limit >>= λ k. Ok (page_of story.id (report story.history m k))) ≡ Ok page → Answered world.books name page
-    by_mark story found (Ok mark) is e = by_size story found mark (asked_within story (sound name story found) token mark is) (page_size world.limits.page_max limit) e
-    by_mark story found (Err refusal) is e = absurd (no_answer refusal page e)
+    by_mark : (history : BookHistory) → finite.get store.books name ≡ Some history → (mark : Result Mark Refusal) → requested_mark history.id (length history.log) history.horizon token ≡ mark
+        → (mark >>= λ m. page_size store.limits.page_max limit >>= λ k. Ok (page_of history.id (report history.log m k))) ≡ Ok page → Answered store.books name page
+    by_mark history found (Ok mark) found_history e = by_size history found mark (asked_within history (sound name history found) token mark found_history) (page_size store.limits.page_max limit) e
+    by_mark history found (Err refusal) found_history e = absurd (no_answer refusal page e)
 
-    by_story : (o : Option Story) → finite.get world.books name ≡ o
-        → (option_map_or Ok o (Err NoSuchBook) >>= λ story. mark_asked story.id (length story.history) story.horizon token >>= λ m. page_size world.limits.page_max limit >>= λ k. Ok (page_of story.id (report story.history m k))) ≡ Ok page
-        → Answered world.books name page
-    by_story (Some story) found e = by_mark story found (mark_asked story.id (length story.history) story.horizon token) refl e
-    by_story None found e = absurd (no_answer NoSuchBook page e)
+    by_history : (o : Option BookHistory) → finite.get store.books name ≡ o
+        → (option_map_or Ok o (Err NoSuchBook) >>= λ history. requested_mark history.id (length history.log) history.horizon token >>= λ m. page_size store.limits.page_max limit >>= λ k. Ok (page_of history.id (report history.log m k))) ≡ Ok page
+        → Answered store.books name page
+    by_history (Some history) found e = by_mark history found (requested_mark history.id (length history.log) history.horizon token) refl e
+    by_history None found e = absurd (no_answer NoSuchBook page e)
 
 -- ---- why a token is refused
 
@@ -113,13 +113,13 @@ size_no_token page_max (Some limit) f cause each e = by (nat_lt 0 limit) e
     limit_no_token : ◌≡◌ {A = Result Page Refusal} (Err BadLimit) (Err (BadToken cause)) → ⊥
     limit_no_token n = cc
 
-    by : (some : Bool) → ((provided some BadLimit >>= λ _. Ok (min limit page_max)) >>= f) ≡ Err (BadToken cause) → ⊥
+    by : (some : Bool) → ((refuse_unless some BadLimit >>= λ _. Ok (min limit page_max)) >>= f) ≡ Err (BadToken cause) → ⊥
     by true e = let p = each (min limit page_max) in answer_no_error p.0 (sym p.1 ∙ e)
     by false e = limit_no_token e
 
 -- with the book's id, and numbers that aren't above its own, a token is refused only as too old
 too_old : (own known old : Bool) (rest : Result Page Refusal) (mark : Mark) (f : Mark → Result Page Refusal) (cause : TokenCause) → own ≡ true → known ≡ true → (f mark ≡ Err (BadToken cause) → ⊥)
-    → ((provided own (BadToken OtherBook) >>= λ _. provided known (BadToken TooNew) >>= λ _. provided old (BadToken TooOld) >>= λ _. Ok mark) >>= f) ≡ Err (BadToken cause)
+    → ((refuse_unless own (BadToken OtherBook) >>= λ _. refuse_unless known (BadToken TooNew) >>= λ _. refuse_unless old (BadToken TooOld) >>= λ _. Ok mark) >>= f) ≡ Err (BadToken cause)
     → (cause ≡ TooOld) × (old ≡ false)
 too_old true true true rest mark f cause o k none e = absurd (none e)
 too_old true true false rest mark f cause o k none e = (same_cause e, refl)
@@ -131,15 +131,15 @@ too_old false known old rest mark f cause o k none e = absurd (both_ways false r
 
 -- ---- a horizon that rose
 
--- A horizon is above a number only where a forgetting raised it there, or where more cards left the
--- book after the number than it keeps.
-rose : (limits : Bounds) (calls : List Call) (stories : Stories) (name : List ℕ) (base : ℕ) (story new : Story) → finite.get stories name ≡ Some story → story.horizon ≤ base
-    → finite.get (stories_after_all limits stories calls) name ≡ Some new → base < new.horizon → ForgotAbove limits stories calls name base ⊎ LostMoreThanKept (stories_after_all limits stories calls) name base
-rose limits [] stories name base story new found low at high =
-    let same : story ≡ new = same_Some story new (sym found ∙ at) in
-    let h = ap (λ (s : Story). s.horizon) same in absurd (omega (arith, low, high, h))
-rose limits (call ∷ calls) stories name base story new found low at high =
-    let one = call_continues limits stories call name story found in
+-- A horizon is above a number only where a forget raised it there, or where the book had more
+-- removals after the number than it keeps tombstones.
+rose : (limits : Bounds) (calls : List Call) (histories : BookHistories) (name : List ℕ) (base : ℕ) (history new : BookHistory) → finite.get histories name ≡ Some history → history.horizon ≤ base
+    → finite.get (histories_after_calls limits histories calls) name ≡ Some new → base < new.horizon → ForgotAbove limits histories calls name base ⊎ RemovalsExceedKeep (histories_after_calls limits histories calls) name base
+rose limits [] histories name base history new found low at high =
+    let same : history ≡ new = same_Some history new (sym found ∙ at) in
+    let h = ap (λ (s : BookHistory). s.horizon) same in absurd (omega (arith, low, high, h))
+rose limits (call ∷ calls) histories name base history new found low at high =
+    let one = call_continues limits histories call name history found in
     let next = one.0 in
     ⊎_elim
     (λ above. ⊎_elim
@@ -152,12 +152,12 @@ rose limits (call ∷ calls) stories name base story new found low at high =
       above = above;
       calls_are = ap (λ c. c ∷ calls) forgot.call_is;
       dropped = forgot.dropped;
-      left = forgot.left;
+      histories_left = forgot.left;
       accepted = forgot.accepted;
     }))
     (λ lost.
-    let g = books_go_on limits (stories_after limits stories call) calls name next one.1 in
-    inr (record { story = g.0; is = g.1; more = still_lost next g.0 base g.2 (lost base low above) }))
+    let g = calls_extend_histories limits (histories_after_call limits histories call) calls name next one.1 in
+    inr (record { history = g.0; found_history = g.1; more = still_lost next g.0 base g.2 (lost base low above) }))
     raised)
     one.2.horizon)
     (λ below. ⊎_elim
@@ -168,62 +168,62 @@ rose limits (call ∷ calls) stories name base story new found low at high =
       above = f.above;
       calls_are = ap (λ cs. call ∷ cs) f.calls_are;
       dropped = f.dropped;
-      left = f.left;
+      histories_left = f.histories_left;
       accepted = f.accepted;
     }))
     (λ lost. inr lost)
-    (rose limits calls (stories_after limits stories call) name base next new one.1 below at high))
+    (rose limits calls (histories_after_call limits histories call) name base next new one.1 below at high))
     (cases_lt base next.horizon)
 
 -- ---- the whole
 
--- the book of a page at a later moment, where it refuses the page's token
-record IsRefused (limits : Bounds) (stories : Stories) (calls : List Call) (name : List ℕ) (page : Page) (cause : TokenCause) : Type 0 where
-  old : Answered stories name page
-  new : Story
-  found : finite.get (stories_after_all limits stories calls) name ≡ Some new
+-- the book of a page in a later state, where it refuses the page's token
+record IsRefused (limits : Bounds) (histories : BookHistories) (calls : List Call) (name : List ℕ) (page : Page) (cause : TokenCause) : Type 0 where
+  old : Answered histories name page
+  new : BookHistory
+  found : finite.get (histories_after_calls limits histories calls) name ≡ Some new
   cause_is : cause ≡ TooOld
   above : page.mark.base < new.horizon
 
-refused_later : (world : World) (name : List ℕ) (token : Option Token) (limit again : Option ℕ) (page : Page) (calls : List Call) (cause : TokenCause) → AreSound world.books
-    → report_meaning world.limits world.books name token limit ≡ Ok page
-    → report_meaning world.limits (stories_after_all world.limits world.books calls) name (Some (token_of page)) again ≡ Err (BadToken cause)
-    → IsRefused world.limits world.books calls name page cause
-refused_later world name token limit again page calls cause sound made refused =
-    let a = answered world name token limit page sound made in
-    let g = books_go_on world.limits world.books calls name a.story a.found in
+refused_later : (store : StoreHistory) (name : List ℕ) (token : Option Token) (limit again : Option ℕ) (page : Page) (calls : List Call) (cause : TokenCause) → AreSoundHistories store.books
+    → report_on_histories store.limits store.books name token limit ≡ Ok page
+    → report_on_histories store.limits (histories_after_calls store.limits store.books calls) name (Some (token_of page)) again ≡ Err (BadToken cause)
+    → IsRefused store.limits store.books calls name page cause
+refused_later store name token limit again page calls cause sound made refused =
+    let a = answered store name token limit page sound made in
+    let g = calls_extend_histories store.limits store.books calls name a.history a.found in
     let new = g.0 in
     let goes = g.2 in
-    let longer : length new.history ≡ length goes.later + length a.story.history = ap length goes.history ∙ length-append goes.later a.story.history in
+    let longer : length new.log ≡ length goes.later + length a.history.log = ap length goes.log ∙ length-append goes.later a.history.log in
     let at = a.within.at in
     let base = a.within.base in
     let own : (page.book == new.id) ≡ true = eq-eqb page.book new.id (a.book ∙ sym goes.id) in
-    let known : (nat_le page.mark.at (length new.history) && nat_le page.mark.base (length new.history)) ≡ true =
-    ap (λ b. b && nat_le page.mark.base (length new.history)) (le-leb _ _ (omega (arith, longer, at))) ∙ le-leb _ _ (omega (arith, longer, base)) in
-    let sized : Mark → Result Page Refusal = λ m. page_size world.limits.page_max again >>= λ k. Ok (page_of new.id (report new.history m k)) in
-    let refused_there : ((mark_asked new.id (length new.history) new.horizon (Some (token_of page))) >>= sized) ≡ Err (BadToken cause) =
-    ap (λ (o : Option Story). option_map_or Ok o (Err NoSuchBook) >>= asked again) (sym g.1) ∙ refused in
-    let why = too_old (page.book == new.id) (nat_le page.mark.at (length new.history) && nat_le page.mark.base (length new.history)) (nat_le new.horizon page.mark.base) (Err BadLimit) page.mark sized cause own known
-    (size_no_token world.limits.page_max again (λ k. Ok (page_of new.id (report new.history page.mark k))) cause (λ k. (page_of new.id (report new.history page.mark k), refl)))
+    let known : (nat_le page.mark.at (length new.log) && nat_le page.mark.base (length new.log)) ≡ true =
+    ap (λ b. b && nat_le page.mark.base (length new.log)) (le-leb _ _ (omega (arith, longer, at))) ∙ le-leb _ _ (omega (arith, longer, base)) in
+    let sized : Mark → Result Page Refusal = λ m. page_size store.limits.page_max again >>= λ k. Ok (page_of new.id (report new.log m k)) in
+    let refused_there : ((requested_mark new.id (length new.log) new.horizon (Some (token_of page))) >>= sized) ≡ Err (BadToken cause) =
+    ap (λ (o : Option BookHistory). option_map_or Ok o (Err NoSuchBook) >>= asked again) (sym g.1) ∙ refused in
+    let why = too_old (page.book == new.id) (nat_le page.mark.at (length new.log) && nat_le page.mark.base (length new.log)) (nat_le new.horizon page.mark.base) (Err BadLimit) page.mark sized cause own known
+    (size_no_token store.limits.page_max again (λ k. Ok (page_of new.id (report new.log page.mark k))) cause (λ k. (page_of new.id (report new.log page.mark k), refl)))
     refused_there in
     record { old = a; new = new; found = g.1; cause_is = why.0; above = above new.horizon page.mark.base why.1 }
   where
-    asked : Option ℕ → Story → Result Page Refusal
-    asked limit story = mark_asked story.id (length story.history) story.horizon (Some (token_of page)) >>= λ m. page_size world.limits.page_max limit >>= λ k. Ok (page_of story.id (report story.history m k))
+    asked : Option ℕ → BookHistory → Result Page Refusal
+    asked limit history = requested_mark history.id (length history.log) history.horizon (Some (token_of page)) >>= λ m. page_size store.limits.page_max limit >>= λ k. Ok (page_of history.id (report history.log m k))
 
     above : (m n : ℕ) → nat_le m n ≡ false → n < m
     above m n e = grind (arith, nat_tests, e)
 
-pub tokens_stay_good : TokensStayGood
-tokens_stay_good world name token limit again page calls cause sound made refused =
-    let r = refused_later world name token limit again page calls cause sound made refused in
-    (r.cause_is, rose world.limits calls world.books name page.mark.base r.old.story r.new r.old.found r.old.within.remembered r.found r.above)
+pub tokens_stay_valid : TokensStayValid
+tokens_stay_valid store name token limit again page calls cause sound made refused =
+    let r = refused_later store name token limit again page calls cause sound made refused in
+    (r.cause_is, rose store.limits calls store.books name page.mark.base r.old.history r.new r.old.found r.old.within.remembered r.found r.above)
 
-pub new_tokens_are_taken : NewTokensAreTaken
-new_tokens_are_taken world name token limit again page cause sound made refused =
-    let r = refused_later world name token limit again page [] cause sound made refused in
-    let same : r.old.story ≡ r.new = same_Some r.old.story r.new (sym r.old.found ∙ r.found) in
-    let horizon = ap (λ (s : Story). s.horizon) same in
+pub fresh_tokens_are_accepted : FreshTokensAreAccepted
+fresh_tokens_are_accepted store name token limit again page cause sound made refused =
+    let r = refused_later store name token limit again page [] cause sound made refused in
+    let same : r.old.history ≡ r.new = same_Some r.old.history r.new (sym r.old.found ∙ r.found) in
+    let horizon = ap (λ (s : BookHistory). s.horizon) same in
     let low = r.old.within.remembered in
     let high = r.above in
     absurd (omega (arith, horizon, low, high))

@@ -23,21 +23,21 @@ use Rattle.book_model.specs.declared.refusal.Refusal.TheVariants.{BadBookName, B
 use Rattle.book_model.specs.declared.row.Row.{Row}
 use Rattle.book_model.specs.Bounds.{Bounds, bounds_of}
 use Rattle.book_model.specs.BookNames.{is_legal_name}
-use Rattle.book_model.specs.Books.{Book, Books, empty_book, live_at, live_card, same_name, stored_in}
-use Rattle.book_model.specs.Changing.{with_change}
+use Rattle.book_model.specs.Books.{Book, Books, fresh_book, live_at, live_or_no_such_card, same_name, stored_in_row}
+use Rattle.book_model.specs.BookChanges.{book_after_change}
 use Rattle.book_model.specs.Counting.{live_count}
 use Rattle.book_model.specs.Creating.{new_id}
 use Rattle.book_model.specs.Forgetting.{book_after_forget, may_forget}
-use Rattle.book_model.specs.Importing.{Importing, import_state, import_card, import_cards, import_tally, import_under, is_legal_key, with_kept_import, storing_in, import_for, import_reason}
+use Rattle.book_model.specs.Importing.{Importing, import_state, import_card, import_cards, import_tally, import_under_key, is_legal_key, book_with_kept_import, book_after_store, import_with_reason, import_reason}
 use Rattle.book_model.specs.Moving.{Moving, move_numbers, move_answer, books_after_move}
-use Rattle.book_model.specs.Outcomes.{◌>>=◌, provided}
-use Rattle.book_model.specs.Putting.{Found, answer_over, books_after_put, found_in, is_expected, next_number, put_answer, reason_for, version_of}
+use Rattle.book_model.specs.CallOutcomes.{◌>>=◌, refuse_unless}
+use Rattle.book_model.specs.Putting.{FoundMember, answer_over_live, books_after_put, found_in_book, is_expected, next_number, put_answer, put_store_reason, version_of}
 use Rattle.book_model.specs.Removing.{remove_number}
 use Rattle.book_model.specs.SameCards.{same_card}
 use Rattle.book_model.specs.WellFormed.{IsWellFormedBook, IsWellFormed}
-use Rattle.book_laws.specs.WellFormedLaws.{LeavesWellFormed, CreatingKeepsForm, PuttingKeepsForm, RemovingKeepsForm, MovingKeepsForm, ImportingKeepsForm, ForgettingKeepsForm}
+use Rattle.book_laws.specs.WellFormedLaws.{LeavesWellFormed, CreateKeepsWellFormed, PutKeepsWellFormed, RemoveKeepsWellFormed, MoveKeepsWellFormed, ImportKeepsWellFormed, ForgetKeepsWellFormed}
 use Rattle.base_types.proofs.TextLemmas.{text_total}
-use Rattle.book_laws.proofs.PassedLemmas.{after_test, after_known, after_named}
+use Rattle.book_laws.proofs.AcceptedLemmas.{after_test, after_known, after_named}
 use Rattle.book_laws.proofs.WellFormedBooks.{Fits, well_changed, within, well_kept, well_forgotten, well_over, well_new}
 
 -- there was a number left
@@ -47,7 +47,7 @@ HasNumberLeft limits number = number + 1 ≤ limits.changes_max
 number_left : (limits : Bounds) (number : ℕ) → IfOk (next_number limits number) (λ _. HasNumberLeft limits number)
 number_left limits number = after_test (λ _. HasNumberLeft limits number) (nat_lt number limits.changes_max) ChangesSpent (Ok (number + 1)) (λ left. let l = ltb-true number limits.changes_max left in omega (arith, l))
 
--- ---- making a book
+-- ---- creating a book
 
 record IsNewId (limits : Bounds) (books : Books) (name : List ℕ) (id : ℕ) : Type 0 where
   legal : is_legal_name name ≡ true
@@ -63,19 +63,19 @@ new_id_is limits books name =
     after_test P (nat_lt (finite.len books) limits.books_max) TooManyBooks _ (λ room.
     record { legal = legal; free = not-true (finite.contains_key books name) free; room = ltb-true (finite.len books) limits.books_max room; id_is = refl })))
 
-pub creating_keeps_form : CreatingKeepsForm
+pub creating_keeps_form : CreateKeepsWellFormed
 creating_keeps_form limits books name range is =
     after_known (λ (done : ℕ × Books). IsWellFormed limits done.1) (IsNewId limits books name)
-    (new_id limits name (finite.contains_key books name) (finite.len books)) (λ id. Ok (id, finite.insert books name (empty_book id limits.keep))) (new_id_is limits books name)
-    (λ id new. subst (λ (n : ℕ). IsWellFormed limits (finite.insert books name (empty_book n limits.keep))) new.id_is (well_new limits books name is range.keep_least new.free new.legal new.room))
+    (new_id limits name (finite.contains_key books name) (finite.len books)) (λ id. Ok (id, finite.insert books name (fresh_book id limits.keep))) (new_id_is limits books name)
+    (λ id new. subst (λ (n : ℕ). IsWellFormed limits (finite.insert books name (fresh_book n limits.keep))) new.id_is (well_new limits books name is range.keep_least new.free new.legal new.room))
 
 -- ---- storing a card
 
 -- where the card is stored, the reason fits what was live, and there was a number left
 abbrev PutsWell : Bounds → ℕ → List Line → Option Stored → PutAnswer → Type 0
-PutsWell limits number card live answer = (why : StoreReason) → reason_for answer ≡ Some why → Fits (Stores card why) live × HasNumberLeft limits number
+PutsWell limits number card live answer = (why : StoreReason) → put_store_reason answer ≡ Some why → Fits (Stores card why) live × HasNumberLeft limits number
 
-put_over : (limits : Bounds) (found : Found) (card : List Line) (live : Option Stored) → IfOk (answer_over limits found card live) (PutsWell limits found.number card live)
+put_over : (limits : Bounds) (found : FoundMember) (card : List Line) (live : Option Stored) → IfOk (answer_over_live limits found card live) (PutsWell limits found.number card live)
 put_over limits found card None =
     let P = PutsWell limits found.number card None in
     after_test P (nat_lt found.cards limits.cards_max) BookFull _ (λ room.
@@ -97,41 +97,41 @@ module _ (limits : Bounds) (books : Books) (name : List ℕ) (is : IsWellFormed 
   put_written book card at None fits = is
   put_written book card at (Some why) fits =
       let f = fits why refl in
-      well_over limits books name is book (with_change book (uid_of card) (Stores card why)) at refl
+      well_over limits books name is book (book_after_change book (uid_of card) (Stores card why)) at refl
       (well_changed limits limits book (uid_of card) (Stores card why) (is.each name book at) f.1 f.0 refl)
 
-pub putting_keeps_form : PuttingKeepsForm
+pub putting_keeps_form : PutKeepsWellFormed
 putting_keeps_form limits books name card expect is =
     let P : PutAnswer × Books → Type 0 = λ done. IsWellFormed limits done.1 in
     after_named P books name _ (λ book at.
-    let found = found_in book (uid_of card) in
+    let found = found_in_book book (uid_of card) in
     let Q = PutsWell limits book.number card (live_at book (uid_of card)) in
     after_known P Q (put_answer limits found card expect) _
-    (after_test Q (is_expected expect (version_of found.live)) (VersionMismatch (version_of found.live)) (answer_over limits found card found.live) (λ expected. put_over limits found card found.live))
-    (λ answer well. put_written limits books name is book card at (reason_for answer) well))
+    (after_test Q (is_expected expect (version_of found.live)) (VersionMismatch (version_of found.live)) (answer_over_live limits found card found.live) (λ expected. put_over limits found card found.live))
+    (λ answer well. put_written limits books name is book card at (put_store_reason answer) well))
 
--- ---- taking a card away
+-- ---- removing a card
 
 remove_over : (limits : Bounds) (number : ℕ) (expect : Option ℕ) (live : Option Stored)
-    → IfOk (live_card live >>= λ stored. provided (is_expected expect stored.version) (VersionMismatch stored.version) >>= λ _. next_number limits number) (λ _. (is_some live ≡ true) × HasNumberLeft limits number)
+    → IfOk (live_or_no_such_card live >>= λ stored. refuse_unless (is_expected expect stored.version) (VersionMismatch stored.version) >>= λ _. next_number limits number) (λ _. (is_some live ≡ true) × HasNumberLeft limits number)
 remove_over limits number expect None = tt
 remove_over limits number expect (Some stored) =
     let Q : ℕ → Type 0 = λ _. (is_some (Some stored) ≡ true) × HasNumberLeft limits number in
     after_test Q (is_expected expect stored.version) (VersionMismatch stored.version) (next_number limits number) (λ expected.
     IfOk-weaker (next_number limits number) (λ _. HasNumberLeft limits number) Q (λ version left. (refl, left)) (number_left limits number))
 
-pub removing_keeps_form : RemovingKeepsForm
+pub removing_keeps_form : RemoveKeepsWellFormed
 removing_keeps_form limits books name uid expect is =
     let P : ℕ × Books → Type 0 = λ done. IsWellFormed limits done.1 in
     after_named P books name _ (λ book at.
-    after_known P (λ (_ : ℕ). (is_some (live_at book uid) ≡ true) × HasNumberLeft limits book.number) (remove_number limits (found_in book uid) expect) _
+    after_known P (λ (_ : ℕ). (is_some (live_at book uid) ≡ true) × HasNumberLeft limits book.number) (remove_number limits (found_in_book book uid) expect) _
     (remove_over limits book.number expect (live_at book uid))
-    (λ number found. well_over limits books name is book (with_change book uid (TakesAway Deletion)) at refl
+    (λ number found. well_over limits books name is book (book_after_change book uid (TakesAway Deletion)) at refl
     (well_changed limits limits book uid (TakesAway Deletion) (is.each name book at) found.1 found.0 tt)))
 
 -- ---- moving a card
 
-record FitsMove (limits : Bounds) (source target : Found) (moving : Moving) : Type 0 where
+record FitsMove (limits : Bounds) (source target : FoundMember) (moving : Moving) : Type 0 where
   stored : Stored
   live : source.live ≡ Some stored
   free : target.live ≡ None
@@ -149,11 +149,11 @@ numbers_left limits cards a b =
     after_known Q (λ (_ : ℕ). HasNumberLeft limits a) (next_number limits a) _ (number_left limits a) (λ from left.
     after_known Q (λ (_ : ℕ). HasNumberLeft limits b) (next_number limits b) _ (number_left limits b) (λ version also. (left, also))))
 
-module _ (limits : Bounds) (a b : Found) (expect : Option ℕ) where
+module _ (limits : Bounds) (a b : FoundMember) (expect : Option ℕ) where
   abbrev expected : Stored → Result Moving Refusal
-  expected stored = provided (is_expected expect stored.version) (VersionMismatch stored.version) >>= λ _. move_numbers limits b.cards a.number b.number >>= λ numbers. Ok (record { card = stored.card; numbers = numbers })
+  expected stored = refuse_unless (is_expected expect stored.version) (VersionMismatch stored.version) >>= λ _. move_numbers limits b.cards a.number b.number >>= λ numbers. Ok (record { card = stored.card; numbers = numbers })
 
-  move_over : (live free : Option Stored) → a.live ≡ live → b.live ≡ free → IfOk (live_card live >>= λ stored. provided (not (is_some free)) UidTaken >>= λ _. expected stored) (FitsMove limits a b)
+  move_over : (live free : Option Stored) → a.live ≡ live → b.live ≡ free → IfOk (live_or_no_such_card live >>= λ stored. refuse_unless (not (is_some free)) UidTaken >>= λ _. expected stored) (FitsMove limits a b)
   move_over None free p q = tt
   move_over (Some stored) (Some other) p q = tt
   move_over (Some stored) None p q =
@@ -172,43 +172,43 @@ own_live limits book uid stored is e = by_row (finite.get book.members uid) refl
     by_card row at (Some card) c e = sym (ap (λ (s : Stored). uid_of s.card) (same_Some _ stored e)) ∙ (is.rows uid row at).own_card card c
     by_card row at None c e = absurd (no_card e)
 
-    by_row : (o : Option Row) → finite.get book.members uid ≡ o → option_and_then stored_in o ≡ Some stored → uid_of stored.card ≡ uid
+    by_row : (o : Option Row) → finite.get book.members uid ≡ o → option_and_then stored_in_row o ≡ Some stored → uid_of stored.card ≡ uid
     by_row (Some row) at e = by_card row at row.card refl e
     by_row None at e = absurd (no_card e)
 
 module _ (limits : Bounds) (books : Books) (from to uid : List ℕ) (source target : Book) (moving : Moving) (is : IsWellFormed limits books)
-    (at : finite.get books from ≡ Some source) (there : finite.get books to ≡ Some target) (apart : same_name from to ≡ false) (fits : FitsMove limits (found_in source uid) (found_in target uid) moving) where
-  abbrev came : Book
-  came = with_change target uid (Stores moving.card MoveIn)
+    (at : finite.get books from ≡ Some source) (there : finite.get books to ≡ Some target) (apart : same_name from to ≡ false) (fits : FitsMove limits (found_in_book source uid) (found_in_book target uid) moving) where
+  abbrev target_after : Book
+  target_after = book_after_change target uid (Stores moving.card MoveIn)
 
-  abbrev gone : Book
-  gone = with_change source uid (TakesAway MoveOut)
+  abbrev removed_up_to_base : Book
+  removed_up_to_base = book_after_change source uid (TakesAway MoveOut)
 
   own_moved : uid_of moving.card ≡ uid
   own_moved = ap uid_of (sym fits.card_is) ∙ own_live limits source uid fits.stored (is.each from source at) fits.live
 
-  well_come : IsWellFormed limits (finite.insert books to came)
-  well_come = well_over limits books to is target came there refl (well_changed limits limits target uid (Stores moving.card MoveIn) (is.each to target there) fits.target_left fits.free own_moved)
+  well_come : IsWellFormed limits (finite.insert books to target_after)
+  well_come = well_over limits books to is target target_after there refl (well_changed limits limits target uid (Stores moving.card MoveIn) (is.each to target there) fits.target_left fits.free own_moved)
 
-  still_at : finite.get (finite.insert books to came) from ≡ Some source
-  still_at = get-insert text_total books to came from ∙ cond-false _ _ _ apart ∙ at
+  still_at : finite.get (finite.insert books to target_after) from ≡ Some source
+  still_at = get-insert text_total books to target_after from ∙ cond-false _ _ _ apart ∙ at
 
   well_moved : IsWellFormed limits (books_after_move books from to uid source target moving.card)
-  well_moved = well_over limits (finite.insert books to came) from well_come source gone still_at refl (well_changed limits limits source uid (TakesAway MoveOut) (is.each from source at) fits.source_left (ap is_some fits.live) tt)
+  well_moved = well_over limits (finite.insert books to target_after) from well_come source removed_up_to_base still_at refl (well_changed limits limits source uid (TakesAway MoveOut) (is.each from source at) fits.source_left (ap is_some fits.live) tt)
 
-pub moving_keeps_form : MovingKeepsForm
+pub moving_keeps_form : MoveKeepsWellFormed
 moving_keeps_form limits books from to uid expect is =
     let P : Moved × Books → Type 0 = λ done. IsWellFormed limits done.1 in
     after_named P books from _ (λ source at.
     after_named P books to _ (λ target there.
     after_test P (not (same_name from to)) SameBook _ (λ apart.
-    after_known P (FitsMove limits (found_in source uid) (found_in target uid)) (move_answer limits (found_in source uid) (found_in target uid) expect) _
-    (move_over limits (found_in source uid) (found_in target uid) expect (live_at source uid) (live_at target uid) refl refl)
+    after_known P (FitsMove limits (found_in_book source uid) (found_in_book target uid)) (move_answer limits (found_in_book source uid) (found_in_book target uid) expect) _
+    (move_over limits (found_in_book source uid) (found_in_book target uid) expect (live_at source uid) (live_at target uid) refl refl)
     (λ moving fits. well_moved limits books from to uid source target moving is at there (not-true (same_name from to) apart) fits))))
 
 -- ---- importing cards
 
--- a book as far as an import came
+-- the book after the cards imported so far
 record IsImporting (start : Book) (state : Importing Book) : Type 0 where
   limits : Bounds
   form : IsWellFormedBook limits state.book
@@ -219,23 +219,23 @@ abbrev one_more : ℕ → Bounds
 one_more number = bounds_of 0 0 (number + 1) 0
 
 module _ (start : Book) (state : Importing Book) (card : List Line) (is : IsImporting start state) where
-  import_stored : (why : StoreReason) → Fits (Stores card why) (live_at state.book (uid_of card)) → IsWellFormedBook (one_more state.book.number) (storing_in state.book card why)
+  import_stored : (why : StoreReason) → Fits (Stores card why) (live_at state.book (uid_of card)) → IsWellFormedBook (one_more state.book.number) (book_after_store state.book card why)
   import_stored why fits = well_changed is.limits (one_more state.book.number) state.book (uid_of card) (Stores card why) is.form (omega arith) fits refl
 
-  over : (o : Option Stored) → live_at state.book (uid_of card) ≡ o → IsImporting start (import_for storing_in state card (import_reason card o))
+  over : (o : Option Stored) → live_at state.book (uid_of card) ≡ o → IsImporting start (import_with_reason book_after_store state card (import_reason card o))
   over None none =
       let n = is.number_is in
       record { limits = one_more state.book.number; form = import_stored Import none; same_id = is.same_id; number_is = omega (arith, n) }
-  over (Some stored) some = elim (same_card stored.card card) as (λ b. IsImporting start (import_for storing_in state card (cond b None (Some ImportEdit)))) [
+  over (Some stored) some = elim (same_card stored.card card) as (λ b. IsImporting start (import_with_reason book_after_store state card (cond b None (Some ImportEdit)))) [
     | true ↦ record { limits = is.limits; form = is.form; same_id = is.same_id; number_is = is.number_is }
     | false ↦
         let n = is.number_is in
         record { limits = one_more state.book.number; form = import_stored ImportEdit (ap is_some some); same_id = is.same_id; number_is = omega (arith, n) }
   ]
 
-all_cards : (start : Book) (cards : List (List Line)) (state : Importing Book) → IsImporting start state → IsImporting start (fold (import_card live_at storing_in) state cards)
+all_cards : (start : Book) (cards : List (List Line)) (state : Importing Book) → IsImporting start state → IsImporting start (fold (import_card live_at book_after_store) state cards)
 all_cards start [] state is = is
-all_cards start (card ∷ cards) state is = all_cards start cards (import_card live_at storing_in state card) (over start state card is (live_at state.book (uid_of card)) refl)
+all_cards start (card ∷ cards) state is = all_cards start cards (import_card live_at book_after_store state card) (over start state card is (live_at state.book (uid_of card)) refl)
 
 -- nothing was stored, or there were numbers left for it
 record FitsTally (limits : Bounds) (state : Importing Book) (number : ℕ) (tally : ImportTally) : Type 0 where
@@ -253,7 +253,7 @@ tally_fits limits state cards number =
 
 module _ (limits : Bounds) (books : Books) (name key : List ℕ) (book : Book) (cards : List (List Line)) (is : IsWellFormed limits books) (at : finite.get books name ≡ Some book) (legal : is_legal_key key ≡ true) where
   abbrev imported : Importing Book
-  imported = import_cards live_at storing_in book cards
+  imported = import_cards live_at book_after_store book cards
 
   imported_well : IsImporting book imported
   imported_well = all_cards book cards (import_state book 0 0 0) (record { limits = limits; form = is.each name book at; same_id = refl; number_is = omega arith })
@@ -264,7 +264,7 @@ module _ (limits : Bounds) (books : Books) (name key : List ℕ) (book : Book) (
       let most = (is.each name book at).within_limit in
       ⊎_elim (λ none. omega (arith, n, most, none)) (λ le. le) fits.room
 
-  import_kept : (kept : Option ImportTally) → LeavesWellFormed limits (import_under limits books name book key cards kept)
+  import_kept : (kept : Option ImportTally) → LeavesWellFormed limits (import_under_key limits books name book key cards kept)
   import_kept (Some kept) = is
   import_kept None =
       let P : ImportTally × Books → Type 0 = λ done. IsWellFormed limits done.1 in
@@ -272,10 +272,10 @@ module _ (limits : Bounds) (books : Books) (name key : List ℕ) (book : Book) (
       (tally_fits limits imported (live_count imported.book.counts) imported.book.number)
       (λ tally fits.
       let known = fits.number_is in
-      well_over limits books name is book (with_kept_import imported.book key tally) at imported_well.same_id
+      well_over limits books name is book (book_with_kept_import imported.book key tally) at imported_well.same_id
       (well_kept limits imported.book key tally legal (omega (arith, known)) (within imported_well.limits limits imported.book (tally_room tally fits) imported_well.form)))
 
-pub importing_keeps_form : ImportingKeepsForm
+pub importing_keeps_form : ImportKeepsWellFormed
 importing_keeps_form limits books name key cards is =
     let P : ImportTally × Books → Type 0 = λ done. IsWellFormed limits done.1 in
     after_named P books name _ (λ book at.
@@ -284,7 +284,7 @@ importing_keeps_form limits books name key cards is =
 
 -- ---- forgetting
 
-pub forgetting_keeps_form : ForgettingKeepsForm
+pub forgetting_keeps_form : ForgetKeepsWellFormed
 forgetting_keeps_form limits books name upto is =
     let P : ℕ × Books → Type 0 = λ done. IsWellFormed limits done.1 in
     after_named P books name _ (λ book at.

@@ -1,4 +1,4 @@
--- The calls of a store, what each means on whole histories, and lists of them. This project's own.
+-- The calls of a store, defined on histories, and lists of calls. This project's own.
 use Rattle.std.specs.Prelude.{ℕ, List, [], ◌∷◌, Option, Result, Ok, Err}
 use Rattle.vcard_lines.specs.declared.line.Line.{Line}
 use Rattle.book_model.specs.declared.answers.BookLine.{BookLine}
@@ -12,112 +12,120 @@ use Rattle.book_model.specs.declared.refusal.Refusal.{Refusal}
 use Rattle.book_model.specs.declared.token.Token.{Token}
 use Rattle.book_model.specs.Bounds.{Bounds}
 use Rattle.book_model.specs.Books.{LiveCards}
-use Rattle.book_model.specs.Outcomes.{◌>>=◌}
-use Rattle.book_laws.specs.Worlds.{Stories}
-use Rattle.book_laws.specs.WorldSteps.{create_meaning, put_meaning, report_meaning}
-use Rattle.book_laws.specs.WorldChanges.{remove_meaning, move_meaning, import_meaning, forget_meaning}
-use Rattle.book_laws.specs.WorldReads.{books_meaning, book_line_meaning, get_meaning, cards_meaning, kept_import_meaning, tally_meaning}
+use Rattle.book_model.specs.CallOutcomes.{◌>>=◌}
+use Rattle.book_laws.specs.StoreHistories.{BookHistories}
+use Rattle.book_laws.specs.HistorySteps.{create_on_histories, put_on_histories, report_on_histories}
+use Rattle.book_laws.specs.HistoryChanges.{remove_on_histories, move_on_histories}
+use Rattle.book_laws.specs.HistoryChanges.{import_on_histories, forget_on_histories}
+use Rattle.book_laws.specs.HistoryQueries.{books_on_histories, book_line_on_histories}
+use Rattle.book_laws.specs.HistoryQueries.{get_on_histories, cards_on_histories}
+use Rattle.book_laws.specs.HistoryQueries.{kept_import_on_histories, tally_on_histories}
 
 pub data Call : Type 0 where
-  -- a book of this name is made
-  CreatesBook : List ℕ → Call
-  -- a card is stored in the book, where this version is expected
-  Puts : List ℕ → List Line → Option ℕ → Call
-  -- the book's card of this UID is taken away, where this version is expected
-  Removes : List ℕ → List ℕ → Option ℕ → Call
-  -- from the first book to the second goes the card of this UID, where this version is expected
-  Moves : List ℕ → List ℕ → List ℕ → Option ℕ → Call
-  -- into the book come these cards, under the key
-  Imports : List ℕ → List ℕ → List (List Line) → Call
-  -- the book forgets what was removed up to the number
-  Forgets : List ℕ → ℕ → Call
-  -- the book's report from the token, with at most so many entries
-  AsksReport : List ℕ → Option Token → Option ℕ → Call
-  -- what the book keeps of the import with this key
-  AsksImport : List ℕ → List ℕ → Call
-  ListsBooks : Call
-  ShowsBook : List ℕ → Call
-  -- the book's card of this UID
-  Gets : List ℕ → List ℕ → Call
-  ListsCards : List ℕ → Call
-  Tallies : List ℕ → Call
+  -- create a book of this name
+  CreateBookCall : List ℕ → Call
+  -- store a card in the book, with the expected version, if any
+  PutCall : List ℕ → List Line → Option ℕ → Call
+  -- remove the book's card of this UID, with the expected version, if any
+  RemoveCall : List ℕ → List ℕ → Option ℕ → Call
+  -- move the card of this UID from the first book to the second, with the expected version, if any
+  MoveCall : List ℕ → List ℕ → List ℕ → Option ℕ → Call
+  -- import these cards into the book under a key
+  ImportCall : List ℕ → List ℕ → List (List Line) → Call
+  -- forget the removals of the book up to the number
+  ForgetCall : List ℕ → ℕ → Call
+  -- report the book from the token, with at most the limit of entries
+  ReportCall : List ℕ → Option Token → Option ℕ → Call
+  -- look up the book's import under this key
+  KeptImportCall : List ℕ → List ℕ → Call
+  BooksCall : Call
+  BookLineCall : List ℕ → Call
+  -- get the book's card of this UID
+  GetCall : List ℕ → List ℕ → Call
+  CardsCall : List ℕ → Call
+  TallyCall : List ℕ → Call
 
--- what a call answers
-pub data Returned : Type 0 where
-  MadeBook : ℕ → Returned
-  DidPut : PutAnswer → Returned
-  DidRemove : ℕ → Returned
-  DidMove : Moved → Returned
-  DidImport : ImportTally → Returned
-  DidForget : ℕ → Returned
-  GavePage : Page → Returned
-  GaveImport : Option ImportTally → Returned
-  GaveBooks : List BookLine → Returned
-  GaveBook : BookLine → Returned
-  GaveCard : Stored → Returned
-  GaveCards : LiveCards → Returned
-  GaveTally : Tally → Returned
+-- the answer of a call
+pub data CallAnswer : Type 0 where
+  ReturnedId : ℕ → CallAnswer
+  ReturnedPut : PutAnswer → CallAnswer
+  ReturnedRemoval : ℕ → CallAnswer
+  ReturnedMove : Moved → CallAnswer
+  ReturnedImport : ImportTally → CallAnswer
+  ReturnedDropped : ℕ → CallAnswer
+  ReturnedPage : Page → CallAnswer
+  ReturnedKeptImport : Option ImportTally → CallAnswer
+  ReturnedBooks : List BookLine → CallAnswer
+  ReturnedBookLine : BookLine → CallAnswer
+  ReturnedCard : Stored → CallAnswer
+  ReturnedCards : LiveCards → CallAnswer
+  ReturnedTally : Tally → CallAnswer
 
--- what is said of an answer, and the state that it left
-abbrev pub with_answer
+-- wraps the answer of a call that changes the state
+abbrev pub map_answer
     : {A B S : Type 0} → (A → B) → Result (A × S) Refusal → Result (B × S) Refusal
-with_answer f step = step >>= λ done. Ok (f done.0, done.1)
+map_answer f step = step >>= λ done. Ok (f done.0, done.1)
 
--- what is said of an answer that left the state as it was
-abbrev pub with_reading : {A B S : Type 0} → (A → B) → S → Result A Refusal → Result (B × S) Refusal
-with_reading f state reading = reading >>= λ answer. Ok (f answer, state)
+-- wraps the answer of a call that only reads: the state is the same
+abbrev pub answer_in_state : {A B S : Type 0} → (A → B) → S → Result A Refusal
+    → Result (B × S) Refusal
+answer_in_state f state reading = reading >>= λ answer. Ok (f answer, state)
 
--- what a call means: its answer and the stories after it, or its refusal
-abbrev pub meaning : Bounds → Stories → Call → Result (Returned × Stories) Refusal
-meaning limits stories (CreatesBook name) =
-    with_answer MadeBook (create_meaning limits stories name)
-meaning limits stories (Puts name card expect) =
-    with_answer DidPut (put_meaning limits stories name card expect)
-meaning limits stories (Removes name uid expect) =
-    with_answer DidRemove (remove_meaning limits stories name uid expect)
-meaning limits stories (Moves from to uid expect) =
-    with_answer DidMove (move_meaning limits stories from to uid expect)
-meaning limits stories (Imports name key cards) =
-    with_answer DidImport (import_meaning limits stories name key cards)
-meaning limits stories (Forgets name upto) =
-    with_answer DidForget (forget_meaning stories name upto)
-meaning limits stories (AsksReport name token limit) =
-    with_reading GavePage stories (report_meaning limits stories name token limit)
-meaning limits stories (AsksImport name key) =
-    with_reading GaveImport stories (kept_import_meaning stories name key)
-meaning limits stories ListsBooks = Ok (GaveBooks (books_meaning stories), stories)
-meaning limits stories (ShowsBook name) =
-    with_reading GaveBook stories (book_line_meaning stories name)
-meaning limits stories (Gets name uid) =
-    with_reading GaveCard stories (get_meaning stories name uid)
-meaning limits stories (ListsCards name) =
-    with_reading GaveCards stories (cards_meaning stories name)
-meaning limits stories (Tallies name) = with_reading GaveTally stories (tally_meaning stories name)
+-- The definition of every call: its answer and the histories after it, or its refusal.
+abbrev pub call_on_histories : Bounds → BookHistories → Call
+    → Result (CallAnswer × BookHistories) Refusal
+call_on_histories limits histories (CreateBookCall name) =
+    map_answer ReturnedId (create_on_histories limits histories name)
+call_on_histories limits histories (PutCall name card expect) =
+    map_answer ReturnedPut (put_on_histories limits histories name card expect)
+call_on_histories limits histories (RemoveCall name uid expect) =
+    map_answer ReturnedRemoval (remove_on_histories limits histories name uid expect)
+call_on_histories limits histories (MoveCall from to uid expect) =
+    map_answer ReturnedMove (move_on_histories limits histories from to uid expect)
+call_on_histories limits histories (ImportCall name key cards) =
+    map_answer ReturnedImport (import_on_histories limits histories name key cards)
+call_on_histories limits histories (ForgetCall name upto) =
+    map_answer ReturnedDropped (forget_on_histories histories name upto)
+call_on_histories limits histories (ReportCall name token limit) =
+    answer_in_state ReturnedPage histories (report_on_histories limits histories name token limit)
+call_on_histories limits histories (KeptImportCall name key) =
+    answer_in_state ReturnedKeptImport histories (kept_import_on_histories histories name key)
+call_on_histories limits histories BooksCall =
+    Ok (ReturnedBooks (books_on_histories histories), histories)
+call_on_histories limits histories (BookLineCall name) =
+    answer_in_state ReturnedBookLine histories (book_line_on_histories histories name)
+call_on_histories limits histories (GetCall name uid) =
+    answer_in_state ReturnedCard histories (get_on_histories histories name uid)
+call_on_histories limits histories (CardsCall name) =
+    answer_in_state ReturnedCards histories (cards_on_histories histories name)
+call_on_histories limits histories (TallyCall name) =
+    answer_in_state ReturnedTally histories (tally_on_histories histories name)
 
 -- ---- one call after another
 
--- what is answered, without the state
-abbrev pub answer_of : {S : Type 0} → Result (Returned × S) Refusal → Result Returned Refusal
-answer_of (Ok done) = Ok done.0
-answer_of (Err refusal) = Err refusal
+-- the answer without the state
+abbrev pub answer_only : {S : Type 0} → Result (CallAnswer × S) Refusal → Result CallAnswer Refusal
+answer_only (Ok done) = Ok done.0
+answer_only (Err refusal) = Err refusal
 
--- the state that is left: a refusal leaves it as it was
-abbrev pub state_after : {A S : Type 0} → S → Result (A × S) Refusal → S
-state_after old (Ok done) = done.1
-state_after old (Err refusal) = old
+-- the state afterwards: a refusal leaves it unchanged
+abbrev pub state_after_call : {A S : Type 0} → S → Result (A × S) Refusal → S
+state_after_call old (Ok done) = done.1
+state_after_call old (Err refusal) = old
 
--- the stories after a call
-abbrev pub stories_after : Bounds → Stories → Call → Stories
-stories_after limits stories call = state_after stories (meaning limits stories call)
+-- the histories after a call
+abbrev pub histories_after_call : Bounds → BookHistories → Call → BookHistories
+histories_after_call limits histories call =
+    state_after_call histories (call_on_histories limits histories call)
 
--- the answers of calls in their order, and the stories after all of them
-abbrev pub answers_to : Bounds → Stories → List Call → List (Result Returned Refusal)
-answers_to limits stories [] = []
-answers_to limits stories (call ∷ calls) =
-    answer_of (meaning limits stories call)
-    ∷ answers_to limits (stories_after limits stories call) calls
+-- the answers of calls in order, and the histories after all of them
+abbrev pub answers_to_calls : Bounds → BookHistories → List Call → List (Result CallAnswer Refusal)
+answers_to_calls limits histories [] = []
+answers_to_calls limits histories (call ∷ calls) =
+    answer_only (call_on_histories limits histories call)
+    ∷ answers_to_calls limits (histories_after_call limits histories call) calls
 
-abbrev pub stories_after_all : Bounds → Stories → List Call → Stories
-stories_after_all limits stories [] = stories
-stories_after_all limits stories (call ∷ calls) =
-    stories_after_all limits (stories_after limits stories call) calls
+abbrev pub histories_after_calls : Bounds → BookHistories → List Call → BookHistories
+histories_after_calls limits histories [] = histories
+histories_after_calls limits histories (call ∷ calls) =
+    histories_after_calls limits (histories_after_call limits histories call) calls

@@ -1,21 +1,21 @@
--- What the counts of a history say of it. This project's own.
+-- The counts of a log. This project's own.
 use Rattle.std.specs.Prelude.{◌≡◌, ◌+◌, List, length}
 use Rattle.std.specs.FinMap as finite
-use Rattle.book_model.specs.Counting.{total, arrivals, departures}
-use Rattle.book_laws.specs.Histories.{BookEvent, live}
-use Rattle.book_laws.specs.Reasons.{CountsReasons}
-use Rattle.book_laws.specs.HistoryCounts.{counts_of}
-use Rattle.book_laws.specs.Lawful.{IsLawful}
+use Rattle.book_model.specs.Counting.{total_changes, arrived_cards, departed_cards}
+use Rattle.book_laws.specs.EventLogs.{BookEvent, live}
+use Rattle.book_laws.specs.Reasons.{CountsMatchReasons}
+use Rattle.book_laws.specs.LogCounts.{counts_of_log}
+use Rattle.book_laws.specs.ValidLogs.{IsValidLog}
 
--- each event is counted once
+-- the counts add up to the number of events
 abbrev pub EventsAreCounted : Type 0
-EventsAreCounted = (h : List BookEvent) → total (counts_of h) ≡ length h
+EventsAreCounted = (h : List BookEvent) → total_changes (counts_of_log h) ≡ length h
 
--- the live cards of a lawful history are those that came less those that went
-abbrev pub LiveAreCounted : Type 0
-LiveAreCounted = (h : List BookEvent) → IsLawful h →
-    finite.len (live h) + departures (counts_of h) ≡ arrivals (counts_of h)
+-- the live cards of a valid log are the cards that arrived less those that departed
+abbrev pub LiveCardsAreCounted : Type 0
+LiveCardsAreCounted = (h : List BookEvent) → IsValidLog h →
+    finite.len (live h) + departed_cards (counts_of_log h) ≡ arrived_cards (counts_of_log h)
 
--- each count of a history is the number of its events with that reason
+-- each count of a log is the number of its events with that reason
 abbrev pub ReasonsAreCounted : Type 0
-ReasonsAreCounted = (h : List BookEvent) → CountsReasons h
+ReasonsAreCounted = (h : List BookEvent) → CountsMatchReasons h

@@ -1,5 +1,6 @@
--- What holds of devices that apply the pages that they are told. This project's own.
-use Rattle.std.specs.Prelude.{ℕ, ◌≡◌, ◌<◌, ◌≤◌, min, ◌↔◌, false, List, [], ◌∷◌, length, take, map, Option, Some, None, IsSome, Ok, Err, Contains}
+-- Laws of devices that apply the pages of reports. This project's own.
+use Rattle.std.specs.Prelude.{ℕ, ◌≡◌, ◌<◌, ◌≤◌, min, ◌↔◌, false, List, [], ◌∷◌, length, take, map}
+use Rattle.std.specs.Prelude.{Option, Some, None, IsSome, Ok, Err, Contains}
 use Rattle.std.specs.List.Sorted.{IsStrictlyIncreasing}
 use Rattle.std.specs.FinMap as finite
 use Rattle.book_model.specs.declared.page.Page.{Page}
@@ -8,118 +9,135 @@ use Rattle.book_model.specs.declared.refusal.TokenCause.TheVariants.{TooOld}
 use Rattle.book_model.specs.declared.token.Mark.{Mark}
 use Rattle.book_model.specs.declared.token.Token.{Token}
 use Rattle.book_model.specs.Bounds.{Bounds}
-use Rattle.book_laws.specs.Histories.{BookEvent, live, last}
+use Rattle.book_laws.specs.EventLogs.{BookEvent, live, last_number}
 use Rattle.book_model.specs.Books.{LiveCards}
-use Rattle.book_model.specs.Pages.{mark_asked}
-use Rattle.book_laws.specs.Reports.{first_mark, due, entry_of, report}
-use Rattle.book_laws.specs.Worlds.{Story, Stories}
-use Rattle.book_laws.specs.WorldSteps.{empty_story, with_event, report_meaning}
-use Rattle.book_laws.specs.RightDevices.{Agrees, IsComplete, IsRight, IsRightAt}
-use Rattle.book_model.specs.Devices.{AppliesInPart, Holding, after_page, copy_after}
+use Rattle.book_model.specs.Pages.{requested_mark}
+use Rattle.book_laws.specs.Reports.{initial_mark, due, entry_of, report}
+use Rattle.book_laws.specs.StoreHistories.{BookHistory, BookHistories}
+use Rattle.book_laws.specs.HistorySteps.{empty_history, with_event, report_on_histories}
+use Rattle.book_laws.specs.DeviceConsistency.{Agrees, IsUpToDate, IsConsistentDevice}
+use Rattle.book_laws.specs.DeviceConsistency.{IsConsistentAt}
+use Rattle.book_model.specs.Devices.{AppliesNothingOrPrefix, DeviceState, device_after_page}
+use Rattle.book_model.specs.Devices.{copy_after_entries}
 
--- ---- what holds of all copies
+-- ---- copies
 
--- an empty copy is right for an initial report
-abbrev pub EmptyIsRight : Type 0
-EmptyIsRight = (h : List BookEvent) → Agrees finite.empty (first_mark h) h
+-- an empty copy agrees with the log at the mark of an initial report
+abbrev pub EmptyCopyAgrees : Type 0
+EmptyCopyAgrees = (h : List BookEvent) → Agrees finite.empty (initial_mark h) h
 
--- a right copy stays right whatever event comes, lawful or not
-abbrev pub CopiesStayRight : Type 0
-CopiesStayRight = (copy : LiveCards) (mark : Mark) (h : List BookEvent) (e : BookEvent) →
+-- a copy that agrees still does after any further event, possible or not
+abbrev pub CopiesStayConsistent : Type 0
+CopiesStayConsistent = (copy : LiveCards) (mark : Mark) (h : List BookEvent) (e : BookEvent) →
     Agrees copy mark h → Agrees copy mark (e ∷ h)
 
--- some first entries of the report leave a right copy right at the old mark
-abbrev pub PartsKeepCopiesRight : Type 0
-PartsKeepCopiesRight = (copy : LiveCards) (mark : Mark) (h : List BookEvent) (k count : ℕ) →
-    Agrees copy mark h → Agrees (copy_after copy (take count (report h mark k).entries)) mark h
+-- after the first entries of a report, any number of them, the copy agrees at the old mark
+abbrev pub PartialPagesKeepCopiesConsistent : Type 0
+PartialPagesKeepCopiesConsistent =
+    (copy : LiveCards) (mark : Mark) (h : List BookEvent) (k count : ℕ) →
+    Agrees copy mark h
+    → Agrees (copy_after_entries copy (take count (report h mark k).entries)) mark h
 
--- the whole report makes a right copy right at the new mark
-abbrev pub WholePagesKeepCopiesRight : Type 0
-WholePagesKeepCopiesRight = (copy : LiveCards) (mark : Mark) (h : List BookEvent) (k : ℕ) → 0 < k →
-    Agrees copy mark h → Agrees (copy_after copy (report h mark k).entries) (report h mark k).mark h
+-- after the whole report the copy agrees at the new mark
+abbrev pub WholePagesKeepCopiesConsistent : Type 0
+WholePagesKeepCopiesConsistent =
+    (copy : LiveCards) (mark : Mark) (h : List BookEvent) (k : ℕ) → 0 < k →
+    Agrees copy mark h
+    → Agrees (copy_after_entries copy (report h mark k).entries) (report h mark k).mark h
 
--- a report that isn't truncated makes a right copy the live cards, with their versions
+-- after a report that isn't truncated the copy equals the live cards, with their versions
 abbrev pub LastPagesCompleteCopies : Type 0
 LastPagesCompleteCopies = (copy : LiveCards) (mark : Mark) (h : List BookEvent) (k : ℕ) →
     Agrees copy mark h → (report h mark k).truncated ≡ false →
-    copy_after copy (report h mark k).entries ≡ live h
+    copy_after_entries copy (report h mark k).entries ≡ live h
 
--- a right copy is the live cards where nobody is due
-abbrev pub NobodyDueIsComplete : Type 0
-NobodyDueIsComplete = (copy : LiveCards) (mark : Mark) (h : List BookEvent) →
+-- a copy that agrees equals the live cards where no member is due
+abbrev pub CopiesWithNoneDueAreComplete : Type 0
+CopiesWithNoneDueAreComplete = (copy : LiveCards) (mark : Mark) (h : List BookEvent) →
     Agrees copy mark h → due h mark ≡ [] → copy ≡ live h
 
--- ---- what holds of all devices
+-- ---- devices
 
--- a device without a token is right, as a new one is and one that starts again
-abbrev pub DevicesStartRight : Type 0
-DevicesStartRight = (stories : Stories) (device : Holding) →
-    device.token ≡ None → IsRight stories device
+-- a device without a token is consistent: a new one, or one that was restarted
+abbrev pub DevicesStartConsistent : Type 0
+DevicesStartConsistent = (histories : BookHistories) (device : DeviceState) →
+    device.token ≡ None → IsConsistentDevice histories device
 
--- an event in any book leaves each right device right, whether the event is lawful or not
-abbrev pub EventsKeepAllRight : Type 0
-EventsKeepAllRight = (stories : Stories) (name : List ℕ) (story : Story) (e : BookEvent)
-    (device : Holding) → finite.get stories name ≡ Some story → IsRight stories device →
-    IsRight (finite.insert stories name (with_event story e)) device
+-- an event in any book keeps each consistent device consistent, whether it is possible or not
+abbrev pub EventsKeepDevicesConsistent : Type 0
+EventsKeepDevicesConsistent =
+    (histories : BookHistories) (name : List ℕ) (history : BookHistory) (e : BookEvent)
+    (device : DeviceState) → finite.get histories name ≡ Some history
+    → IsConsistentDevice histories device →
+    IsConsistentDevice (finite.insert histories name (with_event history e)) device
 
--- and so does a book that is made, since no device has a token of it yet
-abbrev pub NewBooksKeepAllRight : Type 0
-NewBooksKeepAllRight = (stories : Stories) (name : List ℕ) (id keep : ℕ) (device : Holding) →
-    finite.get stories name ≡ None → IsRight stories device →
-    IsRight (finite.insert stories name (empty_story id keep)) device
+-- and so does creating a book, since no device has a token of it yet
+abbrev pub NewBooksKeepDevicesConsistent : Type 0
+NewBooksKeepDevicesConsistent =
+    (histories : BookHistories) (name : List ℕ) (id keep : ℕ) (device : DeviceState) →
+    finite.get histories name ≡ None → IsConsistentDevice histories device →
+    IsConsistentDevice (finite.insert histories name (empty_history id keep)) device
 
--- a right device that applies a page of its book in part is right
-abbrev pub PartsKeepAllRight : Type 0
-PartsKeepAllRight = (limits : Bounds) (stories : Stories) (device after : Holding)
-    (limit : Option ℕ) (page : Page) → IsRight stories device →
-    report_meaning limits stories device.book device.token limit ≡ Ok page →
-    AppliesInPart device page after → IsRight stories after
+-- a consistent device that applies only the first entries of a page is consistent
+abbrev pub PartialPagesKeepDevicesConsistent : Type 0
+PartialPagesKeepDevicesConsistent =
+    (limits : Bounds) (histories : BookHistories) (device after : DeviceState)
+    (limit : Option ℕ) (page : Page) → IsConsistentDevice histories device →
+    report_on_histories limits histories device.book device.token limit ≡ Ok page →
+    AppliesNothingOrPrefix device page after → IsConsistentDevice histories after
 
--- and so is one that applies it whole, with the page's token
-abbrev pub WholePagesKeepAllRight : Type 0
-WholePagesKeepAllRight = (limits : Bounds) (stories : Stories) (device : Holding)
-    (limit : Option ℕ) (page : Page) → 0 < limits.page_max → IsRight stories device →
-    report_meaning limits stories device.book device.token limit ≡ Ok page →
-    IsRight stories (after_page device page)
+-- and so is one that applies the whole page and stores its token
+abbrev pub WholePagesKeepDevicesConsistent : Type 0
+WholePagesKeepDevicesConsistent =
+    (limits : Bounds) (histories : BookHistories) (device : DeviceState)
+    (limit : Option ℕ) (page : Page) → 0 < limits.page_max → IsConsistentDevice histories device →
+    report_on_histories limits histories device.book device.token limit ≡ Ok page →
+    IsConsistentDevice histories (device_after_page device page)
 
--- a right device is complete after a whole page that isn't truncated
-abbrev pub LastPagesCompleteAll : Type 0
-LastPagesCompleteAll = (limits : Bounds) (stories : Stories) (device : Holding)
-    (limit : Option ℕ) (page : Page) → IsRight stories device →
-    report_meaning limits stories device.book device.token limit ≡ Ok page →
-    page.truncated ≡ false → IsComplete stories (after_page device page)
+-- a consistent device is up to date after a whole page that isn't truncated
+abbrev pub LastPagesCompleteDevices : Type 0
+LastPagesCompleteDevices = (limits : Bounds) (histories : BookHistories) (device : DeviceState)
+    (limit : Option ℕ) (page : Page) → IsConsistentDevice histories device →
+    report_on_histories limits histories device.book device.token limit ≡ Ok page →
+    page.truncated ≡ false → IsUpToDate histories (device_after_page device page)
 
--- no right token is refused, unless its base is below the horizon
-abbrev pub RightTokensAreKnown : Type 0
-RightTokensAreKnown = (stories : Stories) (device : Holding) (token : Token)
-    (right : IsRightAt stories device token) → right.story.horizon ≤ token.mark.base →
-    mark_asked right.story.id (length right.story.history) right.story.horizon (Some token)
+-- the token of a consistent device is accepted where its base is not below the horizon
+abbrev pub ConsistentTokensAreAccepted : Type 0
+ConsistentTokensAreAccepted = (histories : BookHistories) (device : DeviceState) (token : Token)
+    (consistent : IsConsistentAt histories device token) → consistent.history.horizon
+    ≤ token.mark.base →
+    requested_mark consistent.history.id (length consistent.history.log) consistent.history.horizon
+    (Some token)
     ≡ Ok token.mark
 
--- and then it is refused for its age
-abbrev pub RightTokensGrowOld : Type 0
-RightTokensGrowOld = (stories : Stories) (device : Holding) (token : Token)
-    (right : IsRightAt stories device token) → token.mark.base < right.story.horizon →
-    mark_asked right.story.id (length right.story.history) right.story.horizon (Some token)
+-- and is refused as too old where its base is below the horizon
+abbrev pub ConsistentTokensExpireBelowHorizon : Type 0
+ConsistentTokensExpireBelowHorizon =
+    (histories : BookHistories) (device : DeviceState) (token : Token)
+    (consistent : IsConsistentAt histories device token) → token.mark.base
+    < consistent.history.horizon →
+    requested_mark consistent.history.id (length consistent.history.log) consistent.history.horizon
+    (Some token)
     ≡ Err (BadToken TooOld)
 
--- ---- what a report holds
+-- ---- the entries of a report
 
 -- the numbers of the due members' last events rise strictly
-abbrev pub DueRises : Type 0
-DueRises = (h : List BookEvent) (mark : Mark) → IsStrictlyIncreasing (map (last h) (due h mark))
+abbrev pub DueMembersAreInOrder : Type 0
+DueMembersAreInOrder =
+    (h : List BookEvent) (mark : Mark) → IsStrictlyIncreasing (map (last_number h) (due h mark))
 
--- under the first mark the live members are due, and no removed ones (RFC 6578, section 3.4)
-abbrev pub LiveAreDueFirst : Type 0
-LiveAreDueFirst = (h : List BookEvent) (uid : List ℕ) →
-    Contains (due h (first_mark h)) uid ↔ IsSome (finite.get (live h) uid)
+-- at the initial mark exactly the live members are due (RFC 6578, section 3.4)
+abbrev pub InitialReportsListLiveMembers : Type 0
+InitialReportsListLiveMembers = (h : List BookEvent) (uid : List ℕ) →
+    Contains (due h (initial_mark h)) uid ↔ IsSome (finite.get (live h) uid)
 
 -- the entries are those of the first k due members, each as it is now
 abbrev pub EntriesAreFirstDue : Type 0
 EntriesAreFirstDue = (h : List BookEvent) (mark : Mark) (k : ℕ) →
     (report h mark k).entries ≡ map (entry_of h) (take k (due h mark))
 
--- and no more of them than there are, or than were asked for (RFC 6578, section 3.7)
-abbrev pub PagesFit : Type 0
-PagesFit = (h : List BookEvent) (mark : Mark) (k : ℕ) →
+-- their number is the smaller of k and the number of due members (RFC 6578, section 3.7)
+abbrev pub PageSizesAreExact : Type 0
+PageSizesAreExact = (h : List BookEvent) (mark : Mark) (k : ℕ) →
     length (report h mark k).entries ≡ min k (length (due h mark))

@@ -1,23 +1,24 @@
--- What an import counts, by what was live in a history before it. This project's own.
+-- The counts of an import, by the cards that were live before it. This project's own.
 use Rattle.std.specs.Prelude.{◌+◌, ◌≡◌, List, length}
 use Rattle.std.specs.FinMap as finite
 use Rattle.vcard_lines.specs.declared.line.Line.{Line}
-use Rattle.book_model.specs.ImportLaws.{HaveDistinctUids, CountsCards}
+use Rattle.book_model.specs.ImportLaws.{HaveDistinctUids, CountsImportedCards}
 use Rattle.book_model.specs.Importing.{Importing}
-use Rattle.book_laws.specs.Histories.{live}
-use Rattle.book_laws.specs.Worlds.{Story}
-use Rattle.book_laws.specs.WorldChanges.{live_of, story_import}
+use Rattle.book_laws.specs.EventLogs.{live}
+use Rattle.book_laws.specs.StoreHistories.{BookHistory}
+use Rattle.book_laws.specs.HistoryChanges.{live_in_history, history_import}
 
 -- cards with distinct UIDs are counted by what was live before all of them
 abbrev pub ImportsCountLiveCards : Type 0
-ImportsCountLiveCards = (story : Story) (cards : List (List Line)) → HaveDistinctUids cards →
-    CountsCards live_of story cards (story_import story cards)
+ImportsCountLiveCards =
+    (history : BookHistory) (cards : List (List Line)) → HaveDistinctUids cards →
+    CountsImportedCards live_in_history history cards (history_import history cards)
 
--- each card that is added or edited is an event, and each that is added is one more live card
-pub record TakesEvents (story : Story) (done : Importing Story) : Type 0 where
-  pub events : length done.book.history ≡ length story.history + done.added + done.edited
-  pub cards : finite.len (live done.book.history) ≡ finite.len (live story.history) + done.added
+-- each added or edited card is one event, and each added card is one more live card
+pub record AddsEvents (history : BookHistory) (done : Importing BookHistory) : Type 0 where
+  pub events : length done.book.log ≡ length history.log + done.added + done.edited
+  pub cards : finite.len (live done.book.log) ≡ finite.len (live history.log) + done.added
 
-abbrev pub ImportsTakeEvents : Type 0
-ImportsTakeEvents = (story : Story) (cards : List (List Line)) →
-    TakesEvents story (story_import story cards)
+abbrev pub ImportsAddEvents : Type 0
+ImportsAddEvents = (history : BookHistory) (cards : List (List Line)) →
+    AddsEvents history (history_import history cards)

@@ -1,10 +1,10 @@
--- What the rows of all books are, book by book. This project's own.
+-- The rows of all books, book by book. This project's own.
 use Rattle.std.specs.Prelude.{ℕ, ◌≡◌, List}
 use Rattle.std.specs.Option.{option_map}
 use Rattle.std.specs.FinMap as finite
-use Rattle.book_laws.specs.Worlds.{Stories, book_of, rows}
+use Rattle.book_laws.specs.StoreHistories.{BookHistories, book_of_history, rows_of}
 
--- under each name stands what a store keeps of its book, and no other book
-abbrev pub RowsAreOfBooks : Type 0
-RowsAreOfBooks = (stories : Stories) (name : List ℕ) →
-    finite.get (rows stories) name ≡ option_map book_of (finite.get stories name)
+-- the rows under a name are those of the history under that name, and of no other
+abbrev pub RowsArePerBook : Type 0
+RowsArePerBook = (histories : BookHistories) (name : List ℕ) →
+    finite.get (rows_of histories) name ≡ option_map book_of_history (finite.get histories name)

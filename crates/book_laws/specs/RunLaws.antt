@@ -1,59 +1,67 @@
--- What holds over every list of calls. This project's own.
+-- Laws of every list of calls. This project's own.
 use Rattle.std.specs.Prelude.{ℕ, ◌≡◌, List, ◌∷◌, Some, Ok}
 use Rattle.std.specs.FinMap as finite
 use Rattle.vcard_lines.specs.declared.line.Line.{Line}
 use Rattle.book_model.specs.declared.answers.ImportTally.{ImportTally}
 use Rattle.book_model.specs.Bounds.{Bounds, IsInRange}
-use Rattle.book_laws.specs.Calls.{Call, Imports, DidImport, meaning, answer_of, answers_to, stories_after_all}
-use Rattle.book_model.specs.Devices.{Holding}
-use Rattle.book_laws.specs.RightDevices.{IsRight}
-use Rattle.book_laws.specs.GoingOn.{GoesOn}
-use Rattle.book_laws.specs.RowsAfterCalls.{rows_after_all}
-use Rattle.book_laws.specs.Worlds.{Story, Stories, AreSound, World, rows}
+use Rattle.book_laws.specs.Calls.{Call, ImportCall, ReturnedImport, call_on_histories, answer_only}
+use Rattle.book_laws.specs.Calls.{answers_to_calls, histories_after_calls}
+use Rattle.book_model.specs.Devices.{DeviceState}
+use Rattle.book_laws.specs.DeviceConsistency.{IsConsistentDevice}
+use Rattle.book_laws.specs.HistoryExtension.{Extends}
+use Rattle.book_laws.specs.RowsAfterCalls.{rows_after_calls}
+use Rattle.book_laws.specs.StoreHistories.{BookHistory, BookHistories, AreSoundHistories}
+use Rattle.book_laws.specs.StoreHistories.{StoreHistory, rows_of}
 
--- Every history stays lawful, no horizon gets past its history, and no book remembers more removed
--- members than it keeps.
-abbrev pub StaysSound : Type 0
-StaysSound = (world : World) (calls : List Call) → IsInRange world.limits →
-    AreSound world.books →
-    AreSound (stories_after_all world.limits world.books calls)
+-- Every log stays valid, no horizon exceeds the length of its log, and no book has more tombstones
+-- than its limit.
+abbrev pub CallsKeepHistoriesSound : Type 0
+CallsKeepHistoriesSound = (store : StoreHistory) (calls : List Call) → IsInRange store.limits →
+    AreSoundHistories store.books →
+    AreSoundHistories (histories_after_calls store.limits store.books calls)
 
--- The rows that calls leave are those of the histories that they leave.
-abbrev pub RowsFollowCalls : Type 0
-RowsFollowCalls = (world : World) (calls : List Call) → IsInRange world.limits →
-    AreSound world.books →
-    rows_after_all world.limits (rows world.books) calls
-    ≡ rows (stories_after_all world.limits world.books calls)
+-- The rows after calls are the rows of the histories after the same calls.
+abbrev pub RowsMatchHistoriesAfterCalls : Type 0
+RowsMatchHistoriesAfterCalls = (store : StoreHistory) (calls : List Call) → IsInRange store.limits →
+    AreSoundHistories store.books →
+    rows_after_calls store.limits (rows_of store.books) calls
+    ≡ rows_of (histories_after_calls store.limits store.books calls)
 
--- Where two worlds have the same limits and rows, every list of calls is answered alike, and leaves
--- the same rows: the rows forget nothing that a later call asks for.
-pub record AreAlike (a b : World) (calls : List Call) : Type 0 where
-  pub answers_are : answers_to a.limits a.books calls ≡ answers_to b.limits b.books calls
-  pub rows_are : rows (stories_after_all a.limits a.books calls)
-      ≡ rows (stories_after_all b.limits b.books calls)
+-- Two stores with the same limits and rows answer every list of calls alike, and have the same rows
+-- afterwards: the rows hold everything that a later call needs.
+pub record AreIndistinguishable (a b : StoreHistory) (calls : List Call) : Type 0 where
+  pub answers_are : answers_to_calls a.limits a.books calls
+      ≡ answers_to_calls b.limits b.books calls
+  pub rows_are : rows_of (histories_after_calls a.limits a.books calls)
+      ≡ rows_of (histories_after_calls b.limits b.books calls)
 
-abbrev pub RowsAreEnough : Type 0
-RowsAreEnough = (a b : World) (calls : List Call) → IsInRange a.limits →
-    AreSound a.books → AreSound b.books →
-    a.limits ≡ b.limits → rows a.books ≡ rows b.books → AreAlike a b calls
+abbrev pub RowsDetermineAnswers : Type 0
+RowsDetermineAnswers = (a b : StoreHistory) (calls : List Call) → IsInRange a.limits →
+    AreSoundHistories a.books → AreSoundHistories b.books →
+    a.limits ≡ b.limits → rows_of a.books ≡ rows_of b.books → AreIndistinguishable a b calls
 
--- No book goes away, and nothing that happened is undone.
-abbrev pub CallsLetBooksGoOn : Type 0
-CallsLetBooksGoOn = (limits : Bounds) (stories : Stories) (calls : List Call) (name : List ℕ)
-    (old : Story) → finite.get stories name ≡ Some old →
-    (new : Story) × (finite.get (stories_after_all limits stories calls) name ≡ Some new)
-    × GoesOn old new
+-- No call deletes a book, and no call undoes an event: each history is extended.
+abbrev pub CallsExtendHistories : Type 0
+CallsExtendHistories =
+    (limits : Bounds) (histories : BookHistories) (calls : List Call) (name : List ℕ)
+    (old : BookHistory) → finite.get histories name ≡ Some old →
+    (new : BookHistory)
+    × (finite.get (histories_after_calls limits histories calls) name ≡ Some new)
+    × Extends old new
 
--- A key acts once: after an import that was answered, whatever comes between, another with the key
--- is answered the same and changes nothing.
-abbrev pub ImportsActOnce : Type 0
-ImportsActOnce = (limits : Bounds) (stories : Stories) (name key : List ℕ)
+-- Imports are idempotent: after an accepted import and any calls, another import with the same key,
+-- of whatever cards, returns the same tally and changes nothing.
+abbrev pub ImportCallsAreIdempotent : Type 0
+ImportCallsAreIdempotent = (limits : Bounds) (histories : BookHistories) (name key : List ℕ)
     (cards others : List (List Line)) (tally : ImportTally) (between : List Call) →
-    answer_of (meaning limits stories (Imports name key cards)) ≡ Ok (DidImport tally) →
-    let later = stories_after_all limits stories (Imports name key cards ∷ between) in
-    meaning limits later (Imports name key others) ≡ Ok (DidImport tally, later)
+    answer_only (call_on_histories limits histories (ImportCall name key cards))
+    ≡ Ok (ReturnedImport tally) →
+    let later = histories_after_calls limits histories (ImportCall name key cards ∷ between) in
+    call_on_histories limits later (ImportCall name key others) ≡ Ok (ReturnedImport tally, later)
 
--- A right device stays right whatever calls are made, on its own book and on others.
-abbrev pub CallsKeepAllRight : Type 0
-CallsKeepAllRight = (limits : Bounds) (stories : Stories) (calls : List Call) (device : Holding) →
-    IsRight stories device → IsRight (stories_after_all limits stories calls) device
+-- A consistent device stays consistent after any calls, on its own book and on others.
+abbrev pub CallsKeepDevicesConsistent : Type 0
+CallsKeepDevicesConsistent =
+    (limits : Bounds) (histories : BookHistories) (calls : List Call) (device : DeviceState) →
+    IsConsistentDevice histories device
+    → IsConsistentDevice (histories_after_calls limits histories calls) device

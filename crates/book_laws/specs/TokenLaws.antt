@@ -1,4 +1,4 @@
--- How long the token of a page is taken (RFC 6578, section 3.2, the precondition valid-sync-token).
+-- How long a page's token is accepted (RFC 6578, section 3.2, the precondition valid-sync-token).
 use Rattle.std.specs.Prelude.{ℕ, ◌≡◌, ◌≢◌, ◌<◌, ◌⊎◌, List, ◌∷◌, ◌++◌, Option, Some, Ok, Err}
 use Rattle.book_model.specs.declared.page.Page.{Page}
 use Rattle.book_model.specs.declared.refusal.Refusal.TheVariants.{BadToken}
@@ -7,42 +7,43 @@ use Rattle.book_model.specs.declared.refusal.TokenCause.TheVariants.{TooOld}
 use Rattle.book_model.specs.declared.token.Token.{Token}
 use Rattle.book_model.specs.Bounds.{Bounds}
 use Rattle.book_model.specs.Pages.{token_of}
-use Rattle.book_laws.specs.Calls.{Call, Forgets, stories_after_all}
-use Rattle.book_laws.specs.Losses.{LostMoreThanKept}
-use Rattle.book_laws.specs.Worlds.{Stories, AreSound, World}
-use Rattle.book_laws.specs.WorldChanges.{forget_meaning}
-use Rattle.book_laws.specs.WorldSteps.{report_meaning}
+use Rattle.book_laws.specs.Calls.{Call, ForgetCall, histories_after_calls}
+use Rattle.book_laws.specs.RemovalCounts.{RemovalsExceedKeep}
+use Rattle.book_laws.specs.StoreHistories.{BookHistories, AreSoundHistories, StoreHistory}
+use Rattle.book_laws.specs.HistoryChanges.{forget_on_histories}
+use Rattle.book_laws.specs.HistorySteps.{report_on_histories}
 
--- Among the calls there was one that made the book forget what was removed up to a number above
--- this one, and it was accepted.
-pub record ForgotAbove (limits : Bounds) (stories : Stories) (calls : List Call)
+-- One of the calls was an accepted forget of the book, up to a number above this one.
+pub record ForgotAbove (limits : Bounds) (histories : BookHistories) (calls : List Call)
     (name : List ℕ) (base : ℕ) : Type 0 where
   pub earlier : List Call
   pub later : List Call
   pub upto : ℕ
   pub above : base < upto
-  pub calls_are : calls ≡ earlier ++ Forgets name upto ∷ later
+  pub calls_are : calls ≡ earlier ++ ForgetCall name upto ∷ later
   pub dropped : ℕ
-  pub left : Stories
-  pub accepted : forget_meaning (stories_after_all limits stories earlier) name upto
-      ≡ Ok (dropped, left)
+  pub histories_left : BookHistories
+  pub accepted : forget_on_histories (histories_after_calls limits histories earlier) name upto
+      ≡ Ok (dropped, histories_left)
 
--- A page's own book refuses its token only as too old, and only where it was made to forget above
--- the token's base since, or where more cards left it after the base than it keeps.
-abbrev pub TokensStayGood : Type 0
-TokensStayGood = (world : World) (name : List ℕ) (token : Option Token) (limit again : Option ℕ)
-    (page : Page) (calls : List Call) (cause : TokenCause) → AreSound world.books →
-    report_meaning world.limits world.books name token limit ≡ Ok page →
-    report_meaning world.limits (stories_after_all world.limits world.books calls) name
+-- The book of a page refuses the page's token only as too old, and only where a forget above the
+-- token's base was accepted since, or where the book had more removals after that base than it
+-- keeps tombstones.
+abbrev pub TokensStayValid : Type 0
+TokensStayValid =
+    (store : StoreHistory) (name : List ℕ) (token : Option Token) (limit again : Option ℕ)
+    (page : Page) (calls : List Call) (cause : TokenCause) → AreSoundHistories store.books →
+    report_on_histories store.limits store.books name token limit ≡ Ok page →
+    report_on_histories store.limits (histories_after_calls store.limits store.books calls) name
     (Some (token_of page)) again ≡ Err (BadToken cause) →
     (cause ≡ TooOld)
-    × (ForgotAbove world.limits world.books calls name page.mark.base
-    ⊎ LostMoreThanKept (stories_after_all world.limits world.books calls) name page.mark.base)
+    × (ForgotAbove store.limits store.books calls name page.mark.base
+    ⊎ RemovalsExceedKeep (histories_after_calls store.limits store.books calls) name page.mark.base)
 
--- and it takes the token as long as nothing happened
-abbrev pub NewTokensAreTaken : Type 0
-NewTokensAreTaken = (world : World) (name : List ℕ) (token : Option Token)
-    (limit again : Option ℕ) (page : Page) (cause : TokenCause) → AreSound world.books →
-    report_meaning world.limits world.books name token limit ≡ Ok page →
-    report_meaning world.limits world.books name (Some (token_of page)) again
+-- and it accepts the token as long as the book has no further event
+abbrev pub FreshTokensAreAccepted : Type 0
+FreshTokensAreAccepted = (store : StoreHistory) (name : List ℕ) (token : Option Token)
+    (limit again : Option ℕ) (page : Page) (cause : TokenCause) → AreSoundHistories store.books →
+    report_on_histories store.limits store.books name token limit ≡ Ok page →
+    report_on_histories store.limits store.books name (Some (token_of page)) again
     ≢ Err (BadToken cause)

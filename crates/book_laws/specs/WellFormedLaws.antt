@@ -1,4 +1,4 @@
--- That the books of a store are well formed, whatever calls made them. This project's own.
+-- The books of a store stay well formed, whatever calls are made. This project's own.
 use Rattle.std.specs.Prelude.{ℕ, ◌≡◌, ◌≢◌, IfOk, List, Option, Some, Result, Ok, Err}
 use Rattle.std.specs.FinMap as finite
 use Rattle.vcard_lines.specs.declared.line.Line.{Line}
@@ -13,75 +13,75 @@ use Rattle.book_model.specs.Creating.{create_step}
 use Rattle.book_model.specs.Forgetting.{forget_step}
 use Rattle.book_model.specs.Importing.{import_step}
 use Rattle.book_model.specs.Moving.{move_step}
-use Rattle.book_model.specs.Pages.{Asked, IsReport, report_step}
+use Rattle.book_model.specs.Pages.{ReportRequest, IsReport, report_step}
 use Rattle.book_model.specs.Putting.{put_step}
 use Rattle.book_model.specs.Removing.{remove_step}
 use Rattle.book_model.specs.WellFormed.{IsWellFormed}
 use Rattle.book_laws.specs.Calls.{Call}
-use Rattle.book_laws.specs.RowsAfterCalls.{rows_after_all}
-use Rattle.book_laws.specs.WellFormedPages.{IsPageIn, HasShortNumbers}
+use Rattle.book_laws.specs.RowsAfterCalls.{rows_after_calls}
+use Rattle.book_laws.specs.WellFormedPages.{IsPageOfBook, HasShortNumbers}
 
-abbrev pub NoBooksAreWellFormed : Type 0
-NoBooksAreWellFormed = (limits : Bounds) → IsWellFormed limits finite.empty
+abbrev pub EmptyStoresAreWellFormed : Type 0
+EmptyStoresAreWellFormed = (limits : Bounds) → IsWellFormed limits finite.empty
 
--- the books that a step leaves are well formed, where it isn't refused
+-- the books after a step are well formed, where it isn't refused
 abbrev pub LeavesWellFormed : {A : Type 0} → Bounds → Result (A × Books) Refusal → Type 0
 LeavesWellFormed limits step = IfOk step (λ done. IsWellFormed limits done.1)
 
 -- ---- each step that changes books keeps them well formed
 
-abbrev pub CreatingKeepsForm : Type 0
-CreatingKeepsForm = (limits : Bounds) (books : Books) (name : List ℕ) → IsInRange limits →
+abbrev pub CreateKeepsWellFormed : Type 0
+CreateKeepsWellFormed = (limits : Bounds) (books : Books) (name : List ℕ) → IsInRange limits →
     IsWellFormed limits books → LeavesWellFormed limits (create_step limits books name)
 
-abbrev pub PuttingKeepsForm : Type 0
-PuttingKeepsForm =
+abbrev pub PutKeepsWellFormed : Type 0
+PutKeepsWellFormed =
     (limits : Bounds) (books : Books) (name : List ℕ) (card : List Line) (expect : Option ℕ) →
     IsWellFormed limits books → LeavesWellFormed limits (put_step limits books name card expect)
 
-abbrev pub RemovingKeepsForm : Type 0
-RemovingKeepsForm =
+abbrev pub RemoveKeepsWellFormed : Type 0
+RemoveKeepsWellFormed =
     (limits : Bounds) (books : Books) (name uid : List ℕ) (expect : Option ℕ) →
     IsWellFormed limits books → LeavesWellFormed limits (remove_step limits books name uid expect)
 
-abbrev pub MovingKeepsForm : Type 0
-MovingKeepsForm =
+abbrev pub MoveKeepsWellFormed : Type 0
+MoveKeepsWellFormed =
     (limits : Bounds) (books : Books) (from to uid : List ℕ) (expect : Option ℕ) →
     IsWellFormed limits books → LeavesWellFormed limits (move_step limits books from to uid expect)
 
-abbrev pub ImportingKeepsForm : Type 0
-ImportingKeepsForm =
+abbrev pub ImportKeepsWellFormed : Type 0
+ImportKeepsWellFormed =
     (limits : Bounds) (books : Books) (name key : List ℕ) (cards : List (List Line)) →
     IsWellFormed limits books → LeavesWellFormed limits (import_step limits books name key cards)
 
-abbrev pub ForgettingKeepsForm : Type 0
-ForgettingKeepsForm = (limits : Bounds) (books : Books) (name : List ℕ) (upto : ℕ) →
+abbrev pub ForgetKeepsWellFormed : Type 0
+ForgetKeepsWellFormed = (limits : Bounds) (books : Books) (name : List ℕ) (upto : ℕ) →
     IsWellFormed limits books → LeavesWellFormed limits (forget_step books name upto)
 
--- whatever calls are made, and whichever of them are refused
-abbrev pub CallsKeepForm : Type 0
-CallsKeepForm = (limits : Bounds) (books : Books) (calls : List Call) → IsInRange limits →
-    IsWellFormed limits books → IsWellFormed limits (rows_after_all limits books calls)
+-- after any calls, accepted or refused
+abbrev pub CallsKeepWellFormed : Type 0
+CallsKeepWellFormed = (limits : Bounds) (books : Books) (calls : List Call) → IsInRange limits →
+    IsWellFormed limits books → IsWellFormed limits (rows_after_calls limits books calls)
 
--- ---- what is read from well-formed books
+-- ---- pages of well-formed books
 
--- a page is in order, and each of its entries fits the book that was asked
+-- the mark of a page is in order, and each of its entries fits the book that was asked
 abbrev pub PagesFitBooks : Type 0
 PagesFitBooks =
     (limits : Bounds) (books : Books) (name : List ℕ) (token : Option Token) (limit : Option ℕ) →
-    (asked : Asked) (page : Page) → IsWellFormed limits books →
+    (asked : ReportRequest) (page : Page) → IsWellFormed limits books →
     report_step limits books name token limit ≡ Ok asked → IsReport asked page →
-    IsPageIn asked.book page
+    IsPageOfBook asked.book page
 
--- a text of a token has room for the token of each page
+-- the numbers of each page's token are short enough for a token's text
 abbrev pub PagesHaveShortNumbers : Type 0
 PagesHaveShortNumbers =
     (limits : Bounds) (books : Books) (name : List ℕ) (token : Option Token) (limit : Option ℕ) →
-    (asked : Asked) (page : Page) → IsInRange limits → IsWellFormed limits books →
+    (asked : ReportRequest) (page : Page) → IsInRange limits → IsWellFormed limits books →
     report_step limits books name token limit ≡ Ok asked → IsReport asked page →
     HasShortNumbers page
 
--- a token of another book is refused as that
+-- a token of another book is refused as `OtherBook`
 abbrev pub OtherBooksTokensAreRefused : Type 0
 OtherBooksTokensAreRefused =
     (limits : Bounds) (books : Books) (name other : List ℕ) (book another : Book) →

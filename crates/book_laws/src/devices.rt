@@ -1,89 +1,105 @@
-//! What holds of devices that apply the pages that they are told.
-ghost use Rattle.book_laws.specs.DeviceLaws.{EmptyIsRight, DevicesStartRight, LiveAreDueFirst, CopiesStayRight, PartsKeepCopiesRight, WholePagesKeepCopiesRight, LastPagesCompleteCopies, LastPagesCompleteAll, NobodyDueIsComplete, RightTokensAreKnown, RightTokensGrowOld, EventsKeepAllRight, NewBooksKeepAllRight, PartsKeepAllRight, WholePagesKeepAllRight, DueRises, EntriesAreFirstDue, PagesFit};
-ghost use Rattle.book_laws.specs.RunLaws.{CallsKeepAllRight};
-ghost use Rattle.book_laws.specs.PagingLaws.{EventsAddAtMostOne, TruncatedPagesLeaveRest, TruncatedPagesLeaveFewer, LastPagesLeaveNobody, TruncatedPagesAreBounded, QuietBooksAreToldWhole, QuietDevicesCatchUp};
+//! Laws of devices that apply the pages of reports.
+ghost use Rattle.book_laws.specs.DeviceLaws.{EmptyCopyAgrees, DevicesStartConsistent};
+ghost use Rattle.book_laws.specs.DeviceLaws.{InitialReportsListLiveMembers, CopiesStayConsistent};
+ghost use Rattle.book_laws.specs.DeviceLaws.{PartialPagesKeepCopiesConsistent};
+ghost use Rattle.book_laws.specs.DeviceLaws.{WholePagesKeepCopiesConsistent};
+ghost use Rattle.book_laws.specs.DeviceLaws.{LastPagesCompleteCopies, LastPagesCompleteDevices};
+ghost use Rattle.book_laws.specs.DeviceLaws.{CopiesWithNoneDueAreComplete};
+ghost use Rattle.book_laws.specs.DeviceLaws.{ConsistentTokensAreAccepted};
+ghost use Rattle.book_laws.specs.DeviceLaws.{ConsistentTokensExpireBelowHorizon};
+ghost use Rattle.book_laws.specs.DeviceLaws.{EventsKeepDevicesConsistent};
+ghost use Rattle.book_laws.specs.DeviceLaws.{NewBooksKeepDevicesConsistent};
+ghost use Rattle.book_laws.specs.DeviceLaws.{PartialPagesKeepDevicesConsistent};
+ghost use Rattle.book_laws.specs.DeviceLaws.{WholePagesKeepDevicesConsistent, DueMembersAreInOrder};
+ghost use Rattle.book_laws.specs.DeviceLaws.{EntriesAreFirstDue, PageSizesAreExact};
+ghost use Rattle.book_laws.specs.RunLaws.{CallsKeepDevicesConsistent};
+ghost use Rattle.book_laws.specs.PagingLaws.{EventsAddAtMostOneDue, TruncatedPagesLeaveRest};
+ghost use Rattle.book_laws.specs.PagingLaws.{TruncatedPagesLeaveFewer, LastPagesLeaveNoneDue};
+ghost use Rattle.book_laws.specs.PagingLaws.{TruncatedPagesAreBounded, QuietBooksSyncFully};
+ghost use Rattle.book_laws.specs.PagingLaws.{QuietDevicesCatchUp};
 
-/// An empty copy is right for an initial report, and that report tells of just the live members.
-pub fn initial_reports_start_right()
-    ensures copies { EmptyIsRight }
-    ensures due { LiveAreDueFirst }
+/// An empty copy is consistent for an initial report, and that report lists exactly the live
+/// members.
+pub fn initial_reports_start_consistent()
+    ensures copies { EmptyCopyAgrees }
+    ensures due { InitialReportsListLiveMembers }
 {}
 
-/// A device without a token is right, as a new one is and one that starts again.
-pub fn devices_start_right()
-    ensures { DevicesStartRight }
+/// A device without a token is consistent: a new one, or one that was restarted.
+pub fn devices_start_consistent()
+    ensures { DevicesStartConsistent }
 {}
 
-/// A right copy stays right whatever event comes, lawful or not.
-pub fn copies_stay_right()
-    ensures { CopiesStayRight }
+/// A consistent copy stays consistent after any further event, possible or not.
+pub fn copies_stay_consistent()
+    ensures { CopiesStayConsistent }
 {}
 
-/// What some first entries of a report make of a right copy is right at the old mark.
-pub fn parts_of_pages_keep_right()
-    ensures { PartsKeepCopiesRight }
+/// A consistent copy stays consistent at the old mark after the first entries of a report, any
+/// number of them.
+pub fn partial_pages_keep_copies_consistent()
+    ensures { PartialPagesKeepCopiesConsistent }
 {}
 
-/// What a whole report makes of a right copy is right at the report's mark.
-pub fn whole_pages_keep_right()
-    ensures { WholePagesKeepCopiesRight }
+/// A consistent copy is consistent at the report's mark after the whole report.
+pub fn whole_pages_keep_copies_consistent()
+    ensures { WholePagesKeepCopiesConsistent }
 {}
 
-/// A report that isn't truncated makes a right copy, and a right device's, the live cards, each
-/// with its version.
+/// After a report that isn't truncated a consistent copy, and that of a consistent device, equals
+/// the live cards, each with its version.
 pub fn last_pages_complete_copies()
     ensures copies { LastPagesCompleteCopies }
-    ensures devices { LastPagesCompleteAll }
-    ensures due { NobodyDueIsComplete }
+    ensures devices { LastPagesCompleteDevices }
+    ensures due { CopiesWithNoneDueAreComplete }
 {}
 
-/// A right device's token is refused just where its base is below the horizon, and then for its
-/// age.
-pub fn right_tokens_are_known()
-    ensures known { RightTokensAreKnown }
-    ensures old { RightTokensGrowOld }
+/// The token of a consistent device is refused only where its base is below the horizon, and then
+/// as too old.
+pub fn consistent_tokens_are_accepted()
+    ensures known { ConsistentTokensAreAccepted }
+    ensures old { ConsistentTokensExpireBelowHorizon }
 {}
 
-/// Among all books, what happens to any of them and what a device is told of its own leave each
-/// right device right.
-pub fn devices_stay_right_among_books()
-    ensures events { EventsKeepAllRight }
-    ensures books { NewBooksKeepAllRight }
-    ensures parts { PartsKeepAllRight }
-    ensures pages { WholePagesKeepAllRight }
+/// Events in any book, new books, and pages of its own book, applied in part or whole, keep each
+/// consistent device consistent.
+pub fn devices_stay_consistent_among_books()
+    ensures events { EventsKeepDevicesConsistent }
+    ensures books { NewBooksKeepDevicesConsistent }
+    ensures parts { PartialPagesKeepDevicesConsistent }
+    ensures pages { WholePagesKeepDevicesConsistent }
 {}
 
-/// A report tells of the first k due members in the rising order of their last events, each as it
-/// is now.
-pub fn reports_tell_the_first_due()
-    ensures order { DueRises }
+/// A report lists the first k due members in the order of their last events, each as it is now.
+pub fn reports_list_the_first_due()
+    ensures order { DueMembersAreInOrder }
     ensures entries { EntriesAreFirstDue }
-    ensures size { PagesFit }
+    ensures size { PageSizesAreExact }
 {}
 
-/// An event makes at most one more member due; a truncated page leaves just k fewer, and any other
-/// page none.
+/// An event makes at most one more member due; a truncated page leaves exactly k fewer, and any
+/// other page leaves none.
 pub fn due_members_are_counted()
-    ensures event { EventsAddAtMostOne }
+    ensures event { EventsAddAtMostOneDue }
     ensures rest { TruncatedPagesLeaveRest }
     ensures fewer { TruncatedPagesLeaveFewer }
-    ensures none { LastPagesLeaveNobody }
+    ensures none { LastPagesLeaveNoneDue }
 {}
 
-/// The entries of all truncated pages are fewer than the members that were due and the events that
-/// came meanwhile.
+/// The entries of all truncated pages together are fewer than the members due at first plus the
+/// events added meanwhile.
 pub fn truncated_pages_are_bounded()
     ensures { TruncatedPagesAreBounded }
 {}
 
-/// While nothing happens to a book, as many pages as hold its due members make a right device's
-/// copy the live cards.
-pub fn quiet_books_are_told_whole()
-    ensures places { QuietBooksAreToldWhole }
+/// Without events in between, as many pages as hold the due members bring the copy of a consistent
+/// device to the live cards.
+pub fn quiet_books_sync_fully()
+    ensures places { QuietBooksSyncFully }
     ensures devices { QuietDevicesCatchUp }
 {}
 
-/// A right device stays right whatever calls are made, on its own book and on others.
-pub fn devices_stay_right_over_calls()
-    ensures { CallsKeepAllRight }
+/// A consistent device stays consistent after any calls, on its own book and on others.
+pub fn devices_stay_consistent_over_calls()
+    ensures { CallsKeepDevicesConsistent }
 {}

@@ -1,11 +1,11 @@
-//! Histories of books, what a store's rows mean by them, and what holds over all of them. Each law
-//! is a public function that does nothing: its clause is what is proved, and a caller has the
-//! clause by calling it.
+//! Histories of books, how a store's rows refine them, and the laws of all histories. Each law is a
+//! public function with an empty body: its clause is what is proved, and a caller gets the clause
+//! by calling it.
 #![tactic(auto)]
 
 pub mod devices;
-pub mod following;
-pub mod histories;
-pub mod keeping;
+pub mod logs;
+pub mod refinement;
 pub mod runs;
+pub mod tombstones;
 pub mod well_formed;

@@ -1,53 +1,54 @@
-//! What holds over every list of calls.
-ghost use Rattle.book_laws.specs.RunLaws.{StaysSound, RowsFollowCalls, RowsAreEnough, CallsLetBooksGoOn, ImportsActOnce};
-ghost use Rattle.book_laws.specs.TokenLaws.{NewTokensAreTaken, TokensStayGood};
-ghost use Rattle.book_laws.specs.MoveLaws.{MoveCallsTakeOneCard};
+//! Laws of every list of calls.
+ghost use Rattle.book_laws.specs.RunLaws.{CallsKeepHistoriesSound, RowsMatchHistoriesAfterCalls};
+ghost use Rattle.book_laws.specs.RunLaws.{RowsDetermineAnswers, CallsExtendHistories};
+ghost use Rattle.book_laws.specs.RunLaws.{ImportCallsAreIdempotent};
+ghost use Rattle.book_laws.specs.TokenLaws.{FreshTokensAreAccepted, TokensStayValid};
+ghost use Rattle.book_laws.specs.MoveLaws.{MoveCallsTransferOneCard};
 
-/// Over every list of calls each history stays lawful: cards come in where their UIDs aren't live,
-/// and are edited and go where they are. No book remembers more removed members than it keeps.
-pub fn histories_stay_lawful()
-    ensures { StaysSound }
+/// Histories stay sound over every list of calls: cards are added where their UIDs aren't live, and
+/// edited and removed where they are. No book has more tombstones than its limit.
+pub fn histories_stay_sound()
+    ensures { CallsKeepHistoriesSound }
 {}
 
-/// Over every list of calls the rows that it leaves are those of the histories that it leaves.
-pub fn rows_follow_calls()
-    ensures { RowsFollowCalls }
+/// The rows after a list of calls are the rows of the histories after the same calls.
+pub fn rows_match_histories_after_calls()
+    ensures { RowsMatchHistoriesAfterCalls }
 {}
 
-/// Where two stores have the same limits and rows, every list of calls is answered alike and
-/// leaves the same rows, whatever histories led to them: the rows forget nothing that a later call
-/// asks for.
-pub fn rows_are_enough()
-    ensures { RowsAreEnough }
+/// Two stores with the same limits and rows answer every list of calls alike and have the same rows
+/// afterwards, whatever their histories: the rows hold everything that a later call needs.
+pub fn rows_determine_answers()
+    ensures { RowsDetermineAnswers }
 {}
 
-/// No call takes a book away or undoes what happened to it: it keeps its id, its events, how many
-/// removed members it remembers and what it keeps of imports, and its horizon doesn't fall.
-pub fn books_go_on()
-    ensures { CallsLetBooksGoOn }
+/// No call deletes a book or undoes an event: the book keeps its id, its events, its tombstone
+/// limit and its kept imports, and its horizon doesn't fall.
+pub fn calls_extend_histories()
+    ensures { CallsExtendHistories }
 {}
 
-/// An import key acts once: after an import that was answered, whatever calls come between,
-/// another with the key is answered the same and changes nothing.
-pub fn imports_act_once()
-    ensures { ImportsActOnce }
+/// Imports are idempotent: after an accepted import and any calls, another import with the same key
+/// returns the same tally and changes nothing.
+pub fn imports_are_idempotent()
+    ensures { ImportCallsAreIdempotent }
 {}
 
-/// The book of a page refuses its token only as too old, and only where it was made to forget
-/// above the token's base since the page was made, or where more cards left it after that base than
-/// it keeps.
-pub fn tokens_stay_good()
-    ensures { TokensStayGood }
+/// The book of a page refuses the page's token only as too old, and only where a forget above the
+/// token's base was accepted since, or where the book had more removals after that base than it
+/// keeps tombstones.
+pub fn tokens_stay_valid()
+    ensures { TokensStayValid }
 {}
 
-/// The book of a page takes the page's token as long as nothing happened since the page was made.
-pub fn new_tokens_are_taken()
-    ensures { NewTokensAreTaken }
+/// The book of a page accepts the page's token as long as it has no further event.
+pub fn fresh_tokens_are_accepted()
+    ensures { FreshTokensAreAccepted }
 {}
 
-/// A move takes one card between two books and alters nothing else: an event in each of two
-/// histories, with the same card; every other book and card is as before, and the cards of all
-/// books together number the same.
-pub fn moves_take_one_card()
-    ensures { MoveCallsTakeOneCard }
+/// A move transfers one card between two books and changes nothing else: one event in each of the
+/// two histories, with the same card. Every other book and card is unchanged, and so is the number
+/// of cards of all books together.
+pub fn moves_transfer_one_card()
+    ensures { MoveCallsTransferOneCard }
 {}

@@ -1,28 +1,33 @@
-//! That the rows of every store are well formed.
-ghost use Rattle.book_laws.specs.WellFormedLaws.{NoBooksAreWellFormed, CreatingKeepsForm, PuttingKeepsForm, RemovingKeepsForm, MovingKeepsForm, ImportingKeepsForm, ForgettingKeepsForm, CallsKeepForm, PagesFitBooks, PagesHaveShortNumbers, OtherBooksTokensAreRefused};
+//! The rows of every store are well formed.
+ghost use Rattle.book_laws.specs.WellFormedLaws.{EmptyStoresAreWellFormed, CreateKeepsWellFormed};
+ghost use Rattle.book_laws.specs.WellFormedLaws.{PutKeepsWellFormed, RemoveKeepsWellFormed};
+ghost use Rattle.book_laws.specs.WellFormedLaws.{MoveKeepsWellFormed, ImportKeepsWellFormed};
+ghost use Rattle.book_laws.specs.WellFormedLaws.{ForgetKeepsWellFormed, CallsKeepWellFormed};
+ghost use Rattle.book_laws.specs.WellFormedLaws.{PagesFitBooks, PagesHaveShortNumbers};
+ghost use Rattle.book_laws.specs.WellFormedLaws.{OtherBooksTokensAreRefused};
 
 /// The rows of a new store are well formed.
 pub fn new_stores_are_well_formed()
-    ensures { NoBooksAreWellFormed }
+    ensures { EmptyStoresAreWellFormed }
 {}
 
 /// Each step that changes the rows of a store keeps them well formed.
 pub fn steps_keep_books_well_formed()
-    ensures create { CreatingKeepsForm }
-    ensures put { PuttingKeepsForm }
-    ensures remove { RemovingKeepsForm }
-    ensures move_card { MovingKeepsForm }
-    ensures import { ImportingKeepsForm }
-    ensures forget { ForgettingKeepsForm }
+    ensures create { CreateKeepsWellFormed }
+    ensures put { PutKeepsWellFormed }
+    ensures remove { RemoveKeepsWellFormed }
+    ensures move_card { MoveKeepsWellFormed }
+    ensures import { ImportKeepsWellFormed }
+    ensures forget { ForgetKeepsWellFormed }
 {}
 
-/// So the rows stay well formed over every list of calls.
+/// The rows stay well formed over every list of calls.
 pub fn calls_keep_books_well_formed()
-    ensures { CallsKeepForm }
+    ensures { CallsKeepWellFormed }
 {}
 
-/// A page of well-formed books is in order and tells cards under their own UIDs, a text has room
-/// for its token, and the token of another book is refused.
+/// The mark of a page of well-formed books is in order, its cards are under their own UIDs, the
+/// numbers of its token fit a token's text, and the token of another book is refused.
 pub fn pages_fit_well_formed_books()
     ensures fit { PagesFitBooks }
     ensures short_numbers { PagesHaveShortNumbers }

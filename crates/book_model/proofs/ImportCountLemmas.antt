@@ -1,4 +1,4 @@
--- What an import counts: one card after another, by what was live before all of them.
+-- The counts of an import: card by card, by what was live before the import.
 use Rattle.std.proofs.Common.{◌≡◌, ℕ, ◌+◌, Bool, true, false, cond, not, List, [], ◌∷◌, map, fold, Option, Some, None, refl, ap, ◌∙◌, arith}
 use Rattle.std.specs.Prelude.{count_by, is_none}
 use Rattle.std.specs.List.{AllByRecursion, IsDistinct}
@@ -11,10 +11,10 @@ use Rattle.vcard_text.specs.Cards.{uid_of}
 use Rattle.book_model.specs.declared.answers.Stored.{Stored}
 use Rattle.book_model.specs.declared.change.StoreReason.{StoreReason}
 use Rattle.book_model.specs.declared.change.StoreReason.TheVariants.{Import, ImportEdit}
-use Rattle.book_model.specs.Books.{Book, same_name, stored_in, live_at}
-use Rattle.book_model.specs.Counting.{arrivals, departures}
-use Rattle.book_model.specs.Importing.{Importing, import_state, import_card, import_cards, storing_in, import_for, import_reason}
-use Rattle.book_model.specs.ImportLaws.{is_replaced, is_there, HaveDistinctUids, CountsCards, ImportsCountCards, ImportsTakeNumbers}
+use Rattle.book_model.specs.Books.{Book, same_name, stored_in_row, live_at}
+use Rattle.book_model.specs.Counting.{arrived_cards, departed_cards}
+use Rattle.book_model.specs.Importing.{Importing, import_state, import_card, import_cards, book_after_store, import_with_reason, import_reason}
+use Rattle.book_model.specs.ImportLaws.{is_edit_of_live, is_same_as_live, HaveDistinctUids, CountsImportedCards, ImportsCountCards, ImportsTakeNumbers}
 use Rattle.book_model.specs.SameCards.{same_card}
 use Rattle.base_types.proofs.TextLemmas.{text_total, same_self, same-equal}
 
@@ -45,14 +45,14 @@ module _ {S : Type 0} (live_in : S → List ℕ → Option Stored) (storing : S 
   others_stay : (state : Importing S) (card : List Line) (uid : List ℕ) → same_name (uid_of card) uid ≡ false → live_in (next state card).book uid ≡ live_in state.book uid
   others_stay state card uid e = by (live_in state.book (uid_of card))
     where
-      by : (found : Option Stored) → live_in (import_for storing state card (import_reason card found)).book uid ≡ live_in state.book uid
+      by : (found : Option Stored) → live_in (import_with_reason storing state card (import_reason card found)).book uid ≡ live_in state.book uid
       by None = apart state.book card Import uid e
-      by (Some stored) = elim (same_card stored.card card) as (λ b. live_in (import_for storing state card (cond b None (Some ImportEdit))).book uid ≡ live_in state.book uid) [
+      by (Some stored) = elim (same_card stored.card card) as (λ b. live_in (import_with_reason storing state card (cond b None (Some ImportEdit))).book uid ≡ live_in state.book uid) [
         | true ↦ refl
         | false ↦ apart state.book card ImportEdit uid e
       ]
 
-  -- a count of the cards of one kind, told by what is live
+  -- a count of the cards of one kind, decided by what is live
   module _ (kind : Option Stored → List Line → Bool) (count : Importing S → ℕ)
       (counted : (state : Importing S) (card : List Line) → count (next state card) ≡ count state + one_if (kind (live_in state.book (uid_of card)) card)) where
     abbrev is_kind : Importing S → List Line → Bool
@@ -76,70 +76,70 @@ module _ {S : Type 0} (live_in : S → List ℕ → Option Stored) (storing : S 
   one_added : (state : Importing S) (card : List Line) → (next state card).added ≡ state.added + one_if (is_none (live_in state.book (uid_of card)))
   one_added state card = by (live_in state.book (uid_of card))
     where
-      by : (found : Option Stored) → (import_for storing state card (import_reason card found)).added ≡ state.added + one_if (is_none found)
+      by : (found : Option Stored) → (import_with_reason storing state card (import_reason card found)).added ≡ state.added + one_if (is_none found)
       by None = refl
-      by (Some stored) = elim (same_card stored.card card) as (λ b. (import_for storing state card (cond b None (Some ImportEdit))).added ≡ state.added + 0) [
+      by (Some stored) = elim (same_card stored.card card) as (λ b. (import_with_reason storing state card (cond b None (Some ImportEdit))).added ≡ state.added + 0) [
         | true ↦ omega arith
         | false ↦ omega arith
       ]
 
-  one_edited : (state : Importing S) (card : List Line) → (next state card).edited ≡ state.edited + one_if (is_replaced (live_in state.book (uid_of card)) card)
+  one_edited : (state : Importing S) (card : List Line) → (next state card).edited ≡ state.edited + one_if (is_edit_of_live (live_in state.book (uid_of card)) card)
   one_edited state card = by (live_in state.book (uid_of card))
     where
-      by : (found : Option Stored) → (import_for storing state card (import_reason card found)).edited ≡ state.edited + one_if (is_replaced found card)
+      by : (found : Option Stored) → (import_with_reason storing state card (import_reason card found)).edited ≡ state.edited + one_if (is_edit_of_live found card)
       by None = omega arith
-      by (Some stored) = elim (same_card stored.card card) as (λ b. (import_for storing state card (cond b None (Some ImportEdit))).edited ≡ state.edited + one_if (not b)) [
+      by (Some stored) = elim (same_card stored.card card) as (λ b. (import_with_reason storing state card (cond b None (Some ImportEdit))).edited ≡ state.edited + one_if (not b)) [
         | true ↦ omega arith
         | false ↦ omega arith
       ]
 
-  one_same : (state : Importing S) (card : List Line) → (next state card).same ≡ state.same + one_if (is_there (live_in state.book (uid_of card)) card)
+  one_same : (state : Importing S) (card : List Line) → (next state card).same ≡ state.same + one_if (is_same_as_live (live_in state.book (uid_of card)) card)
   one_same state card = by (live_in state.book (uid_of card))
     where
-      by : (found : Option Stored) → (import_for storing state card (import_reason card found)).same ≡ state.same + one_if (is_there found card)
+      by : (found : Option Stored) → (import_with_reason storing state card (import_reason card found)).same ≡ state.same + one_if (is_same_as_live found card)
       by None = omega arith
-      by (Some stored) = elim (same_card stored.card card) as (λ b. (import_for storing state card (cond b None (Some ImportEdit))).same ≡ state.same + one_if b) [
+      by (Some stored) = elim (same_card stored.card card) as (λ b. (import_with_reason storing state card (cond b None (Some ImportEdit))).same ≡ state.same + one_if b) [
         | true ↦ omega arith
         | false ↦ omega arith
       ]
 
-  pub counts_cards : (book : S) (cards : List (List Line)) → HaveDistinctUids cards → CountsCards live_in book cards (import_cards live_in storing book cards)
+  pub counts_cards : (book : S) (cards : List (List Line)) → HaveDistinctUids cards → CountsImportedCards live_in book cards (import_cards live_in storing book cards)
   counts_cards book cards distinct =
       let start : Importing S = import_state book 0 0 0 in
       let added = all_counted (λ o card. is_none o) (λ s. s.added) one_added cards start distinct in
-      let edited = all_counted is_replaced (λ s. s.edited) one_edited cards start distinct in
-      let same = all_counted is_there (λ s. s.same) one_same cards start distinct in
+      let edited = all_counted is_edit_of_live (λ s. s.edited) one_edited cards start distinct in
+      let same = all_counted is_same_as_live (λ s. s.same) one_same cards start distinct in
       record { added = omega (arith, added); edited = omega (arith, edited); same = omega (arith, same) }
 
 -- ---- the rows
 
-row_apart : (book : Book) (card : List Line) (why : StoreReason) (uid : List ℕ) → same_name (uid_of card) uid ≡ false → live_at (storing_in book card why) uid ≡ live_at book uid
-row_apart book card why uid e = ap (option_and_then stored_in) (get-insert text_total book.members (uid_of card) (record { changed = book.number + 1; card = Some card }) uid ∙ cond-false _ _ _ (apart_turned (uid_of card) uid e))
+row_apart : (book : Book) (card : List Line) (why : StoreReason) (uid : List ℕ) → same_name (uid_of card) uid ≡ false → live_at (book_after_store book card why) uid ≡ live_at book uid
+row_apart book card why uid e = ap (option_and_then stored_in_row) (get-insert text_total book.members (uid_of card) (record { changed = book.number + 1; card = Some card }) uid ∙ cond-false _ _ _ (apart_turned (uid_of card) uid e))
 
 pub imports_count_cards : ImportsCountCards
-imports_count_cards = counts_cards live_at storing_in row_apart
+imports_count_cards = counts_cards live_at book_after_store row_apart
 
--- what a part of an import did to the book from which it went out
+-- the effect of a part of an import on the book that it started from
 record Takes (from to : Importing Book) : Type 0 where
   number : to.book.number + from.added + from.edited ≡ from.book.number + to.added + to.edited
-  arrived : arrivals to.book.counts + from.added ≡ arrivals from.book.counts + to.added
-  departed : departures to.book.counts ≡ departures from.book.counts
+  arrived : arrived_cards to.book.counts + from.added ≡ arrived_cards from.book.counts + to.added
+  departed : departed_cards to.book.counts ≡ departed_cards from.book.counts
 
-takes_one : (state : Importing Book) (card : List Line) → Takes state (import_card live_at storing_in state card)
+takes_one : (state : Importing Book) (card : List Line) → Takes state (import_card live_at book_after_store state card)
 takes_one state card = by (live_at state.book (uid_of card))
   where
-    by : (found : Option Stored) → Takes state (import_for storing_in state card (import_reason card found))
+    by : (found : Option Stored) → Takes state (import_with_reason book_after_store state card (import_reason card found))
     by None = record { number = omega arith; arrived = omega arith; departed = refl }
-    by (Some stored) = elim (same_card stored.card card) as (λ b. Takes state (import_for storing_in state card (cond b None (Some ImportEdit)))) [
+    by (Some stored) = elim (same_card stored.card card) as (λ b. Takes state (import_with_reason book_after_store state card (cond b None (Some ImportEdit)))) [
       | true ↦ record { number = refl; arrived = refl; departed = refl }
       | false ↦ record { number = omega arith; arrived = omega arith; departed = refl }
     ]
 
-takes_all : (cards : List (List Line)) (state : Importing Book) → Takes state (fold (import_card live_at storing_in) state cards)
+takes_all : (cards : List (List Line)) (state : Importing Book) → Takes state (fold (import_card live_at book_after_store) state cards)
 takes_all [] state = record { number = refl; arrived = refl; departed = refl }
 takes_all (card ∷ cards) state =
     let one = takes_one state card in
-    let rest = takes_all cards (import_card live_at storing_in state card) in
+    let rest = takes_all cards (import_card live_at book_after_store state card) in
     let a = one.number in
     let b = rest.number in
     let c = one.arrived in

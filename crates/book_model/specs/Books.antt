@@ -1,4 +1,4 @@
--- What contracts see of a store: its books by name, each with its rows. This project's own.
+-- A store as contracts see it: its books by name, each with its rows. This project's own.
 use Rattle.std.specs.Prelude.{ℕ, Bool, List, Option, Result, Ok, Err}
 use Rattle.std.specs.Option.{option_map, option_map_or, option_and_then}
 use Rattle.std.specs.Borrow.{Bor}
@@ -14,9 +14,9 @@ use Rattle.book_model.specs.declared.refusal.Refusal.TheVariants.{NoSuchBook, No
 use Rattle.book_model.specs.declared.row.Row.{Row}
 use Rattle.book_model.specs.Counting.{no_counts}
 
--- A book: its id, the number of its last change, the number up to which removed members may be
--- forgotten, how many removed members it remembers at most, how many changes had each reason, a row
--- for each member by UID, and what imports answered by their keys.
+-- A book: its id, the number of its last change, its horizon (removals up to this number are
+-- forgotten), the most tombstones that it keeps, its changes counted by reason, the rows of its
+-- members by UID, and the tallies of imports by key.
 pub record Book : Type 0 where
   pub id : ℕ
   pub number : ℕ
@@ -33,13 +33,13 @@ LiveCards = finite.FinMap text_cmp Stored
 abbrev pub Books : Type 0
 Books = finite.FinMap text_cmp Book
 
--- two names are one where their octets are
+-- two names are the same where their octets are equal
 abbrev pub same_name : List ℕ → List ℕ → Bool
 same_name a b = eq_by_cmp text_cmp a b
 
--- a book to which nothing happened, with this id and keep
-abbrev pub empty_book : ℕ → ℕ → Book
-empty_book id keep = record {
+-- a book without changes, with this id and tombstone limit
+abbrev pub fresh_book : ℕ → ℕ → Book
+fresh_book id keep = record {
   id = id;
   number = 0;
   horizon = 0;
@@ -52,18 +52,18 @@ empty_book id keep = record {
 abbrev pub book_named : Books → List ℕ → Result Book Refusal
 book_named books name = option_map_or Ok (finite.get books name) (Err NoSuchBook)
 
--- a row of a live member is its card, with the number of its last change as its version
-abbrev pub stored_in : Row → Option Stored
-stored_in row = option_map (λ card. record { version = row.changed; card = card }) row.card
+-- the card of a live member, with the number of its last change as its version
+abbrev pub stored_in_row : Row → Option Stored
+stored_in_row row = option_map (λ card. record { version = row.changed; card = card }) row.card
 
--- what is live at the UID
+-- the live card under the UID
 abbrev pub live_at : Book → List ℕ → Option Stored
-live_at book uid = option_and_then stored_in (finite.get book.members uid)
+live_at book uid = option_and_then stored_in_row (finite.get book.members uid)
 
--- what is live, where something is
-abbrev pub live_card : Option Stored → Result Stored Refusal
-live_card live = option_map_or Ok live (Err NoSuchCard)
+-- the live card, or a refusal where there is none
+abbrev pub live_or_no_such_card : Option Stored → Result Stored Refusal
+live_or_no_such_card live = option_map_or Ok live (Err NoSuchCard)
 
--- what a version and a borrowed card say
-abbrev pub stored_behind : Option (ℕ × Bor (List Line)) → Option Stored
-stored_behind live = option_map (λ p. record { version = p.0; card = p.1.now }) live
+-- a version and a borrowed card as a plain value
+abbrev pub as_stored : Option (ℕ × Bor (List Line)) → Option Stored
+as_stored live = option_map (λ p. record { version = p.0; card = p.1.now }) live

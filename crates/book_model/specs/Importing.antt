@@ -1,6 +1,7 @@
--- Importing cards under a key, which is kept with the answer so that the same import acts once.
--- This project's own.
-use Rattle.std.specs.Prelude.{ℕ, ◌+◌, ◌==◌, Bool, ◌&&◌, ◌||◌, nat_le, List, length, fold, Option, Some, None, Result, Ok, if◌then◌else◌}
+-- Importing cards under a key. The key is kept with the tally, so that imports are idempotent. This
+-- project's own.
+use Rattle.std.specs.Prelude.{ℕ, ◌+◌, ◌==◌, Bool, ◌&&◌, ◌||◌, nat_le, List, length, fold, Option}
+use Rattle.std.specs.Prelude.{Some, None, Result, Ok, if◌then◌else◌}
 use Rattle.std.specs.List.{list_all}
 use Rattle.std.specs.FinMap as finite
 use Rattle.base_types.specs.Octets.{dot, hyphen, underscore, is_digit, is_letter}
@@ -15,9 +16,9 @@ use Rattle.book_model.specs.declared.refusal.Refusal.{Refusal}
 use Rattle.book_model.specs.declared.refusal.Refusal.TheVariants.{BookFull, ChangesSpent, BadKey}
 use Rattle.book_model.specs.Bounds.{Bounds}
 use Rattle.book_model.specs.Books.{Book, Books, book_named, live_at}
-use Rattle.book_model.specs.Changing.{with_change}
+use Rattle.book_model.specs.BookChanges.{book_after_change}
 use Rattle.book_model.specs.Counting.{live_count}
-use Rattle.book_model.specs.Outcomes.{◌>>=◌, provided}
+use Rattle.book_model.specs.CallOutcomes.{◌>>=◌, refuse_unless}
 use Rattle.book_model.specs.SameCards.{same_card}
 
 -- ---- keys
@@ -33,14 +34,14 @@ is_legal_key key = nat_le 1 (length key) && nat_le (length key) 64 && list_all i
 
 -- ---- one card
 
--- why an import stores the card, where it does: its UID isn't live, or another card is live there
+-- why an import stores the card, if it does: its UID isn't live, or a different card is live
 abbrev pub import_reason : List Line → Option Stored → Option StoreReason
 import_reason card None = Some Import
 import_reason card (Some stored) = if same_card stored.card card then None else Some ImportEdit
 
--- ---- cards one after another
+-- ---- cards in order
 
--- a book as far as the cards are in it, and how many of them were added, edited and the same
+-- The book after the cards imported so far, and how many of them were added, edited and the same.
 pub record Importing (S : Type 0) : Type 0 where
   pub book : S
   pub added : ℕ
@@ -51,62 +52,65 @@ abbrev pub import_state : {S : Type 0} → S → ℕ → ℕ → ℕ → Importi
 import_state book added edited same =
     record { book = book; added = added; edited = edited; same = same }
 
--- the same three counts, whatever is kept of the book
+-- the three counts alone, without the book
 abbrev pub imported_so_far : ℕ → ℕ → ℕ → Importing (Unit {0})
 imported_so_far added edited same = import_state tt added edited same
 
--- Of any kind of book, by what becomes of it when a card is stored for a reason. A card that isn't
--- stored is the same, one that is stored where nothing was live is added, and any other is edited.
-abbrev pub import_for : {S : Type 0} → (S → List Line → StoreReason → S)
+-- Defined for any kind of book, given how a card is stored in it. A card that isn't stored counts
+-- as the same, one that is stored where nothing was live as added, and any other as edited.
+abbrev pub import_with_reason : {S : Type 0} → (S → List Line → StoreReason → S)
     → Importing S → List Line → Option StoreReason → Importing S
-import_for storing state card None =
+import_with_reason storing state card None =
     import_state state.book state.added state.edited (state.same + 1)
-import_for storing state card (Some Import) =
+import_with_reason storing state card (Some Import) =
     import_state (storing state.book card Import) (state.added + 1) state.edited state.same
-import_for storing state card (Some why) =
+import_with_reason storing state card (Some why) =
     import_state (storing state.book card why) state.added (state.edited + 1) state.same
 
--- and by what is live in it at a UID
+-- and given how the live card under a UID is looked up
 module _ {S : Type 0} (live_in : S → List ℕ → Option Stored)
     (storing : S → List Line → StoreReason → S) where
   abbrev pub import_card : Importing S → List Line → Importing S
   import_card state card =
-      import_for storing state card (import_reason card (live_in state.book (uid_of card)))
+      import_with_reason storing state card (import_reason card (live_in state.book (uid_of card)))
 
   abbrev pub import_cards : S → List (List Line) → Importing S
   import_cards book cards = fold import_card (import_state book 0 0 0) cards
 
--- There is room for what was added and edited: by the live cards and the number of the book as it
--- is then.
+-- The tally, where there is room for the added and edited cards, given the live cards and the
+-- number of the book after the import.
 abbrev pub import_tally : {S : Type 0} → Bounds → Importing S → ℕ → ℕ → Result ImportTally Refusal
 import_tally limits state cards number = do
-  room ← provided ((state.added == 0) || nat_le cards limits.cards_max) BookFull
-  left ← provided ((state.added + state.edited == 0) || nat_le number limits.changes_max)
+  room ← refuse_unless ((state.added == 0) || nat_le cards limits.cards_max) BookFull
+  left ← refuse_unless ((state.added + state.edited == 0) || nat_le number limits.changes_max)
       ChangesSpent
   Ok (record { added = state.added; edited = state.edited; same = state.same; number = number })
 
 -- ---- the rows
 
-abbrev pub storing_in : Book → List Line → StoreReason → Book
-storing_in book card why = with_change book (uid_of card) (Stores card why)
+abbrev pub book_after_store : Book → List Line → StoreReason → Book
+book_after_store book card why = book_after_change book (uid_of card) (Stores card why)
 
--- what an import answers that left the book so
-abbrev pub tally_after : Bounds → Importing Book → Result ImportTally Refusal
-tally_after limits done = import_tally limits done (live_count done.book.counts) done.book.number
+-- the tally of an import that resulted in this book
+abbrev pub book_import_tally : Bounds → Importing Book → Result ImportTally Refusal
+book_import_tally limits done =
+    import_tally limits done (live_count done.book.counts) done.book.number
 
--- the book keeps the import's answer under its key
-abbrev pub with_kept_import : Book → List ℕ → ImportTally → Book
-with_kept_import book key tally = record book { imports = finite.insert book.imports key tally }
+-- the book keeps the tally of the import under its key
+abbrev pub book_with_kept_import : Book → List ℕ → ImportTally → Book
+book_with_kept_import book key tally =
+    record book { imports = finite.insert book.imports key tally }
 
--- with a kept key the answer is what is kept, and nothing changes
-abbrev pub import_under : Bounds → Books → List ℕ → Book → List ℕ → List (List Line)
+-- where the key is kept, its tally is returned and nothing changes
+abbrev pub import_under_key : Bounds → Books → List ℕ → Book → List ℕ → List (List Line)
     → Option ImportTally → Result (ImportTally × Books) Refusal
-import_under limits books name book key cards (Some kept) = Ok (kept, books)
-import_under limits books name book key cards None = do
-  tally ← tally_after limits (import_cards live_at storing_in book cards)
+import_under_key limits books name book key cards (Some kept) = Ok (kept, books)
+import_under_key limits books name book key cards None = do
+  tally ← book_import_tally limits (import_cards live_at book_after_store book cards)
   Ok (
     tally,
-    finite.insert books name (with_kept_import (import_cards live_at storing_in book cards).book
+    finite.insert books name
+        (book_with_kept_import (import_cards live_at book_after_store book cards).book
         key tally),
   )
 
@@ -114,12 +118,12 @@ abbrev pub import_step : Bounds → Books → List ℕ → List ℕ → List (Li
     → Result (ImportTally × Books) Refusal
 import_step limits books name key cards = do
   book ← book_named books name
-  legal ← provided (is_legal_key key) BadKey
-  import_under limits books name book key cards (finite.get book.imports key)
+  legal ← refuse_unless (is_legal_key key) BadKey
+  import_under_key limits books name book key cards (finite.get book.imports key)
 
--- what is kept under a key
+-- the tally that is kept under a key, if any
 abbrev pub kept_import_step : Books → List ℕ → List ℕ → Result (Option ImportTally) Refusal
 kept_import_step books name key = do
   book ← book_named books name
-  legal ← provided (is_legal_key key) BadKey
+  legal ← refuse_unless (is_legal_key key) BadKey
   Ok (finite.get book.imports key)

@@ -2,10 +2,9 @@ pub mod Bounds
 pub mod BookNames
 pub mod Counting
 pub mod RefusalNumbers
-pub mod Outcomes
+pub mod CallOutcomes
 pub mod SameCards
 pub mod Books
-pub mod BookCodes
 pub mod Creating
 pub mod Putting
 pub mod Removing
@@ -13,8 +12,9 @@ pub mod Moving
 pub mod Importing
 pub mod ImportLaws
 pub mod Forgetting
-pub mod Changing
+pub mod BookChanges
 pub mod Pages
-pub mod Reading
+pub mod BookQueries
 pub mod Devices
 pub mod WellFormed
+pub mod internal

@@ -1,11 +1,18 @@
--- The numbers and the words under which refusals, faults and the causes of a refused token are
--- reported. `valid-sync-token` and `number-of-matches-within-limits` are the preconditions of RFC
--- 6578, sections 3.2 and 3.7; the others are this project's own.
+-- The numbers and texts of refusals, faults and the causes of a refused token in replies.
+-- `valid-sync-token` and `number-of-matches-within-limits` are the preconditions of RFC 6578,
+-- sections 3.2 and 3.7; the others are this project's own.
 use Rattle.std.specs.Prelude.{ℕ, List, codes}
 use Rattle.book_model.specs.declared.refusal.Refusal.{Refusal}
-use Rattle.book_model.specs.declared.refusal.Refusal.TheVariants.{NoSuchBook, BookExists, BadBookName, NoSuchCard, BadCard, UidMismatch, VersionMismatch, UidTaken, SameBook, BadToken, BadLimit, BookFull, ChangesSpent, BadImport, BadKey, BadForget, NotGroup, TooManyBooks}
+use Rattle.book_model.specs.declared.refusal.Refusal.TheVariants.{NoSuchBook, BookExists}
+use Rattle.book_model.specs.declared.refusal.Refusal.TheVariants.{BadBookName, NoSuchCard, BadCard}
+use Rattle.book_model.specs.declared.refusal.Refusal.TheVariants.{UidMismatch, VersionMismatch}
+use Rattle.book_model.specs.declared.refusal.Refusal.TheVariants.{UidTaken, SameBook, BadToken}
+use Rattle.book_model.specs.declared.refusal.Refusal.TheVariants.{BadLimit, BookFull, ChangesSpent}
+use Rattle.book_model.specs.declared.refusal.Refusal.TheVariants.{BadImport, BadKey, BadForget}
+use Rattle.book_model.specs.declared.refusal.Refusal.TheVariants.{NotGroup, TooManyBooks}
 use Rattle.book_model.specs.declared.refusal.TokenCause.{TokenCause}
-use Rattle.book_model.specs.declared.refusal.TokenCause.TheVariants.{Malformed, OtherBook, TooNew, TooOld}
+use Rattle.book_model.specs.declared.refusal.TokenCause.TheVariants.{Malformed, OtherBook, TooNew}
+use Rattle.book_model.specs.declared.refusal.TokenCause.TheVariants.{TooOld}
 use Rattle.book_model.specs.declared.denied.Denied.{Denied}
 use Rattle.book_model.specs.declared.denied.Denied.TheVariants.{Refused, Fault as Faulted}
 use Rattle.book_model.specs.declared.denied.Fault.{Fault}
@@ -51,17 +58,17 @@ refusal_text BadForget = codes "bad-forget"
 refusal_text NotGroup = codes "not-group"
 refusal_text TooManyBooks = codes "too-many-books"
 
-abbrev pub fault_number : Fault → ℕ
-fault_number Store = 19
-fault_number Memory = 20
+abbrev pub book_fault_number : Fault → ℕ
+book_fault_number Store = 19
+book_fault_number Memory = 20
 
-abbrev pub fault_text : Fault → List ℕ
-fault_text Store = codes "store-fault"
-fault_text Memory = codes "no-memory"
+abbrev pub book_fault_text : Fault → List ℕ
+book_fault_text Store = codes "store-fault"
+book_fault_text Memory = codes "no-memory"
 
 abbrev pub denied_text : Denied → List ℕ
 denied_text (Refused refusal) = refusal_text refusal
-denied_text (Faulted fault) = fault_text fault
+denied_text (Faulted fault) = book_fault_text fault
 
 abbrev pub token_cause_number : TokenCause → ℕ
 token_cause_number Malformed = 1

@@ -1,5 +1,5 @@
--- What the rows of every store are like, whatever calls made them. What opens stored books tests
--- the same. This project's own.
+-- The invariants of every store's rows, after any calls. Opening a stored book checks the same
+-- invariants. This project's own.
 use Rattle.std.specs.Prelude.{ℕ, ◌≡◌, ◌<◌, ◌≤◌, ◌+◌, true, List, Some, None}
 use Rattle.std.specs.FinMap as finite
 use Rattle.vcard_lines.specs.declared.line.Line.{Line}
@@ -9,36 +9,37 @@ use Rattle.book_model.specs.declared.row.Row.{Row}
 use Rattle.book_model.specs.Bounds.{Bounds}
 use Rattle.book_model.specs.BookNames.{is_legal_name}
 use Rattle.book_model.specs.Books.{Book, Books}
-use Rattle.book_model.specs.Counting.{total, arrivals, departures}
+use Rattle.book_model.specs.Counting.{total_changes, arrived_cards, departed_cards}
 use Rattle.book_model.specs.Importing.{is_legal_key}
-use Rattle.book_model.specs.Reading.{live_cards, remembered_in}
+use Rattle.book_model.specs.BookQueries.{live_cards, tombstone_count}
 
--- The row of a member was written by one of the book's changes. A live member's card has its UID,
--- and a member that is gone is remembered: it went after the horizon.
+-- The row was written by one of the book's changes. The card of a live member has the member's UID,
+-- and a row without a card is a tombstone: the member was removed after the horizon.
 pub record IsWellFormedRow (book : Book) (uid : List ℕ) (row : Row) : Type 0 where
   pub first : 1 ≤ row.changed
   pub known : row.changed ≤ book.number
   pub own_card : (card : List Line) → row.card ≡ Some card → uid_of card ≡ uid
   pub remembered : row.card ≡ None → book.horizon < row.changed
 
--- an import that is kept has a key that may be one, and made no change that is still to come
+-- a kept import has a legal key, and its number isn't above the book's
 pub record IsWellFormedImport (book : Book) (key : List ℕ) (tally : ImportTally) : Type 0 where
   pub legal : is_legal_key key ≡ true
   pub known : tally.number ≤ book.number
 
 pub record IsWellFormedBook (limits : Bounds) (book : Book) : Type 0 where
-  -- each change was counted once
-  pub counted_once : book.number ≡ total book.counts
+  -- the counts add up to the book's number
+  pub counted_once : book.number ≡ total_changes book.counts
   pub within_limit : book.number ≤ limits.changes_max
   pub horizon_known : book.horizon ≤ book.number
-  -- it keeps some removed members, and remembers no more than that
+  -- the tombstone limit is at least 1, and the book has no more tombstones than the limit
   pub keep_least : 1 ≤ book.keep
-  pub within_keep : remembered_in book ≤ book.keep
-  -- the live cards are those that came in, less those that went
-  pub cards_counted : finite.len (live_cards book) + departures book.counts ≡ arrivals book.counts
+  pub within_keep : tombstone_count book ≤ book.keep
+  -- the live cards are the arrived cards less the departed ones
+  pub cards_counted : finite.len (live_cards book) + departed_cards book.counts
+      ≡ arrived_cards book.counts
   pub rows : (uid : List ℕ) (row : Row) → finite.get book.members uid ≡ Some row
       → IsWellFormedRow book uid row
-  -- one change writes one row
+  -- no two rows have the same number
   pub rows_apart : (a b : List ℕ) (x y : Row) → finite.get book.members a ≡ Some x
       → finite.get book.members b ≡ Some y → x.changed ≡ y.changed → a ≡ b
   pub imports : (key : List ℕ) (tally : ImportTally) → finite.get book.imports key ≡ Some tally

@@ -1,25 +1,26 @@
-//! How many changes of a book had each reason.
+//! The changes of a book, counted by reason.
 ghost use Rattle.std.specs.Prelude.{◌≡◌, ◌<◌, ◌^◌};
-ghost use Rattle.book_model.specs.Counting.{no_counts, counts_with, total, live_count};
+ghost use Rattle.book_model.specs.Counting.{no_counts, counts_after_change, total_changes};
+ghost use Rattle.book_model.specs.Counting.{live_count};
 
 use crate::change::{Change, RemovalReason, StoreReason};
 
-/// The changes of a book by their reasons.
+/// How many changes of a book had each reason.
 #[derive(Clone, Copy, Debug, PartialEq, Eq)]
 pub struct Counts {
     /// Puts of a card whose UID wasn't live.
     pub created: u64,
-    /// Puts of a card in the place of another of its UID.
+    /// Puts that replaced a different card of the UID.
     pub edited: u64,
     /// Cards of imports whose UIDs weren't live.
     pub imported: u64,
-    /// Cards of imports in the places of others of their UIDs.
+    /// Cards of imports that replaced different cards of their UIDs.
     pub import_edited: u64,
-    /// Cards that came from another book.
+    /// Cards that were moved here from another book.
     pub moved_in: u64,
     /// Cards that were removed.
     pub deleted: u64,
-    /// Cards that went to another book.
+    /// Cards that were moved to another book.
     pub moved_out: u64,
 }
 
@@ -39,10 +40,10 @@ impl Counts {
         }
     }
 
-    /// One more change.
+    /// Counts one more change.
     pub fn add(&mut self, change: &Change)
-        requires { total self.old < 2 ^ 63 }
-        ensures { self.new ≡ counts_with change.now self.old }
+        requires { total_changes self.old < 2 ^ 63 }
+        ensures { self.new ≡ counts_after_change change.now self.old }
     {
         match change {
             Change::Stores(_, StoreReason::Creation) => self.created += 1,
@@ -57,10 +58,10 @@ impl Counts {
 
     /// How many cards are live after these changes.
     pub fn live(&self) -> u64
-        requires { total self.now < 2 ^ 64 }
+        requires { total_changes self.now < 2 ^ 64 }
         ensures { result ≡ live_count self.now }
     {
-        let arrivals = self.created + self.imported + self.moved_in;
-        arrivals.saturating_sub(self.deleted + self.moved_out)
+        let arrived_cards = self.created + self.imported + self.moved_in;
+        arrived_cards.saturating_sub(self.deleted + self.moved_out)
     }
 }

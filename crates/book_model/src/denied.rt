@@ -1,6 +1,6 @@
-//! What stands in place of an answer.
+//! The errors of a call: a refusal or a fault.
 ghost use Rattle.std.specs.Prelude.{◌≡◌};
-ghost use Rattle.book_model.specs.RefusalNumbers.{fault_number, fault_text};
+ghost use Rattle.book_model.specs.RefusalNumbers.{book_fault_number, book_fault_text};
 
 use crate::refusal::Refusal;
 use std::alloc::{AllocError, AllocFailed};
@@ -8,19 +8,19 @@ use std::error::Error;
 use std::fmt;
 use vcard_text::{CardFault, NoMemory};
 
-/// Why a command wasn't done, whatever it asked for. After a fault the books are as before.
+/// Why a call failed, whatever it asked for. After a fault the books are unchanged.
 #[derive(Clone, Copy, Debug, PartialEq, Eq)]
 pub enum Fault {
-    /// The database answered an error, or a row read from it isn't well formed.
+    /// The database reported an error, or a row read from it isn't well formed.
     Store,
     /// An allocation failed.
     Memory,
 }
 
 impl Fault {
-    /// The number under which the fault is reported, 19 or 20.
+    /// The number of the fault in replies: 19 or 20.
     pub fn number(&self) -> u8
-        ensures { result ≡ fault_number self.now }
+        ensures { result ≡ book_fault_number self.now }
     {
         match self {
             Fault::Store => 19,
@@ -28,9 +28,9 @@ impl Fault {
         }
     }
 
-    /// The word under which the fault is reported.
+    /// The text of the fault in replies.
     pub fn text(&self) -> &'static str
-        ensures { result.now ≡ fault_text self.now }
+        ensures { result.now ≡ book_fault_text self.now }
     {
         match self {
             Fault::Store => "store-fault",
@@ -41,9 +41,9 @@ impl Fault {
 
 impl fmt::Display for Fault {
     ghost use Rattle.std.specs.Prelude.{Some};
-    ghost use Rattle.book_model.specs.RefusalNumbers.{fault_text};
+    ghost use Rattle.book_model.specs.RefusalNumbers.{book_fault_text};
 
-    ghost output = { λ fault. Some (fault_text fault) };
+    ghost output = { λ fault. Some (book_fault_text fault) };
 
     fn fmt<W: fmt::Write>(&self, f: &mut fmt::Formatter<W>) -> fmt::Result {
         f.write_str(self.text())
@@ -55,9 +55,9 @@ impl Error for Fault {}
 /// A refusal or a fault.
 #[derive(Clone, Copy, Debug, PartialEq, Eq)]
 pub enum Denied {
-    /// It isn't done for what it asks.
+    /// The call isn't allowed, given its arguments and the books.
     Refused(Refusal),
-    /// It isn't done, whatever it asks.
+    /// The call failed, whatever it asked for.
     Fault(Fault),
 }
 
@@ -90,9 +90,9 @@ impl From<Refusal> for Denied {
 
 impl From<CardFault> for Denied {
     ghost use Rattle.std.specs.Prelude.{◌≡◌};
-    ghost use Rattle.book_model.specs.Outcomes.{denied_card};
+    ghost use Rattle.book_model.specs.CallOutcomes.{denied_card_fault};
 
-    ghost from_gives = { λ fault denied. denied ≡ denied_card fault };
+    ghost from_gives = { λ fault denied. denied ≡ denied_card_fault fault };
 
     fn from(fault: CardFault) -> Denied {
         match fault {
@@ -104,9 +104,9 @@ impl From<CardFault> for Denied {
 
 impl From<NoMemory> for Denied {
     ghost use Rattle.std.specs.Prelude.{◌≡◌};
-    ghost use Rattle.book_model.specs.Outcomes.{no_memory};
+    ghost use Rattle.book_model.specs.CallOutcomes.{denied_no_memory};
 
-    ghost from_gives = { λ _ denied. denied ≡ no_memory };
+    ghost from_gives = { λ _ denied. denied ≡ denied_no_memory };
 
     fn from(_error: NoMemory) -> Denied {
         Denied::Fault(Fault::Memory)
@@ -115,9 +115,9 @@ impl From<NoMemory> for Denied {
 
 impl From<AllocError> for Denied {
     ghost use Rattle.std.specs.Prelude.{◌≡◌};
-    ghost use Rattle.book_model.specs.Outcomes.{no_memory};
+    ghost use Rattle.book_model.specs.CallOutcomes.{denied_no_memory};
 
-    ghost from_gives = { λ _ denied. denied ≡ no_memory };
+    ghost from_gives = { λ _ denied. denied ≡ denied_no_memory };
 
     fn from(_error: AllocError) -> Denied {
         Denied::Fault(Fault::Memory)
@@ -126,9 +126,9 @@ impl From<AllocError> for Denied {
 
 impl<T: Drop> From<AllocFailed<T>> for Denied {
     ghost use Rattle.std.specs.Prelude.{◌≡◌};
-    ghost use Rattle.book_model.specs.Outcomes.{no_memory};
+    ghost use Rattle.book_model.specs.CallOutcomes.{denied_no_memory};
 
-    ghost from_gives = { λ _ denied. denied ≡ no_memory };
+    ghost from_gives = { λ _ denied. denied ≡ denied_no_memory };
 
     fn from(_error: AllocFailed<T>) -> Denied {
         Denied::Fault(Fault::Memory)

@@ -1,5 +1,5 @@
-//! Books of cards that take a number for each change: what a store keeps of them, what it answers,
-//! and what a device makes of its pages (RFC 6578).
+//! The model of books: what a store keeps of them, what its calls answer, and how a device applies
+//! the pages of reports (RFC 6578).
 #![tactic(auto)]
 
 mod answers;

@@ -5,7 +5,7 @@ ghost use Rattle.book_model.specs.Bounds.{bounds_of, with_keep, IsInRange};
 use std::marker::Model;
 
 /// The most entries of a page, live cards of a book, changes of a book, books of a store, and
-/// removed members that a new book remembers.
+/// tombstones of a new book.
 #[derive(Clone, Copy, Debug, PartialEq, Eq)]
 pub struct Limits {
     page_max: u64,
@@ -47,8 +47,8 @@ impl Model for Limits {
 
 impl Limits {
     /// These limits, where each is at least 1, a page has at most 1,000 entries, a book at most
-    /// 10,000 live cards and 1,000,000,000,000 changes, and the store at most 100 books. It takes
-    /// no memory.
+    /// 10,000 live cards and 1,000,000,000,000 changes, and the store at most 100 books. Else
+    /// `None`. It allocates nothing.
     pub fn new(page_max: u64, cards_max: u64, changes_max: u64, books_max: u64) -> Option<Limits>
         ensures some { IfSome result (λ limits. limits ≡ bounds_of page_max cards_max changes_max
             books_max) }
@@ -71,8 +71,8 @@ impl Limits {
         })
     }
 
-    /// The same limits but for `keep`: how many removed members a book remembers that is made from
-    /// now on, from 1 to 10,000. It takes no memory.
+    /// The same limits with another `keep`: the most tombstones of a book that is created from now
+    /// on, from 1 to 10,000. Else `None`. It allocates nothing.
     pub fn with_keep(self, keep: u64) -> Option<Limits>
         ensures some { IfSome result (λ limits. limits ≡ with_keep self keep) }
         ensures range { IsSome result ↔ ((1 ≤ keep) × (keep ≤ 10000)) }
@@ -83,8 +83,8 @@ impl Limits {
         Some(Limits { keep, ..self })
     }
 
-    /// A page of 100 entries, 10,000 live cards and 1,000,000,000,000 changes in a book, 100 books,
-    /// and 10,000 removed members that a book remembers.
+    /// 100 entries of a page, 10,000 live cards and 1,000,000,000,000 changes of a book, 100 books,
+    /// and 10,000 tombstones of a book.
     pub fn standard() -> Limits
         ensures page { result.page_max ≡ 100 }
         ensures cards { result.cards_max ≡ 10000 }
@@ -119,7 +119,7 @@ impl Limits {
         self.cards_max
     }
 
-    /// The most changes that one book takes, from 1 to 1,000,000,000,000.
+    /// The most changes of one book, from 1 to 1,000,000,000,000.
     pub fn changes_max(&self) -> u64
         ensures value { result ≡ self.now.changes_max }
         ensures least { 1 ≤ result }
@@ -137,7 +137,7 @@ impl Limits {
         self.books_max
     }
 
-    /// How many removed members a new book remembers, from 1 to 10,000.
+    /// The most tombstones of a new book, from 1 to 10,000.
     pub fn keep(&self) -> u64
         ensures value { result ≡ self.now.keep }
         ensures least { 1 ≤ result }

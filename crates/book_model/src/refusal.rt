@@ -1,4 +1,4 @@
-//! Why a command is refused.
+//! Why a call is refused.
 ghost use Rattle.std.specs.Prelude.{◌≡◌};
 ghost use Rattle.book_model.specs.RefusalNumbers.{refusal_number, refusal_text, token_cause_number};
 
@@ -6,21 +6,21 @@ use std::error::Error;
 use std::fmt;
 use vcard_text::CardFault;
 
-/// Why a sync token isn't taken (RFC 6578, section 3.2: the precondition `valid-sync-token`).
+/// Why a sync token isn't accepted (RFC 6578, section 3.2: the precondition `valid-sync-token`).
 #[derive(Clone, Copy, Debug, PartialEq, Eq)]
 pub enum TokenCause {
-    /// The text isn't a token's.
+    /// The text isn't that of a token.
     Malformed,
     /// The token is of another book.
     OtherBook,
     /// One of its numbers is above the book's number.
     TooNew,
-    /// Its base is below the book's horizon, so that removals which it needs are forgotten.
+    /// Its base is below the book's horizon, so removals that it needs are forgotten.
     TooOld,
 }
 
 impl TokenCause {
-    /// The number under which the cause is reported, from 1 to 4.
+    /// The number of the cause in replies, from 1 to 4.
     pub fn number(&self) -> u8
         ensures { result ≡ token_cause_number self.now }
     {
@@ -33,58 +33,58 @@ impl TokenCause {
     }
 }
 
-/// Why a command is refused. After a refusal the books are as before.
+/// Why a call is refused. After a refusal the books are unchanged.
 #[derive(Clone, Copy, Debug, PartialEq, Eq)]
 pub enum Refusal {
     /// No book has the name.
     NoSuchBook,
-    /// A book has the name already.
+    /// A book already has the name.
     BookExists,
     /// A book's name isn't 1 to 40 of `a` to `z`, `0` to `9` and the hyphen.
     BadBookName,
     /// No live card has the UID.
     NoSuchCard,
-    /// The text spells no card.
+    /// The text isn't a card's.
     BadCard(CardFault),
-    /// The card's UID isn't the one that was named.
+    /// The card's UID isn't the one in the request.
     UidMismatch,
-    /// The live card has another version than was expected.
+    /// The live card doesn't have the expected version.
     VersionMismatch {
         /// The version of the live card, or 0 where none is live.
         has: u64,
     },
-    /// The book that a card was to be moved to has a live card of that UID.
+    /// The target book of a move has a live card of that UID.
     UidTaken,
-    /// A card was to be moved from a book to itself.
+    /// The source and the target book of a move are the same.
     SameBook,
-    /// The sync token isn't taken.
+    /// The sync token isn't accepted.
     BadToken(TokenCause),
-    /// A page of no entries was asked for (RFC 6578, section 3.7:
+    /// The limit of a report is 0 (RFC 6578, section 3.7:
     /// `number-of-matches-within-limits`).
     BadLimit,
-    /// The book has as many live cards as it may have.
+    /// The book has as many live cards as its limit.
     BookFull,
-    /// The book took as many changes as it may take.
+    /// The book has had as many changes as its limit.
     ChangesSpent,
     /// The body of an import has a bad row.
     BadImport {
-        /// The first bad row, counted from 1 behind the header, which is row 0.
+        /// The first bad row, counted from 1 after the header, which is row 0.
         row: u64,
-        /// The number under which the reader of rows reports what is wrong with it.
+        /// The number of what is wrong with the row.
         cause: u8,
     },
     /// An import's key isn't 1 to 64 of letters, digits, dot, underscore and hyphen.
     BadKey,
-    /// A book can't forget up to this number.
+    /// The number is below the book's horizon or above its last change.
     BadForget,
     /// The card isn't a group's.
     NotGroup,
-    /// The store has as many books as it may have.
+    /// The store has as many books as its limit.
     TooManyBooks,
 }
 
 impl Refusal {
-    /// The number under which the refusal is reported, from 1 to 18.
+    /// The number of the refusal in replies, from 1 to 18.
     pub fn number(&self) -> u8
         ensures { result ≡ refusal_number self.now }
     {
@@ -110,7 +110,7 @@ impl Refusal {
         }
     }
 
-    /// The word under which the refusal is reported.
+    /// The text of the refusal in replies.
     pub fn text(&self) -> &'static str
         ensures { result.now ≡ refusal_text self.now }
     {

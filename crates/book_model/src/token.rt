@@ -1,20 +1,20 @@
-//! Places in a book's history (RFC 6578, section 3.2).
+//! Sync tokens (RFC 6578, section 3.2).
 
-/// The place up to which a device has heard.
+/// How far a device has synced.
 #[derive(Clone, Copy, Debug, PartialEq, Eq)]
 pub struct Mark {
-    /// Members whose last change has at most this number have been told.
+    /// Members whose last change has at most this number have been reported.
     pub at: u64,
-    /// Members that went by a change with at most this number needn't be told: the device doesn't
-    /// hold them.
+    /// Members that were removed by a change with at most this number needn't be reported: the
+    /// device doesn't have them.
     pub base: u64,
 }
 
 /// A mark in the book with this id.
 #[derive(Clone, Copy, Debug, PartialEq, Eq)]
 pub struct Token {
-    /// The id of the book; the token is refused by any other.
+    /// The id of the book; every other book refuses the token.
     pub book: u64,
-    /// Where the next report of the book goes on.
+    /// Where the next report of the book continues.
     pub mark: Mark,
 }

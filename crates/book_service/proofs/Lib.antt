@@ -3,14 +3,14 @@ pub mod CallLemmas
 pub mod WholeBookLemmas
 pub mod ImportLemmas
 pub mod TextLemmas
-pub mod AskLemmas
+pub mod DevicePageLemmas
 pub mod RunLemmas
 pub mod StepLemmas
 pub mod EventLemmas
 pub mod DriveLemmas
 pub mod PromiseLemmas
 pub mod TokenLemmas
-pub mod OnceLemmas
+pub mod IdempotenceLemmas
 pub mod PageCountLemmas
 pub mod MirrorLemmas
 pub mod PageTokenLemmas

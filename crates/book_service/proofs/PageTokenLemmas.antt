@@ -1,4 +1,4 @@
--- A page of well-formed books has a token that a text has room for, with its numbers in order.
+-- The token of a page of well-formed books fits in a token text, with its numbers in order.
 use Rattle.std.proofs.Common.{refl}
 use Rattle.book_laws.specs.WellFormedLaws.{PagesFitBooks, PagesHaveShortNumbers}
 use Rattle.book_service.specs.PageTokenLaws.{PageTokensHaveTexts}

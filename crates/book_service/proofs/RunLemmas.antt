@@ -1,4 +1,4 @@
--- A command is at most one call of a store, and forgets only where it is the command to forget.
+-- A command is at most one store call, and only `Forget` forgets.
 use Rattle.std.proofs.Common.{◌≡◌, ℕ, Bool, true, false, List, [], ◌∷◌, ◌++◌, Option, Some, None, Result, Ok, Err, refl, sym, ap, ◌∙◌, subst, ⊎_elim, inl, inr, ◌⊎◌}
 use Rattle.std.specs.FinMap as finite
 use Rattle.vcard_text.specs.Cards.{kind_of}
@@ -10,46 +10,46 @@ use Rattle.book_model.specs.declared.refusal.Refusal.{Refusal}
 use Rattle.book_model.specs.declared.refusal.Refusal.TheVariants.{BadKey, NotGroup}
 use Rattle.book_model.specs.Bounds.{Bounds}
 use Rattle.book_model.specs.Importing.{is_legal_key}
-use Rattle.book_model.specs.Outcomes.{◌>>=◌, provided}
-use Rattle.book_laws.specs.Calls.{Call, CreatesBook, Puts, Removes, Moves, Imports, Forgets, AsksReport, AsksImport, ListsBooks, ShowsBook, Gets, ListsCards, Tallies, DidImport, DidForget, meaning, with_answer, state_after, stories_after, stories_after_all}
-use Rattle.book_laws.specs.WorldChanges.{forget_meaning, import_meaning, import_meaning_under}
-use Rattle.book_laws.specs.WorldReads.{get_meaning, kept_import_meaning}
-use Rattle.book_laws.specs.Worlds.{Story, Stories, World}
-use Rattle.book_laws.specs.WorldSteps.{story_named}
+use Rattle.book_model.specs.CallOutcomes.{◌>>=◌, refuse_unless}
+use Rattle.book_laws.specs.Calls.{Call, CreateBookCall, PutCall, RemoveCall, MoveCall, ImportCall, ForgetCall, ReportCall, KeptImportCall, BooksCall, BookLineCall, GetCall, CardsCall, TallyCall, ReturnedImport, ReturnedDropped, call_on_histories, map_answer, state_after_call, histories_after_call, histories_after_calls}
+use Rattle.book_laws.specs.HistoryChanges.{forget_on_histories, import_on_histories, import_on_histories_under}
+use Rattle.book_laws.specs.HistoryQueries.{get_on_histories, kept_import_on_histories}
+use Rattle.book_laws.specs.StoreHistories.{BookHistory, BookHistories, StoreHistory}
+use Rattle.book_laws.specs.HistorySteps.{history_named}
 use Rattle.book_commands.specs.declared.command.Command.{Command}
 use Rattle.book_commands.specs.declared.command.Command.TheVariants.{CreateBook, Books as ListBooks, Get, Put, Remove, MoveCard, Report, Import, Forget, TallyOf, Export, People}
 use Rattle.book_service.specs.declared.event.Event.{Event}
 use Rattle.book_service.specs.declared.event.Event.TheVariants.{Do}
 use Rattle.book_commands.specs.declared.reply.Reply.{Reply}
 use Rattle.book_commands.specs.declared.reply.Reply.TheVariants as reply
-use Rattle.book_service.specs.Commands.{Meaning, IsCallWith, meaning_with, meaning_of_body, MeansImport, Means, ComesOf, Performs}
+use Rattle.book_service.specs.Commands.{Outcome, IsCallWithText, outcome_with, import_outcome, ImportsTo, HasOutcome, DeliversOutcome, PerformsCommand}
 
 -- the call makes a book forget
 abbrev pub forgets : Call → Bool
-forgets (CreatesBook name) = false
-forgets (Puts name card expect) = false
-forgets (Removes name uid expect) = false
-forgets (Moves from to uid expect) = false
-forgets (Imports name key cards) = false
-forgets (Forgets name upto) = true
-forgets (AsksReport name token limit) = false
-forgets (AsksImport name key) = false
-forgets ListsBooks = false
-forgets (ShowsBook name) = false
-forgets (Gets name uid) = false
-forgets (ListsCards name) = false
-forgets (Tallies name) = false
+forgets (CreateBookCall name) = false
+forgets (PutCall name card expect) = false
+forgets (RemoveCall name uid expect) = false
+forgets (MoveCall from to uid expect) = false
+forgets (ImportCall name key cards) = false
+forgets (ForgetCall name upto) = true
+forgets (ReportCall name token limit) = false
+forgets (KeptImportCall name key) = false
+forgets BooksCall = false
+forgets (BookLineCall name) = false
+forgets (GetCall name uid) = false
+forgets (CardsCall name) = false
+forgets (TallyCall name) = false
 
 -- calls lead from the one to the other
-pub record Leads (limits : Bounds) (old new : Stories) : Type 0 where
+pub record Leads (limits : Bounds) (old new : BookHistories) : Type 0 where
   pub calls : List Call
-  pub new_is : new ≡ stories_after_all limits old calls
+  pub new_is : new ≡ histories_after_calls limits old calls
 
--- the same, and where one of them was a forget that was accepted, the event was that command
-pub record EventLeads (limits : Bounds) (old new : Stories) (event : Event) (r : Reply) : Type 0 where
+-- the same, and if one of them was a successful forget, the event was that command
+pub record EventLeads (limits : Bounds) (old new : BookHistories) (event : Event) (r : Reply) : Type 0 where
   pub leads : Leads limits old new
-  pub forgot : (earlier later : List Call) (name : List ℕ) (upto dropped : ℕ) (left : Stories) → leads.calls ≡ earlier ++ Forgets name upto ∷ later
-      → forget_meaning (stories_after_all limits old earlier) name upto ≡ Ok (dropped, left) → (event ≡ Do (Forget name upto)) × (r ≡ reply.Forgot dropped upto)
+  pub forgot : (earlier later : List Call) (name : List ℕ) (upto dropped : ℕ) (left : BookHistories) → leads.calls ≡ earlier ++ ForgetCall name upto ∷ later
+      → forget_on_histories (histories_after_calls limits old earlier) name upto ≡ Ok (dropped, left) → (event ≡ Do (Forget name upto)) × (r ≡ reply.Forgot dropped upto)
 
 -- ---- one command
 
@@ -62,139 +62,139 @@ one_there : (own call : Call) (earlier later : List Call) → own ∷ [] ≡ ear
 one_there own call [] later is = (refl, let same : own ≡ call = cc in same)
 one_there own call (first ∷ earlier) later is = none_there call earlier later (let rest : [] ≡ earlier ++ call ∷ later = cc in rest)
 
-pub leads_nowhere_by : (limits : Bounds) (old new : Stories) (event : Event) (r : Reply) → new ≡ old → EventLeads limits old new event r
+pub leads_nowhere_by : (limits : Bounds) (old new : BookHistories) (event : Event) (r : Reply) → new ≡ old → EventLeads limits old new event r
 leads_nowhere_by limits old new event r same = record {
   leads = record { calls = []; new_is = same };
-  forgot = λ earlier later name upto dropped left is accepted. none_there (Forgets name upto) earlier later is;
+  forgot = λ earlier later name upto dropped left is accepted. none_there (ForgetCall name upto) earlier later is;
 }
 
--- what a command means is what a call means, which forgets only where the command does
-record OneCall (world : World) (command : Command) (meant : Meaning) : Type 0 where
+-- a command's outcome is that of a call, which forgets only if the command does
+record OneCall (model : StoreHistory) (command : Command) (outcome : Outcome) : Type 0 where
   call : Call
-  means : meant ≡ meaning world.limits world.books call
-  own : (name : List ℕ) (upto : ℕ) → call ≡ Forgets name upto → command ≡ Forget name upto
+  has_outcome : outcome ≡ call_on_histories model.limits model.books call
+  own : (name : List ℕ) (upto : ℕ) → call ≡ ForgetCall name upto → command ≡ Forget name upto
 
 -- or a refusal
-abbrev OneCallOrNone : World → Command → Meaning → Type 0
-OneCallOrNone world command meant = OneCall world command meant ⊎ ((refusal : Refusal) × (meant ≡ Err refusal))
+abbrev OneCallOrNone : StoreHistory → Command → Outcome → Type 0
+OneCallOrNone model command outcome = OneCall model command outcome ⊎ ((refusal : Refusal) × (outcome ≡ Err refusal))
 
-module _ (world : World) (meant : Meaning) (command : Command) where
-  never : (call : Call) → forgets call ≡ false → (name : List ℕ) (upto : ℕ) → call ≡ Forgets name upto → command ≡ Forget name upto
+module _ (model : StoreHistory) (outcome : Outcome) (command : Command) where
+  never : (call : Call) → forgets call ≡ false → (name : List ℕ) (upto : ℕ) → call ≡ ForgetCall name upto → command ≡ Forget name upto
   never call not name upto is = absurd (let no : true ≡ false = ap forgets (sym is) ∙ not in cc)
 
-  by_call : (call : Call) → forgets call ≡ false → meant ≡ meaning world.limits world.books call → OneCallOrNone world command meant
-  by_call call not is = inl (record { call = call; means = is; own = never call not })
+  by_call : (call : Call) → forgets call ≡ false → outcome ≡ call_on_histories model.limits model.books call → OneCallOrNone model command outcome
+  by_call call not is = inl (record { call = call; has_outcome = is; own = never call not })
 
-  with_text : {A : Type 0} (book : List ℕ) (reads : Result A Refusal → Type 0) (call : A → Call) → ((x : A) → forgets (call x) ≡ false) → IsCallWith world book reads call meant → OneCallOrNone world command meant
-  with_text {A = A} book reads call keeps is = by_read is.read is.meant_is
+  with_text : {A : Type 0} (book : List ℕ) (reads : Result A Refusal → Type 0) (call : A → Call) → ((x : A) → forgets (call x) ≡ false) → IsCallWithText model book reads call outcome → OneCallOrNone model command outcome
+  with_text {A = A} book reads call keeps is = by_read is.read is.outcome_is
     where
-      by_story : (named : Result Story Refusal) (refusal : Refusal) → meant ≡ (named >>= λ story. Err refusal) → OneCallOrNone world command meant
-      by_story (Ok story) refusal same = inr (refusal, same)
+      by_story : (named : Result BookHistory Refusal) (refusal : Refusal) → outcome ≡ (named >>= λ history. Err refusal) → OneCallOrNone model command outcome
+      by_story (Ok history) refusal same = inr (refusal, same)
       by_story (Err other) refusal same = inr (other, same)
 
-      by_read : (read : Result A Refusal) → meant ≡ meaning_with world book call read → OneCallOrNone world command meant
+      by_read : (read : Result A Refusal) → outcome ≡ outcome_with model book call read → OneCallOrNone model command outcome
       by_read (Ok x) same = by_call (call x) (keeps x) same
-      by_read (Err refusal) same = by_story (story_named world.books book) refusal same
+      by_read (Err refusal) same = by_story (history_named model.books book) refusal same
 
--- under a kept key an import of any cards answers what is kept
-pub kept_answers : (limits : Bounds) (stories : Stories) (name key : List ℕ) (cards : List (List Line)) (kept : ImportTally) → kept_import_meaning stories name key ≡ Ok (Some kept)
-    → import_meaning limits stories name key cards ≡ Ok (kept, stories)
-kept_answers limits stories name key cards kept is = by_story (story_named stories name) is
+-- with a stored result under the key, an import of any cards returns it
+pub kept_answers : (limits : Bounds) (histories : BookHistories) (name key : List ℕ) (cards : List (List Line)) (kept : ImportTally) → kept_import_on_histories histories name key ≡ Ok (Some kept)
+    → import_on_histories limits histories name key cards ≡ Ok (kept, histories)
+kept_answers limits histories name key cards kept is = by_story (history_named histories name) is
   where
-    by_key : (story : Story) (test : Result (Unit {0}) Refusal) → (test >>= λ legal. Ok (finite.get story.imports key)) ≡ Ok (Some kept)
-        → (test >>= λ legal. import_meaning_under limits stories name story key cards (finite.get story.imports key)) ≡ Ok (kept, stories)
-    by_key story (Ok legal) same =
-        let found : finite.get story.imports key ≡ Some kept = cc in
-        ap (import_meaning_under limits stories name story key cards) found
-    by_key story (Err refusal) same = absurd (let no : Err refusal ≡ Ok (Some kept) = same in cc)
+    by_key : (history : BookHistory) (test : Result (Unit {0}) Refusal) → (test >>= λ legal. Ok (finite.get history.imports key)) ≡ Ok (Some kept)
+        → (test >>= λ legal. import_on_histories_under limits histories name history key cards (finite.get history.imports key)) ≡ Ok (kept, histories)
+    by_key history (Ok legal) same =
+        let found : finite.get history.imports key ≡ Some kept = cc in
+        ap (import_on_histories_under limits histories name history key cards) found
+    by_key history (Err refusal) same = absurd (let no : Err refusal ≡ Ok (Some kept) = same in cc)
 
-    by_story : (named : Result Story Refusal) → (named >>= λ story. provided (is_legal_key key) BadKey >>= λ legal. Ok (finite.get story.imports key)) ≡ Ok (Some kept)
-        → (named >>= λ story. provided (is_legal_key key) BadKey >>= λ legal. import_meaning_under limits stories name story key cards (finite.get story.imports key)) ≡ Ok (kept, stories)
-    by_story (Ok story) same = by_key story (provided (is_legal_key key) BadKey) same
+    by_story : (named : Result BookHistory Refusal) → (named >>= λ history. refuse_unless (is_legal_key key) BadKey >>= λ legal. Ok (finite.get history.imports key)) ≡ Ok (Some kept)
+        → (named >>= λ history. refuse_unless (is_legal_key key) BadKey >>= λ legal. import_on_histories_under limits histories name history key cards (finite.get history.imports key)) ≡ Ok (kept, histories)
+    by_story (Ok history) same = by_key history (refuse_unless (is_legal_key key) BadKey) same
     by_story (Err refusal) same = absurd (let no : Err refusal ≡ Ok (Some kept) = same in cc)
 
-means_call : (world : World) (meant : Meaning) (command : Command) → Means world command meant → OneCallOrNone world command meant
-means_call world meant (CreateBook book) is = by_call world meant (CreateBook book) (CreatesBook book) refl is
-means_call world meant ListBooks is = by_call world meant ListBooks ListsBooks refl is
-means_call world meant (Get book uid) is = by_call world meant (Get book uid) (Gets book uid) refl is
-means_call world meant (Put book uid expect text) is = with_text world meant (Put book uid expect text) book _ _ (λ card. refl) is
-means_call world meant (Remove book uid expect) is = by_call world meant (Remove book uid expect) (Removes book uid expect) refl is
-means_call world meant (MoveCard book uid to expect) is = by_call world meant (MoveCard book uid to expect) (Moves book to uid expect) refl is
-means_call world meant (Report book token limit) is = with_text world meant (Report book token limit) book _ _ (λ from. refl) is
-means_call world meant (Forget book upto) is = inl (record {
-  call = Forgets book upto;
-  means = is;
+means_call : (model : StoreHistory) (outcome : Outcome) (command : Command) → HasOutcome model command outcome → OneCallOrNone model command outcome
+means_call model outcome (CreateBook book) is = by_call model outcome (CreateBook book) (CreateBookCall book) refl is
+means_call model outcome ListBooks is = by_call model outcome ListBooks BooksCall refl is
+means_call model outcome (Get book uid) is = by_call model outcome (Get book uid) (GetCall book uid) refl is
+means_call model outcome (Put book uid expect text) is = with_text model outcome (Put book uid expect text) book _ _ (λ card. refl) is
+means_call model outcome (Remove book uid expect) is = by_call model outcome (Remove book uid expect) (RemoveCall book uid expect) refl is
+means_call model outcome (MoveCard book uid to expect) is = by_call model outcome (MoveCard book uid to expect) (MoveCall book to uid expect) refl is
+means_call model outcome (Report book token limit) is = with_text model outcome (Report book token limit) book _ _ (λ from. refl) is
+means_call model outcome (Forget book upto) is = inl (record {
+  call = ForgetCall book upto;
+  has_outcome = is;
   own = λ name number same. let own : Forget book upto ≡ Forget name number = cc in own;
 })
-means_call world meant (Import book key body) is = by_kept (kept_import_meaning world.books book key) refl is
+means_call model outcome (Import book key body) is = by_kept (kept_import_on_histories model.books book key) refl is
   where
-    by_read : (read : Result (List (List Line)) Refusal) → meant ≡ meaning_of_body world book key read → OneCallOrNone world (Import book key body) meant
-    by_read (Ok cards) same = by_call world meant (Import book key body) (Imports book key cards) refl same
+    by_read : (read : Result (List (List Line)) Refusal) → outcome ≡ import_outcome model book key read → OneCallOrNone model (Import book key body) outcome
+    by_read (Ok cards) same = by_call model outcome (Import book key body) (ImportCall book key cards) refl same
     by_read (Err refusal) same = inr (refusal, same)
 
-    by_kept : (kept : Result (Option ImportTally) Refusal) → kept_import_meaning world.books book key ≡ kept → MeansImport world book key body kept meant → OneCallOrNone world (Import book key body) meant
+    by_kept : (kept : Result (Option ImportTally) Refusal) → kept_import_on_histories model.books book key ≡ kept → ImportsTo model book key body kept outcome → OneCallOrNone model (Import book key body) outcome
     by_kept (Err refusal) there same = inr (refusal, same)
     by_kept (Ok (Some kept)) there same =
-        by_call world meant (Import book key body) (Imports book key []) refl
-        (same ∙ sym (ap (with_answer DidImport) (kept_answers world.limits world.books book key [] kept there)))
-    by_kept (Ok None) there imported = by_read imported.read imported.meant_is
-means_call world meant (TallyOf book) is = by_call world meant (TallyOf book) (Tallies book) refl is
-means_call world meant (Export book form) is = by_call world meant (Export book form) (ListsCards book) refl is
-means_call world meant (People book uid) is = by_card (get_meaning world.books book uid) is
+        by_call model outcome (Import book key body) (ImportCall book key []) refl
+        (same ∙ sym (ap (map_answer ReturnedImport) (kept_answers model.limits model.books book key [] kept there)))
+    by_kept (Ok None) there imported = by_read imported.read imported.outcome_is
+means_call model outcome (TallyOf book) is = by_call model outcome (TallyOf book) (TallyCall book) refl is
+means_call model outcome (Export book form) is = by_call model outcome (Export book form) (CardsCall book) refl is
+means_call model outcome (People book uid) is = by_card (get_on_histories model.books book uid) is
   where
-    by_group : (test : Result (Unit {0}) Refusal) → meant ≡ (test >>= λ group. meaning world.limits world.books (ListsCards book)) → OneCallOrNone world (People book uid) meant
-    by_group (Ok group) same = by_call world meant (People book uid) (ListsCards book) refl same
+    by_group : (test : Result (Unit {0}) Refusal) → outcome ≡ (test >>= λ group. call_on_histories model.limits model.books (CardsCall book)) → OneCallOrNone model (People book uid) outcome
+    by_group (Ok group) same = by_call model outcome (People book uid) (CardsCall book) refl same
     by_group (Err refusal) same = inr (refusal, same)
 
-    by_card : (found : Result Stored Refusal) → meant ≡ (found >>= λ stored. provided (is_group (kind_of stored.card)) NotGroup >>= λ group. meaning world.limits world.books (ListsCards book))
-        → OneCallOrNone world (People book uid) meant
-    by_card (Ok stored) same = by_group (provided (is_group (kind_of stored.card)) NotGroup) same
+    by_card : (found : Result Stored Refusal) → outcome ≡ (found >>= λ stored. refuse_unless (is_group (kind_of stored.card)) NotGroup >>= λ group. call_on_histories model.limits model.books (CardsCall book))
+        → OneCallOrNone model (People book uid) outcome
+    by_card (Ok stored) same = by_group (refuse_unless (is_group (kind_of stored.card)) NotGroup) same
     by_card (Err refusal) same = inr (refusal, same)
 
-comes_after : (command : Command) (old new : Stories) (meant : Meaning) (r : Reply) → ComesOf command old meant r new → new ≡ state_after old meant
-comes_after command old new (Ok done) r comes = comes.1
-comes_after command old new (Err refusal) r comes = comes.1
+books_after : (command : Command) (old new : BookHistories) (outcome : Outcome) (r : Reply) → DeliversOutcome command old outcome r new → new ≡ state_after_call old outcome
+books_after command old new (Ok done) r delivers = delivers.1
+books_after command old new (Err refusal) r delivers = delivers.1
 
-module _ (world : World) (command : Command) (r : Reply) (next : Stories) (meant : Meaning) (comes : ComesOf command world.books meant r next) where
-  -- an accepted forget is told as such
-  forgot_by : (one : OneCall world command meant) (earlier later : List Call) (name : List ℕ) (upto dropped : ℕ) (left : Stories) → one.call ∷ [] ≡ earlier ++ Forgets name upto ∷ later
-      → forget_meaning (stories_after_all world.limits world.books earlier) name upto ≡ Ok (dropped, left) → (Do command ≡ Do (Forget name upto)) × (r ≡ reply.Forgot dropped upto)
+module _ (model : StoreHistory) (command : Command) (r : Reply) (next : BookHistories) (outcome : Outcome) (delivers : DeliversOutcome command model.books outcome r next) where
+  -- a successful forget has its own reply
+  forgot_by : (one : OneCall model command outcome) (earlier later : List Call) (name : List ℕ) (upto dropped : ℕ) (left : BookHistories) → one.call ∷ [] ≡ earlier ++ ForgetCall name upto ∷ later
+      → forget_on_histories (histories_after_calls model.limits model.books earlier) name upto ≡ Ok (dropped, left) → (Do command ≡ Do (Forget name upto)) × (r ≡ reply.Forgot dropped upto)
   forgot_by one earlier later name upto dropped left is accepted =
-      let there = one_there one.call (Forgets name upto) earlier later is in
+      let there = one_there one.call (ForgetCall name upto) earlier later is in
       let own : command ≡ Forget name upto = one.own name upto there.1 in
-      let here : forget_meaning world.books name upto ≡ Ok (dropped, left) =
-      subst (λ (calls : List Call). forget_meaning (stories_after_all world.limits world.books calls) name upto ≡ Ok (dropped, left)) there.0 accepted in
-      let meant_is : meant ≡ Ok (DidForget dropped, left) = one.means ∙ ap (meaning world.limits world.books) there.1 ∙ ap (λ (step : Result (ℕ × Stories) Refusal). with_answer DidForget step) here in
-      let told : ComesOf command world.books (Ok (DidForget dropped, left)) r next = subst (λ (m : Meaning). ComesOf command world.books m r next) meant_is comes in
-      (ap (λ (c : Command). Do c) own, (subst (λ (c : Command). ComesOf c world.books (Ok (DidForget dropped, left)) r next) own told).0)
+      let here : forget_on_histories model.books name upto ≡ Ok (dropped, left) =
+      subst (λ (calls : List Call). forget_on_histories (histories_after_calls model.limits model.books calls) name upto ≡ Ok (dropped, left)) there.0 accepted in
+      let outcome_is : outcome ≡ Ok (ReturnedDropped dropped, left) = one.has_outcome ∙ ap (call_on_histories model.limits model.books) there.1 ∙ ap (λ (step : Result (ℕ × BookHistories) Refusal). map_answer ReturnedDropped step) here in
+      let received : DeliversOutcome command model.books (Ok (ReturnedDropped dropped, left)) r next = subst (λ (m : Outcome). DeliversOutcome command model.books m r next) outcome_is delivers in
+      (ap (λ (c : Command). Do c) own, (subst (λ (c : Command). DeliversOutcome c model.books (Ok (ReturnedDropped dropped, left)) r next) own received).0)
 
-  one_leads : OneCall world command meant → EventLeads world.limits world.books next (Do command) r
+  one_leads : OneCall model command outcome → EventLeads model.limits model.books next (Do command) r
   one_leads one = record {
-    leads = record { calls = one.call ∷ []; new_is = comes_after command world.books next meant r comes ∙ ap (state_after world.books) one.means };
+    leads = record { calls = one.call ∷ []; new_is = books_after command model.books next outcome r delivers ∙ ap (state_after_call model.books) one.has_outcome };
     forgot = forgot_by one;
   }
 
-  none_leads : (refusal : Refusal) × (meant ≡ Err refusal) → EventLeads world.limits world.books next (Do command) r
-  none_leads refused = leads_nowhere_by world.limits world.books next (Do command) r (comes_after command world.books next meant r comes ∙ ap (state_after world.books) refused.1)
+  none_leads : (refusal : Refusal) × (outcome ≡ Err refusal) → EventLeads model.limits model.books next (Do command) r
+  none_leads refused = leads_nowhere_by model.limits model.books next (Do command) r (books_after command model.books next outcome r delivers ∙ ap (state_after_call model.books) refused.1)
 
-pub performs_leads : (world : World) (command : Command) (r : Reply) (next : Stories) → Performs world command r next → EventLeads world.limits world.books next (Do command) r
-performs_leads world command r next p =
+pub performs_leads : (model : StoreHistory) (command : Command) (r : Reply) (next : BookHistories) → PerformsCommand model command r next → EventLeads model.limits model.books next (Do command) r
+performs_leads model command r next p =
     ⊎_elim
-    (λ done. ⊎_elim (one_leads world command r next done.meant done.comes) (none_leads world command r next done.meant done.comes) (means_call world done.meant command done.means))
-    (λ fault. leads_nowhere_by world.limits world.books next (Do command) r fault.2)
+    (λ done. ⊎_elim (one_leads model command r next done.outcome done.delivers) (none_leads model command r next done.outcome done.delivers) (means_call model done.outcome command done.has_outcome))
+    (λ fault. leads_nowhere_by model.limits model.books next (Do command) r fault.2)
     p
 
--- ---- one after another
+-- ---- sequences of steps
 
-pub after_more : (limits : Bounds) (old : Stories) (calls more : List Call) → stories_after_all limits old (calls ++ more) ≡ stories_after_all limits (stories_after_all limits old calls) more
+pub after_more : (limits : Bounds) (old : BookHistories) (calls more : List Call) → histories_after_calls limits old (calls ++ more) ≡ histories_after_calls limits (histories_after_calls limits old calls) more
 after_more limits old [] more = refl
-after_more limits old (call ∷ calls) more = after_more limits (stories_after limits old call) calls more
+after_more limits old (call ∷ calls) more = after_more limits (histories_after_call limits old call) calls more
 
-pub leads_on : (limits : Bounds) (old mid new : Stories) → Leads limits old mid → Leads limits mid new → Leads limits old new
+pub leads_on : (limits : Bounds) (old mid new : BookHistories) → Leads limits old mid → Leads limits mid new → Leads limits old new
 leads_on limits old mid new a b = record {
   calls = a.calls ++ b.calls;
-  new_is = b.new_is ∙ ap (λ (s : Stories). stories_after_all limits s b.calls) a.new_is ∙ sym (after_more limits old a.calls b.calls);
+  new_is = b.new_is ∙ ap (λ (s : BookHistories). histories_after_calls limits s b.calls) a.new_is ∙ sym (after_more limits old a.calls b.calls);
 }
 
-pub leads_nowhere : (limits : Bounds) (old new : Stories) → new ≡ old → Leads limits old new
+pub leads_nowhere : (limits : Bounds) (old new : BookHistories) → new ≡ old → Leads limits old new
 leads_nowhere limits old new same = record { calls = []; new_is = same }

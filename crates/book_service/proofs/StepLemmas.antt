@@ -1,19 +1,19 @@
--- One step, and what it leads to.
+-- Steps and runs.
 use Rattle.std.proofs.Common.{◌≡◌, List, [], ◌∷◌, ◌++◌, refl, sym, ap, ◌∙◌, subst, ◌≢◌, ℕ, zero, suc, Some, None, slice_get, slice_set, ⊎_elim, inl, inr, ◌⊎◌, arith}
 use Rattle.std.proofs.lemmas.Option.{same_Some}
 use Rattle.book_model.specs.Bounds.{Bounds, IsInRange}
-use Rattle.book_laws.specs.RunLaws.{StaysSound}
-use Rattle.book_laws.specs.Worlds.{Stories, AreSound, IsSoundWorld}
+use Rattle.book_laws.specs.RunLaws.{CallsKeepHistoriesSound}
+use Rattle.book_laws.specs.StoreHistories.{BookHistories, AreSoundHistories, IsSoundStoreHistory}
 use Rattle.book_service.specs.declared.event.Event.{Event}
 use Rattle.book_service.specs.declared.event.Event.TheVariants.{Do, Ask}
 use Rattle.book_commands.specs.declared.reply.Reply.{Reply}
 use Rattle.book_service.specs.Promise.{Always, RunsAppend}
-use Rattle.book_service.specs.Runs.{Moment, Step, Happening, Run, end_of}
+use Rattle.book_service.specs.Runs.{SystemState, Step, TraceStep, Run, end_of}
 use Rattle.book_service.proofs.RunLemmas.{Leads, EventLeads, leads_on, leads_nowhere, leads_nowhere_by, performs_leads}
 
--- ---- a place in a list
+-- ---- list indices
 
--- what stands at a place after one was set
+-- the element at an index after an element was set
 pub place_set : {A : Type 0} (xs : List A) (i j : ℕ) (x old was : A) → slice_get xs i ≡ Some old → slice_get xs j ≡ Some was
     → ((j ≡ i) × (slice_get (slice_set xs j x) i ≡ Some x) × (was ≡ old)) ⊎ ((j ≢ i) × (slice_get (slice_set xs j x) i ≡ Some old))
 place_set [] i j x old was a b = absurd (let no : None ≡ Some old = a in cc)
@@ -25,57 +25,57 @@ place_set (y ∷ ys) (suc i) (suc j) x old was a b =
 
 -- ---- one step
 
-pub step_limits : (now next : Moment) (event : Event) (r : Reply) → Step now event r next → next.world.limits ≡ now.world.limits
-step_limits now next (Do command) r s = ap (λ (m : Moment). m.world.limits) s.2
-step_limits now next (Ask i limit) r s = ap (λ (m : Moment). m.world.limits) s.next_is
+pub step_limits : (now next : SystemState) (event : Event) (r : Reply) → Step now event r next → next.model.limits ≡ now.model.limits
+step_limits now next (Do command) r s = ap (λ (m : SystemState). m.model.limits) s.2
+step_limits now next (Ask i limit) r s = ap (λ (m : SystemState). m.model.limits) s.next_is
 
 -- calls lead from the books to the next
-pub event_leads : (now next : Moment) (event : Event) (r : Reply) → Step now event r next → EventLeads now.world.limits now.world.books next.world.books event r
+pub event_leads : (now next : SystemState) (event : Event) (r : Reply) → Step now event r next → EventLeads now.model.limits now.model.books next.model.books event r
 event_leads now next (Do command) r s =
-    subst (λ (books : Stories). EventLeads now.world.limits now.world.books books (Do command) r) (sym (ap (λ (m : Moment). m.world.books) s.2)) (performs_leads now.world command r s.0 s.1)
-event_leads now next (Ask i limit) r s = leads_nowhere_by now.world.limits now.world.books next.world.books (Ask i limit) r (ap (λ (m : Moment). m.world.books) s.next_is)
+    subst (λ (books : BookHistories). EventLeads now.model.limits now.model.books books (Do command) r) (sym (ap (λ (m : SystemState). m.model.books) s.2)) (performs_leads now.model command r s.0 s.1)
+event_leads now next (Ask i limit) r s = leads_nowhere_by now.model.limits now.model.books next.model.books (Ask i limit) r (ap (λ (m : SystemState). m.model.books) s.next_is)
 
-abbrev pub step_leads : (now next : Moment) (event : Event) (r : Reply) → Step now event r next → Leads now.world.limits now.world.books next.world.books
+abbrev pub step_leads : (now next : SystemState) (event : Event) (r : Reply) → Step now event r next → Leads now.model.limits now.model.books next.model.books
 step_leads now next event r s = (event_leads now next event r s).leads
 
--- calls lead from a sound world to a sound world
-pub leads_world : StaysSound → (now next : Moment) → IsSoundWorld now.world → next.world.limits ≡ now.world.limits → Leads now.world.limits now.world.books next.world.books → IsSoundWorld next.world
+-- calls lead from a sound store history to a sound one
+pub leads_world : CallsKeepHistoriesSound → (now next : SystemState) → IsSoundStoreHistory now.model → next.model.limits ≡ now.model.limits → Leads now.model.limits now.model.books next.model.books → IsSoundStoreHistory next.model
 leads_world stays now next w same leads = record {
   limits = subst IsInRange (sym same) w.limits;
-  books = subst AreSound (sym leads.new_is) (stays now.world leads.calls w.limits w.books);
+  books = subst AreSoundHistories (sym leads.new_is) (stays now.model leads.calls w.limits w.books);
 }
 
-pub step_world : StaysSound → (now next : Moment) (event : Event) (r : Reply) → IsSoundWorld now.world → Step now event r next → IsSoundWorld next.world
+pub step_world : CallsKeepHistoriesSound → (now next : SystemState) (event : Event) (r : Reply) → IsSoundStoreHistory now.model → Step now event r next → IsSoundStoreHistory next.model
 step_world stays now next event r w s = leads_world stays now next w (step_limits now next event r s) (step_leads now next event r s)
 
 -- ---- runs
 
--- what holds of each step from a world holds at each step of a run
-pub always : StaysSound → (holds : Moment → Event → Reply → Moment → Type 0)
-    → ((now next : Moment) (event : Event) (r : Reply) → IsSoundWorld now.world → Step now event r next → holds now event r next) → Always holds
+-- what holds of every single step holds at every step of a run
+pub always : CallsKeepHistoriesSound → (holds : SystemState → Event → Reply → SystemState → Type 0)
+    → ((now next : SystemState) (event : Event) (r : Reply) → IsSoundStoreHistory now.model → Step now event r next → holds now event r next) → Always holds
 always stays holds each now [] w run = tt
 always stays holds each now (h ∷ rest) w run =
     (each now h.after h.event h.reply w run.0, always stays holds each h.after rest (step_world stays now h.after h.event h.reply w run.0) run.1)
 
-pub run_limits : (now : Moment) (run : List Happening) → Run now run → (end_of now run).world.limits ≡ now.world.limits
+pub run_limits : (now : SystemState) (run : List TraceStep) → Run now run → (end_of now run).model.limits ≡ now.model.limits
 run_limits now [] steps = refl
 run_limits now (h ∷ run) steps = run_limits h.after run steps.1 ∙ step_limits now h.after h.event h.reply steps.0
 
-pub run_leads : (now : Moment) (run : List Happening) → Run now run → Leads now.world.limits now.world.books (end_of now run).world.books
-run_leads now [] steps = leads_nowhere now.world.limits now.world.books now.world.books refl
+pub run_leads : (now : SystemState) (run : List TraceStep) → Run now run → Leads now.model.limits now.model.books (end_of now run).model.books
+run_leads now [] steps = leads_nowhere now.model.limits now.model.books now.model.books refl
 run_leads now (h ∷ run) steps =
-    leads_on now.world.limits now.world.books h.after.world.books (end_of h.after run).world.books (step_leads now h.after h.event h.reply steps.0)
-    (subst (λ (l : Bounds). Leads l h.after.world.books (end_of h.after run).world.books) (step_limits now h.after h.event h.reply steps.0) (run_leads h.after run steps.1))
+    leads_on now.model.limits now.model.books h.after.model.books (end_of h.after run).model.books (step_leads now h.after h.event h.reply steps.0)
+    (subst (λ (l : Bounds). Leads l h.after.model.books (end_of h.after run).model.books) (step_limits now h.after h.event h.reply steps.0) (run_leads h.after run steps.1))
 
-pub runs_split : (now : Moment) (run more : List Happening) → Run now (run ++ more) → Run now run × Run (end_of now run) more
+pub runs_split : (now : SystemState) (run more : List TraceStep) → Run now (run ++ more) → Run now run × Run (end_of now run) more
 runs_split now [] more steps = (tt, steps)
 runs_split now (h ∷ run) more steps = let rest = runs_split h.after run more steps.1 in ((steps.0, rest.0), rest.1)
 
-pub runs_join : (now : Moment) (run more : List Happening) → Run now run → Run (end_of now run) more → Run now (run ++ more)
+pub runs_join : (now : SystemState) (run more : List TraceStep) → Run now run → Run (end_of now run) more → Run now (run ++ more)
 runs_join now [] more steps then = then
 runs_join now (h ∷ run) more steps then = (steps.0, runs_join h.after run more steps.1 then)
 
-pub end-append : (now : Moment) (run more : List Happening) → end_of now (run ++ more) ≡ end_of (end_of now run) more
+pub end-append : (now : SystemState) (run more : List TraceStep) → end_of now (run ++ more) ≡ end_of (end_of now run) more
 end-append now [] more = refl
 end-append now (h ∷ run) more = end-append h.after run more
 

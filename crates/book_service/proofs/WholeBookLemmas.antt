@@ -1,4 +1,4 @@
--- What a store's map of live cards is made into.
+-- Replies computed from a store's map of live cards.
 use Rattle.std.proofs.Common.{◌≡◌, ℕ, Bool, true, false, T, List, [], ◌∷◌, map, cond, Option, Some, None, Result, Ok, Err, String, BTreeMap, string_cmp, refl, sym, ap, ◌∙◌, subst, inl}
 use Rattle.std.specs.BTreeMap.{IsOrdered}
 use Rattle.std.specs.FinMap as finite
@@ -6,7 +6,7 @@ use Rattle.std.specs.FinMap.{entries-from_sorted, get-from_sorted}
 use Rattle.std.specs.FinMap.Entries.{find, below_all, is_sorted}
 use Rattle.std.specs.Option.{option_map}
 use Rattle.std.specs.Ordering.{eq_by_cmp}
-use Rattle.base_types.specs.TextMaps.{text_cmp, texts}
+use Rattle.base_types.specs.TextMaps.{text_cmp, octet_map}
 use Rattle.base_types.proofs.TextMapLemmas.{octet_entry, entries-texts}
 use Rattle.vcard_text.specs.declared.kind.Kind.{Kind}
 use Rattle.vcard_text.specs.declared.kind.Kind.TheVariants.{Individual, Group, Org, Location, Other}
@@ -14,7 +14,7 @@ use Rattle.vcard_lines.specs.declared.line.Line.{Line}
 use Rattle.vcard_text.specs.Cards.{kind_of}
 use Rattle.vcard_text.specs.FirstFaults.{is_group}
 use Rattle.card_core.specs.declared.expansion.Expansion.{Expansion}
-use Rattle.card_core.specs.Groups.{IsExpansion, IsOtherCard}
+use Rattle.card_core.specs.Groups.{IsExpansion, IsNonGroupCard}
 use Rattle.csv_cards.specs.declared.form.Form.{Form}
 use Rattle.book_model.specs.declared.answers.Stored.{Stored}
 use Rattle.book_model.specs.declared.denied.Denied.{Denied}
@@ -24,26 +24,26 @@ use Rattle.book_model.specs.declared.refusal.Refusal.{Refusal}
 use Rattle.book_model.specs.declared.refusal.Refusal.TheVariants.{NoSuchCard, NotGroup}
 use Rattle.book_model.specs.Bounds.{Bounds}
 use Rattle.book_model.specs.Books.{Books, LiveCards}
-use Rattle.book_model.specs.Outcomes.{◌>>=◌, provided, Reads, Tells}
-use Rattle.book_model.specs.Reading.{cards_step}
-use Rattle.book_model.specs.Books.{live_card}
+use Rattle.book_model.specs.CallOutcomes.{◌>>=◌, refuse_unless, MatchesQuery, ReturnsExactly}
+use Rattle.book_model.specs.BookQueries.{cards_step}
+use Rattle.book_model.specs.Books.{live_or_no_such_card}
 use Rattle.book_model.proofs.BasicLemmas.{T_parts, T_both}
-use Rattle.book_laws.specs.Calls.{GaveCards, with_reading}
-use Rattle.book_laws.specs.Following.{AreStoriesOf}
-use Rattle.book_laws.specs.Histories.{live}
-use Rattle.book_laws.specs.ReadLaws.{CardsFollow}
-use Rattle.book_laws.specs.WorldReads.{cards_meaning}
-use Rattle.book_laws.specs.Worlds.{Story, Stories, World}
-use Rattle.book_laws.specs.WorldSteps.{story_named}
+use Rattle.book_laws.specs.Calls.{ReturnedCards, answer_in_state}
+use Rattle.book_laws.specs.Refinement.{AreHistoriesOf}
+use Rattle.book_laws.specs.EventLogs.{live}
+use Rattle.book_laws.specs.QueryRefinement.{CardsRefine}
+use Rattle.book_laws.specs.HistoryQueries.{cards_on_histories}
+use Rattle.book_laws.specs.StoreHistories.{BookHistory, BookHistories, StoreHistory}
+use Rattle.book_laws.specs.HistorySteps.{history_named}
 use Rattle.book_commands.specs.declared.command.Command.{Command}
 use Rattle.book_commands.specs.declared.command.Command.TheVariants.{Export, People}
 use Rattle.book_commands.specs.declared.reply.Reply.{Reply}
 use Rattle.book_commands.specs.declared.reply.Reply.TheVariants as reply
-use Rattle.book_service.specs.Commands.{Meaning, ComesOf, Performs}
-use Rattle.book_service.specs.OnRows.{DoesCommand}
+use Rattle.book_service.specs.Commands.{Outcome, DeliversOutcome, PerformsCommand}
+use Rattle.book_service.specs.internal.RowSteps.{CommandOnRows}
 use Rattle.book_service.specs.Replies.{denied_reply, reply_to}
-use Rattle.book_service.specs.WholeBooks.{lines_by_uid, book_text}
-use Rattle.book_service.proofs.PerformLemmas.{of_world, same_rows, keeps_same, fault_performs, told, tells, read_keeps}
+use Rattle.book_service.specs.WholeBooks.{lines_by_uid, export_text}
+use Rattle.book_service.proofs.PerformLemmas.{of_world, same_rows, keeps_same, fault_performs, received, returns_expected, read_keeps}
 
 -- ---- cards without their versions
 
@@ -68,7 +68,7 @@ find-cards uid (e ∷ es) = elim (eq_by_cmp text_cmp uid e.0) as (λ b. cond b (
   | false ↦ find-cards uid es
 ]
 
--- the card of a UID is that of what is live there
+-- the card of a UID is that of the live entry
 pub get-lines : (cards : LiveCards) (uid : List ℕ) → finite.get (lines_by_uid cards) uid ≡ option_map card_in (finite.get cards uid)
 get-lines cards uid =
     get-from_sorted text_cmp (map card_entry (finite.entries cards)) uid (sorted-cards (finite.entries cards) (finite.entries_sorted cards))
@@ -79,107 +79,107 @@ cards-octets [] = refl
 cards-octets (e ∷ es) = ap (λ cards. e.1.card ∷ cards) (cards-octets es)
 
 -- the cards of a store's map are in its order
-pub values-lines : {A : Type 0} (m : BTreeMap (String A) Stored) → IsOrdered string_cmp m → finite.values (lines_by_uid (texts m)) ≡ map (λ e. e.1.card) m.entries
+pub values-lines : {A : Type 0} (m : BTreeMap (String A) Stored) → IsOrdered string_cmp m → finite.values (lines_by_uid (octet_map m)) ≡ map (λ e. e.1.card) m.entries
 values-lines m ordered =
-    ap (map (λ e. e.1)) (entries-from_sorted text_cmp (map card_entry (finite.entries (texts m))) (sorted-cards (finite.entries (texts m)) (finite.entries_sorted (texts m))))
+    ap (map (λ e. e.1)) (entries-from_sorted text_cmp (map card_entry (finite.entries (octet_map m))) (sorted-cards (finite.entries (octet_map m)) (finite.entries_sorted (octet_map m))))
     ∙ ap (λ es. map (λ e. e.1) (map card_entry es)) (entries-texts m ordered) ∙ cards-octets m.entries
 
--- ---- a store's answer
+-- ---- results of a store
 
--- an error is the same, whatever the answer would have been
-pub other_answer : {T A B : Type 0} (allows : T → A → Type 0) (others : T → B → Type 0) (error : Denied) (asked : Result T Refusal) (old new : Books) → Reads {A = A} allows (Err error) asked old new → Reads {A = B} others (Err error) asked old new
+-- an error is the same, whatever the value would have been
+pub other_answer : {T A B : Type 0} (allows : T → A → Type 0) (others : T → B → Type 0) (error : Denied) (asked : Result T Refusal) (old new : Books) → MatchesQuery {A = A} allows (Err error) asked old new → MatchesQuery {A = B} others (Err error) asked old new
 other_answer allows others (Refused refusal) (Ok asked) old new d = absurd d
 other_answer allows others (Refused refusal) (Err wanted) old new d = d
 other_answer allows others (Fault fault) asked old new d = d
 
 module _ (limits : Bounds) (old new : Books) where
-  pub exports : CardsFollow → (book : List ℕ) (form : Form) (outcome : Result LiveCards Denied) → Tells outcome (cards_step old book) old new
-      → DoesCommand limits old (Export book form) (reply_to (λ cards. reply.Csv (book_text form cards)) outcome) new
-  exports law book form outcome d =
-      told (λ cards. reply.Csv (book_text form cards)) GaveCards (λ (t a : LiveCards). a ≡ t) (Export book form) (λ cards. refl) limits old new outcome (cards_step old book) (λ world. cards_meaning world.books book)
-      (λ world same w. tells (cards_step old book) (cards_meaning world.books book) (of_world (λ l b. cards_step b book ≡ cards_meaning world.books book) world same w (law world.books book)))
-      (λ world. refl) d
+  pub exports : CardsRefine → (book : List ℕ) (form : Form) (call_result : Result LiveCards Denied) → ReturnsExactly call_result (cards_step old book) old new
+      → CommandOnRows limits old (Export book form) (reply_to (λ cards. reply.Csv (export_text form cards)) call_result) new
+  exports law book form call_result d =
+      received (λ cards. reply.Csv (export_text form cards)) ReturnedCards (λ (t a : LiveCards). a ≡ t) (Export book form) (λ cards. refl) limits old new call_result (cards_step old book) (λ model. cards_on_histories model.books book)
+      (λ model same w. returns_expected (cards_step old book) (cards_on_histories model.books book) (of_world (λ l b. cards_step b book ≡ cards_on_histories model.books book) model same w (law model.books book)))
+      (λ model. refl) d
 
-  -- memory ran out behind the store's answer
-  pub fails : (command : Command) (fault : FaultKind) → new ≡ old → DoesCommand limits old command (reply.Fault fault) new
+  -- memory ran out after the store's call
+  pub fails : (command : Command) (fault : FaultKind) → new ≡ old → CommandOnRows limits old command (reply.Fault fault) new
   fails command fault same = record {
     kept = same;
-    performed = λ world limits_are w. record {
-      next = world.books;
-      performs = fault_performs world command fault (reply.Fault fault) refl;
-      stories = same_rows world old new same w;
+    performed = λ model limits_are w. record {
+      next = model.books;
+      performs = fault_performs model command fault (reply.Fault fault) refl;
+      histories = same_rows model old new same w;
     };
   }
 
-  pub cards_keep : {A : Type 0} (allows : LiveCards → A → Type 0) (outcome : Result A Denied) (book : List ℕ) → Reads allows outcome (cards_step old book) old new → new ≡ old
-  cards_keep allows outcome book d = read_keeps allows old new outcome (cards_step old book) d
+  pub cards_keep : {A : Type 0} (allows : LiveCards → A → Type 0) (call_result : Result A Denied) (book : List ℕ) → MatchesQuery allows call_result (cards_step old book) old new → new ≡ old
+  cards_keep allows call_result book d = read_keeps allows old new call_result (cards_step old book) d
 
 -- ---- the people of a group
 
--- what is meant behind the test of the kind
-abbrev after_test : LiveCards → Stories → Result (Unit {0}) Refusal → Meaning
-after_test cards books test = test >>= λ group. Ok (GaveCards cards, books)
+-- the outcome after the check of the kind
+abbrev after_test : LiveCards → BookHistories → Result (Unit {0}) Refusal → Outcome
+after_test cards books test = test >>= λ group. Ok (ReturnedCards cards, books)
 
--- what is meant where the UID's card is this
-abbrev after_found : LiveCards → Stories → Option Stored → Meaning
+-- the outcome if the UID's card is this one
+abbrev after_found : LiveCards → BookHistories → Option Stored → Outcome
 after_found cards books found =
-    live_card found >>= λ (stored : Stored). provided (is_group (kind_of stored.card)) NotGroup >>= λ group. Ok (GaveCards cards, books)
+    live_or_no_such_card found >>= λ (stored : Stored). refuse_unless (is_group (kind_of stored.card)) NotGroup >>= λ group. Ok (ReturnedCards cards, books)
 
--- and where the book is that
-abbrev after_named : Stories → List ℕ → Result Story Refusal → Meaning
+-- the outcome if the book is this one
+abbrev after_named : BookHistories → List ℕ → Result BookHistory Refusal → Outcome
 after_named books uid named =
-    (named >>= λ (story : Story). live_card (finite.get (live story.history) uid)) >>= λ (stored : Stored). provided (is_group (kind_of stored.card)) NotGroup
-    >>= λ group. with_reading GaveCards books (named >>= λ (story : Story). Ok (live story.history))
+    (named >>= λ (history : BookHistory). live_or_no_such_card (finite.get (live history.log) uid)) >>= λ (stored : Stored). refuse_unless (is_group (kind_of stored.card)) NotGroup
+    >>= λ group. answer_in_state ReturnedCards books (named >>= λ (history : BookHistory). Ok (live history.log))
 
-module _ (limits : Bounds) (old new : Books) (law : CardsFollow) (book uid : List ℕ) where
-  abbrev Told : Result LiveCards Denied → Result LiveCards Refusal → Type 0
-  Told outcome asked = Tells outcome asked old new
+module _ (limits : Bounds) (old new : Books) (law : CardsRefine) (book uid : List ℕ) where
+  abbrev SyncPage : Result LiveCards Denied → Result LiveCards Refusal → Type 0
+  SyncPage call_result asked = ReturnsExactly call_result asked old new
 
-  stays : (outcome : Result LiveCards Denied) → Told outcome (cards_step old book) → new ≡ old
-  stays outcome d = cards_keep limits old new (λ (t c : LiveCards). c ≡ t) outcome book d
+  stays : (call_result : Result LiveCards Denied) → SyncPage call_result (cards_step old book) → new ≡ old
+  stays call_result d = cards_keep limits old new (λ (t c : LiveCards). c ≡ t) call_result book d
 
-  as_meant : (world : World) → world.limits ≡ limits → AreStoriesOf old world.books → (outcome : Result LiveCards Denied) → Told outcome (cards_step old book) → Told outcome (cards_meaning world.books book)
-  as_meant world same w outcome d = subst (Told outcome) (of_world (λ l b. cards_step b book ≡ cards_meaning world.books book) world same w (law world.books book)) d
+  as_expected : (model : StoreHistory) → model.limits ≡ limits → AreHistoriesOf old model.books → (call_result : Result LiveCards Denied) → SyncPage call_result (cards_step old book) → SyncPage call_result (cards_on_histories model.books book)
+  as_expected model same w call_result d = subst (SyncPage call_result) (of_world (λ l b. cards_step b book ≡ cards_on_histories model.books book) model same w (law model.books book)) d
 
   -- there is no such book
-  no_book : (world : World) (refusal : Refusal) (named : Result Story Refusal) → story_named world.books book ≡ named → Told (Err (Refused refusal)) (named >>= λ (story : Story). Ok (live story.history))
-      → Performs world (People book uid) (reply.Refused refusal) world.books
-  no_book world refusal (Ok story) there d = absurd d
-  no_book world refusal (Err other) there d = inl (record {
-    meant = Err other;
-    means = sym (ap (after_named world.books uid) there);
-    comes = (ap (λ (r : Refusal). reply.Refused r) d.0, refl);
+  no_book : (model : StoreHistory) (refusal : Refusal) (named : Result BookHistory Refusal) → history_named model.books book ≡ named → SyncPage (Err (Refused refusal)) (named >>= λ (history : BookHistory). Ok (live history.log))
+      → PerformsCommand model (People book uid) (reply.Refused refusal) model.books
+  no_book model refusal (Ok history) there d = absurd d
+  no_book model refusal (Err other) there d = inl (record {
+    outcome = Err other;
+    has_outcome = sym (ap (after_named model.books uid) there);
+    delivers = (ap (λ (r : Refusal). reply.Refused r) d.0, refl);
   })
 
-  pub people_not : (error : Denied) → Told (Err error) (cards_step old book) → DoesCommand limits old (People book uid) (denied_reply error) new
+  pub people_not : (error : Denied) → SyncPage (Err error) (cards_step old book) → CommandOnRows limits old (People book uid) (denied_reply error) new
   people_not (Refused refusal) d = record {
     kept = stays (Err (Refused refusal)) d;
-    performed = λ world same w. record {
-      next = world.books;
-      performs = no_book world refusal (story_named world.books book) refl (as_meant world same w (Err (Refused refusal)) d);
-      stories = same_rows world old new (stays (Err (Refused refusal)) d) w;
+    performed = λ model same w. record {
+      next = model.books;
+      performs = no_book model refusal (history_named model.books book) refl (as_expected model same w (Err (Refused refusal)) d);
+      histories = same_rows model old new (stays (Err (Refused refusal)) d) w;
     };
   }
   people_not (Fault fault) d = fails limits old new (People book uid) fault d
 
-  module _ (cards : LiveCards) (d : Told (Ok cards) (cards_step old book)) where
-    -- the store told the cards, and this came of it
-    module _ (r : Reply) (answer : Stories → Meaning) (after : (books : Stories) → after_found cards books (finite.get cards uid) ≡ answer books) (comes : (books : Stories) → ComesOf (People book uid) books (answer books) r books) where
-      by_story : (world : World) (named : Result Story Refusal) → story_named world.books book ≡ named → Told (Ok cards) (named >>= λ (story : Story). Ok (live story.history)) → Performs world (People book uid) r world.books
-      by_story world (Ok story) there t = inl (record {
-        meant = answer world.books;
-        means = sym (ap (after_named world.books uid) there ∙ ap (λ (c : LiveCards). after_found c world.books (finite.get c uid)) (sym t.0) ∙ after world.books);
-        comes = comes world.books;
+  module _ (cards : LiveCards) (d : SyncPage (Ok cards) (cards_step old book)) where
+    -- the store returned the cards, and this is the reply
+    module _ (r : Reply) (answer : BookHistories → Outcome) (after : (books : BookHistories) → after_found cards books (finite.get cards uid) ≡ answer books) (delivers : (books : BookHistories) → DeliversOutcome (People book uid) books (answer books) r books) where
+      by_story : (model : StoreHistory) (named : Result BookHistory Refusal) → history_named model.books book ≡ named → SyncPage (Ok cards) (named >>= λ (history : BookHistory). Ok (live history.log)) → PerformsCommand model (People book uid) r model.books
+      by_story model (Ok history) there t = inl (record {
+        outcome = answer model.books;
+        has_outcome = sym (ap (after_named model.books uid) there ∙ ap (λ (c : LiveCards). after_found c model.books (finite.get c uid)) (sym t.0) ∙ after model.books);
+        delivers = delivers model.books;
       })
-      by_story world (Err refusal) there t = absurd t
+      by_story model (Err refusal) there t = absurd t
 
-      is_told : DoesCommand limits old (People book uid) r new
-      is_told = record {
+      is_received : CommandOnRows limits old (People book uid) r new
+      is_received = record {
         kept = keeps_same r old new (stays (Ok cards) d);
-        performed = λ world same w. record {
-          next = world.books;
-          performs = by_story world (story_named world.books book) refl (as_meant world same w (Ok cards) d);
-          stories = same_rows world old new (stays (Ok cards) d) w;
+        performed = λ model same w. record {
+          next = model.books;
+          performs = by_story model (history_named model.books book) refl (as_expected model same w (Ok cards) d);
+          histories = same_rows model old new (stays (Ok cards) d) w;
         };
       }
 
@@ -193,48 +193,48 @@ module _ (limits : Bounds) (old new : Books) (law : CardsFollow) (book uid : Lis
     at_uid : (found : Option Stored) → finite.get cards uid ≡ found → finite.get (lines_by_uid cards) uid ≡ option_map card_in found
     at_uid found is = get-lines cards uid ∙ ap (option_map card_in) is
 
-    pub tells_nobody : finite.get (lines_by_uid cards) uid ≡ None → DoesCommand limits old (People book uid) (reply.Refused NoSuchCard) new
-    tells_nobody none =
-        is_told (reply.Refused NoSuchCard) (λ books. Err NoSuchCard) (λ books. ap (after_found cards books) (nothing (finite.get cards uid) refl)) (λ books. (refl, refl))
+    pub reply_has_nobody : finite.get (lines_by_uid cards) uid ≡ None → CommandOnRows limits old (People book uid) (reply.Refused NoSuchCard) new
+    reply_has_nobody none =
+        is_received (reply.Refused NoSuchCard) (λ books. Err NoSuchCard) (λ books. ap (after_found cards books) (nothing (finite.get cards uid) refl)) (λ books. (refl, refl))
       where
         nothing : (found : Option Stored) → finite.get cards uid ≡ found → finite.get cards uid ≡ None
         nothing None is = is
         nothing (Some stored) is = absurd (let no : None ≡ Some stored.card = sym none ∙ at_uid (Some stored) is in cc)
 
-    other_kind : (stored : Stored) → finite.get cards uid ≡ Some stored → is_group (kind_of stored.card) ≡ false → IsOtherCard (lines_by_uid cards) uid
+    other_kind : (stored : Stored) → finite.get cards uid ≡ Some stored → is_group (kind_of stored.card) ≡ false → IsNonGroupCard (lines_by_uid cards) uid
     other_kind stored is not = record {
       lines = stored.card;
       card = at_uid (Some stored) is;
       other = λ same. absurd (let no : true ≡ false = sym (ap is_group same) ∙ not in cc);
     }
 
-    pub tells_no_group : IsOtherCard (lines_by_uid cards) uid → DoesCommand limits old (People book uid) (reply.Refused NotGroup) new
-    tells_no_group other = by_found (finite.get cards uid) refl
+    pub reply_is_not_group : IsNonGroupCard (lines_by_uid cards) uid → CommandOnRows limits old (People book uid) (reply.Refused NotGroup) new
+    reply_is_not_group other = by_found (finite.get cards uid) refl
       where
-        by_kind : (stored : Stored) → finite.get cards uid ≡ Some stored → (group : Bool) → is_group (kind_of stored.card) ≡ group → DoesCommand limits old (People book uid) (reply.Refused NotGroup) new
+        by_kind : (stored : Stored) → finite.get cards uid ≡ Some stored → (group : Bool) → is_group (kind_of stored.card) ≡ group → CommandOnRows limits old (People book uid) (reply.Refused NotGroup) new
         by_kind stored is true group =
             let card_is : Some stored.card ≡ Some other.lines = sym (at_uid (Some stored) is) ∙ other.card in
             let lines_are : stored.card ≡ other.lines = cc in
             absurd (other.other (subst (λ (lines : List Line). kind_of lines ≡ Group) lines_are (group_kind (kind_of stored.card) group)))
         by_kind stored is false group =
-            is_told (reply.Refused NotGroup) (λ books. Err NotGroup)
-            (λ books. ap (after_found cards books) is ∙ ap (λ (g : Bool). after_test cards books (provided g NotGroup)) group) (λ books. (refl, refl))
+            is_received (reply.Refused NotGroup) (λ books. Err NotGroup)
+            (λ books. ap (after_found cards books) is ∙ ap (λ (g : Bool). after_test cards books (refuse_unless g NotGroup)) group) (λ books. (refl, refl))
 
-        by_found : (found : Option Stored) → finite.get cards uid ≡ found → DoesCommand limits old (People book uid) (reply.Refused NotGroup) new
+        by_found : (found : Option Stored) → finite.get cards uid ≡ found → CommandOnRows limits old (People book uid) (reply.Refused NotGroup) new
         by_found None is = absurd (let no : None ≡ Some other.lines = sym (at_uid None is) ∙ other.card in cc)
         by_found (Some stored) is = by_kind stored is (is_group (kind_of stored.card)) refl
 
-    pub tells_people : (expansion : Expansion) → IsExpansion (lines_by_uid cards) uid expansion → (finite.get (lines_by_uid cards) uid ≡ None → ⊥) → (IsOtherCard (lines_by_uid cards) uid → ⊥)
-        → DoesCommand limits old (People book uid) (reply.People expansion) new
-    tells_people expansion is_expansion some group_there = by_found (finite.get cards uid) refl
+    pub reply_has_people : (expansion : Expansion) → IsExpansion (lines_by_uid cards) uid expansion → (finite.get (lines_by_uid cards) uid ≡ None → ⊥) → (IsNonGroupCard (lines_by_uid cards) uid → ⊥)
+        → CommandOnRows limits old (People book uid) (reply.People expansion) new
+    reply_has_people expansion is_expansion some group_there = by_found (finite.get cards uid) refl
       where
-        by_kind : (stored : Stored) → finite.get cards uid ≡ Some stored → (group : Bool) → is_group (kind_of stored.card) ≡ group → DoesCommand limits old (People book uid) (reply.People expansion) new
+        by_kind : (stored : Stored) → finite.get cards uid ≡ Some stored → (group : Bool) → is_group (kind_of stored.card) ≡ group → CommandOnRows limits old (People book uid) (reply.People expansion) new
         by_kind stored is true group =
-            is_told (reply.People expansion) (λ books. Ok (GaveCards cards, books))
-            (λ books. ap (after_found cards books) is ∙ ap (λ (g : Bool). after_test cards books (provided g NotGroup)) group)
+            is_received (reply.People expansion) (λ books. Ok (ReturnedCards cards, books))
+            (λ books. ap (after_found cards books) is ∙ ap (λ (g : Bool). after_test cards books (refuse_unless g NotGroup)) group)
             (λ books. (record { expansion = expansion; is_expansion = is_expansion; reply_is = refl }, refl))
         by_kind stored is false group = absurd (group_there (other_kind stored is group))
 
-        by_found : (found : Option Stored) → finite.get cards uid ≡ found → DoesCommand limits old (People book uid) (reply.People expansion) new
+        by_found : (found : Option Stored) → finite.get cards uid ≡ found → CommandOnRows limits old (People book uid) (reply.People expansion) new
         by_found None is = absurd (some (at_uid None is))
         by_found (Some stored) is = by_kind stored is (is_group (kind_of stored.card)) refl

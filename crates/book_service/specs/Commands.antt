@@ -1,4 +1,4 @@
--- What each command means on books with their whole histories. This project's own.
+-- The effect and reply of each command, on books with their full histories. This project's own.
 use Rattle.std.specs.Prelude.{ℕ, ◌≡◌, ◌⊎◌, List, Option, Some, None, Result, Ok, Err}
 use Rattle.vcard_lines.specs.declared.line.Line.{Line}
 use Rattle.vcard_text.specs.Cards.{kind_of}
@@ -7,102 +7,114 @@ use Rattle.book_model.specs.declared.answers.ImportTally.{ImportTally}
 use Rattle.book_model.specs.declared.denied.Fault.{Fault}
 use Rattle.book_model.specs.declared.refusal.Refusal.{Refusal}
 use Rattle.book_model.specs.declared.refusal.Refusal.TheVariants.{NotGroup}
-use Rattle.book_model.specs.Outcomes.{◌>>=◌, provided}
-use Rattle.book_laws.specs.Calls.{Call, CreatesBook, Puts, Removes, Moves, Imports, Forgets, AsksReport, ListsBooks, Gets, ListsCards, Tallies, DidImport, Returned, meaning}
-use Rattle.book_laws.specs.WorldReads.{get_meaning, kept_import_meaning}
-use Rattle.book_laws.specs.Worlds.{Stories, World}
-use Rattle.book_laws.specs.WorldSteps.{story_named}
+use Rattle.book_model.specs.CallOutcomes.{◌>>=◌, refuse_unless}
+use Rattle.book_laws.specs.Calls.{Call, CreateBookCall, PutCall, RemoveCall, MoveCall, ImportCall}
+use Rattle.book_laws.specs.Calls.{ForgetCall, ReportCall, BooksCall, GetCall, CardsCall, TallyCall}
+use Rattle.book_laws.specs.Calls.{ReturnedImport, CallAnswer, call_on_histories}
+use Rattle.book_laws.specs.HistoryQueries.{get_on_histories, kept_import_on_histories}
+use Rattle.book_laws.specs.StoreHistories.{BookHistories, StoreHistory}
+use Rattle.book_laws.specs.HistorySteps.{history_named}
 use Rattle.book_commands.specs.declared.command.Command.{Command}
-use Rattle.book_commands.specs.declared.command.Command.TheVariants.{CreateBook, Books as ListBooks, Get, Put, Remove, MoveCard, Report, Import, Forget, TallyOf, Export, People}
+use Rattle.book_commands.specs.declared.command.Command.TheVariants.{CreateBook, Books as ListBooks}
+use Rattle.book_commands.specs.declared.command.Command.TheVariants.{Get, Put, Remove, MoveCard}
+use Rattle.book_commands.specs.declared.command.Command.TheVariants.{Report, Import, Forget}
+use Rattle.book_commands.specs.declared.command.Command.TheVariants.{TallyOf, Export, People}
 use Rattle.book_commands.specs.declared.reply.Reply.{Reply}
 use Rattle.book_commands.specs.declared.reply.Reply.TheVariants as reply
-use Rattle.book_service.specs.Replies.{TellsReturned}
+use Rattle.book_service.specs.Replies.{RepliesReturned}
 use Rattle.book_service.specs.Texts.{ReadsCard, ReadsCards, ReadsToken}
 
--- ---- the call that a command is
+-- ---- the store call of a command
 
--- what a call returns and the stories after it, or its refusal
-abbrev pub Meaning : Type 0
-Meaning = Result (Returned × Stories) Refusal
+-- the value that a call returns and the histories after it, or its refusal
+abbrev pub Outcome : Type 0
+Outcome = Result (CallAnswer × BookHistories) Refusal
 
--- the command is this call
-abbrev pub IsCall : World → Call → Meaning → Type 0
-IsCall world call meant = meant ≡ meaning world.limits world.books call
+-- the command is this store call
+abbrev pub IsCall : StoreHistory → Call → Outcome → Type 0
+IsCall model call outcome = outcome ≡ call_on_histories model.limits model.books call
 
--- the call with what was read of a text, refused first where there is no such book, and then for
--- the text
-abbrev pub meaning_with : {A : Type 0} → World → List ℕ → (A → Call) → Result A Refusal → Meaning
-meaning_with world book call (Ok read) = meaning world.limits world.books (call read)
-meaning_with world book call (Err refusal) =
-    story_named world.books book >>= λ story. Err refusal
+-- the call with the value parsed from a text; refused first if there is no such book, then if the
+-- text is invalid
+abbrev pub outcome_with : {A : Type 0} → StoreHistory → List ℕ → (A → Call) → Result A Refusal
+    → Outcome
+outcome_with model book call (Ok read) = call_on_histories model.limits model.books (call read)
+outcome_with model book call (Err refusal) =
+    history_named model.books book >>= λ history. Err refusal
 
--- the command is this call with what is read of a text that it carries
-pub record IsCallWith {A : Type 0} (world : World) (book : List ℕ)
-    (reads : Result A Refusal → Type 0) (call : A → Call) (meant : Meaning) : Type 0 where
+-- the command is this store call with a value parsed from its text
+pub record IsCallWithText {A : Type 0} (model : StoreHistory) (book : List ℕ)
+    (reads : Result A Refusal → Type 0) (call : A → Call) (outcome : Outcome) : Type 0 where
   pub read : Result A Refusal
   pub read_is : reads read
-  pub meant_is : meant ≡ meaning_with world book call read
+  pub outcome_is : outcome ≡ outcome_with model book call read
 
--- the cards that were read of a body are imported, or the body is refused
-abbrev pub meaning_of_body : World → List ℕ → List ℕ → Result (List (List Line)) Refusal → Meaning
-meaning_of_body world book key (Ok cards) =
-    meaning world.limits world.books (Imports book key cards)
-meaning_of_body world book key (Err refusal) = Err refusal
+-- the parsed cards of a body are imported, or the body is refused
+abbrev pub import_outcome : StoreHistory → List ℕ → List ℕ → Result (List (List Line)) Refusal
+    → Outcome
+import_outcome model book key (Ok cards) =
+    call_on_histories model.limits model.books (ImportCall book key cards)
+import_outcome model book key (Err refusal) = Err refusal
 
--- the import is of what is read of this body
-pub record ImportsBody (world : World) (book key body : List ℕ) (meant : Meaning) : Type 0 where
+-- the import is of the parsed cards of this body
+pub record ImportsBody (model : StoreHistory) (book key body : List ℕ)
+    (outcome : Outcome) : Type 0 where
   pub read : Result (List (List Line)) Refusal
   pub read_is : ReadsCards body read
-  pub meant_is : meant ≡ meaning_of_body world book key read
+  pub outcome_is : outcome ≡ import_outcome model book key read
 
--- What is kept under the key is answered, whatever the body is, and nothing changes. Only where
--- nothing is kept the body counts.
-abbrev pub MeansImport : World → List ℕ → List ℕ → List ℕ → Result (Option ImportTally) Refusal
-    → Meaning → Type 0
-MeansImport world book key body (Err refusal) meant = meant ≡ Err refusal
-MeansImport world book key body (Ok (Some kept)) meant = meant ≡ Ok (DidImport kept, world.books)
-MeansImport world book key body (Ok None) meant = ImportsBody world book key body meant
+-- If the book has a result under the key, that is returned and nothing changes, whatever the body
+-- is. Otherwise the body is imported.
+abbrev pub ImportsTo : StoreHistory → List ℕ → List ℕ → List ℕ → Result (Option ImportTally) Refusal
+    → Outcome → Type 0
+ImportsTo model book key body (Err refusal) outcome = outcome ≡ Err refusal
+ImportsTo model book key body (Ok (Some kept)) outcome =
+    outcome ≡ Ok (ReturnedImport kept, model.books)
+ImportsTo model book key body (Ok None) outcome = ImportsBody model book key body outcome
 
--- all cards are listed, where there is such a book and the UID's card is live and a group's
-abbrev pub people_meaning : World → List ℕ → List ℕ → Meaning
-people_meaning world book uid = do
-  stored ← get_meaning world.books book uid
-  group ← provided (is_group (kind_of stored.card)) NotGroup
-  meaning world.limits world.books (ListsCards book)
+-- all cards are listed, if the book exists and the UID's card is live and a group
+abbrev pub people_outcome : StoreHistory → List ℕ → List ℕ → Outcome
+people_outcome model book uid = do
+  stored ← get_on_histories model.books book uid
+  group ← refuse_unless (is_group (kind_of stored.card)) NotGroup
+  call_on_histories model.limits model.books (CardsCall book)
 
--- what each command means
-abbrev pub Means : World → Command → Meaning → Type 0
-Means world (CreateBook book) meant = IsCall world (CreatesBook book) meant
-Means world ListBooks meant = IsCall world ListsBooks meant
-Means world (Get book uid) meant = IsCall world (Gets book uid) meant
-Means world (Put book uid expect text) meant =
-    IsCallWith world book (ReadsCard uid text) (λ card. Puts book card expect) meant
-Means world (Remove book uid expect) meant = IsCall world (Removes book uid expect) meant
-Means world (MoveCard book uid to expect) meant = IsCall world (Moves book to uid expect) meant
-Means world (Report book token limit) meant =
-    IsCallWith world book (ReadsToken token) (λ from. AsksReport book from limit) meant
-Means world (Import book key body) meant =
-    MeansImport world book key body (kept_import_meaning world.books book key) meant
-Means world (Forget book upto) meant = IsCall world (Forgets book upto) meant
-Means world (TallyOf book) meant = IsCall world (Tallies book) meant
-Means world (Export book form) meant = IsCall world (ListsCards book) meant
-Means world (People book uid) meant = meant ≡ people_meaning world book uid
+-- the outcome of each command
+abbrev pub HasOutcome : StoreHistory → Command → Outcome → Type 0
+HasOutcome model (CreateBook book) outcome = IsCall model (CreateBookCall book) outcome
+HasOutcome model ListBooks outcome = IsCall model BooksCall outcome
+HasOutcome model (Get book uid) outcome = IsCall model (GetCall book uid) outcome
+HasOutcome model (Put book uid expect text) outcome =
+    IsCallWithText model book (ReadsCard uid text) (λ card. PutCall book card expect) outcome
+HasOutcome model (Remove book uid expect) outcome =
+    IsCall model (RemoveCall book uid expect) outcome
+HasOutcome model (MoveCard book uid to expect) outcome =
+    IsCall model (MoveCall book to uid expect) outcome
+HasOutcome model (Report book token limit) outcome =
+    IsCallWithText model book (ReadsToken token) (λ from. ReportCall book from limit) outcome
+HasOutcome model (Import book key body) outcome =
+    ImportsTo model book key body (kept_import_on_histories model.books book key) outcome
+HasOutcome model (Forget book upto) outcome = IsCall model (ForgetCall book upto) outcome
+HasOutcome model (TallyOf book) outcome = IsCall model (TallyCall book) outcome
+HasOutcome model (Export book form) outcome = IsCall model (CardsCall book) outcome
+HasOutcome model (People book uid) outcome = outcome ≡ people_outcome model book uid
 
 -- ---- the reply
 
--- what comes of a command that means this: what was returned is told, with the stories after it, or
--- a refusal, which leaves the stories
-abbrev pub ComesOf : Command → Stories → Meaning → Reply → Stories → Type 0
-ComesOf command old (Ok done) r new = TellsReturned command done.0 r × (new ≡ done.1)
-ComesOf command old (Err refusal) r new = (r ≡ reply.Refused refusal) × (new ≡ old)
+-- the reply and the new histories are those of the outcome: the returned value, or a refusal, which
+-- leaves the histories unchanged
+abbrev pub DeliversOutcome : Command → BookHistories → Outcome → Reply → BookHistories → Type 0
+DeliversOutcome command old (Ok done) r new = RepliesReturned command done.0 r × (new ≡ done.1)
+DeliversOutcome command old (Err refusal) r new = (r ≡ reply.Refused refusal) × (new ≡ old)
 
--- what the command means came of it
-pub record IsDone (world : World) (command : Command) (r : Reply) (next : Stories) : Type 0 where
-  pub meant : Meaning
-  pub means : Means world command meant
-  pub comes : ComesOf command world.books meant r next
+-- the reply and the new histories are those of the command's outcome
+pub record IsCommandDone (model : StoreHistory) (command : Command) (r : Reply)
+    (next : BookHistories) : Type 0 where
+  pub outcome : Outcome
+  pub has_outcome : HasOutcome model command outcome
+  pub delivers : DeliversOutcome command model.books outcome r next
 
--- What the command means came of it. Or there was a fault, which leaves the stories, too.
-abbrev pub Performs : World → Command → Reply → Stories → Type 0
-Performs world command r next = IsDone world command r next
-    ⊎ ((fault : Fault) × (r ≡ reply.Fault fault) × (next ≡ world.books))
+-- the command was done, or there was a fault, which leaves the histories unchanged
+abbrev pub PerformsCommand : StoreHistory → Command → Reply → BookHistories → Type 0
+PerformsCommand model command r next = IsCommandDone model command r next
+    ⊎ ((fault : Fault) × (r ≡ reply.Fault fault) × (next ≡ model.books))

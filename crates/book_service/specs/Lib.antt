@@ -2,12 +2,11 @@ pub mod Texts
 pub mod WholeBooks
 pub mod Replies
 pub mod Commands
-pub mod OnRows
-pub mod TextReaders
 pub mod Faults
-pub mod Asks
+pub mod DeviceReplies
 pub mod Runs
 pub mod PageCounts
 pub mod Promise
 pub mod Mirrors
 pub mod PageTokenLaws
+pub mod internal

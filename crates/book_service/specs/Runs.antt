@@ -1,100 +1,101 @@
--- What happens to books and devices: moments, one after another. This project's own.
+-- Runs of the system of books and devices: states, steps and traces. This project's own.
 use Rattle.std.specs.Prelude.{ℕ, ◌≡◌, ◌<◌, List, [], ◌∷◌, map, Option, Some, slice_get, slice_set}
 use Rattle.book_model.specs.Bounds.{Bounds}
 use Rattle.book_model.specs.Books.{Books}
-use Rattle.book_model.specs.Devices.{Holding}
-use Rattle.book_laws.specs.Following.{AreStoriesOf}
-use Rattle.book_laws.specs.Worlds.{Stories, World}
-use Rattle.book_laws.specs.WorldSteps.{report_meaning}
+use Rattle.book_model.specs.Devices.{DeviceState}
+use Rattle.book_laws.specs.Refinement.{AreHistoriesOf}
+use Rattle.book_laws.specs.StoreHistories.{BookHistories, StoreHistory}
+use Rattle.book_laws.specs.HistorySteps.{report_on_histories}
 use Rattle.book_service.specs.declared.event.Event.{Event}
 use Rattle.book_service.specs.declared.event.Event.TheVariants.{Do, Ask}
 use Rattle.book_commands.specs.declared.reply.Reply.{Reply}
-use Rattle.book_service.specs.Asks.{Answers}
-use Rattle.book_service.specs.Commands.{Performs}
+use Rattle.book_service.specs.DeviceReplies.{HandlesReply}
+use Rattle.book_service.specs.Commands.{PerformsCommand}
 
--- ---- a moment
+-- ---- states
 
--- the limits and the books with their whole histories, and what each device holds
-pub record Moment : Type 0 where
-  pub world : World
-  pub devices : List Holding
+-- the limits, the books with their full histories, and the state of each device
+pub record SystemState : Type 0 where
+  pub model : StoreHistory
+  pub devices : List DeviceState
 
--- ---- a step
+-- ---- steps
 
--- the device at this place asked for a page, and no book and no other device was changed
-pub record Asks (now : Moment) (i : ℕ) (limit : Option ℕ) (r : Reply) (next : Moment)
+-- the device with this index requested a page; no book and no other device changed
+pub record DeviceAsk (now : SystemState) (i : ℕ) (limit : Option ℕ) (r : Reply) (next : SystemState)
     : Type 0 where
-  pub old : Holding
-  pub new : Holding
+  pub old : DeviceState
+  pub new : DeviceState
   pub found : slice_get now.devices i ≡ Some old
-  pub answers : Answers r (report_meaning now.world.limits now.world.books old.book old.token limit)
+  pub answers : HandlesReply r
+      (report_on_histories now.model.limits now.model.books old.book old.token limit)
       old new
   pub next_is : next ≡ record now { devices = slice_set now.devices i new }
 
--- From this moment the event leads to this reply and to the next moment: a command is performed,
--- which changes no device, or a device asks.
-abbrev pub Step : Moment → Event → Reply → Moment → Type 0
-Step now (Do command) r next = (books : Stories) × Performs now.world command r books
-    × (next ≡ record now { world = record now.world { books = books } })
-Step now (Ask i limit) r next = Asks now i limit r next
+-- From this state the event leads to this reply and the next state: a command is performed, which
+-- changes no device, or a device requests a page, which changes no book.
+abbrev pub Step : SystemState → Event → Reply → SystemState → Type 0
+Step now (Do command) r next = (books : BookHistories) × PerformsCommand now.model command r books
+    × (next ≡ record now { model = record now.model { books = books } })
+Step now (Ask i limit) r next = DeviceAsk now i limit r next
 
--- ---- a run
+-- ---- runs
 
--- an event, its reply and the moment after it
-pub record Happening : Type 0 where
+-- an event, its reply and the state after it
+pub record TraceStep : Type 0 where
   pub event : Event
   pub reply : Reply
-  pub after : Moment
+  pub after : SystemState
 
--- it holds from each moment to the next, beginning with this one
-abbrev pub AtEachStep : (Moment → Event → Reply → Moment → Type 0)
-    → Moment → List Happening → Type 0
+-- it holds of every step of the trace, from this state on
+abbrev pub AtEachStep : (SystemState → Event → Reply → SystemState → Type 0)
+    → SystemState → List TraceStep → Type 0
 AtEachStep holds now [] = Unit {0}
 AtEachStep holds now (h ∷ run) =
     holds now h.event h.reply h.after × AtEachStep holds h.after run
 
--- each thing that happened is a step
-abbrev pub Run : Moment → List Happening → Type 0
+-- every entry of the trace is a step
+abbrev pub Run : SystemState → List TraceStep → Type 0
 Run now run = AtEachStep Step now run
 
--- the last moment
-abbrev pub end_of : Moment → List Happening → Moment
+-- the final state of a run
+abbrev pub end_of : SystemState → List TraceStep → SystemState
 end_of now [] = now
 end_of now (h ∷ run) = end_of h.after run
 
--- the events of a run, and the replies to them
-abbrev pub events_of : List Happening → List Event
-events_of run = map (λ (h : Happening). h.event) run
+-- the events of a run, and their replies
+abbrev pub events_of : List TraceStep → List Event
+events_of run = map (λ (h : TraceStep). h.event) run
 
-abbrev pub replies_of : List Happening → List Reply
-replies_of run = map (λ (h : Happening). h.reply) run
+abbrev pub replies_of : List TraceStep → List Reply
+replies_of run = map (λ (h : TraceStep). h.reply) run
 
--- ---- what a store shows of it
+-- ---- states and the rows of a store
 
--- it has these limits, and sound histories with these rows
-pub record IsAt (now : Moment) (limits : Bounds) (books : Books) : Type 0 where
-  pub limits_are : now.world.limits ≡ limits
-  pub stories : AreStoriesOf books now.world.books
+-- the state has these limits, and sound histories with these rows
+pub record MatchesRows (now : SystemState) (limits : Bounds) (books : Books) : Type 0 where
+  pub limits_are : now.model.limits ≡ limits
+  pub histories : AreHistoriesOf books now.model.books
 
--- by this event and reply it was led to a moment with these rows and devices
-pub record LeadsTo (now : Moment) (event : Event) (r : Reply)
-    (books : Books) (devices : List Holding) : Type 0 where
-  pub next : Moment
+-- this event and reply are a step to a state with these rows and devices
+pub record StepsTo (now : SystemState) (event : Event) (r : Reply)
+    (books : Books) (devices : List DeviceState) : Type 0 where
+  pub next : SystemState
   pub step : Step now event r next
-  pub at : IsAt next now.world.limits books
+  pub at : MatchesRows next now.model.limits books
   pub devices_are : next.devices ≡ devices
 
--- these events ran, with these replies, to a moment with these rows and devices
-pub record RanTo (now : Moment) (events : List Event) (replies : List Reply)
-    (books : Books) (devices : List Holding) : Type 0 where
-  pub run : List Happening
+-- these events and replies are a run to a state with these rows and devices
+pub record RanTo (now : SystemState) (events : List Event) (replies : List Reply)
+    (books : Books) (devices : List DeviceState) : Type 0 where
+  pub run : List TraceStep
   pub runs : Run now run
   pub events_are : events_of run ≡ events
   pub replies_are : replies_of run ≡ replies
-  pub at : IsAt (end_of now run) now.world.limits books
+  pub at : MatchesRows (end_of now run) now.model.limits books
   pub devices_are : (end_of now run).devices ≡ devices
 
--- the event names no device beyond so many
-abbrev pub NamesDevice : ℕ → Event → Type 0
-NamesDevice count (Do command) = Unit {0}
-NamesDevice count (Ask i limit) = i < count
+-- the event's device, if it has one, is below `count`
+abbrev pub NamesDeviceBelow : ℕ → Event → Type 0
+NamesDeviceBelow count (Do command) = Unit {0}
+NamesDeviceBelow count (Ask i limit) = i < count

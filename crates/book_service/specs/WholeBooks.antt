@@ -1,5 +1,5 @@
--- What is told of all live cards of a book: their rows, and whom a group reaches. This project's
--- own.
+-- Replies computed from all live cards of a book: CSV rows and the people of a group. This
+-- project's own.
 use Rattle.std.specs.Prelude.{ℕ, ◌≡◌, List, map}
 use Rattle.std.specs.FinMap as finite
 use Rattle.base_types.specs.TextMaps.{text_cmp}
@@ -12,17 +12,17 @@ use Rattle.book_model.specs.Books.{LiveCards}
 use Rattle.book_commands.specs.declared.reply.Reply.{Reply}
 use Rattle.book_commands.specs.declared.reply.Reply.TheVariants as reply
 
--- the lines of each card, by its UID
+-- the lines of each live card, by UID
 abbrev pub lines_by_uid : LiveCards → finite.FinMap text_cmp (List Line)
 lines_by_uid live =
     finite.from_sorted (map (λ entry. (entry.0, entry.1.card)) (finite.entries live))
 
--- the rows of the cards, in the order of the octets of their UIDs
-abbrev pub book_text : Form → LiveCards → List ℕ
-book_text form live = csv_text form (finite.values (lines_by_uid live))
+-- the CSV rows of the cards, in byte order of UID
+abbrev pub export_text : Form → LiveCards → List ℕ
+export_text form live = csv_text form (finite.values (lines_by_uid live))
 
--- the reply tells whom the group reaches among the cards
-pub record TellsPeople (live : LiveCards) (group : List ℕ) (r : Reply) : Type 0 where
+-- the reply lists the people that the group reaches among the cards
+pub record ReplyHasPeople (live : LiveCards) (group : List ℕ) (r : Reply) : Type 0 where
   pub expansion : Expansion
   pub is_expansion : IsExpansion (lines_by_uid live) group expansion
   pub reply_is : r ≡ reply.People expansion

@@ -1,54 +1,56 @@
-//! What a command asks of any store.
+//! The store calls of each command.
 ghost use Rattle.std.specs.Prelude.{◌≡◌, ◌⊎◌, Err, IfOk};
-ghost use Rattle.book_laws.specs.ChangeLaws.{CreatingFollows, PuttingFollows, RemovingFollows, MovingFollows, ForgettingFollows};
-ghost use Rattle.book_laws.specs.ReadLaws.{BooksFollow, BookLinesFollow, GettingFollows, TalliesFollow, ReportsFollow};
+ghost use Rattle.book_laws.specs.ChangeRefinement.{CreateRefines, PutRefines, RemoveRefines};
+ghost use Rattle.book_laws.specs.ChangeRefinement.{MoveRefines, ForgetRefines};
+ghost use Rattle.book_laws.specs.QueryRefinement.{BooksRefine, BookLinesRefine, GetRefines};
+ghost use Rattle.book_laws.specs.QueryRefinement.{TalliesRefine, ReportsRefine};
 ghost use Rattle.book_model.specs.Bounds.{IsInRange};
-ghost use Rattle.book_model.specs.Outcomes.{IfFault};
+ghost use Rattle.book_model.specs.CallOutcomes.{IfFault};
 ghost use Rattle.book_commands.specs.declared.command.Command.{Command as TheCommand};
 ghost use Rattle.book_commands.specs.declared.reply.Reply.{Reply as TheReply};
-ghost use Rattle.book_service.specs.Faults.{IfFaultReply, MayComeOf};
-ghost use Rattle.book_service.specs.OnRows.{DoesCommand, DeniesIn};
+ghost use Rattle.book_service.specs.Faults.{IfFaultReply, CommandFault};
+ghost use Rattle.book_service.specs.internal.RowSteps.{CommandOnRows, IsFirstDenial};
 ghost use Rattle.book_service.specs.Replies.{denied_reply, reply_to};
 
 use crate::importing::import_body;
-use crate::texts::{card_for, token_in};
+use crate::texts::{parse_card, parse_token};
 use crate::whole_books::{export, people};
 use book_commands::{Command, Reply};
-use book_laws::following::{
-    book_lines_follow_histories, cards_follow_histories, creating_follows_histories,
-    forgetting_follows_histories, moving_follows_histories, putting_follows_histories,
-    removing_follows_histories, reports_follow_histories, tallies_follow_histories,
+use book_laws::refinement::{
+    book_lines_refine_histories, cards_refine_histories, create_refines_histories,
+    forget_refines_histories, move_refines_histories, put_refines_histories,
+    remove_refines_histories, reports_refine_histories, tallies_refine_histories,
 };
 use std::alloc::Global;
 use sync_core::{BookStore, Denied, Page, PutAnswer, Stored};
 use vcard_text::{Items, Text};
 
-/// What a store answers by its rows is what the histories mean.
+/// The results of a store on its rows are those of the model on the books' histories.
 fn calls_follow_histories()
-    ensures creating { CreatingFollows }
-    ensures putting { PuttingFollows }
-    ensures removing { RemovingFollows }
-    ensures moving { MovingFollows }
-    ensures forgetting { ForgettingFollows }
-    ensures books { BooksFollow }
-    ensures lines { BookLinesFollow }
-    ensures getting { GettingFollows }
-    ensures tallies { TalliesFollow }
-    ensures reports { ReportsFollow }
+    ensures creating { CreateRefines }
+    ensures putting { PutRefines }
+    ensures removing { RemoveRefines }
+    ensures moving { MoveRefines }
+    ensures forgetting { ForgetRefines }
+    ensures books { BooksRefine }
+    ensures lines { BookLinesRefine }
+    ensures getting { GetRefines }
+    ensures tallies { TalliesRefine }
+    ensures reports { ReportsRefine }
 {
-    creating_follows_histories();
-    putting_follows_histories();
-    removing_follows_histories();
-    moving_follows_histories();
-    forgetting_follows_histories();
-    book_lines_follow_histories();
-    cards_follow_histories();
-    tallies_follow_histories();
-    reports_follow_histories();
+    create_refines_histories();
+    put_refines_histories();
+    remove_refines_histories();
+    move_refines_histories();
+    forget_refines_histories();
+    book_lines_refine_histories();
+    cards_refine_histories();
+    tallies_refine_histories();
+    reports_refine_histories();
 }
 
-/// Does the command by the store's call that it is, and answers what is replied.
-pub(crate) fn outcome_of<S: BookStore>(
+/// Performs the command by its store call and returns the reply.
+pub(crate) fn perform_call<S: BookStore>(
     alloc: Global,
     store: &mut S,
     command: &Command,
@@ -56,13 +58,13 @@ pub(crate) fn outcome_of<S: BookStore>(
     ensures premise { S.premise store.new → S.premise store.old }
     ensures limits { S.limits store.new ≡ S.limits store.old }
     ensures range { IsInRange (S.limits store.new) }
-    ensures fault { IfFault result (MayComeOf S.may_fault command.now) }
-    ensures told { IfOk result (λ r. IfFaultReply r (λ fault. ⊥)) }
-    ensures does { S.premise store.new →
-        DoesCommand (S.limits store.old) (S.books store.old) command.now
+    ensures fault { IfFault result (CommandFault S.may_fault command.now) }
+    ensures no_fault { IfOk result (λ r. IfFaultReply r (λ fault. ⊥)) }
+    ensures step { S.premise store.new →
+        CommandOnRows (S.limits store.old) (S.books store.old) command.now
         (reply_to (λ r. r) result) (S.books store.new) }
 {
-    // A law, which does nothing.
+    // A law, no code.
     calls_follow_histories();
 
     match command {
@@ -131,7 +133,7 @@ pub(crate) fn outcome_of<S: BookStore>(
     }
 }
 
-/// Stores the card that the text spells.
+/// Parses the card's text and stores the card.
 fn put<S: BookStore>(
     alloc: Global,
     store: &mut S,
@@ -144,20 +146,20 @@ fn put<S: BookStore>(
     ensures limits { S.limits store.new ≡ S.limits store.old }
     ensures range { IsInRange (S.limits store.new) }
     ensures fault { IfFault result
-        (MayComeOf S.may_fault (TheCommand.Put book.now uid.now expect text.now)) }
-    ensures does { S.premise store.new →
-        DoesCommand (S.limits store.old) (S.books store.old)
+        (CommandFault S.may_fault (TheCommand.Put book.now uid.now expect text.now)) }
+    ensures step { S.premise store.new →
+        CommandOnRows (S.limits store.old) (S.books store.old)
         (TheCommand.Put book.now uid.now expect text.now)
         (reply_to TheReply.Put result) (S.books store.new) }
 {
     calls_follow_histories();
-    match card_for(alloc, uid.as_str(), text.as_slice()) {
+    match parse_card(alloc, uid.as_str(), text.as_slice()) {
         Ok(card) => store.put(book.as_str(), &card, expect),
         Err(error) => Err(first_denial(store, book.as_str(), error)),
     }
 }
 
-/// Asks for a page of what changed since the token.
+/// Parses the token and requests a page of the changes since it.
 fn report<S: BookStore>(
     store: &mut S,
     book: &Text,
@@ -168,27 +170,27 @@ fn report<S: BookStore>(
     ensures limits { S.limits store.new ≡ S.limits store.old }
     ensures range { IsInRange (S.limits store.new) }
     ensures fault { IfFault result S.may_fault }
-    ensures does { S.premise store.new →
-        DoesCommand (S.limits store.old) (S.books store.old)
+    ensures step { S.premise store.new →
+        CommandOnRows (S.limits store.old) (S.books store.old)
         (TheCommand.Report book.now token.now limit)
         (reply_to TheReply.Page result) (S.books store.new) }
 {
     calls_follow_histories();
-    match token_in(token.as_str()) {
+    match parse_token(token.as_str()) {
         Ok(from) => store.report(book.as_str(), from, limit),
         Err(refusal) => Err(first_denial(store, book.as_str(), Denied::Refused(refusal))),
     }
 }
 
-/// The denial of a command whose own text was denied: a book that isn't there is refused before it.
+/// The denial of a command whose text can't be read: `NoSuchBook` comes first, then `error`.
 fn first_denial<S: BookStore>(store: &mut S, book: &str, error: Denied) -> Denied
     ensures premise { S.premise store.new → S.premise store.old }
     ensures limits { S.limits store.new ≡ S.limits store.old }
     ensures range { IsInRange (S.limits store.new) }
-    ensures kept { S.premise store.new → S.books store.new ≡ S.books store.old }
+    ensures reads_only { S.premise store.new → S.books store.new ≡ S.books store.old }
     ensures fault { (result ≡ error) ⊎ IfFault {A = Unit {0}} (Err result) S.may_fault }
     ensures denies { S.premise store.new →
-        DeniesIn (S.books store.old) book.now error (denied_reply result) }
+        IsFirstDenial (S.books store.old) book.now error (denied_reply result) }
 {
     match store.book(book) {
         Ok(_) => error,

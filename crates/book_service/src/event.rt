@@ -1,11 +1,12 @@
-//! Commands, and devices that ask for pages between them.
+//! Runs of events: commands, and devices that request pages between them.
 ghost use Rattle.std.specs.Prelude.{◌≡◌, ◌↔◌, length, All, IfOk, IsTrue, OnErr};
-ghost use Rattle.book_service.specs.Faults.{FaultsMayCome, IfFaultReply, MayComeAt};
-ghost use Rattle.book_service.specs.PageCounts.{FewAreTruncated};
-ghost use Rattle.book_service.specs.Runs.{Moment, NamesDevice, IsAt, LeadsTo, RanTo};
+ghost use Rattle.book_service.specs.Faults.{AllowedFaults, IfFaultReply, EventFault};
+ghost use Rattle.book_service.specs.PageCounts.{HasFewTruncatedPages};
+ghost use Rattle.book_service.specs.Runs.{SystemState, NamesDeviceBelow, MatchesRows, StepsTo};
+ghost use Rattle.book_service.specs.Runs.{RanTo};
 
-use crate::asking::next_page;
 use crate::command::perform;
+use crate::device_pages::next_page;
 use crate::laws::truncated_pages_are_few;
 use crate::reply::denied_reply;
 use book_commands::{Command, Reply};
@@ -13,24 +14,24 @@ use std::alloc::Global;
 use sync_core::{BookStore, Device};
 use vcard_text::NoMemory;
 
-/// What happens to a store and to devices.
+/// An event of a store and its devices.
 #[derive(Debug, Drop, PartialEq, Eq)]
 pub enum Event {
     /// A command is performed.
     Do(Command),
-    /// A device asks for its next page, and applies it.
+    /// A device requests its next page and applies it.
     Ask {
-        /// The device's place in the list, from 0.
+        /// The device's index in the list, from 0.
         device: usize,
-        /// The most entries of the page; with `None` the store's own limit alone holds.
+        /// The maximum number of entries in the page; with `None` only the store's limit applies.
         limit: Option<u64>,
     },
 }
 
 impl Event {
-    /// Whether the event names no device beyond so many.
+    /// Whether the event's device, if it has one, is below `devices`.
     pub fn is_within(&self, devices: usize) -> bool
-        ensures { IsTrue result ↔ NamesDevice devices self.now }
+        ensures { IsTrue result ↔ NamesDeviceBelow devices self.now }
     {
         match self {
             Event::Do(_) => true,
@@ -39,21 +40,21 @@ impl Event {
     }
 }
 
-/// Does one event.
+/// Performs one event.
 fn do_event<S: BookStore>(
     alloc: Global,
     store: &mut S,
     devices: &mut Vec<Device>,
     event: &Event,
 ) -> Reply
-    requires { NamesDevice (length devices.old.items) event.now }
+    requires { NamesDeviceBelow (length devices.old.items) event.now }
     ensures premise { S.premise store.new → S.premise store.old }
     ensures limits { S.limits store.new ≡ S.limits store.old }
     ensures count { length devices.new.items ≡ length devices.old.items }
-    ensures fault { IfFaultReply result (MayComeAt S.may_fault event.now) }
-    ensures happens { S.premise store.new → (now : Moment) →
-        IsAt now (S.limits store.old) (S.books store.old) → now.devices ≡ devices.old.items →
-        LeadsTo now event.now result (S.books store.new) devices.new.items }
+    ensures fault { IfFaultReply result (EventFault S.may_fault event.now) }
+    ensures step { S.premise store.new → (now : SystemState) →
+        MatchesRows now (S.limits store.old) (S.books store.old) → now.devices ≡ devices.old.items →
+        StepsTo now event.now result (S.books store.new) devices.new.items }
 {
     match event {
         Event::Do(command) => perform(alloc, store, command),
@@ -64,42 +65,42 @@ fn do_event<S: BookStore>(
     }
 }
 
-/// Does the events in their order, and answers the reply to each. A device whose token is refused
-/// loses it, so that its next ask is for an initial report.
+/// Performs the events in order and returns the reply to each. A device whose token is refused
+/// clears it, so its next request is for an initial report.
 ///
-/// The caller sees to it that each device number is below the number of devices, which
-/// `Event::is_within` tells. `NoMemory` comes before any event, where there is no room for all
-/// replies. Where memory runs out later, an event's reply is a fault.
+/// The caller must ensure that each device index is below the number of devices;
+/// `Event::is_within` checks it. `NoMemory` is returned before any event if there is no memory for
+/// all replies. If memory runs out later, the event's reply is a fault.
 pub fn drive<S: BookStore>(
     alloc: Global,
     store: &mut S,
     devices: &mut Vec<Device>,
     events: &[Event],
 ) -> Result<Vec<Reply>, NoMemory>
-    requires { All (NamesDevice (length devices.old.items)) events.now }
+    requires { All (NamesDeviceBelow (length devices.old.items)) events.now }
     ensures premise { S.premise store.new → S.premise store.old }
     ensures limits { S.limits store.new ≡ S.limits store.old }
 
-    // Only faults that the store may answer come, and out of memory where a text is read or copied
-    // or a page applied.
-    ensures faults { IfOk result (λ replies. FaultsMayCome S.may_fault events.now replies.items) }
+    // A fault is one that the store may return, or out of memory while a text is read or copied or
+    // a page applied.
+    ensures faults { IfOk result (λ replies. AllowedFaults S.may_fault events.now replies.items) }
 
-    // From each world whose rows the store has, the events ran, with these replies, to one whose
-    // rows it has now.
-    ensures runs { IfOk result (λ replies. S.premise store.new → (now : Moment) →
-        IsAt now (S.limits store.old) (S.books store.old) → now.devices ≡ devices.old.items →
+    // From every system state that matches the store's rows, the events ran, with these replies, to
+    // a state that matches its rows now.
+    ensures runs { IfOk result (λ replies. S.premise store.new → (now : SystemState) →
+        MatchesRows now (S.limits store.old) (S.books store.old) → now.devices ≡ devices.old.items →
         RanTo now events.now replies.items (S.books store.new) devices.new.items) }
 
-    // Few of the pages that a device is told are truncated.
-    ensures few { IfOk result (λ replies. S.premise store.new → (now : Moment) →
-        IsAt now (S.limits store.old) (S.books store.old) → now.devices ≡ devices.old.items →
-        FewAreTruncated now events.now replies.items (S.books store.new)) }
+    // The number of truncated pages that a device receives is bounded.
+    ensures truncated { IfOk result (λ replies. S.premise store.new → (now : SystemState) →
+        MatchesRows now (S.limits store.old) (S.books store.old) → now.devices ≡ devices.old.items →
+        HasFewTruncatedPages now events.now replies.items (S.books store.new)) }
 
-    // Without room for the replies nothing happens.
+    // Without memory for the replies nothing changes.
     ensures err { OnErr result ((S.books store.new ≡ S.books store.old)
         × (devices.new.items ≡ devices.old.items)) }
 {
-    // A law, which does nothing.
+    // A law, no code.
     truncated_pages_are_few();
 
     let mut replies = Vec::with_capacity(alloc, events.len())?;

@@ -1,9 +1,10 @@
-//! Commands on a store of books, one after another, and devices that ask for pages between them.
+//! Performs commands on a store of address books, runs devices that sync with it, and proves what
+//! holds over every run of both.
 #![tactic(auto)]
 
-mod asking;
 mod calls;
 mod command;
+mod device_pages;
 mod event;
 mod importing;
 pub mod laws;

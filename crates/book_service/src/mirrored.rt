@@ -1,35 +1,34 @@
-//! Copies of whole books.
+//! Copying a whole book to a new device.
 ghost use Rattle.std.specs.Prelude.{◌≡◌, IfOk, IfErr};
-ghost use Rattle.book_model.specs.Outcomes.{IfFault};
-ghost use Rattle.book_service.specs.Faults.{IsMemoryOr};
-ghost use Rattle.book_service.specs.Mirrors.{IsMirrored, IsMirrorDenied, TakesFewPages};
-ghost use Rattle.book_service.specs.Runs.{Moment, IsAt};
+ghost use Rattle.book_model.specs.CallOutcomes.{IfFault};
+ghost use Rattle.book_service.specs.Faults.{IsOutOfMemoryOr};
+ghost use Rattle.book_service.specs.Mirrors.{IsMirrorRun, IsMirrorDenied, HasExactPageCount};
+ghost use Rattle.book_service.specs.Runs.{SystemState, MatchesRows};
 
-use crate::asking::next_page;
+use crate::device_pages::next_page;
 use book_laws::devices::{
-    devices_stay_right_among_books, due_members_are_counted, last_pages_complete_copies,
+    devices_stay_consistent_among_books, due_members_are_counted, last_pages_complete_copies,
 };
-use book_laws::runs::new_tokens_are_taken;
+use book_laws::runs::fresh_tokens_are_accepted;
 use std::alloc::Global;
 use sync_core::{BookStore, Denied, Device};
 
-/// A device that asked for page after page.
+/// The result of `mirror`: the device and the number of its pages.
 #[derive(Debug, Drop, PartialEq, Eq)]
 pub struct Mirrored {
-    /// It holds what the pages told.
+    /// The device, with all pages applied.
     pub device: Device,
-    /// How many pages it applied.
+    /// The number of applied pages.
     pub pages: u64,
-    /// Whether the last one wasn't truncated; then the device holds what the book does.
+    /// Whether the last page wasn't truncated; if so, the copy is complete.
     pub done: bool,
 }
 
-/// Copies a book: a new device asks for pages of at most `limit` entries and applies them, until
-/// one isn't truncated or it has `max_pages` of them (RFC 6578, section 3.6). The store is left as
-/// it is.
+/// Copies a book: a new device requests pages of at most `limit` entries and applies them, until
+/// one isn't truncated or it has `max_pages` of them (RFC 6578, section 3.6). Only reads the store.
 ///
-/// With `max_pages` 0 it asks nothing, also where there is no such book. Refused as its initial
-/// report is: with `NoSuchBook`, and with `BadLimit` where the limit is 0.
+/// With `max_pages` 0 it requests nothing, even if the book doesn't exist. Refused as its initial
+/// report is: with `NoSuchBook`, then with `BadLimit` if the limit is 0.
 pub fn mirror<S: BookStore>(
     alloc: Global,
     store: &mut S,
@@ -39,32 +38,32 @@ pub fn mirror<S: BookStore>(
 ) -> Result<Mirrored, Denied>
     ensures premise { S.premise store.new → S.premise store.old }
     ensures limits { S.limits store.new ≡ S.limits store.old }
-    ensures kept { S.premise store.new → S.books store.new ≡ S.books store.old }
+    ensures reads_only { S.premise store.new → S.books store.new ≡ S.books store.old }
 
-    // A fault is out of memory, or one that the store may answer.
-    ensures fault { IfFault result (IsMemoryOr S.may_fault) }
+    // A fault is out of memory, or one that the store may return.
+    ensures fault { IfFault result (IsOutOfMemoryOr S.may_fault) }
 
-    // From each world whose rows the store has, a new device ran so, and where it is done, it has
-    // the live cards.
-    ensures mirrors { IfOk result (λ mirrored. S.premise store.new → (now : Moment) →
-        IsAt now (S.limits store.old) (S.books store.old) →
-        IsMirrored now book.now limit max_pages mirrored) }
+    // From every system state that matches the store's rows, a new device made this run, and if it
+    // is done, its copy is the live cards.
+    ensures mirrors { IfOk result (λ mirrored. S.premise store.new → (now : SystemState) →
+        MatchesRows now (S.limits store.old) (S.books store.old) →
+        IsMirrorRun now book.now limit max_pages mirrored) }
 
-    // It takes just as many pages as the members of the book need, or as many as it may.
-    ensures pages { IfOk result (λ mirrored. S.premise store.new → (now : Moment) →
-        IsAt now (S.limits store.old) (S.books store.old) →
-        TakesFewPages now book.now limit max_pages mirrored) }
+    // The number of pages is exactly what the book's members need, or `max_pages` if that is less.
+    ensures pages { IfOk result (λ mirrored. S.premise store.new → (now : SystemState) →
+        MatchesRows now (S.limits store.old) (S.books store.old) →
+        HasExactPageCount now book.now limit max_pages mirrored) }
 
     // A refusal is that of the initial report.
-    ensures denied { IfErr result (λ denied. S.premise store.new → (now : Moment) →
-        IsAt now (S.limits store.old) (S.books store.old) →
+    ensures denied { IfErr result (λ denied. S.premise store.new → (now : SystemState) →
+        MatchesRows now (S.limits store.old) (S.books store.old) →
         IsMirrorDenied now book.now limit max_pages denied) }
 {
-    // Laws, which do nothing: the device stays right, no page's token is refused, and the pages
-    // are counted.
-    devices_stay_right_among_books();
+    // Laws, no code: the device stays consistent, no page's token is refused, and the pages are
+    // counted.
+    devices_stay_consistent_among_books();
     last_pages_complete_copies();
-    new_tokens_are_taken();
+    fresh_tokens_are_accepted();
     due_members_are_counted();
 
     let mut device = Device::new(alloc, book)?;

@@ -1,10 +1,10 @@
-//! That the tokens of pages can be handed on as texts.
+//! The law that the tokens of pages survive a round trip through text.
 ghost use Rattle.book_service.specs.PageTokenLaws.{PageTokensHaveTexts};
 
 use book_laws::well_formed::pages_fit_well_formed_books;
 
-/// The text that is written of the token of a page of well-formed books is a token's text, so that
-/// it's read as this token again.
+/// The token of every page of well-formed books is written as a valid token text, which is read
+/// back as the same token.
 pub fn page_tokens_have_texts()
     ensures { PageTokensHaveTexts }
 {

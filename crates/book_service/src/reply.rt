@@ -1,11 +1,11 @@
-//! What is replied where a call was denied.
+//! The reply to a denied store call.
 ghost use Rattle.std.specs.Prelude.{◌≡◌};
 ghost use Rattle.book_service.specs.Replies.{denied_reply as reply_of_denied};
 
 use book_commands::Reply;
 use sync_core::Denied;
 
-/// What is replied where a call was denied.
+/// The reply to a denied store call.
 pub(crate) fn denied_reply(denied: Denied) -> Reply
     ensures { result ≡ reply_of_denied denied }
 {

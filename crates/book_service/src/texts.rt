@@ -1,21 +1,20 @@
-//! The texts that commands carry: a card's and a token's.
+//! Parsing the texts in commands: cards and sync tokens.
 ghost use Rattle.std.specs.Prelude.{◌≡◌};
 ghost use Rattle.book_service.specs.Texts.{ReadsCard, ReadsToken};
-ghost use Rattle.book_service.specs.TextReaders.{IsReadAs};
+ghost use Rattle.book_service.specs.internal.TextParsers.{ParserReturns};
 
 use std::alloc::Global;
 use sync_core::{Denied, Refusal, Token, TokenCause, read_token};
 use vcard_text::laws::first_fault_without_card;
 use vcard_text::{Card, read_card};
 
-/// The card that the text spells, which must have the UID.
+/// Parses a card, which must have the given UID.
 ///
-/// Refused with `BadCard` where the text spells no card, with its first fault, and then with
-/// `UidMismatch`.
-pub(crate) fn card_for(alloc: Global, uid: &str, text: &[u8]) -> Result<Card, Denied>
-    ensures { IsReadAs (ReadsCard uid.now text.now) result }
+/// Refused with `BadCard` and the text's first fault if it isn't a card, then with `UidMismatch`.
+pub(crate) fn parse_card(alloc: Global, uid: &str, text: &[u8]) -> Result<Card, Denied>
+    ensures { ParserReturns (ReadsCard uid.now text.now) result }
 {
-    // A law, which does nothing: a text spells a card or has a fault.
+    // A law, no code: a text is a card or has a first fault.
     first_fault_without_card();
 
     let card = read_card(alloc, text)?;
@@ -25,11 +24,10 @@ pub(crate) fn card_for(alloc: Global, uid: &str, text: &[u8]) -> Result<Card, De
     Ok(card)
 }
 
-/// The token that the text is, and `None` where it is empty.
+/// Parses a sync token; the empty text is `None`.
 ///
-/// Refused with `BadToken` and the cause `Malformed` where it isn't a token's text. It takes no
-/// memory.
-pub(crate) fn token_in(text: &str) -> Result<Option<Token>, Refusal>
+/// Refused with `BadToken` and the cause `Malformed` if the text isn't a token. Allocates nothing.
+pub(crate) fn parse_token(text: &str) -> Result<Option<Token>, Refusal>
     ensures { ReadsToken text.now result }
 {
     if text.is_empty() {

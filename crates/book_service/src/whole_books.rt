@@ -1,17 +1,17 @@
-//! What is made of all live cards of a book: rows of CSV, and whom a group reaches.
+//! Commands over all live cards of a book: CSV export and the people of a group.
 ghost use Rattle.std.specs.Prelude.{◌≡◌};
-ghost use Rattle.base_types.specs.TextMaps.{texts};
+ghost use Rattle.base_types.specs.TextMaps.{octet_map};
 ghost use Rattle.book_model.specs.Bounds.{IsInRange};
-ghost use Rattle.book_model.specs.Outcomes.{IfFault};
+ghost use Rattle.book_model.specs.CallOutcomes.{IfFault};
 ghost use Rattle.book_commands.specs.declared.command.Command.{Command as TheCommand};
 ghost use Rattle.book_commands.specs.declared.reply.Reply.{Reply as TheReply};
-ghost use Rattle.book_service.specs.Faults.{MayComeOf};
-ghost use Rattle.book_service.specs.OnRows.{DoesCommand};
+ghost use Rattle.book_service.specs.Faults.{CommandFault};
+ghost use Rattle.book_service.specs.internal.RowSteps.{CommandOnRows};
 ghost use Rattle.book_service.specs.Replies.{reply_to};
 ghost use Rattle.book_service.specs.WholeBooks.{lines_by_uid};
 
 use base_types::value_at;
-use book_laws::following::cards_follow_histories;
+use book_laws::refinement::cards_refine_histories;
 use card_core::{CardsByUid, Expansion, GroupFault, expand};
 use csv_cards::{CardsInOrder, Form, write_rows};
 use std::alloc::Global;
@@ -19,7 +19,7 @@ use std::collections::BTreeMap;
 use sync_core::{BookStore, Denied, Fault, Refusal, Stored};
 use vcard_text::{Card, Items, NoMemory, Text};
 
-/// The live cards of a book by UID, as a store answers them, to be borrowed without their
+/// The live cards of a book by UID, as a store returns them; their cards are borrowed without the
 /// versions.
 #[derive(Drop)]
 pub(crate) struct LiveCards {
@@ -27,7 +27,7 @@ pub(crate) struct LiveCards {
 }
 
 impl CardsInOrder for LiveCards {
-    ghost cards = { λ live. lines_by_uid (texts live.stored) };
+    ghost cards = { λ live. lines_by_uid (octet_map live.stored) };
 
     fn in_order(&self, alloc: Global) -> Result<Vec<&Card>, NoMemory> {
         let mut list = Vec::new(alloc);
@@ -39,7 +39,7 @@ impl CardsInOrder for LiveCards {
 }
 
 impl CardsByUid for LiveCards {
-    ghost cards = { λ live. lines_by_uid (texts live.stored) };
+    ghost cards = { λ live. lines_by_uid (octet_map live.stored) };
 
     fn card_of(&self, uid: &str) -> Option<&Card> {
         match value_at(&self.stored, uid) {
@@ -49,7 +49,7 @@ impl CardsByUid for LiveCards {
     }
 }
 
-/// The rows of the live cards of a book. The book isn't copied.
+/// Exports the live cards of a book as CSV. The cards aren't copied a second time.
 pub(crate) fn export<S: BookStore>(
     alloc: Global,
     store: &mut S,
@@ -59,13 +59,13 @@ pub(crate) fn export<S: BookStore>(
     ensures premise { S.premise store.new → S.premise store.old }
     ensures limits { S.limits store.new ≡ S.limits store.old }
     ensures range { IsInRange (S.limits store.new) }
-    ensures fault { IfFault result (MayComeOf S.may_fault (TheCommand.Export book.now form)) }
-    ensures does { S.premise store.new →
-        DoesCommand (S.limits store.old) (S.books store.old) (TheCommand.Export book.now form)
+    ensures fault { IfFault result (CommandFault S.may_fault (TheCommand.Export book.now form)) }
+    ensures step { S.premise store.new →
+        CommandOnRows (S.limits store.old) (S.books store.old) (TheCommand.Export book.now form)
         (reply_to TheReply.Csv result) (S.books store.new) }
 {
-    // A law, which does nothing.
-    cards_follow_histories();
+    // A law, no code.
+    cards_refine_histories();
 
     let stored = store.cards(book.as_str())?;
     let live = LiveCards { stored };
@@ -73,7 +73,8 @@ pub(crate) fn export<S: BookStore>(
     Ok(Items::from_vec(text))
 }
 
-/// Whom the group of the UID reaches among the live cards of a book. The book isn't copied.
+/// The people that a group reaches among the live cards of a book. The cards aren't copied a second
+/// time.
 pub(crate) fn people<S: BookStore>(
     alloc: Global,
     store: &mut S,
@@ -83,13 +84,13 @@ pub(crate) fn people<S: BookStore>(
     ensures premise { S.premise store.new → S.premise store.old }
     ensures limits { S.limits store.new ≡ S.limits store.old }
     ensures range { IsInRange (S.limits store.new) }
-    ensures fault { IfFault result (MayComeOf S.may_fault (TheCommand.People book.now uid.now)) }
-    ensures does { S.premise store.new →
-        DoesCommand (S.limits store.old) (S.books store.old) (TheCommand.People book.now uid.now)
+    ensures fault { IfFault result (CommandFault S.may_fault (TheCommand.People book.now uid.now)) }
+    ensures step { S.premise store.new →
+        CommandOnRows (S.limits store.old) (S.books store.old) (TheCommand.People book.now uid.now)
         (reply_to TheReply.People result) (S.books store.new) }
 {
-    // A law, which does nothing.
-    cards_follow_histories();
+    // A law, no code.
+    cards_refine_histories();
 
     let stored = store.cards(book.as_str())?;
     let live = LiveCards { stored };

@@ -1,31 +1,31 @@
--- What opening files comes to.
+-- The state of a store after opening files.
 use Rattle.std.proofs.Common.{◌≡◌, Result, Ok, Err, IfOk, ap, ◌∙◌, sym, subst}
 use Rattle.sqlite.specs.Effect.{Database}
 use Rattle.sqlite.specs.Files.{AreFoundIn}
 use Rattle.sqlite.specs.Start.{FindsIn}
 use Rattle.sqlite.specs.State.{State, HasCleanDisk, IsLive, Opens}
 use Rattle.sqlite.specs.Recovery.{Image}
-use Rattle.schema_check.specs.StoredSchema.{ChangesNothing}
-use Rattle.book_rows.specs.SoundTables.{HoldsWellFormed}
-use Rattle.book_check.specs.Opening.{greatest}
-use Rattle.book_writing.specs.StoredBooks.{IsInOrder}
+use Rattle.store_schema.specs.StoredSchema.{ChangesNothing}
+use Rattle.store_rows.specs.SoundTables.{HoldsWellFormed}
+use Rattle.store_check.specs.OpenResults.{max_limits}
+use Rattle.store_writes.specs.StoredBooks.{IsOpenOnHonestDisk}
 
--- a connection that was just opened, and that a test left as it was, holds what was found
-pub found_well_formed : (old new : State) → ChangesNothing old new → (HasCleanDisk old → Opens old × IsLive old) → (IsInOrder new → IsInOrder old) → (IsInOrder new → HoldsWellFormed greatest old.now)
-    → IsInOrder new → HoldsWellFormed greatest new.now
+-- a connection that was just opened and only tested holds what the files held
+pub found_well_formed : (old new : State) → ChangesNothing old new → (HasCleanDisk old → Opens old × IsLive old) → (IsOpenOnHonestDisk new → IsOpenOnHonestDisk old) → (IsOpenOnHonestDisk new → HoldsWellFormed max_limits old.now)
+    → IsOpenOnHonestDisk new → HoldsWellFormed max_limits new.now
 found_well_formed old new left opened before found order =
     let same = left.same order.0 order.1 (λ _. (opened (before order).0).0.clean) in
-    subst (HoldsWellFormed greatest) (sym same.now_is) (found order)
+    subst (HoldsWellFormed max_limits) (sym same.now_is) (found order)
 
--- and so of the store that was made of it
-pub adopted_well_formed : {A E : Type 0} (state_of : A → State) (old : State) (r : Result A E) → (HasCleanDisk old → Opens old × IsLive old) → IfOk r (λ a. ChangesNothing old (state_of a)) → IfOk r (λ a. IsInOrder (state_of a) → IsInOrder old)
-    → IfOk r (λ a. IsInOrder (state_of a) → HoldsWellFormed greatest old.now) → IfOk r (λ a. IsInOrder (state_of a) → HoldsWellFormed greatest (state_of a).now)
+-- and so does the store over it
+pub adopted_well_formed : {A E : Type 0} (state_of : A → State) (old : State) (r : Result A E) → (HasCleanDisk old → Opens old × IsLive old) → IfOk r (λ a. ChangesNothing old (state_of a)) → IfOk r (λ a. IsOpenOnHonestDisk (state_of a) → IsOpenOnHonestDisk old)
+    → IfOk r (λ a. IsOpenOnHonestDisk (state_of a) → HoldsWellFormed max_limits old.now) → IfOk r (λ a. IsOpenOnHonestDisk (state_of a) → HoldsWellFormed max_limits (state_of a).now)
 adopted_well_formed state_of old (Ok a) opened left before found = found_well_formed old (state_of a) left opened before found
 adopted_well_formed state_of old (Err e) opened left before found = tt
 
 -- and so of what it found in the files
-found_in_files : (image : Image) (old new : State) → ChangesNothing old new → (HasCleanDisk old → Opens old × IsLive old) → (HasCleanDisk old → FindsIn image old) → (IsInOrder new → IsInOrder old)
-    → IsInOrder new → FindsIn image new
+found_in_files : (image : Image) (old new : State) → ChangesNothing old new → (HasCleanDisk old → Opens old × IsLive old) → (HasCleanDisk old → FindsIn image old) → (IsOpenOnHonestDisk new → IsOpenOnHonestDisk old)
+    → IsOpenOnHonestDisk new → FindsIn image new
 found_in_files image old new left opened found before order =
     let was = before order in
     let same = left.same order.0 order.1 (λ _. (opened was.0).0.clean) in
@@ -36,6 +36,6 @@ found_in_files image old new left opened found before order =
     }
 
 pub adopted_found : {A E : Type 0} (image : Image) (state_of : A → State) (old : State) (r : Result A E) → (HasCleanDisk old → Opens old × IsLive old) → (HasCleanDisk old → FindsIn image old)
-    → IfOk r (λ a. ChangesNothing old (state_of a)) → IfOk r (λ a. IsInOrder (state_of a) → IsInOrder old) → IfOk r (λ a. IsInOrder (state_of a) → FindsIn image (state_of a))
+    → IfOk r (λ a. ChangesNothing old (state_of a)) → IfOk r (λ a. IsOpenOnHonestDisk (state_of a) → IsOpenOnHonestDisk old) → IfOk r (λ a. IsOpenOnHonestDisk (state_of a) → FindsIn image (state_of a))
 adopted_found image state_of old (Ok a) opened found left before = found_in_files image old (state_of a) left opened found before
 adopted_found image state_of old (Err e) opened found left before = tt

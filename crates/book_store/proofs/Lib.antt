@@ -1,3 +1,3 @@
-pub mod LayLemmas
+pub mod SchemaLemmas
 pub mod StoreLemmas
 pub mod FileLemmas

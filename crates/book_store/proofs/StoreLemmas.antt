@@ -1,4 +1,4 @@
--- What calls that read leave of a store.
+-- The state of a store after calls that only read.
 use Rattle.std.proofs.Common.{◌≡◌, Result, Ok, Err, sym, ap, subst, ◌∙◌}
 use Rattle.std.specs.FinMap as finite
 use Rattle.sqlite.specs.Effect.{Database}
@@ -10,70 +10,70 @@ use Rattle.book_model.specs.declared.denied.Denied.TheVariants.{Refused, Fault}
 use Rattle.book_model.specs.declared.refusal.Refusal.{Refusal}
 use Rattle.book_model.specs.Books.{Books}
 use Rattle.book_model.specs.Bounds.{Bounds, IsInRange}
-use Rattle.book_model.specs.Outcomes.{Reads}
-use Rattle.book_tables.specs.States.{OnlyReads}
-use Rattle.book_tables.proofs.LaidLemmas.{clean_before}
-use Rattle.book_rows.specs.SoundTables.{IsSound}
-use Rattle.book_rows.specs.TableBooks.{books_of, books_in}
-use Rattle.book_rows.specs.TableRows.{no_rows}
-use Rattle.book_rows.proofs.HeldRows.{books_held, nothing_held, no_rows_sound}
-use Rattle.book_rows.proofs.OpenLemmas.{laid_empty}
-use Rattle.book_reading.specs.Answers.{Answers, OverSound}
-use Rattle.book_store.specs.Opening.{StandsLaid}
+use Rattle.book_model.specs.CallOutcomes.{MatchesQuery}
+use Rattle.store_tables.specs.StatementEffects.{OnlyReads}
+use Rattle.store_tables.proofs.SchemaCreationLemmas.{clean_before}
+use Rattle.store_rows.specs.SoundTables.{HoldsSoundRows}
+use Rattle.store_rows.specs.TableBooks.{books_of, books_in}
+use Rattle.store_rows.specs.TableRows.{no_rows}
+use Rattle.store_rows.proofs.HeldRows.{books_held, nothing_held, no_rows_sound}
+use Rattle.store_rows.proofs.OpenLemmas.{new_tables_empty}
+use Rattle.store_lookups.specs.CallResults.{FollowsStep, GivenSoundRows}
+use Rattle.book_store.specs.OpenOutcomes.{IsNewStoreCommitted}
 use Rattle.book_store.specs.StoreViews.{ChangesStore, IsStore, StoreView}
-use Rattle.book_writing.specs.Changing.{Changes, CommitsOnce}
-use Rattle.book_writing.specs.StoredBooks.{IsInOrder, Stands, stored_books}
+use Rattle.store_writes.specs.TableChanges.{AppliesStep, CommitsOnce}
+use Rattle.store_writes.specs.StoredBooks.{IsOpenOnHonestDisk, IsCommittedAndSound, stored_books}
 
--- an answer of a call that changed nothing
-pub reads_of : {T A S : Type 0} (allows : T → A → Type 0) (r : Result A Denied) (due : Result T Refusal) (old new : S) → Answers allows r due → new ≡ old → Reads allows r due old new
-reads_of allows (Ok answer) (Ok asked) old new told same = (told, same)
-reads_of allows (Ok answer) (Err refusal) old new told same = told
-reads_of allows (Err (Refused refusal)) (Ok asked) old new told same = told
-reads_of allows (Err (Refused refusal)) (Err wanted) old new told same = (told, same)
-reads_of allows (Err (Fault fault)) due old new told same = same
+-- the answer of a call that changed nothing
+pub reads_of : {T A S : Type 0} (allows : T → A → Type 0) (r : Result A Denied) (due : Result T Refusal) (old new : S) → FollowsStep allows r due → new ≡ old → MatchesQuery allows r due old new
+reads_of allows (Ok answer) (Ok asked) old new returned same = (returned, same)
+reads_of allows (Ok answer) (Err refusal) old new returned same = returned
+reads_of allows (Err (Refused refusal)) (Ok asked) old new returned same = returned
+reads_of allows (Err (Refused refusal)) (Err wanted) old new returned same = (returned, same)
+reads_of allows (Err (Fault fault)) due old new returned same = same
 
--- the premise of a store runs backwards
-pub was_in_order : (old new : State) → OnlyReads old new → IsInOrder new → IsInOrder old
-was_in_order old new left order = (clean_before _ old new left.survives order.0, left.was_open order.0 order.1)
+-- if the premise of a store holds after a call, it held before
+pub was_open_on_honest_disk : (old new : State) → OnlyReads old new → IsOpenOnHonestDisk new → IsOpenOnHonestDisk old
+was_open_on_honest_disk old new left order = (clean_before _ old new left.survives order.0, left.was_open order.0 order.1)
 
--- a store that was read is a store
+-- a read keeps the invariant of the store
 pub still_store : (old new : State) (limits : Bounds) → IsStore old limits → OnlyReads old new → IsStore new limits
 still_store old new limits store left = record {
   settled = left.mode store.settled;
-  stands = λ order.
-      let was = store.stands (was_in_order old new left order) in
+  stays_sound = λ order.
+      let was = store.stays_sound (was_open_on_honest_disk old new left order) in
       let here = left.same order.0 was.sound.holds.schema order.1 (λ _. was.committed) in
-      record { committed = here.now_is ∙ was.committed ∙ sym here.committed_is; sound = subst IsSound (sym here.now_is) was.sound };
+      record { committed = here.now_is ∙ was.committed ∙ sym here.committed_is; sound = subst HoldsSoundRows (sym here.now_is) was.sound };
   range = store.range;
 }
 
--- a call that reads the tables of a store tells of its books
+-- a call that reads the tables of a store returns what its books contain
 pub reads_store : {T A : Type 0} (allows : T → A → Type 0) (r : Result A Denied) (step : Books → Result T Refusal) (old new : State) (limits : Bounds)
-    → IsStore old limits → OnlyReads old new → OverSound old new (λ rows. Answers allows r (step (books_of rows))) → IsInOrder new
-    → Reads allows r (step (stored_books old)) (stored_books old) (stored_books new)
-reads_store allows r step old new limits store left told order =
-    let was = store.stands (was_in_order old new left order) in
+    → IsStore old limits → OnlyReads old new → GivenSoundRows old new (λ rows. FollowsStep allows r (step (books_of rows))) → IsOpenOnHonestDisk new
+    → MatchesQuery allows r (step (stored_books old)) (stored_books old) (stored_books new)
+reads_store allows r step old new limits store left returned order =
+    let was = store.stays_sound (was_open_on_honest_disk old new left order) in
     let here = left.same order.0 was.sound.holds.schema order.1 (λ _. was.committed) in
     let books : stored_books old ≡ books_of was.sound.rows = books_held old.now was.sound.rows was.sound.holds was.sound.sound in
     reads_of allows r (step (stored_books old)) (stored_books old) (stored_books new)
-    (subst (λ (b : Books). Answers allows r (step b)) (sym books) (told was.sound.rows order.0 was.sound.holds was.sound.sound))
+    (subst (λ (b : Books). FollowsStep allows r (step b)) (sym books) (returned was.sound.rows order.0 was.sound.holds was.sound.sound))
     (ap (λ (d : Database). books_in d.trees) here.now_is)
 
--- ---- laid tables
+-- ---- created tables
 
-pub laid_stands : (s : State) → StandsLaid s → Stands s
-laid_stands s h = record { committed = h.committed; sound = record { rows = no_rows; holds = laid_empty s.now h.laid; sound = no_rows_sound } }
+pub new_store_is_sound : (s : State) → IsNewStoreCommitted s → IsCommittedAndSound s
+new_store_is_sound s h = record { committed = h.committed; sound = record { rows = no_rows; holds = new_tables_empty s.now h.created; sound = no_rows_sound } }
 
-pub laid_books : (s : State) → StandsLaid s → stored_books s ≡ finite.empty
-laid_books s h = (nothing_held s.now (laid_empty s.now h.laid)).books
+pub new_store_books : (s : State) → IsNewStoreCommitted s → stored_books s ≡ finite.empty
+new_store_books s h = (nothing_held s.now (new_tables_empty s.now h.created)).books
 
 -- a call that changed the tables of a store
 pub changes_store : {S A : Type 0} (g : Ghosts S) (old new : StoreView S) (r : Result A Denied) (step : Bounds → Books → Result (A × Books) Refusal) → IsStore (state g old.conn) old.limits → new.limits ≡ old.limits
-    → Changes (state g old.conn) (state g new.conn) r (step old.limits) → CommitsOnce (state g old.conn) (state g new.conn) (step old.limits) → ChangesStore g old new r step
+    → AppliesStep (state g old.conn) (state g new.conn) r (step old.limits) → CommitsOnce (state g old.conn) (state g new.conn) (step old.limits) → ChangesStore g old new r step
 changes_store g old new r step store same changed commits = record {
-  premise = changed.was_in_order;
+  premise = changed.was_open_on_honest_disk;
   limits = same;
   range = subst IsInRange (sym same) store.range;
-  does = λ order. changed.does order (store.stands (changed.was_in_order order));
-  crash = λ order. commits (store.stands order);
+  matches_step = λ order. changed.matches_step order (store.stays_sound (changed.was_open_on_honest_disk order));
+  crash = λ order. commits (store.stays_sound order);
 }

@@ -1,2 +1,2 @@
-pub mod Opening
+pub mod OpenOutcomes
 pub mod StoreViews

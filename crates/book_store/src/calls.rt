@@ -1,5 +1,5 @@
-//! The calls of a store of books, over tables. A call that changes the books has one clause more
-//! than the trait asks for: what a crash may leave.
+//! The calls of `BookStore` over tables. A call that changes books has one more clause than the
+//! trait requires: what a crash can leave.
 ghost use Rattle.book_model.specs.Creating.{create_step};
 ghost use Rattle.book_model.specs.Forgetting.{forget_step};
 ghost use Rattle.book_model.specs.ImportLaws.{HaveDistinctUids};
@@ -8,23 +8,23 @@ ghost use Rattle.book_model.specs.Moving.{move_step};
 ghost use Rattle.book_model.specs.Putting.{put_step};
 ghost use Rattle.book_model.specs.Removing.{remove_step};
 ghost use Rattle.book_store.specs.StoreViews.{ChangesStore};
-ghost use Rattle.book_writing.specs.StoredBooks.{IsInOrder, stored_books};
+ghost use Rattle.store_writes.specs.StoredBooks.{IsOpenOnHonestDisk, stored_books};
 ghost use Rattle.sqlite.specs.Held.{state};
 ghost use Rattle.std.specs.Prelude.{⊤};
 
 use crate::sql_store::SqlStore;
-use book_adding::creating::create_in_tables;
-use book_adding::importing::import_in_book;
 use book_model::{BookLine, Denied, ImportTally, Moved, Page, PutAnswer, Stored, Tally, Token};
-use book_paging::paging::page_of_book;
-use book_removing::move_call::move_in_tables;
-use book_removing::remove_call::remove_in_book;
-use book_telling::telling::{kept_of_book, line_of_book, stored_of_book, tally_of_book};
-use book_telling::telling_all::{cards_of_book, lines_of_books};
-use book_writing::forgetting::forget_in_book;
-use book_writing::put_call::put_in_book;
 use sqlite::Alter;
 use std::collections::BTreeMap;
+use store_inserts::creating::create_in_tables;
+use store_inserts::importing::import_in_book;
+use store_queries::book_queries::{import_of_book, line_of_book, stored_of_book, tally_of_book};
+use store_queries::list_queries::{cards_of_book, lines_of_books};
+use store_queries::report_queries::page_of_book;
+use store_removals::move_call::move_in_tables;
+use store_removals::remove_call::remove_in_book;
+use store_writes::forgetting::forget_in_book;
+use store_writes::put_call::put_in_book;
 use sync_core::BookStore;
 use vcard_text::Card;
 
@@ -34,7 +34,7 @@ impl<S: Alter> BookStore for SqlStore<S> {
     ghost limits = { λ s. s.limits };
 
     // The disk has returned what was written so far, and the connection is open.
-    ghost premise = { λ s. IsInOrder (state S.Store s.conn) };
+    ghost premise = { λ s. IsOpenOnHonestDisk (state S.Store s.conn) };
 
     ghost may_fault = { λ _. ⊤ };
 
@@ -88,7 +88,7 @@ impl<S: Alter> BookStore for SqlStore<S> {
     }
 
     fn kept_import(&mut self, book: &str, key: &str) -> Result<Option<ImportTally>, Denied> {
-        kept_of_book(&mut self.conn, book, key)
+        import_of_book(&mut self.conn, book, key)
     }
 
     fn import(&mut self, book: &str, key: &str, cards: &[Card]) -> Result<ImportTally, Denied>

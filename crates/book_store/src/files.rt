@@ -1,8 +1,8 @@
-//! Stores in files.
-ghost use Rattle.book_check.specs.Opening.{greatest};
-ghost use Rattle.book_rows.specs.SoundTables.{HoldsWellFormed};
-ghost use Rattle.book_writing.specs.StoredBooks.{IsInOrder, stored_books};
-ghost use Rattle.schema_check.specs.OpenFaults.{IsFaultOfCreating};
+//! Creates and opens stores in files.
+ghost use Rattle.store_check.specs.OpenResults.{max_limits};
+ghost use Rattle.store_rows.specs.SoundTables.{HoldsWellFormed};
+ghost use Rattle.store_writes.specs.StoredBooks.{IsOpenOnHonestDisk, stored_books};
+ghost use Rattle.store_schema.specs.OpenFaults.{IsCreationFault};
 ghost use Rattle.sqlite.specs.Files.{file_state};
 ghost use Rattle.sqlite.specs.Start.{FindsIn};
 ghost use Rattle.sqlite.specs.WalFiles.{image_at};
@@ -11,36 +11,36 @@ ghost use Rattle.std.specs.Prelude.{◌≡◌, IfErr, IfOk};
 
 use crate::sql_store::SqlStore;
 use book_model::Limits;
-use schema_check::{OpenFault, fault_of_file};
 use sqlite::{Connection, FileStore};
 use sqlite_std_file::{FileFrom, Start, Unknown};
 use std::fs;
+use store_schema::{OpenFault, fault_of_file};
 
-/// A store of books in a file, with a log beside it under the file's name and `-wal`. `S` stands
-/// for the octets that the two held as they were opened, which no code can read.
+/// A store of books in a file, with a log beside it that has the file's name and `-wal`. `S`
+/// represents the octets that the two held when they were opened; no code can read it.
 pub type FileBooksFrom<S> = SqlStore<FileStore<FileFrom<S>>>;
 
-/// A store of books in a file, as a program names it.
+/// A store of books in a file, as programs use it.
 pub type FileBooks = FileBooksFrom<Unknown>;
 
 impl<S: Start> SqlStore<FileStore<FileFrom<S>>> {
-    /// A new store without books in the file at the path, which is made where there is none, and
-    /// may be there where it is empty.
+    /// Creates a store without books in the file at the path. The file is created if there is none,
+    /// and may exist if it is empty.
     ///
-    /// Refused with `NotEmpty` where tables are there, with `NotOurs` where the file is no
-    /// database, with `Memory` where memory runs out, and with `Store` where the file can't be
-    /// used: another process has it open, it has two names, or the disk fails. Then no book was
-    /// written; a file that was made may be left, empty or as a database without tables.
+    /// Fails with `NotEmpty` if it has tables, with `NotOurs` if it is not a database, with
+    /// `Memory` if memory runs out, and with `Store` if it can't be used: another process has it
+    /// open, it has two names, or the disk fails. After an error no book was written, but a new
+    /// file may remain, empty or as a database without tables.
     pub fn create_from(
         rt: &HostRuntime,
         path: &str,
         limits: Limits,
         start: S,
     ) -> Result<FileBooksFrom<S>, OpenFault>
-        ensures books { IfOk result (λ store. IsInOrder (file_state store.conn)
+        ensures books { IfOk result (λ store. IsOpenOnHonestDisk (file_state store.conn)
             → stored_books (file_state store.conn) ≡ finite.empty) }
         ensures limits { IfOk result (λ store. store.limits ≡ limits) }
-        ensures fault { IfErr result IsFaultOfCreating }
+        ensures fault { IfErr result IsCreationFault }
     {
         match Connection::open_from(rt, path, false, start) {
             Ok(connection) => SqlStore::adopt_new(rt.alloc(), connection, limits),
@@ -48,27 +48,26 @@ impl<S: Start> SqlStore<FileStore<FileFrom<S>>> {
         }
     }
 
-    /// The store of the books in the file at the path. All rows are read and tested, and no row is
-    /// written: the log beside the file is made, or its commits are taken over, and an empty file
+    /// Opens the store in the file at the path. All rows are read and tested, and no row is
+    /// written. The log beside the file is created, or its commits are recovered, and an empty file
     /// may be written to before it is refused.
     ///
-    /// Refused as `adopt` refuses the tables that the file holds; with `NotOurs` where the file is
-    /// no database or is empty; with `Memory` where memory runs out; and with `Store` where no file
-    /// is there or it can't be used: another process has it open, it has two names, or the disk
-    /// fails.
+    /// Fails as `adopt` does for the tables in the file; with `NotOurs` if the file is not a
+    /// database or is empty; with `Memory` if memory runs out; and with `Store` if there is no file
+    /// or it can't be used: another process has it open, it has two names, or the disk fails.
     pub fn open_from(
         rt: &HostRuntime,
         path: &str,
         limits: Limits,
         start: S,
     ) -> Result<FileBooksFrom<S>, OpenFault>
-        ensures found { IfOk result (λ store. IsInOrder (file_state store.conn)
+        ensures found { IfOk result (λ store. IsOpenOnHonestDisk (file_state store.conn)
             → FindsIn (image_at S.Start) (file_state store.conn)) }
-        ensures well_formed { IfOk result (λ store. IsInOrder (file_state store.conn)
-            → HoldsWellFormed greatest (file_state store.conn).now) }
+        ensures well_formed { IfOk result (λ store. IsOpenOnHonestDisk (file_state store.conn)
+            → HoldsWellFormed max_limits (file_state store.conn).now) }
         ensures limits { IfOk result (λ store. store.limits ≡ limits) }
     {
-        // A connection would make the file.
+        // Opening a connection would create the file.
         if !fs::exists(rt, path).unwrap_or(false) {
             return Err(OpenFault::Store);
         }
@@ -80,21 +79,21 @@ impl<S: Start> SqlStore<FileStore<FileFrom<S>>> {
 }
 
 impl SqlStore<FileStore<FileFrom<Unknown>>> {
-    /// `create_from`, for a program that proves nothing of what its file held.
+    /// `create_from`, for a program that proves nothing about the previous contents of the file.
     pub fn create(rt: &HostRuntime, path: &str, limits: Limits) -> Result<FileBooks, OpenFault>
-        ensures books { IfOk result (λ store. IsInOrder (file_state store.conn)
+        ensures books { IfOk result (λ store. IsOpenOnHonestDisk (file_state store.conn)
             → stored_books (file_state store.conn) ≡ finite.empty) }
         ensures limits { IfOk result (λ store. store.limits ≡ limits) }
-        ensures fault { IfErr result IsFaultOfCreating }
+        ensures fault { IfErr result IsCreationFault }
     {
         SqlStore::create_from(rt, path, limits, Unknown)
     }
 
-    /// `open_from`, for a program that proves nothing of what its file held: what is said of values
-    /// here says nothing of a file that isn't empty.
+    /// `open_from`, for a program that proves nothing about the contents of the file. The clauses
+    /// here cover no file that isn't empty.
     pub fn open(rt: &HostRuntime, path: &str, limits: Limits) -> Result<FileBooks, OpenFault>
-        ensures well_formed { IfOk result (λ store. IsInOrder (file_state store.conn)
-            → HoldsWellFormed greatest (file_state store.conn).now) }
+        ensures well_formed { IfOk result (λ store. IsOpenOnHonestDisk (file_state store.conn)
+            → HoldsWellFormed max_limits (file_state store.conn).now) }
         ensures limits { IfOk result (λ store. store.limits ≡ limits) }
     {
         SqlStore::open_from(rt, path, limits, Unknown)

@@ -1,13 +1,13 @@
-//! Stores of books in the tables of a database: what opens one, new or there already, and the calls
-//! of a store.
+//! `SqlStore`: a store of books in a database, in memory or in a file. Creates and opens stores,
+//! and implements the calls of `BookStore`.
 #![tactic(auto)]
 
-mod adopting;
 mod calls;
 mod files;
-mod laying;
+mod opening;
+mod schema_creation;
 mod sql_store;
 
 pub use files::{FileBooks, FileBooksFrom};
-pub use schema_check::OpenFault;
 pub use sql_store::SqlStore;
+pub use store_schema::OpenFault;

@@ -1,28 +1,27 @@
-//! A store of books over the tables of a connection.
-ghost use Rattle.book_store.specs.Opening.{IsLaidIn};
+//! The store of books over the tables of a connection.
+ghost use Rattle.book_store.specs.OpenOutcomes.{AreNewStoreTrees};
 ghost use Rattle.book_store.specs.StoreViews.{IsStore};
-ghost use Rattle.book_writing.specs.StoredBooks.{IsInOrder, stored_books};
-ghost use Rattle.book_tables.specs.Laying.{no_schema};
-ghost use Rattle.schema_check.specs.OpenFaults.{IsErrorFault, IsFaultOfCreating};
-ghost use Rattle.schema_check.specs.declared.open_fault.OpenFault.TheVariants.{NotEmpty};
+ghost use Rattle.store_writes.specs.StoredBooks.{IsOpenOnHonestDisk, stored_books};
+ghost use Rattle.store_tables.specs.SchemaCreation.{empty_schema};
+ghost use Rattle.store_schema.specs.OpenFaults.{IsErrorFault, IsCreationFault};
+ghost use Rattle.store_schema.specs.declared.open_fault.OpenFault.TheVariants.{NotEmpty};
 ghost use Rattle.sqlite.specs.Held.{state};
 ghost use Rattle.sqlite.specs.State.{Survives};
 ghost use Rattle.sqlite.specs.Steps.{over_memory};
 ghost use Rattle.std.specs.FinMap as finite;
 ghost use Rattle.std.specs.Prelude.{◌≡◌, Err, IfErr, IfOk, OnOk, false};
 
-use crate::laying::{is_bare, lay};
+use crate::schema_creation::{commit_tables, is_schema_empty};
 use book_model::Limits;
-use schema_check::{OpenFault, open_fault_of};
 use sqlite::{Alter, Connection, MemStore};
 use std::alloc::Global;
 use std::marker::Model;
+use store_schema::{OpenFault, open_fault_of};
 
-/// Books in the tables of a connection.
+/// A store of books in the tables of a connection.
 ///
-/// What is proved of a store rests on this: nobody else writes its file, and the disk returns what
-/// was written. Where a call meets an error of the disk, the connection may be closed; then each
-/// later call is `Fault::Store`.
+/// The proofs assume that nobody else writes the file and that the disk returns what was written.
+/// After a disk error the connection may be closed; then each later call fails with `Fault::Store`.
 pub struct SqlStore<S: Alter> {
     pub(crate) conn: Connection<S>,
     pub(crate) limits: Limits,
@@ -53,10 +52,10 @@ impl<S: Alter + Drop> Drop for SqlStore<S> {
 }
 
 impl<S: Alter> SqlStore<S> {
-    /// The store's connection, which is outside a transaction.
+    /// Returns the store's connection, which is outside a transaction.
     pub fn into_connection(self) -> Connection<S>
-        ensures same { result ≡ self.conn }
-        ensures stands { IsStore (state S.Store result) self.limits }
+        ensures same_connection { result ≡ self.conn }
+        ensures is_store { IsStore (state S.Store result) self.limits }
     {
         let SqlStore {
             conn,
@@ -68,40 +67,40 @@ impl<S: Alter> SqlStore<S> {
 }
 
 impl<S: Alter + Drop> SqlStore<S> {
-    /// A new store without books over the connection, which is outside a transaction and where
-    /// nothing is declared: its tables are laid in one transaction. On a refusal the connection is
-    /// dropped.
+    /// Creates a store without books over the connection, whose schema must be empty: its tables
+    /// are created in one transaction. The connection must be outside a transaction; it is dropped
+    /// on an error.
     ///
-    /// Refused with `NotEmpty` where a table, an index or a view is there, and then nothing is
-    /// written; with `Memory` where memory runs out; and with `Store` for any other error of the
-    /// database. After either of these two what was written is undone.
+    /// Fails with `NotEmpty` if there is a table, an index or a view, and then nothing is written;
+    /// with `Memory` if memory runs out; and with `Store` for any other error of the database.
+    /// After either of these two the transaction is rolled back.
     pub fn adopt_new(
         alloc: Global,
         connection: Connection<S>,
         limits: Limits,
     ) -> Result<SqlStore<S>, OpenFault>
         requires { connection.in_transaction ≡ false }
-        ensures books { IfOk result (λ store. IsInOrder (state S.Store store.conn)
+        ensures books { IfOk result (λ store. IsOpenOnHonestDisk (state S.Store store.conn)
             → stored_books (state S.Store store.conn) ≡ finite.empty) }
         ensures limits { IfOk result (λ store. store.limits ≡ limits) }
-        ensures premise { IfOk result (λ store. IsInOrder (state S.Store store.conn)
-            → IsInOrder (state S.Store connection)) }
-        ensures bare { OnOk result ((state S.Store connection).now.schema ≡ no_schema) }
-        ensures taken { ¬ ((state S.Store connection).now.schema ≡ no_schema)
+        ensures premise { IfOk result (λ store. IsOpenOnHonestDisk (state S.Store store.conn)
+            → IsOpenOnHonestDisk (state S.Store connection)) }
+        ensures was_empty { OnOk result ((state S.Store connection).now.schema ≡ empty_schema) }
+        ensures not_empty { ¬ ((state S.Store connection).now.schema ≡ empty_schema)
             → result ≡ Err NotEmpty }
-        ensures fault { (state S.Store connection).now.schema ≡ no_schema
+        ensures fault { (state S.Store connection).now.schema ≡ empty_schema
             → IfErr result IsErrorFault }
-        ensures kind { IfErr result IsFaultOfCreating }
+        ensures fault_kind { IfErr result IsCreationFault }
 
-        // A crash leaves what it could leave before, or the laid tables.
+        // A crash leaves what it could leave before the call, or the created tables.
         ensures crash { IfOk result (λ store. Survives (state S.Store connection)
-            (state S.Store store.conn) IsLaidIn) }
+            (state S.Store store.conn) AreNewStoreTrees) }
     {
         let mut conn = connection;
-        if !is_bare(conn.schema()) {
+        if !is_schema_empty(conn.schema()) {
             return Err(OpenFault::NotEmpty);
         }
-        match lay(&mut conn) {
+        match commit_tables(&mut conn) {
             Ok(()) => Ok(SqlStore {
                 conn,
                 limits,
@@ -113,10 +112,10 @@ impl<S: Alter + Drop> SqlStore<S> {
 }
 
 impl SqlStore<MemStore> {
-    /// A new store without books in memory, whose books are gone with it. Refused with `Memory`
-    /// where memory runs out, and with `Store` where the database answers another error.
+    /// Creates a store without books in memory; its books are lost when it is dropped. Fails with
+    /// `Memory` if memory runs out, and with `Store` for any other error of the database.
     pub fn open_in_memory(alloc: Global, limits: Limits) -> Result<SqlStore<MemStore>, OpenFault>
-        ensures books { IfOk result (λ store. IsInOrder (state over_memory store.conn)
+        ensures books { IfOk result (λ store. IsOpenOnHonestDisk (state over_memory store.conn)
             → stored_books (state over_memory store.conn) ≡ finite.empty) }
         ensures limits { IfOk result (λ store. store.limits ≡ limits) }
         ensures fault { IfErr result IsErrorFault }

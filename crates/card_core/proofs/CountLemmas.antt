@@ -1,4 +1,4 @@
--- How many groups are left falls with each that is met.
+-- How many groups are left falls with each that is found.
 use Rattle.std.proofs.Common.{◌≡◌, ℕ, ◌+◌, ◌≤◌, Bool, true, false, cond, not, List, [], ◌∷◌, ◌++◌, length, filter, Some, refl, sym, ap, ◌∙◌, ⊎_elim, inl, inr, arith, is_some}
 use Rattle.std.specs.FinMap as finite
 use Rattle.std.specs.List.{Contains, list_any}
@@ -9,8 +9,8 @@ use Rattle.vcard_lines.specs.declared.line.Line.{Line}
 use Rattle.base_types.specs.TextMaps.{text_cmp}
 use Rattle.card_core.specs.declared.walk.Walk.{Walk}
 use Rattle.card_core.specs.Groups.{Cards}
-use Rattle.card_core.specs.TextSets.{Gains}
-use Rattle.card_core.specs.Walks.{waiting_cards, SameGroups, MeetsGroup, again, first, NotesMember, finds_none, finds_other, finds_group, unmet, count_left}
+use Rattle.card_core.specs.internal.TextSets.{GainsText}
+use Rattle.card_core.specs.internal.Walks.{waiting_cards, SameGroups, AddsGroup, found_before, found_first, RecordsMember, value_names_none, value_names_person, value_names_group, cards_not_found, groups_left}
 use Rattle.card_core.proofs.TextSetLemmas.{same_text, found, finds}
 
 -- ---- a test that fewer texts pass
@@ -49,9 +49,9 @@ module _ (p q : List ℕ → Bool) (narrower : (text : List ℕ) → q text ≡ 
       (λ later. lost_later text texts (one_fewer lost was is texts later))
       (or_cases (eq_by_cmp text_cmp lost text) (list_any (eq_by_cmp text_cmp lost) texts) there)
 
--- ---- a group that is met
+-- ---- a group that is found
 
-unmet_fewer : (cards : Cards) (uid : List ℕ) (lines : List Line) (old new : List (List ℕ)) → finite.get cards uid ≡ Some lines → ¬ (Contains old uid) → Gains old new uid → length (unmet cards new) + 1 ≤ length (unmet cards old)
+unmet_fewer : (cards : Cards) (uid : List ℕ) (lines : List Line) (old new : List (List ℕ)) → finite.get cards uid ≡ Some lines → ¬ (Contains old uid) → GainsText old new uid → length (cards_not_found cards new) + 1 ≤ length (cards_not_found cards old)
 unmet_fewer cards uid lines old new is unmet_yet gains = one_fewer
     (λ text. not (list_any (eq_by_cmp text_cmp text) old)) (λ text. not (list_any (eq_by_cmp text_cmp text) new))
     (λ text e. not_from_false _ (false_from_ne_true _ (λ had. both_ways _ (not-true _ e) (finds text new ((gains.texts text).1 (inl (found text old had)))))))
@@ -61,27 +61,27 @@ unmet_fewer cards uid lines old new is unmet_yet gains = one_fewer
     (finite.keys cards)
     (sym (finite.contains_key-keys cards uid) ∙ ap is_some is)
 
-same_left : (cards : Cards) (old new : Walk) → SameGroups old new → count_left cards new ≤ count_left cards old
+same_left : (cards : Cards) (old new : Walk) → SameGroups old new → groups_left cards new ≤ groups_left cards old
 same_left cards old new same =
-    let unmet_same : length (unmet cards new.groups) ≡ length (unmet cards old.groups) = ap (λ groups. length (unmet cards groups)) same.groups in
+    let unmet_same : length (cards_not_found cards new.groups) ≡ length (cards_not_found cards old.groups) = ap (λ groups. length (cards_not_found cards groups)) same.groups in
     let waiting_same : length (waiting_cards new) ≡ length (waiting_cards old) = ap length same.waiting in
     omega arith
 
-left_after_meeting : (cards : Cards) (uid : List ℕ) (lines : List Line) (old new : Walk) → finite.get cards uid ≡ Some lines → MeetsGroup uid lines old new → count_left cards new ≤ count_left cards old
-left_after_meeting cards uid lines old new is (again had people groups) = same_left cards old new groups
-left_after_meeting cards uid lines old new is (first unmet_yet gains waits people) =
+left_after_meeting : (cards : Cards) (uid : List ℕ) (lines : List Line) (old new : Walk) → finite.get cards uid ≡ Some lines → AddsGroup uid lines old new → groups_left cards new ≤ groups_left cards old
+left_after_meeting cards uid lines old new is (found_before had people groups) = same_left cards old new groups
+left_after_meeting cards uid lines old new is (found_first unmet_yet gains waits people) =
     let one_more : length (waiting_cards new) ≡ length (waiting_cards old) + 1 = ap length waits ∙ length-append (waiting_cards old) (lines ∷ []) in
     omega (arith, unmet_fewer cards uid lines old.groups new.groups is unmet_yet gains)
 
 -- a step leaves no more groups
-pub step_left : (cards : Cards) (value : List ℕ) (old new : Walk) → NotesMember cards value old new → count_left cards new ≤ count_left cards old
-step_left cards value old new (finds_none none gains people groups) = same_left cards old new groups
-step_left cards value old new (finds_other uid lines names differs gains missing groups) = same_left cards old new groups
-step_left cards value old new (finds_group uid lines names is meets) = left_after_meeting cards uid lines old new names.card meets
+pub step_left : (cards : Cards) (value : List ℕ) (old new : Walk) → RecordsMember cards value old new → groups_left cards new ≤ groups_left cards old
+step_left cards value old new (value_names_none none gains people groups) = same_left cards old new groups
+step_left cards value old new (value_names_person uid lines names differs gains missing groups) = same_left cards old new groups
+step_left cards value old new (value_names_group uid lines names is meets) = left_after_meeting cards uid lines old new names.card meets
 
--- a group that is taken out is one less
-pub taking_left : (cards : Cards) (lines : List Line) (old new : Walk) → waiting_cards old ≡ waiting_cards new ++ lines ∷ [] → new.groups ≡ old.groups → count_left cards new + 1 ≤ count_left cards old
+-- removing a group decreases the count by one
+pub taking_left : (cards : Cards) (lines : List Line) (old new : Walk) → waiting_cards old ≡ waiting_cards new ++ lines ∷ [] → new.groups ≡ old.groups → groups_left cards new + 1 ≤ groups_left cards old
 taking_left cards lines old new waits groups =
-    let unmet_same : length (unmet cards new.groups) ≡ length (unmet cards old.groups) = ap (λ groups. length (unmet cards groups)) groups in
+    let unmet_same : length (cards_not_found cards new.groups) ≡ length (cards_not_found cards old.groups) = ap (λ groups. length (cards_not_found cards groups)) groups in
     let one_less : length (waiting_cards old) ≡ length (waiting_cards new) + 1 = ap length waits ∙ length-append (waiting_cards new) (lines ∷ []) in
     omega arith

@@ -1,19 +1,19 @@
--- The members of a group, noted one after the other.
+-- The members of a group, recorded one after the other.
 use Rattle.std.proofs.Common.{◌≡◌, ℕ, ◌+◌, ◌<◌, ◌≤◌, Bool, true, false, cond, List, [], ◌∷◌, ◌++◌, length, map, filter, take, drop, get_or, codes, sym, ap, subst, ◌∙◌, ⊎_elim, inr, take-append-drop}
 use Rattle.std.specs.List.{Contains}
 use Rattle.std.proofs.lemmas.Bool.{cond-true, cond-false}
 use Rattle.std.proofs.lemmas.List.{map-append, append-nil, take_all}
 use Rattle.std.proofs.lemmas.List.Elements.{filter-append, filter_more, Contains-append_left, Contains-push, Contains-push_cases}
 use Rattle.vcard_lines.specs.declared.line.Line.{Line}
-use Rattle.vcard_text.specs.Cards.{is_named, members_of}
+use Rattle.vcard_text.specs.Cards.{line_is_named, members_of}
 use Rattle.card_core.specs.declared.walk.Walk.{Walk}
 use Rattle.card_core.specs.Groups.{Cards}
-use Rattle.card_core.specs.Walks.{NotesMember, IsNoted, AreNoted, IsWalk, IsWalkBut}
+use Rattle.card_core.specs.internal.Walks.{RecordsMember, IsRecorded, AreRecorded, IsWalk, IsOpenWalk}
 use Rattle.card_core.proofs.RisingLemmas.{none_in_empty}
-use Rattle.card_core.proofs.WalkLemmas.{step_grows, step_notes, step_goes_on, noted_still}
+use Rattle.card_core.proofs.WalkLemmas.{step_grows, step_notes, step_keeps_walk, noted_still}
 
 abbrev is_member_line : Line → Bool
-is_member_line line = is_named (codes "MEMBER") line
+is_member_line line = line_is_named (codes "MEMBER") line
 
 abbrev value_of : Line → List ℕ
 value_of line = line.value
@@ -43,12 +43,12 @@ module _ (lines : List Line) (index : ℕ) (line : Line) (within : index < lengt
       (Contains-append_left (members_of (take (index + 1) lines)) (members_of (drop (index + 1) lines)) line.value
       (subst (λ values. Contains values line.value) (sym (member_more is)) (Contains-push (members_of (take index lines)) line.value)))
 
--- ---- how far the members are noted
+-- ---- which members are recorded
 
--- The walk goes on from the old one, and the members in the first lines are noted.
+-- The walk continues the old one, and the members in the first lines are recorded.
 pub record IsNotedSoFar (cards : Cards) (lines : List Line) (old new : Walk) (index : ℕ) : Type 0 where
-  pub goes_on : (group : List ℕ) → IsWalkBut cards group lines old → IsWalkBut cards group lines new
-  pub noted : AreNoted cards new (members_of (take index lines))
+  pub goes_on : (group : List ℕ) → IsOpenWalk cards group lines old → IsOpenWalk cards group lines new
+  pub noted : AreRecorded cards new (members_of (take index lines))
 
 module _ (cards : Cards) (lines : List Line) where
   pub noted_none : (walk : Walk) → IsNotedSoFar cards lines walk walk 0
@@ -58,13 +58,13 @@ module _ (cards : Cards) (lines : List Line) where
   }
 
   pub noted_one : (old walk new : Walk) (index : ℕ) (line : Line) → index < length lines → line ≡ get_or lines index line → is_member_line line ≡ true
-      → IsNotedSoFar cards lines old walk index → NotesMember cards line.value walk new → IsNotedSoFar cards lines old new (index + 1)
+      → IsNotedSoFar cards lines old walk index → RecordsMember cards line.value walk new → IsNotedSoFar cards lines old new (index + 1)
   noted_one old walk new index line within at is so_far step = record {
-    goes_on = λ group before. let walk_but = so_far.goes_on group before in step_goes_on cards group lines walk_but.holder line.value (is_member lines index line within at is) walk new step walk_but;
+    goes_on = λ group before. let walk_but = so_far.goes_on group before in step_keeps_walk cards group lines walk_but.holder line.value (is_member lines index line within at is) walk new step walk_but;
     noted = record {
       each = λ value c. ⊎_elim
           (λ had. noted_still cards walk new (step_grows cards line.value walk new step).keeps value (so_far.noted.each value had))
-          (λ e. subst (IsNoted cards new) e (step_notes cards line.value walk new step))
+          (λ e. subst (IsRecorded cards new) e (step_notes cards line.value walk new step))
           (Contains-push_cases (members_of (take index lines)) line.value value (subst (λ values. Contains values value) (member_more lines index line within at is) c));
     };
   }
@@ -73,19 +73,19 @@ module _ (cards : Cards) (lines : List Line) where
       → IsNotedSoFar cards lines old walk index → IsNotedSoFar cards lines old walk (index + 1)
   noted_no_more old walk index line within at is so_far = record {
     goes_on = so_far.goes_on;
-    noted = subst (AreNoted cards walk) (sym (no_member_more lines index line within at is ∙ append-nil (members_of (take index lines)))) so_far.noted;
+    noted = subst (AreRecorded cards walk) (sym (no_member_more lines index line within at is ∙ append-nil (members_of (take index lines)))) so_far.noted;
   }
 
-  -- when all members of the group are noted, no group is left out
-  pub noted_all : (old new : Walk) (index : ℕ) → length lines ≤ index → IsNotedSoFar cards lines old new index → (group : List ℕ) → IsWalkBut cards group lines old → IsWalk cards group new
+  -- when all members of the group are recorded, no group is left out
+  pub noted_all : (old new : Walk) (index : ℕ) → length lines ≤ index → IsNotedSoFar cards lines old new index → (group : List ℕ) → IsOpenWalk cards group lines old → IsWalk cards group new
   noted_all old new index end so_far group before =
       let after = so_far.goes_on group before in
-      let noted : AreNoted cards new (members_of lines) = subst (λ ls. AreNoted cards new (members_of ls)) (take_all index lines end) so_far.noted in
+      let noted : AreRecorded cards new (members_of lines) = subst (λ ls. AreRecorded cards new (members_of ls)) (take_all index lines end) so_far.noted in
       record {
         reached = after.reached;
-        begun = after.begun;
-        met = λ uid others c is. ⊎_elim
-            (λ e. inr (subst (λ ls. AreNoted cards new (members_of ls)) (sym e) noted))
+        started = after.started;
+        each_found = λ uid others c is. ⊎_elim
+            (λ e. inr (subst (λ ls. AreRecorded cards new (members_of ls)) (sym e) noted))
             (λ rest. rest)
-            (after.met uid others c is);
+            (after.each_found uid others c is);
       }

@@ -11,8 +11,8 @@ use Rattle.card_core.specs.Groups.{begins_with_urn}
 colon_alone : (b : ℕ) → to_ascii_lowercase b ≡ 58 → b ≡ 58
 colon_alone b e = grind (arith, nat_tests)
 
-pub boundary_behind_urn : (value : List ℕ) → IsUtf8 value → begins_with_urn value ≡ true → IsCharBoundary value 9
-boundary_behind_urn value utf8 begins =
+pub boundary_after_urn : (value : List ℕ) → IsUtf8 value → begins_with_urn value ≡ true → IsCharBoundary value 9
+boundary_after_urn value utf8 begins =
     let same : map to_ascii_lowercase (take 9 value) ≡ codes "urn:uuid:" = (bytes_eq-Decides _ _).0 begins in
     let front_len : length (take 9 value) ≡ 9 = sym (length-map (take 9 value) to_ascii_lowercase) ∙ ap length same in
     let long : 9 ≤ length value = omega (arith, length-take 9 value) in

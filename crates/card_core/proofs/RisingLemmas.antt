@@ -1,4 +1,4 @@
--- Two lists of texts that rise and have the same texts are equal.
+-- Two sorted lists of texts and have the same texts are equal.
 use Rattle.std.proofs.Common.{◌≡◌, ◌≢◌, ◌⊎◌, ℕ, List, [], ◌∷◌, get_or, refl, sym, ap, subst, ◌∙◌, ⊎_elim, inl, inr, arith}
 use Rattle.std.specs.Cmp.{tied_itself}
 use Rattle.std.specs.Cmp.Lexicographic.{nat_list_cmp_total}
@@ -38,7 +38,7 @@ first_is_least first texts rise text c greater = ⊎_elim
     (λ later. let e = first_is_below first texts rise text later in cc)
     (either_in first texts text c)
 
--- texts of which neither is above the other are the same
+-- texts of which neither is greater are the same
 same_since : (a b : List ℕ) → text_cmp a b ≢ Greater → text_cmp b a ≢ Greater → a ≡ b
 same_since a b not_above not_below = elim (text_cmp a b) as (λ order. text_cmp a b ≡ order → a ≡ b) [
   | Less ↦ λ e. absurd (not_below (nat_list_cmp_total.antisymm b a ∙ ap ordering_reverse e))
@@ -49,7 +49,7 @@ same_since a b not_above not_below = elim (text_cmp a b) as (λ order. text_cmp 
 abbrev HaveSame : List (List ℕ) → List (List ℕ) → Type 0
 HaveSame a b = (text : List ℕ) → Contains a text → Contains b text
 
--- what is behind the first text of one list is behind that of the other
+-- the texts after the first of one list are after the first of the other
 rest_has : (first : List ℕ) (a b : List (List ℕ)) → IsStrictlySortedBy text_cmp (first ∷ a) → HaveSame (first ∷ a) (first ∷ b) → HaveSame a b
 rest_has first a b rise same text c = ⊎_elim
     (λ e. let below : text_cmp first text ≡ Less = first_is_below first a rise text c in

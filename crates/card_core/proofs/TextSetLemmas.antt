@@ -13,7 +13,7 @@ use Rattle.std.proofs.lemmas.Map.Text.{is_eq-slice_cmp, btree_set_updates_text}
 use Rattle.std.proofs.lemmas.Map.Views.{Contains-from_any, list_any-from_Contains}
 use Rattle.std.proofs.lemmas.Slice.Eq.{bytes_eq-Decides}
 use Rattle.base_types.specs.TextMaps.{text_cmp}
-use Rattle.card_core.specs.TextSets.{Gains}
+use Rattle.card_core.specs.internal.TextSets.{GainsText}
 
 -- ---- whether a list of texts has a text
 
@@ -39,10 +39,10 @@ module _ {A : Type 0} (set : BTreeSet (String A)) (text : List ℕ) where
 
 -- ---- what a set gains
 
-pub gains_again : (texts : List (List ℕ)) (text : List ℕ) → Contains texts text → Gains texts texts text
+pub gains_again : (texts : List (List ℕ)) (text : List ℕ) → Contains texts text → GainsText texts texts text
 gains_again texts text c = record { texts = λ other. (inl, λ either. ⊎_elim (λ had. had) (λ e. subst (Contains texts) (sym e) c) either) }
 
-pub gains_text : {A : Type 0} (old new : BTreeSet (String A)) (text : List ℕ) → UpdatesBy string_cmp (λ k. slice_cmp nat_cmp text (string_bytes k)) old new true → Gains (map string_bytes old.keys) (map string_bytes new.keys) text
+pub gains_text : {A : Type 0} (old new : BTreeSet (String A)) (text : List ℕ) → UpdatesBy string_cmp (λ k. slice_cmp nat_cmp text (string_bytes k)) old new true → GainsText (map string_bytes old.keys) (map string_bytes new.keys) text
 gains_text old new text u = record {
   texts = λ other.
       let updated : contains_text new other ≡ cond (bytes_eq text other) true (contains_text old other) = btree_set_updates_text text old new true u other in (

@@ -1,5 +1,3 @@
 pub mod FaultTexts
 pub mod Groups
-pub mod Naming
-pub mod TextSets
-pub mod Walks
+pub mod internal

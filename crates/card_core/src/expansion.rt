@@ -1,12 +1,12 @@
-//! What a group's members come to.
+//! `Expansion`: the people that a group reaches.
 
 use vcard_text::{Items, Text};
 
-/// The people whom a group reaches, and the member values that name no card.
+/// The people that a group reaches, and the member values that name no card.
 #[derive(Debug, Drop, PartialEq, Eq)]
 pub struct Expansion {
-    /// The UIDs of the cards reached that are no groups, each once, in the order of their octets.
+    /// The UIDs of the cards reached that aren't groups, each once, in octet order.
     pub people: Items<Text>,
-    /// The member values that name no card, as they stand, each once, in the order of their octets.
+    /// The member values that name no card, as written, each once, in octet order.
     pub missing: Items<Text>,
 }

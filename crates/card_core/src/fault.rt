@@ -1,4 +1,4 @@
-//! Why a UID has no expansion.
+//! `GroupFault`: why a UID has no expansion.
 ghost use Rattle.std.specs.Prelude.{◌≡◌};
 ghost use Rattle.card_core.specs.declared.fault.GroupFault.TheVariants.{Memory};
 
@@ -7,7 +7,7 @@ use std::error::Error;
 use std::fmt;
 use vcard_text::NoMemory;
 
-/// Why it isn't told whom a UID's card reaches.
+/// Why `expand` returns no expansion.
 #[derive(Clone, Copy, Debug, PartialEq, Eq)]
 pub enum GroupFault {
     /// No card has the UID.
@@ -20,9 +20,9 @@ pub enum GroupFault {
 
 impl fmt::Display for GroupFault {
     ghost use Rattle.std.specs.Prelude.{Some};
-    ghost use Rattle.card_core.specs.FaultTexts.{fault_text};
+    ghost use Rattle.card_core.specs.FaultTexts.{group_fault_text};
 
-    ghost output = { λ fault. Some (fault_text fault) };
+    ghost output = { λ fault. Some (group_fault_text fault) };
 
     fn fmt<W: fmt::Write>(&self, f: &mut fmt::Formatter<W>) -> fmt::Result {
         f.write_str(match self {

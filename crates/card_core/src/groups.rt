@@ -1,7 +1,7 @@
-//! Whom a group reaches.
+//! Expands a group into the people that it reaches.
 ghost use Rattle.std.specs.Prelude.{◌≡◌, ◌↔◌, IfOk, None};
 ghost use Rattle.std.specs.FinMap as finite;
-ghost use Rattle.card_core.specs.Groups.{IsExpansion, IsOtherCard};
+ghost use Rattle.card_core.specs.Groups.{IsExpansion, IsNonGroupCard};
 ghost use Rattle.card_core.specs.declared.fault.GroupFault.TheVariants.{NoSuchCard, NotGroup};
 
 use crate::expansion::Expansion;
@@ -11,20 +11,21 @@ use crate::walk::{is_group, walk_from};
 use std::alloc::Global;
 use vcard_text::Card;
 
-/// Whom the group of this UID reaches, through its members and those of each group among them, in
-/// whatever circles they lead (RFC 6350, section 6.6.5). Each key of the map is its card's UID.
+/// Expands the group with this UID: follows its members, and those of each group among them (RFC
+/// 6350, section 6.6.5). Groups may be nested to any depth and form cycles. Each key of the map is
+/// its card's UID.
 ///
-/// A member's value names the card of that UID, and where there is none and the value begins with
-/// `urn:uuid:` in any case, the card whose UID is the rest.
+/// A member's value names the card with that UID. If there is none and the value begins with
+/// `urn:uuid:` in any case, it names the card whose UID is the rest.
 ///
-/// `NoSuchCard` where no card has the UID, `NotGroup` where its kind isn't group, and `Memory`
-/// where an allocation fails.
+/// `NoSuchCard` if no card has the UID, `NotGroup` if its kind isn't group, and `Memory` if an
+/// allocation fails.
 pub fn expand<C: CardsByUid>(alloc: Global, cards: &C, group: &str) -> Result<Expansion, GroupFault>
     ensures expansion { IfOk result (λ expansion. IsExpansion (C.cards cards.now) group.now
         expansion) }
     ensures no_such_card { (result ≡ Err NoSuchCard) ↔ (finite.get (C.cards cards.now) group.now
         ≡ None) }
-    ensures not_group { (result ≡ Err NotGroup) ↔ IsOtherCard (C.cards cards.now) group.now }
+    ensures not_group { (result ≡ Err NotGroup) ↔ IsNonGroupCard (C.cards cards.now) group.now }
 {
     let Some(card) = cards.card_of(group) else {
         return Err(GroupFault::NoSuchCard);

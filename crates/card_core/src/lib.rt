@@ -1,4 +1,4 @@
-//! Groups of people: who a vCard group reaches through its members (RFC 6350, section 6.6.5).
+//! Expands vCard groups into the people that they reach through members (RFC 6350, section 6.6.5).
 #![tactic(auto)]
 
 mod expansion;

@@ -1,16 +1,16 @@
-//! What a MEMBER value names.
+//! Finds the card that a MEMBER value names.
 ghost use Rattle.std.specs.Prelude.{◌≡◌, MatchOption, option_copied, drop, if◌then◌else◌};
-ghost use Rattle.card_core.specs.Groups.{begins_with_urn, named_by};
-ghost use Rattle.card_core.specs.Naming.{Names};
+ghost use Rattle.card_core.specs.Groups.{begins_with_urn, uid_named_by};
+ghost use Rattle.card_core.specs.internal.Naming.{Names};
 
 use crate::lookup::CardsByUid;
 use vcard_text::Card;
 
-/// The octets of `urn:uuid:`.
+/// The length in octets of `urn:uuid:`.
 const URN_LEN: usize = 9;
 
-/// What follows `urn:uuid:`, in any case.
-fn behind_urn(value: &str) -> Option<&str>
+/// The value after the prefix `urn:uuid:` in any case, or `None` without that prefix.
+fn strip_urn(value: &str) -> Option<&str>
     ensures { option_copied result ≡ (if begins_with_urn value.now then Some (drop 9 value.now)
         else None) }
 {
@@ -22,16 +22,19 @@ fn behind_urn(value: &str) -> Option<&str>
     }
 }
 
-/// The UID that a value names, and the card that has it. The whole value comes first: a UID may
-/// itself begin so.
-pub(crate) fn named<'a, C: CardsByUid>(cards: &'a C, value: &'a str) -> Option<(&'a str, &'a Card)>
-    ensures { MatchOption result (named_by (C.cards cards.now) value.now ≡ None)
+/// The UID that a value names, and its card. The whole value is tried first, since a UID may itself
+/// begin with `urn:uuid:`.
+pub(crate) fn find_named_card<'a, C: CardsByUid>(
+    cards: &'a C,
+    value: &'a str,
+) -> Option<(&'a str, &'a Card)>
+    ensures { MatchOption result (uid_named_by (C.cards cards.now) value.now ≡ None)
         (λ found. Names (C.cards cards.now) value.now found.0.now found.1.now) }
 {
     if let Some(card) = cards.card_of(value) {
         return Some((value, card));
     }
-    let rest = behind_urn(value)?;
+    let rest = strip_urn(value)?;
     let card = cards.card_of(rest)?;
     Some((rest, card))
 }

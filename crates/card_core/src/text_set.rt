@@ -1,15 +1,15 @@
-//! A set of texts that contracts see as the list of their octets.
+//! `TextSet`: a set of texts that contracts see as a list of octet lists.
 ghost use Rattle.std.specs.Prelude.{◌≡◌, ◌↔◌, IsTrue, OnOk, IfOk, Contains, []};
 ghost use Rattle.std.specs.List.Sorted.{IsStrictlySortedBy};
 ghost use Rattle.base_types.specs.TextMaps.{text_cmp};
-ghost use Rattle.card_core.specs.TextSets.{Gains};
+ghost use Rattle.card_core.specs.internal.TextSets.{GainsText};
 
 use std::alloc::Global;
 use std::collections::BTreeSet;
 use std::marker::Model;
 use vcard_text::{Items, NoMemory, Text};
 
-/// Texts, each once, in the order of their octets.
+/// Distinct texts, in octet order.
 #[derive(Drop)]
 pub(crate) struct TextSet {
     inner: BTreeSet<String>,
@@ -24,7 +24,7 @@ impl Model for TextSet {
 }
 
 impl TextSet {
-    /// No texts, which takes no memory.
+    /// An empty set. Allocates nothing.
     pub(crate) fn new(alloc: Global) -> TextSet
         ensures { result ≡ [] }
     {
@@ -39,9 +39,9 @@ impl TextSet {
         self.inner.contains(text)
     }
 
-    /// Puts the text in. It is copied only where it wasn't there.
+    /// Adds the text. Copies it only if it is new.
     pub(crate) fn insert(&mut self, alloc: Global, text: &str) -> Result<(), NoMemory>
-        ensures { OnOk result (Gains self.old self.new text.now) }
+        ensures { OnOk result (GainsText self.old self.new text.now) }
     {
         if !self.inner.contains(text) {
             self.inner.insert(String::from_str(alloc, text)?)?;
@@ -49,7 +49,7 @@ impl TextSet {
         Ok(())
     }
 
-    /// The texts themselves, of which none is copied.
+    /// Moves the texts into a list. Copies none of them.
     pub(crate) fn into_items(self, alloc: Global) -> Result<Items<Text>, NoMemory>
         ensures texts { IfOk result (λ items. items ≡ self) }
         ensures order { IfOk result (λ items. IsStrictlySortedBy text_cmp items) }

@@ -4,12 +4,12 @@ use Rattle.csv.specs.Machine.{Read, ends_at_end, field_after, fields_after, is_e
 use Rattle.csv.specs.Reading.{AreRecords, Reached, default_config, strip_bom}
 use Rattle.csv.specs.declared.parser.State.{State}
 use Rattle.csv.specs.declared.parser.State.TheVariants as st
-use Rattle.csv_cards.specs.Rows.{Row, AreRows, BeginWith}
+use Rattle.csv_cards.specs.Rows.{Row, AreRows, RowsBeginWith}
 use Rattle.csv_cards.proofs.OneReadingLemmas.{some_read}
 
 -- ---- one record
 
--- the record leaves less than so many octets, or it is the last
+-- the record leaves fewer than `size` octets, or it is the last
 abbrev LeavesLess : ℕ → Read → Type 0
 LeavesLess size p = (length p.2 < size) ⊎ ((p.1 ≡ st.StartRecord) × (p.2 ≡ []))
 
@@ -24,28 +24,28 @@ later size p (inl less) = inl (omega (arith, less))
 later size p (inr last) = inr last
 
 at_octet : (b : Bool) (fields : List (List ℕ)) (s : State) (rest : List ℕ) (more : Option Read) (p : Read) → (more ≡ Some p → LeavesLess (length rest) p) → (if b then Some (fields, s, rest) else more) ≡ Some p → LeavesLess (suc (length rest)) p
-at_octet true fields s rest more p behind e =
+at_octet true fields s rest more p following e =
     let is : (fields, s, rest) ≡ p = some_read (fields, s, rest) p e in
     let size = ap (λ (q : Read). length q.2) is in
     inl (omega (arith, size))
-at_octet false fields s rest more p behind e = later (length rest) p (behind e)
+at_octet false fields s rest more p following e = later (length rest) p (following e)
 
-leaves_less : (s : State) (fields : List (List ℕ)) (field xs : List ℕ) (p : Read) → next_record default_config s fields field xs ≡ Some p → LeavesLess (length xs) p
+leaves_less : (s : State) (fields : List (List ℕ)) (row_field xs : List ℕ) (p : Read) → next_record default_config s fields row_field xs ≡ Some p → LeavesLess (length xs) p
 unfolding next_record
-leaves_less s fields field [] p e = at_end (ends_at_end s) (fields ++ field ∷ []) p e
-leaves_less s fields field (c ∷ rest) p e =
+leaves_less s fields row_field [] p e = at_end (ends_at_end s) (fields ++ row_field ∷ []) p e
+leaves_less s fields row_field (c ∷ rest) p e =
     let next = step default_config s c in
-    at_octet (is_end next.1) (fields_after next.1 fields field) next.0 rest (next_record default_config next.0 (fields_after next.1 fields field) (field_after next.1 c field) rest) p
-    (leaves_less next.0 (fields_after next.1 fields field) (field_after next.1 c field) rest p) e
+    at_octet (is_end next.1) (fields_after next.1 fields row_field) next.0 rest (next_record default_config next.0 (fields_after next.1 fields row_field) (field_after next.1 c row_field) rest) p
+    (leaves_less next.0 (fields_after next.1 fields row_field) (field_after next.1 c row_field) rest p) e
 
 -- ---- all records
 
 abbrev HasRecords : State → List ℕ → Type 0
 HasRecords s xs = (rows : List Row) × AreRecords default_config s xs rows
 
-none_behind_last : (p : Read) → p.1 ≡ st.StartRecord → p.2 ≡ [] → next_record default_config p.1 [] [] p.2 ≡ None
+none_after_last : (p : Read) → p.1 ≡ st.StartRecord → p.2 ≡ [] → next_record default_config p.1 [] [] p.2 ≡ None
 unfolding next_record
-none_behind_last p start nothing = rw (start, nothing) refl
+none_after_last p start nothing = rw (start, nothing) refl
 
 one_more : (s : State) (xs : List ℕ) (p : Read) → next_record default_config s [] [] xs ≡ Some p → HasRecords p.1 p.2 → HasRecords s xs
 unfolding Reached
@@ -53,7 +53,7 @@ one_more s xs p e more = (p.0 ∷ more.0, (more.1.0, more.1.1, (p, e, refl, more
 
 last_one : (s : State) (xs : List ℕ) (p : Read) → next_record default_config s [] [] xs ≡ Some p → p.1 ≡ st.StartRecord → p.2 ≡ [] → HasRecords s xs
 unfolding Reached
-last_one s xs p e start nothing = (p.0 ∷ [], (p.1, p.2, (p, e, refl, (refl, refl)), none_behind_last p start nothing))
+last_one s xs p e start nothing = (p.0 ∷ [], (p.1, p.2, (p, e, refl, (refl, refl)), none_after_last p start nothing))
 
 by_record : (s : State) (xs : List ℕ) (o : Option Read) → next_record default_config s [] [] xs ≡ o → ((p : Read) → length p.2 < length xs → HasRecords p.1 p.2) → HasRecords s xs
 unfolding Reached
@@ -83,7 +83,7 @@ front (row ∷ rows) others s s2 xs y r =
     let more = front rows others r.0.1 s2 r.0.2 y r.3 in
     (more.0, more.1, (r.0, r.1, r.2, more.2))
 
-pub begin_with : (text : List ℕ) (rows others : List Row) → AreRows text (rows ++ others) → BeginWith text rows
+pub begin_with : (text : List ℕ) (rows others : List Row) → AreRows text (rows ++ others) → RowsBeginWith text rows
 begin_with text rows others are =
     let begin = front rows others st.StartRecord are.0 (strip_bom text) are.1 are.2 in
     record { state = begin.0; rest = begin.1; reached = begin.2 }

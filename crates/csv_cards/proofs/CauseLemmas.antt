@@ -1,24 +1,24 @@
--- Causes: what a card's fault is told as, and which of those that apply is the least.
+-- Causes: the cause that reports a card's fault, and the least of those that apply.
 use Rattle.std.proofs.Common.{[], Result, Ok, Err, IfErr, ◌≡◌, ◌≢◌, ◌≤◌, ◌+◌, ◌⊎◌, ◌↔◌, ℕ, List, length, Some, refl, sym, ap, subst, ◌∙◌, arith, inl, inr}
 use Rattle.csv.specs.Records.{AllText}
 use Rattle.vcard_lines.specs.declared.fault.CardFault.{CardFault}
 use Rattle.vcard_lines.specs.declared.fault.CardFault.TheVariants as card
 use Rattle.vcard_lines.specs.declared.line.Line.{Line}
-use Rattle.vcard_lines.specs.FaultNumbers.{fault_number}
+use Rattle.vcard_lines.specs.FaultNumbers.{card_fault_number}
 use Rattle.csv_cards.specs.declared.form.Form.{Form}
 use Rattle.csv_cards.specs.declared.form.Form.TheVariants as form
 use Rattle.csv_cards.specs.declared.cause.CsvCause.{CsvCause}
 use Rattle.csv_cards.specs.declared.cause.CsvCause.TheVariants as cause
-use Rattle.csv_cards.specs.Rows.{Row, field, header}
-use Rattle.csv_cards.specs.Causes.{cause_number, cause_of}
+use Rattle.csv_cards.specs.Rows.{Row, row_field, header}
+use Rattle.csv_cards.specs.Causes.{cause_number, card_fault_cause}
 use Rattle.csv_cards.specs.Columns.{name_in, column_lines}
 use Rattle.vcard_text.specs.Cards.{IsCard, uid_of}
-use Rattle.vcard_text.specs.FirstFaults.{IsFirstFault as IsFirstCardFault}
-use Rattle.vcard_text.specs.Making.{IsFirstMadeFault}
-use Rattle.vcard_text.specs.MakingSteps.{first_made_fault}
+use Rattle.vcard_text.specs.FirstFaults.{IsFirstFaultOfText as IsFirstCardFault}
+use Rattle.vcard_text.specs.Making.{IsFirstFaultOfLines}
+use Rattle.vcard_text.specs.MakingSteps.{first_fault_of_lines}
 use Rattle.vcard_text.specs.Spelling.{Spells}
-use Rattle.csv_cards.specs.Reading.{Applies, HasCardFault, HasOtherUid, IsLeastCause, StandsFor, RepeatsUid}
-use Rattle.csv_cards.specs.OneRow.{IsTextCause, IsColumnsCause}
+use Rattle.csv_cards.specs.Reading.{CauseApplies, RowHasCardFault, RowHasOtherUid, IsLeastCause, RowRepresents, RowRepeatsUid}
+use Rattle.csv_cards.specs.internal.RowCauses.{IsTextCause, IsColumnsCause}
 
 pub err_map : {T E : Type 0} {P Q : E → Type 0} (r : Result T E) → ((e : E) → P e → Q e) → IfErr r P → IfErr r Q
 err_map (Ok x) f p = tt
@@ -26,22 +26,22 @@ err_map (Err e) f p = f e p
 
 -- ---- a card's fault
 
-pub told_fault : (fault : CardFault) (why : CsvCause) → why ≡ cause_of fault → why ≢ cause.Memory → (why ≡ cause.BadCard fault) × (fault ≢ card.Memory)
-told_fault card.TooLong why e n = (e, λ m. cc m)
-told_fault card.NotUtf8 why e n = (e, λ m. cc m)
-told_fault card.BadChar why e n = (e, λ m. cc m)
-told_fault card.BadLine why e n = (e, λ m. cc m)
-told_fault card.NoBegin why e n = (e, λ m. cc m)
-told_fault card.BadVersion why e n = (e, λ m. cc m)
-told_fault card.NoEnd why e n = (e, λ m. cc m)
-told_fault card.NoName why e n = (e, λ m. cc m)
-told_fault card.NoUid why e n = (e, λ m. cc m)
-told_fault card.BadUid why e n = (e, λ m. cc m)
-told_fault card.Twice why e n = (e, λ m. cc m)
-told_fault card.MemberOutsideGroup why e n = (e, λ m. cc m)
-told_fault card.Memory why e n = absurd (n e)
+pub reported_fault : (fault : CardFault) (why : CsvCause) → why ≡ card_fault_cause fault → why ≢ cause.Memory → (why ≡ cause.BadCard fault) × (fault ≢ card.Memory)
+reported_fault card.TooLong why e n = (e, λ m. cc m)
+reported_fault card.NotUtf8 why e n = (e, λ m. cc m)
+reported_fault card.BadChar why e n = (e, λ m. cc m)
+reported_fault card.BadLine why e n = (e, λ m. cc m)
+reported_fault card.NoBegin why e n = (e, λ m. cc m)
+reported_fault card.BadVersion why e n = (e, λ m. cc m)
+reported_fault card.NoEnd why e n = (e, λ m. cc m)
+reported_fault card.NoName why e n = (e, λ m. cc m)
+reported_fault card.NoUid why e n = (e, λ m. cc m)
+reported_fault card.BadUid why e n = (e, λ m. cc m)
+reported_fault card.Twice why e n = (e, λ m. cc m)
+reported_fault card.MemberOutsideGroup why e n = (e, λ m. cc m)
+reported_fault card.Memory why e n = absurd (n e)
 
-pub few_numbers : (fault : CardFault) → fault_number fault ≤ 13
+pub few_numbers : (fault : CardFault) → card_fault_number fault ≤ 13
 few_numbers card.TooLong = omega arith
 few_numbers card.NotUtf8 = omega arith
 few_numbers card.BadChar = omega arith
@@ -64,28 +64,28 @@ some_is a b e = cc e
 -- a text has at most one first fault, and so have lines
 pub record FaultsAreOne : Type 0 where
   pub text : (text : List ℕ) (a b : CardFault) → IsFirstCardFault text a → IsFirstCardFault text b → a ≡ b
-  pub made : (lines : List Line) (fault : CardFault) → IsFirstMadeFault lines fault ↔ (first_made_fault lines ≡ Some fault)
+  pub made : (lines : List Line) (fault : CardFault) → IsFirstFaultOfLines lines fault ↔ (first_fault_of_lines lines ≡ Some fault)
 
-pub one_fault : FaultsAreOne → (f : Form) (row : Row) (a b : CardFault) → HasCardFault f row a → HasCardFault f row b → a ≡ b
-one_fault one form.Cards row a b is too = one.text (field row 1) a b is.first too.first
+pub one_fault : FaultsAreOne → (f : Form) (row : Row) (a b : CardFault) → RowHasCardFault f row a → RowHasCardFault f row b → a ≡ b
+one_fault one form.Cards row a b is too = one.text (row_field row 1) a b is.first too.first
 one_fault one form.Columns row a b is too = some_is a b (sym ((one.made (column_lines row) a).0 is.first) ∙ (one.made (column_lines row) b).0 too.first)
 
 module _ (one_card : (text : List ℕ) (a b : List Line) → Spells text a → Spells text b → a ≡ b) (row : Row) (lines : List Line) where
-  pub is_named : (f : Form) → StandsFor f row lines → (f ≡ form.Columns) × (name_in row ≡ []) → ⊥
-  is_named form.Cards stands nameless = cc nameless.0
-  is_named form.Columns stands nameless = stands.holds.named nameless.1
+  pub is_named : (f : Form) → RowRepresents f row lines → (f ≡ form.Columns) × (name_in row ≡ []) → ⊥
+  is_named form.Cards represents nameless = cc nameless.0
+  is_named form.Columns represents nameless = represents.holds.named nameless.1
 
-  pub has_no_fault : (f : Form) (fault : CardFault) → StandsFor f row lines → HasCardFault f row fault → ⊥
-  has_no_fault form.Cards fault stands bad = bad.none lines stands.holds.text
-  has_no_fault form.Columns fault stands bad = bad.none (subst IsCard stands.holds.lines stands.holds.rules)
+  pub has_no_fault : (f : Form) (fault : CardFault) → RowRepresents f row lines → RowHasCardFault f row fault → ⊥
+  has_no_fault form.Cards fault represents bad = bad.none lines represents.holds.text
+  has_no_fault form.Columns fault represents bad = bad.none (subst IsCard represents.holds.lines represents.holds.rules)
 
-  its_uid : (other : HasOtherUid row) → lines ≡ other.card → (field row 0 ≡ []) ⊎ (field row 0 ≡ uid_of lines) → ⊥
+  its_uid : (other : RowHasOtherUid row) → lines ≡ other.card → (row_field row 0 ≡ []) ⊎ (row_field row 0 ≡ uid_of lines) → ⊥
   its_uid other same (inl none) = other.given none
   its_uid other same (inr own) = other.other (own ∙ ap uid_of same)
 
-  pub has_its_uid : (f : Form) → StandsFor f row lines → (f ≡ form.Cards) × HasOtherUid row → ⊥
-  has_its_uid form.Cards stands other = its_uid other.1 (one_card (field row 1) lines other.1.card stands.holds.text other.1.text) stands.holds.uid
-  has_its_uid form.Columns stands other = cc other.0
+  pub has_its_uid : (f : Form) → RowRepresents f row lines → (f ≡ form.Cards) × RowHasOtherUid row → ⊥
+  has_its_uid form.Cards represents other = its_uid other.1 (one_card (row_field row 1) lines other.1.card represents.holds.text other.1.text) represents.holds.uid
+  has_its_uid form.Columns represents other = cc other.0
 
 -- ---- the least cause
 
@@ -93,7 +93,7 @@ module _ (f : Form) (earlier : List (List Line)) (row : Row) where
   pub columns_least : length row ≢ length (header f) → IsLeastCause f earlier row cause.Columns
   columns_least few = record { applies = few; least = least }
     where
-      least : (other : CsvCause) → Applies f earlier row other → 2 ≤ cause_number other
+      least : (other : CsvCause) → CauseApplies f earlier row other → 2 ≤ cause_number other
       least cause.BadHeader none = absurd none
       least cause.Columns too = omega arith
       least cause.NotUtf8 too = omega arith
@@ -107,7 +107,7 @@ module _ (f : Form) (earlier : List (List Line)) (row : Row) where
     pub utf8_least : (AllText row → ⊥) → IsLeastCause f earlier row cause.NotUtf8
     utf8_least other_octets = record { applies = other_octets; least = least }
       where
-        least : (other : CsvCause) → Applies f earlier row other → 3 ≤ cause_number other
+        least : (other : CsvCause) → CauseApplies f earlier row other → 3 ≤ cause_number other
         least cause.BadHeader none = absurd none
         least cause.Columns none = absurd (none many)
         least cause.NotUtf8 too = omega arith
@@ -119,10 +119,10 @@ module _ (f : Form) (earlier : List (List Line)) (row : Row) where
 
   module _ (many : length row ≡ length (header f)) (text : AllText row) where
     -- a fault of the card itself
-    fault_least : FaultsAreOne → (fault : CardFault) → Applies f earlier row (cause.BadCard fault) → (Applies f earlier row cause.EmptyName → ⊥) → IsLeastCause f earlier row (cause.BadCard fault)
+    fault_least : FaultsAreOne → (fault : CardFault) → CauseApplies f earlier row (cause.BadCard fault) → (CauseApplies f earlier row cause.EmptyName → ⊥) → IsLeastCause f earlier row (cause.BadCard fault)
     fault_least one fault bad named = record { applies = bad; least = least }
       where
-        least : (other : CsvCause) → Applies f earlier row other → 20 + fault_number fault ≤ cause_number other
+        least : (other : CsvCause) → CauseApplies f earlier row other → 20 + card_fault_number fault ≤ cause_number other
         least cause.BadHeader none = absurd none
         least cause.Columns none = absurd (none many)
         least cause.NotUtf8 none = absurd (none text)
@@ -134,26 +134,26 @@ module _ (f : Form) (earlier : List (List Line)) (row : Row) where
         least cause.DuplicateUid too = let few = few_numbers fault in omega (arith, few)
         least cause.Memory none = absurd none
 
-    pub repeated_least : ((text : List ℕ) (a b : List Line) → Spells text a → Spells text b → a ≡ b) → RepeatsUid f earlier row → IsLeastCause f earlier row cause.DuplicateUid
+    pub repeated_least : ((text : List ℕ) (a b : List Line) → Spells text a → Spells text b → a ≡ b) → RowRepeatsUid f earlier row → IsLeastCause f earlier row cause.DuplicateUid
     repeated_least one_card repeats = record { applies = repeats; least = least }
       where
-        least : (other : CsvCause) → Applies f earlier row other → 41 ≤ cause_number other
+        least : (other : CsvCause) → CauseApplies f earlier row other → 41 ≤ cause_number other
         least cause.BadHeader none = absurd none
         least cause.Columns none = absurd (none many)
         least cause.NotUtf8 none = absurd (none text)
-        least cause.EmptyName none = absurd (is_named one_card row repeats.card f repeats.stands none)
-        least (cause.BadCard fault) none = absurd (has_no_fault one_card row repeats.card f fault repeats.stands none)
-        least cause.UidMismatch none = absurd (has_its_uid one_card row repeats.card f repeats.stands none)
+        least cause.EmptyName none = absurd (is_named one_card row repeats.card f repeats.represents none)
+        least (cause.BadCard fault) none = absurd (has_no_fault one_card row repeats.card f fault repeats.represents none)
+        least cause.UidMismatch none = absurd (has_its_uid one_card row repeats.card f repeats.represents none)
         least cause.DuplicateUid too = omega arith
         least cause.Memory none = absurd none
 
 -- ---- rows of a UID and a card's text
 
 module _ (earlier : List (List Line)) (row : Row) (many : length row ≡ length (header form.Cards)) (text : AllText row) where
-  mismatch_least : HasOtherUid row → IsLeastCause form.Cards earlier row cause.UidMismatch
+  mismatch_least : RowHasOtherUid row → IsLeastCause form.Cards earlier row cause.UidMismatch
   mismatch_least other_uid = record { applies = (refl, other_uid); least = least }
     where
-      least : (other : CsvCause) → Applies form.Cards earlier row other → 40 ≤ cause_number other
+      least : (other : CsvCause) → CauseApplies form.Cards earlier row other → 40 ≤ cause_number other
       least cause.BadHeader none = absurd none
       least cause.Columns none = absurd (none many)
       least cause.NotUtf8 none = absurd (none text)
@@ -173,7 +173,7 @@ module _ (earlier : List (List Line)) (row : Row) (many : length row ≡ length 
   nameless_least : name_in row ≡ [] → IsLeastCause form.Columns earlier row cause.EmptyName
   nameless_least nameless = record { applies = (refl, nameless); least = least }
     where
-      least : (other : CsvCause) → Applies form.Columns earlier row other → 4 ≤ cause_number other
+      least : (other : CsvCause) → CauseApplies form.Columns earlier row other → 4 ≤ cause_number other
       least cause.BadHeader none = absurd none
       least cause.Columns none = absurd (none many)
       least cause.NotUtf8 none = absurd (none text)

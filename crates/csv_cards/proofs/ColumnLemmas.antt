@@ -5,8 +5,8 @@ use Rattle.std.proofs.lemmas.List.{map-append}
 use Rattle.vcard_lines.specs.declared.line.Line.{Line}
 use Rattle.vcard_text.specs.Making.{upper_line, upper_lines}
 use Rattle.csv_cards.specs.Rows.{Row}
-use Rattle.csv_cards.specs.Columns.{column_lines, email_in, family_in, given_in, line_if_any, name_in, name_line_if_any, note_in, organization_in, plain_line, telephone_in, uid_in}
-use Rattle.text_values.specs.TextValues.{escaped}
+use Rattle.csv_cards.specs.Columns.{column_lines, email_in, family_in, given_in, nonempty_line, name_in, nonempty_name_line, note_in, organization_in, plain_line, telephone_in, uid_in}
+use Rattle.vcard_values.specs.TextValues.{escaped_value}
 
 upper_or_none : (b : Bool) (line : Line) → upper_line line ≡ line → upper_lines (if b then [] else line ∷ []) ≡ (if b then [] else line ∷ [])
 upper_or_none true line e = refl
@@ -22,9 +22,9 @@ module _ (row : Row) where
   pub upper_columns : upper_lines (column_lines row) ≡ column_lines row
   upper_columns =
       upper_cons (plain_line (codes "UID") (uid_in row)) _ refl
-      (upper_cons (plain_line (codes "FN") (escaped (name_in row))) _ refl
-      (upper_two _ (line_if_any (codes "NOTE") (note_in row))
-      (upper_two _ (line_if_any (codes "ORG") (organization_in row))
-      (upper_two _ (line_if_any (codes "TEL") (telephone_in row))
-      (upper_two (name_line_if_any (family_in row) (given_in row)) (line_if_any (codes "EMAIL") (email_in row)) (upper_or_none _ _ refl) (upper_or_none _ _ refl))
+      (upper_cons (plain_line (codes "FN") (escaped_value (name_in row))) _ refl
+      (upper_two _ (nonempty_line (codes "NOTE") (note_in row))
+      (upper_two _ (nonempty_line (codes "ORG") (organization_in row))
+      (upper_two _ (nonempty_line (codes "TEL") (telephone_in row))
+      (upper_two (nonempty_name_line (family_in row) (given_in row)) (nonempty_line (codes "EMAIL") (email_in row)) (upper_or_none _ _ refl) (upper_or_none _ _ refl))
       (upper_or_none _ _ refl)) (upper_or_none _ _ refl)) (upper_or_none _ _ refl)))

@@ -1,4 +1,4 @@
--- The lines that columns stand for are UTF-8, where the fields are.
+-- The lines that columns describe are UTF-8 if the fields are.
 use Rattle.std.proofs.Common.{◌≡◌, ◌==◌, ◌||◌, ◌&&◌, ◌++◌, ◌∷◌, [], ℕ, zero, suc, Bool, true, false, if◌then◌else◌, List, flat_map, IsUtf8, chars, codes, nat_lt, IsAscii, refl}
 use Rattle.std.specs.List.{AllByRecursion, list_all}
 use Rattle.std.proofs.Math.Utf8.{scalar, scalars}
@@ -8,9 +8,9 @@ use Rattle.std.proofs.lemmas.Str.Ascii.{IsAscii-nil, IsAscii-cons}
 use Rattle.csv.specs.Records.{AllText}
 use Rattle.vcard_lines.specs.declared.line.Line.{Line}
 use Rattle.vcard_lines.specs.Grammar.{line_text}
-use Rattle.text_values.specs.TextValues.{Plain, Escaped, chars_of, escaped, text_char_of}
-use Rattle.csv_cards.specs.Rows.{Row, field}
-use Rattle.csv_cards.specs.Columns.{begins_with_line_feed, column, column_lines, email_in, family_in, given_in, is_empty, line_if_any, name_in, name_line_if_any, name_value, note_in, organization_in, plain_line, telephone_in, uid_in, with_plain_line_ends}
+use Rattle.vcard_values.specs.TextValues.{Plain, Escaped, written_chars, escaped_value, text_char_of}
+use Rattle.csv_cards.specs.Rows.{Row, row_field}
+use Rattle.csv_cards.specs.Columns.{begins_with_line_feed, column, column_lines, email_in, family_in, given_in, is_empty, nonempty_line, name_in, nonempty_name_line, name_value, note_in, organization_in, plain_line, telephone_in, uid_in, with_lf_line_ends}
 
 -- ---- characters
 
@@ -18,30 +18,30 @@ append_scalars : (a b : List ℕ) → scalars a ≡ true → scalars b ≡ true 
 append_scalars [] b s t = t
 append_scalars (c ∷ cs) b s t = let p = and_parts (scalar c) (scalars cs) s in rw (p.0, append_scalars cs b p.1 t) refl
 
-plain_scalars : (cs : List ℕ) → scalars cs ≡ true → scalars (with_plain_line_ends cs) ≡ true
-unfolding with_plain_line_ends
+plain_scalars : (cs : List ℕ) → scalars cs ≡ true → scalars (with_lf_line_ends cs) ≡ true
+unfolding with_lf_line_ends
 plain_scalars [] s = refl
 plain_scalars (c ∷ cs) s =
     let p = and_parts (scalar c) (scalars cs) s in
-    kept_or_not ((c == 13) && begins_with_line_feed cs) c (with_plain_line_ends cs) p.0 (plain_scalars cs p.1)
+    kept_or_not ((c == 13) && begins_with_line_feed cs) c (with_lf_line_ends cs) p.0 (plain_scalars cs p.1)
   where
     kept_or_not : (b : Bool) (c : ℕ) (more : List ℕ) → scalar c ≡ true → scalars more ≡ true → scalars (if b then more else c ∷ more) ≡ true
     kept_or_not true c more one all = all
     kept_or_not false c more one all = rw (one, all) refl
 
-guarded_scalar : (c : ℕ) → scalar c ≡ true → scalars (chars_of (text_char_of c)) ≡ true
+guarded_scalar : (c : ℕ) → scalar c ≡ true → scalars (written_chars (text_char_of c)) ≡ true
 guarded_scalar c s = by (c == 10) (c == 92 || c == 44 || c == 59)
   where
-    by : (feed guarded : Bool) → scalars (chars_of (if feed then Escaped 110 else (if guarded then Escaped c else Plain c))) ≡ true
+    by : (feed guarded : Bool) → scalars (written_chars (if feed then Escaped 110 else (if guarded then Escaped c else Plain c))) ≡ true
     by true guarded = refl
     by false true = rw s refl
     by false false = rw s refl
 
-guarded_scalars : (cs : List ℕ) → scalars cs ≡ true → scalars (flat_map (λ c. chars_of (text_char_of c)) cs) ≡ true
+guarded_scalars : (cs : List ℕ) → scalars cs ≡ true → scalars (flat_map (λ c. written_chars (text_char_of c)) cs) ≡ true
 guarded_scalars [] s = refl
 guarded_scalars (c ∷ cs) s =
     let p = and_parts (scalar c) (scalars cs) s in
-    append_scalars (chars_of (text_char_of c)) (flat_map (λ d. chars_of (text_char_of d)) cs) (guarded_scalar c p.0) (guarded_scalars cs p.1)
+    append_scalars (written_chars (text_char_of c)) (flat_map (λ d. written_chars (text_char_of d)) cs) (guarded_scalar c p.0) (guarded_scalars cs p.1)
 
 -- ---- texts
 
@@ -52,17 +52,17 @@ are_ascii (b ∷ bs) e = let p = and_parts (nat_lt b 128) (list_all (λ c. nat_l
 ascii_utf8 : (octets : List ℕ) → list_all (λ b. nat_lt b 128) octets ≡ true → IsUtf8 octets
 ascii_utf8 octets e = IsUtf8-from_ascii octets (are_ascii octets e)
 
-field_utf8 : (row : Row) (place : ℕ) → AllText row → IsUtf8 (field row place)
+field_utf8 : (row : Row) (place : ℕ) → AllText row → IsUtf8 (row_field row place)
 unfolding AllText
 field_utf8 [] place all = IsUtf8-nil
 field_utf8 (f ∷ fs) zero all = all.0
 field_utf8 (f ∷ fs) (suc place) all = field_utf8 fs place all.1
 
 column_utf8 : (row : Row) (place : ℕ) → AllText row → IsUtf8 (column row place)
-column_utf8 row place all = (with_plain_line_ends (chars (field row place)), (plain_scalars (chars (field row place)) (scalars-chars (field row place) (field_utf8 row place all)), refl))
+column_utf8 row place all = (with_lf_line_ends (chars (row_field row place)), (plain_scalars (chars (row_field row place)) (scalars-chars (row_field row place) (field_utf8 row place all)), refl))
 
-escaped_utf8 : (text : List ℕ) → IsUtf8 text → IsUtf8 (escaped text)
-escaped_utf8 text u = (flat_map (λ c. chars_of (text_char_of c)) (chars text), (guarded_scalars (chars text) (scalars-chars text u), refl))
+escaped_utf8 : (text : List ℕ) → IsUtf8 text → IsUtf8 (escaped_value text)
+escaped_utf8 text u = (flat_map (λ c. written_chars (text_char_of c)) (chars text), (guarded_scalars (chars text) (scalars-chars text u), refl))
 
 -- ---- lines
 
@@ -80,28 +80,28 @@ one_or_none : (none : Bool) (line : Line) → IsUtf8 (line_text line) → AreUtf
 one_or_none true line u = tt
 one_or_none false line u = (u, tt)
 
-if_any_utf8 : (name text : List ℕ) → IsUtf8 name → IsUtf8 text → AreUtf8 (line_if_any name text)
-if_any_utf8 name text n u = one_or_none (is_empty text) (plain_line name (escaped text)) (line_utf8 name (escaped text) n (escaped_utf8 text u))
+if_any_utf8 : (name text : List ℕ) → IsUtf8 name → IsUtf8 text → AreUtf8 (nonempty_line name text)
+if_any_utf8 name text n u = one_or_none (is_empty text) (plain_line name (escaped_value text)) (line_utf8 name (escaped_value text) n (escaped_utf8 text u))
 
 name_value_utf8 : (family given : List ℕ) → IsUtf8 family → IsUtf8 given → IsUtf8 (name_value family given)
 name_value_utf8 family given f g =
-    IsUtf8-append (escaped family ++ codes ";" ++ escaped given) (codes ";;;")
-    (IsUtf8-append (escaped family ++ codes ";") (escaped given)
-    (IsUtf8-append (escaped family) (codes ";") (escaped_utf8 family f) (ascii_utf8 (codes ";") refl)) (escaped_utf8 given g))
+    IsUtf8-append (escaped_value family ++ codes ";" ++ escaped_value given) (codes ";;;")
+    (IsUtf8-append (escaped_value family ++ codes ";") (escaped_value given)
+    (IsUtf8-append (escaped_value family) (codes ";") (escaped_utf8 family f) (ascii_utf8 (codes ";") refl)) (escaped_utf8 given g))
     (ascii_utf8 (codes ";;;") refl)
 
-name_line_utf8 : (family given : List ℕ) → IsUtf8 family → IsUtf8 given → AreUtf8 (name_line_if_any family given)
+name_line_utf8 : (family given : List ℕ) → IsUtf8 family → IsUtf8 given → AreUtf8 (nonempty_name_line family given)
 name_line_utf8 family given f g = one_or_none (is_empty family && is_empty given) (plain_line (codes "N") (name_value family given)) (line_utf8 (codes "N") (name_value family given) (ascii_utf8 (codes "N") refl) (name_value_utf8 family given f g))
 
 pub columns_utf8 : (row : Row) → AllText row → AreUtf8 (column_lines row)
 columns_utf8 row all = (
   line_utf8 (codes "UID") (uid_in row) (ascii_utf8 (codes "UID") refl) (column_utf8 row 0 all),
   (
-    line_utf8 (codes "FN") (escaped (name_in row)) (ascii_utf8 (codes "FN") refl) (escaped_utf8 (name_in row) (column_utf8 row 1 all)),
-    append_utf8 _ (line_if_any (codes "NOTE") (note_in row))
-        (append_utf8 _ (line_if_any (codes "ORG") (organization_in row))
-        (append_utf8 _ (line_if_any (codes "TEL") (telephone_in row))
-        (append_utf8 (name_line_if_any (family_in row) (given_in row)) (line_if_any (codes "EMAIL") (email_in row)) (name_line_utf8 (family_in row) (given_in row) (column_utf8 row 2 all) (column_utf8 row 3 all))
+    line_utf8 (codes "FN") (escaped_value (name_in row)) (ascii_utf8 (codes "FN") refl) (escaped_utf8 (name_in row) (column_utf8 row 1 all)),
+    append_utf8 _ (nonempty_line (codes "NOTE") (note_in row))
+        (append_utf8 _ (nonempty_line (codes "ORG") (organization_in row))
+        (append_utf8 _ (nonempty_line (codes "TEL") (telephone_in row))
+        (append_utf8 (nonempty_name_line (family_in row) (given_in row)) (nonempty_line (codes "EMAIL") (email_in row)) (name_line_utf8 (family_in row) (given_in row) (column_utf8 row 2 all) (column_utf8 row 3 all))
         (if_any_utf8 (codes "EMAIL") (email_in row) (ascii_utf8 (codes "EMAIL") refl) (column_utf8 row 4 all)))
         (if_any_utf8 (codes "TEL") (telephone_in row) (ascii_utf8 (codes "TEL") refl) (column_utf8 row 5 all)))
         (if_any_utf8 (codes "ORG") (organization_in row) (ascii_utf8 (codes "ORG") refl) (column_utf8 row 6 all)))

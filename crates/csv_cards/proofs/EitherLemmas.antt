@@ -1,4 +1,4 @@
--- A text's rows stand for cards, or it has a first fault.
+-- A text's rows represent cards, or it has a first fault.
 use Rattle.std.proofs.Common.{◌≡◌, ◌≢◌, ◌⊎◌, ◌==◌, ◌+◌, ◌∷◌, ◌++◌, [], ℕ, zero, suc, Bool, true, false, List, Decides, Contains, bytes_eq, length, map, drop, refl, sym, ap, subst, ◌∙◌, arith, inl, inr, append_assoc}
 use Rattle.std.specs.Str.{is_utf8}
 use Rattle.std.proofs.lemmas.Bool.{cases_Bool}
@@ -9,22 +9,22 @@ use Rattle.csv.specs.Records.{AllText}
 use Rattle.vcard_lines.specs.declared.fault.CardFault.{CardFault}
 use Rattle.vcard_lines.specs.declared.line.Line.{Line}
 use Rattle.vcard_text.specs.Cards.{IsCard, uid_of}
-use Rattle.vcard_text.specs.FirstFaults.{IsFirstFault as IsFirstCardFault}
-use Rattle.vcard_text.specs.Making.{IsFirstMadeFault, upper_lines}
+use Rattle.vcard_text.specs.FirstFaults.{IsFirstFaultOfText as IsFirstCardFault}
+use Rattle.vcard_text.specs.Making.{IsFirstFaultOfLines, upper_lines}
 use Rattle.vcard_text.specs.Spelling.{Spells}
 use Rattle.csv_cards.specs.declared.form.Form.{Form}
 use Rattle.csv_cards.specs.declared.form.Form.TheVariants as form
 use Rattle.csv_cards.specs.declared.cause.CsvCause.{CsvCause}
 use Rattle.csv_cards.specs.declared.cause.CsvCause.TheVariants as cause
 use Rattle.csv_cards.specs.declared.fault.CsvFault.{CsvFault}
-use Rattle.csv_cards.specs.Rows.{Row, AreRows, field, header}
+use Rattle.csv_cards.specs.Rows.{Row, AreRows, row_field, header}
 use Rattle.csv_cards.specs.Columns.{column_lines, name_in}
-use Rattle.csv_cards.specs.Reading.{AreCards, IsFirstFault, IsLeastCause, MislistsCard, StandForAll, StandsFor, fault_at}
+use Rattle.csv_cards.specs.Reading.{TextHasCards, IsFirstRowFault, IsLeastCause, ColumnsMislistCard, RowsRepresent, RowRepresents, row_fault}
 use Rattle.csv_cards.proofs.AllRowLemmas.{has_rows, begin_with}
 use Rattle.csv_cards.proofs.CauseLemmas.{FaultsAreOne, columns_least, utf8_least, repeated_least, text_least, columns_cause_least}
 use Rattle.csv_cards.proofs.ColumnLemmas.{upper_columns}
 use Rattle.csv_cards.proofs.ColumnTextLemmas.{AreUtf8, columns_utf8}
-use Rattle.csv_cards.proofs.ReaderLemmas.{none_stand, one_more_stands}
+use Rattle.csv_cards.proofs.ReaderLemmas.{none_represent, one_more_represents}
 
 -- ---- tests
 
@@ -54,7 +54,7 @@ row_or_not (x ∷ xs) (y ∷ ys) = both (same_or_not x y) (row_or_not xs ys)
     both : (x ≡ y) ⊎ (x ≢ y) → (xs ≡ ys) ⊎ (xs ≢ ys) → (x ∷ xs ≡ y ∷ ys) ⊎ (x ∷ xs ≢ y ∷ ys)
     both (inl first) (inl rest) = inl (ap (λ f. f ∷ xs) first ∙ ap (λ fs. y ∷ fs) rest)
     both (inl first) (inr rest) = inr (λ e. rest (ap (drop 1) e))
-    both (inr first) rest = inr (λ e. first (ap (λ row. field row 0) e))
+    both (inr first) rest = inr (λ e. first (ap (λ row. row_field row 0) e))
 
 among_or_not : (uids : List (List ℕ)) (uid : List ℕ) → Contains uids uid ⊎ (Contains uids uid → ⊥)
 among_or_not [] uid = inr nothing
@@ -74,9 +74,9 @@ among_or_not (u ∷ us) uid = both (same_or_not u uid) (among_or_not us uid)
 
 -- ---- one row
 
--- a row stands for a card, or has a least cause, whatever cards stand before it
-abbrev Stands : Form → Row → Type 0
-Stands f row = (card : List Line) × StandsFor f row card
+-- a row represents a card, or has a least cause, whatever cards precede it
+abbrev RepresentsCard : Form → Row → Type 0
+RepresentsCard f row = (card : List Line) × RowRepresents f row card
 
 abbrev Fails : Form → Row → Type 0
 Fails f row = (why : CsvCause) × ((earlier : List (List Line)) → IsLeastCause f earlier row why)
@@ -86,13 +86,13 @@ pub record CardsOrFaults : Type 0 where
   pub one_card : (text : List ℕ) (a b : List Line) → Spells text a → Spells text b → a ≡ b
   pub either : (text : List ℕ) → ((lines : List Line) × Spells text lines) ⊎ ((fault : CardFault) × IsFirstCardFault text fault)
   pub not_both : (text : List ℕ) (lines : List Line) (fault : CardFault) → Spells text lines → IsFirstCardFault text fault → ⊥
-  pub made_either : (lines : List Line) → AreUtf8 (upper_lines lines) → IsCard (upper_lines lines) ⊎ ((fault : CardFault) × IsFirstMadeFault lines fault)
-  pub made_not_both : (lines : List Line) (fault : CardFault) → IsCard (upper_lines lines) → IsFirstMadeFault lines fault → ⊥
+  pub made_either : (lines : List Line) → AreUtf8 (upper_lines lines) → IsCard (upper_lines lines) ⊎ ((fault : CardFault) × IsFirstFaultOfLines lines fault)
+  pub made_not_both : (lines : List Line) (fault : CardFault) → IsCard (upper_lines lines) → IsFirstFaultOfLines lines fault → ⊥
   pub one_fault : FaultsAreOne
 
--- the rows stand for cards, or one of them is the first that fails
-abbrev AllStand : Form → List Row → Type 0
-AllStand f rows = (cards : List (List Line)) × StandForAll f rows cards
+-- the rows represent cards, or one of them is the first that fails
+abbrev AllRepresent : Form → List Row → Type 0
+AllRepresent f rows = (cards : List (List Line)) × RowsRepresent f rows cards
 
 record FirstFails (f : Form) (rows : List Row) : Type 0 where
   before : List Row
@@ -101,101 +101,101 @@ record FirstFails (f : Form) (rows : List Row) : Type 0 where
   cards : List (List Line)
   why : CsvCause
   are : rows ≡ before ++ row ∷ after
-  stand : StandForAll f before cards
+  represent : RowsRepresent f before cards
   least : IsLeastCause f cards row why
 
-abbrev StandsOrFails : Form → List Row → Type 0
-StandsOrFails f rows = AllStand f rows ⊎ FirstFails f rows
+abbrev RepresentsOrFails : Form → List Row → Type 0
+RepresentsOrFails f rows = AllRepresent f rows ⊎ FirstFails f rows
 
--- more rows behind those, whatever cards those stand for
-abbrev GoesOn : Form → List Row → List Row → Type 0
-GoesOn f before rows = (cards : List (List Line)) → StandForAll f before cards → StandsOrFails f (before ++ rows)
+-- more rows after those, whatever cards those represent
+abbrev Continues : Form → List Row → List Row → Type 0
+Continues f before rows = (cards : List (List Line)) → RowsRepresent f before cards → RepresentsOrFails f (before ++ rows)
 
 abbrev HasCards : List ℕ → Type 0
-HasCards text = (cards : List (List Line)) × AreCards text cards
+HasCards text = (cards : List (List Line)) × TextHasCards text cards
 
 abbrev HasFault : List ℕ → Type 0
-HasFault text = (fault : CsvFault) × IsFirstFault text fault
+HasFault text = (fault : CsvFault) × IsFirstRowFault text fault
 
 module _ (laws : CardsOrFaults) where
-  text_row : (row : Row) → length row ≡ length (header form.Cards) → AllText row → Stands form.Cards row ⊎ Fails form.Cards row
-  text_row row many text = by (laws.either (field row 1))
+  text_row : (row : Row) → length row ≡ length (header form.Cards) → AllText row → RepresentsCard form.Cards row ⊎ Fails form.Cards row
+  text_row row many text = by (laws.either (row_field row 1))
     where
-      by_uid : (card : List Line) → Spells (field row 1) card → (field row 0 ≡ []) ⊎ (field row 0 ≢ []) → (field row 0 ≡ uid_of card) ⊎ (field row 0 ≢ uid_of card) → Stands form.Cards row ⊎ Fails form.Cards row
+      by_uid : (card : List Line) → Spells (row_field row 1) card → (row_field row 0 ≡ []) ⊎ (row_field row 0 ≢ []) → (row_field row 0 ≡ uid_of card) ⊎ (row_field row 0 ≢ uid_of card) → RepresentsCard form.Cards row ⊎ Fails form.Cards row
       by_uid card spells (inl none) own = inl (card, record { fields = many; utf8 = text; holds = record { text = spells; uid = inl none } })
       by_uid card spells (inr given) (inl own) = inl (card, record { fields = many; utf8 = text; holds = record { text = spells; uid = inr own } })
       by_uid card spells (inr given) (inr other) = inr (cause.UidMismatch, λ earlier. text_least earlier row many text laws.one_fault cause.UidMismatch (inr (refl, record { card = card; text = spells; given = given; other = other })))
 
-      by : ((lines : List Line) × Spells (field row 1) lines) ⊎ ((fault : CardFault) × IsFirstCardFault (field row 1) fault) → Stands form.Cards row ⊎ Fails form.Cards row
-      by (inl (card, spells)) = by_uid card spells (same_or_not (field row 0) []) (same_or_not (field row 0) (uid_of card))
-      by (inr (fault, first)) = inr (cause.BadCard fault, λ earlier. text_least earlier row many text laws.one_fault (cause.BadCard fault) (inl (fault, refl, record { none = λ card spells. laws.not_both (field row 1) card fault spells first; first = first })))
+      by : ((lines : List Line) × Spells (row_field row 1) lines) ⊎ ((fault : CardFault) × IsFirstCardFault (row_field row 1) fault) → RepresentsCard form.Cards row ⊎ Fails form.Cards row
+      by (inl (card, spells)) = by_uid card spells (same_or_not (row_field row 0) []) (same_or_not (row_field row 0) (uid_of card))
+      by (inr (fault, first)) = inr (cause.BadCard fault, λ earlier. text_least earlier row many text laws.one_fault (cause.BadCard fault) (inl (fault, refl, record { none = λ card spells. laws.not_both (row_field row 1) card fault spells first; first = first })))
 
   -- the lines of columns make a card, or have a first fault
-  card_or_made_fault : (row : Row) → AllText row → IsCard (column_lines row) ⊎ ((fault : CardFault) × MislistsCard row fault)
+  card_or_made_fault : (row : Row) → AllText row → IsCard (column_lines row) ⊎ ((fault : CardFault) × ColumnsMislistCard row fault)
   card_or_made_fault row all = by (laws.made_either (column_lines row) (subst AreUtf8 (sym (upper_columns row)) (columns_utf8 row all)))
     where
-      by : IsCard (upper_lines (column_lines row)) ⊎ ((fault : CardFault) × IsFirstMadeFault (column_lines row) fault) → IsCard (column_lines row) ⊎ ((fault : CardFault) × MislistsCard row fault)
+      by : IsCard (upper_lines (column_lines row)) ⊎ ((fault : CardFault) × IsFirstFaultOfLines (column_lines row) fault) → IsCard (column_lines row) ⊎ ((fault : CardFault) × ColumnsMislistCard row fault)
       by (inl card) = inl (subst IsCard (upper_columns row) card)
       by (inr (fault, first)) = inr (fault, record { none = λ card. laws.made_not_both (column_lines row) fault (subst IsCard (sym (upper_columns row)) card) first; first = first })
 
-  columns_row : (row : Row) → length row ≡ length (header form.Columns) → AllText row → Stands form.Columns row ⊎ Fails form.Columns row
+  columns_row : (row : Row) → length row ≡ length (header form.Columns) → AllText row → RepresentsCard form.Columns row ⊎ Fails form.Columns row
   columns_row row many text = by (same_or_not (name_in row) []) (card_or_made_fault row text)
     where
-      by : (name_in row ≡ []) ⊎ (name_in row ≢ []) → IsCard (column_lines row) ⊎ ((fault : CardFault) × MislistsCard row fault) → Stands form.Columns row ⊎ Fails form.Columns row
+      by : (name_in row ≡ []) ⊎ (name_in row ≢ []) → IsCard (column_lines row) ⊎ ((fault : CardFault) × ColumnsMislistCard row fault) → RepresentsCard form.Columns row ⊎ Fails form.Columns row
       by (inl nameless) made = inr (cause.EmptyName, λ earlier. columns_cause_least earlier row many text laws.one_fault cause.EmptyName (inl (refl, nameless)))
       by (inr named) (inl card) = inl (column_lines row, record { fields = many; utf8 = text; holds = record { named = named; lines = refl; rules = card } })
       by (inr named) (inr (fault, bad)) = inr (cause.BadCard fault, λ earlier. columns_cause_least earlier row many text laws.one_fault (cause.BadCard fault) (inr (fault, refl, named, bad)))
 
-  one_row : (f : Form) (row : Row) → length row ≡ length (header f) → AllText row → Stands f row ⊎ Fails f row
+  one_row : (f : Form) (row : Row) → length row ≡ length (header f) → AllText row → RepresentsCard f row ⊎ Fails f row
   one_row form.Cards row many text = text_row row many text
   one_row form.Columns row many text = columns_row row many text
 
-  any_row : (f : Form) (row : Row) → Stands f row ⊎ Fails f row
+  any_row : (f : Form) (row : Row) → RepresentsCard f row ⊎ Fails f row
   any_row f row = by_count (cases_Bool (length row == length (header f)))
     where
-      by_text : length row ≡ length (header f) → AllText row ⊎ (AllText row → ⊥) → Stands f row ⊎ Fails f row
+      by_text : length row ≡ length (header f) → AllText row ⊎ (AllText row → ⊥) → RepresentsCard f row ⊎ Fails f row
       by_text many (inl text) = one_row f row many text
       by_text many (inr other) = inr (cause.NotUtf8, λ earlier. utf8_least f earlier row many other)
 
-      by_count : ((length row == length (header f)) ≡ true) ⊎ ((length row == length (header f)) ≡ false) → Stands f row ⊎ Fails f row
+      by_count : ((length row == length (header f)) ≡ true) ⊎ ((length row == length (header f)) ≡ false) → RepresentsCard f row ⊎ Fails f row
       by_count (inl e) = by_text (grind (arith, e)) (text_or_not row)
       by_count (inr e) = inr (cause.Columns, λ earlier. columns_least f earlier row (λ same. grind (arith, e, same)))
 
   -- ---- all rows
 
-  rows_behind : (f : Form) (rows before : List Row) (cards : List (List Line)) → StandForAll f before cards → StandsOrFails f (before ++ rows)
-  rows_behind f [] before cards stand = inl (cards, subst (λ all. StandForAll f all cards) (sym (append-nil before)) stand)
-  rows_behind f (row ∷ rows) before cards stand = by (rows_behind f rows (before ++ row ∷ [])) (any_row f row)
+  rows_after : (f : Form) (rows before : List Row) (cards : List (List Line)) → RowsRepresent f before cards → RepresentsOrFails f (before ++ rows)
+  rows_after f [] before cards represent = inl (cards, subst (λ all. RowsRepresent f all cards) (sym (append-nil before)) represent)
+  rows_after f (row ∷ rows) before cards represent = by (rows_after f rows (before ++ row ∷ [])) (any_row f row)
     where
-      fails : (why : CsvCause) → IsLeastCause f cards row why → StandsOrFails f (before ++ row ∷ rows)
-      fails why least = inr (record { before = before; row = row; after = rows; cards = cards; why = why; are = refl; stand = stand; least = least })
+      fails : (why : CsvCause) → IsLeastCause f cards row why → RepresentsOrFails f (before ++ row ∷ rows)
+      fails why least = inr (record { before = before; row = row; after = rows; cards = cards; why = why; are = refl; represent = represent; least = least })
 
-      by_uid : GoesOn f (before ++ row ∷ []) rows → (card : List Line) → StandsFor f row card → Contains (map uid_of cards) (uid_of card) ⊎ (Contains (map uid_of cards) (uid_of card) → ⊥) → StandsOrFails f (before ++ row ∷ rows)
-      by_uid more card stands (inl repeated) = fails cause.DuplicateUid (repeated_least f cards row stands.fields stands.utf8 laws.one_card (record { card = card; stands = stands; repeated = repeated }))
-      by_uid more card stands (inr first) =
-          subst (StandsOrFails f) (append_assoc before (row ∷ []) rows)
-          (more (cards ++ card ∷ []) (one_more_stands f before row cards (cards ++ card ∷ []) stand (record { card = card; behind = refl; stands = stands; first = first })))
+      by_uid : Continues f (before ++ row ∷ []) rows → (card : List Line) → RowRepresents f row card → Contains (map uid_of cards) (uid_of card) ⊎ (Contains (map uid_of cards) (uid_of card) → ⊥) → RepresentsOrFails f (before ++ row ∷ rows)
+      by_uid more card represents (inl repeated) = fails cause.DuplicateUid (repeated_least f cards row represents.fields represents.utf8 laws.one_card (record { card = card; represents = represents; repeated = repeated }))
+      by_uid more card represents (inr first) =
+          subst (RepresentsOrFails f) (append_assoc before (row ∷ []) rows)
+          (more (cards ++ card ∷ []) (one_more_represents f before row cards (cards ++ card ∷ []) represent (record { card = card; has_read = refl; represents = represents; first = first })))
 
-      by : GoesOn f (before ++ row ∷ []) rows → Stands f row ⊎ Fails f row → StandsOrFails f (before ++ row ∷ rows)
-      by more (inl (card, stands)) = by_uid more card stands (among_or_not (map uid_of cards) (uid_of card))
+      by : Continues f (before ++ row ∷ []) rows → RepresentsCard f row ⊎ Fails f row → RepresentsOrFails f (before ++ row ∷ rows)
+      by more (inl (card, represents)) = by_uid more card represents (among_or_not (map uid_of cards) (uid_of card))
       by more (inr (why, least)) = fails why (least cards)
 
   -- ---- a text
 
   headed : (f : Form) (text : List ℕ) (rows : List Row) → AreRows text (header f ∷ rows) → HasCards text ⊎ HasFault text
-  headed f text rows are = by (rows_behind f rows [] [] (none_stand f))
+  headed f text rows are = by (rows_after f rows [] [] (none_represent f))
     where
-      by : StandsOrFails f rows → HasCards text ⊎ HasFault text
-      by (inl (cards, stand)) = inl (cards, record { kind = f; rows = rows; are_rows = are; stand = stand })
+      by : RepresentsOrFails f rows → HasCards text ⊎ HasFault text
+      by (inl (cards, represent)) = inl (cards, record { kind = f; rows = rows; are_rows = are; represent = represent })
       by (inr bad) = inr (
-        fault_at (length bad.before + 1) bad.why,
+        row_fault (length bad.before + 1) bad.why,
         inr (record {
           kind = f;
           before = bad.before;
           row = bad.row;
           cards = bad.cards;
           begin = begin_with text (header f ∷ (bad.before ++ bad.row ∷ [])) bad.after (subst (λ all. AreRows text (header f ∷ all)) (bad.are ∙ sym (append_assoc bad.before (bad.row ∷ []) bad.after)) are);
-          stand = bad.stand;
+          represent = bad.represent;
           place = refl;
           cause = bad.least;
         }),
@@ -207,7 +207,7 @@ module _ (laws : CardsOrFaults) where
       by all.0 all.1
     where
       headless : CsvFault
-      headless = fault_at 0 cause.BadHeader
+      headless = row_fault 0 cause.BadHeader
 
       neither : (row : Row) → row ≢ header form.Cards → row ≢ header form.Columns → (f : Form) → row ≢ header f
       neither row cards columns form.Cards = cards

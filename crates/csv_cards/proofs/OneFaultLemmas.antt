@@ -12,11 +12,11 @@ use Rattle.csv_cards.specs.declared.cause.CsvCause.{CsvCause}
 use Rattle.csv_cards.specs.declared.cause.CsvCause.TheVariants as cause
 use Rattle.csv_cards.specs.declared.fault.CsvFault.{CsvFault}
 use Rattle.csv_cards.specs.Causes.{cause_number}
-use Rattle.csv_cards.specs.Rows.{Row, BeginWith, header}
-use Rattle.csv_cards.specs.Reading.{Applies, HasBadHeader, IsFirstFault, IsFirstFaultyRow, IsLeastCause, StandForEach, fault_at}
+use Rattle.csv_cards.specs.Rows.{Row, RowsBeginWith, header}
+use Rattle.csv_cards.specs.Reading.{CauseApplies, HasBadHeader, IsFirstRowFault, IsFirstFaultyRow, IsLeastCause, RowsRepresentEach, row_fault}
 use Rattle.csv_cards.proofs.CauseLemmas.{FaultsAreOne, few_numbers, one_fault}
 use Rattle.csv_cards.proofs.OneReadingLemmas.{some_read, header_one, each_one}
-use Rattle.csv_cards.proofs.FirstFaultLemmas.{begun, first_is, none_behind}
+use Rattle.csv_cards.proofs.FirstFaultLemmas.{begun, first_is, none_after}
 
 -- ---- of two beginnings one begins the other
 
@@ -39,10 +39,10 @@ agree s text (r ∷ rs) (q ∷ qs) s2 t2 y z one other =
     both_more r q rs qs (other.2 ∙ sym (ap (λ p. p.0) same) ∙ sym one.2)
     (agree other.0.1 other.0.2 rs qs s2 t2 y z (subst (λ p. Reached default_config p.1 p.2 rs s2 y) same one.3) other.3)
 
-two_begin : (text : List ℕ) (a b : List Row) → BeginWith text a → BeginWith text b → Begins a b ⊎ Begins b a
+two_begin : (text : List ℕ) (a b : List Row) → RowsBeginWith text a → RowsBeginWith text b → Begins a b ⊎ Begins b a
 two_begin text a b one other = agree st.StartRecord (strip_bom text) a b one.state other.state one.rest other.rest one.reached other.reached
 
--- a row behind others is the same in both lists, or among the others of the longer one
+-- a row after others is the same in both lists, or among the others of the longer one
 ends : (a b : List Row) (r q : Row) (others : List Row) → b ++ q ∷ [] ≡ a ++ r ∷ others → ((b ≡ a) × (q ≡ r)) ⊎ ((after : List Row) × (b ≡ a ++ r ∷ after))
 ends [] [] r q others e = inl (refl, first_is q r [] others e)
 ends [] (x ∷ b) r q others e = inr (b, ap (λ first. first ∷ b) (first_is x r (b ++ q ∷ []) others e))
@@ -59,21 +59,21 @@ ends (x ∷ a) (y ∷ b) r q others e = both (first_is y x (b ++ q ∷ []) (a ++
 -- ---- one least cause
 
 -- the cause of a number that is no card's fault
-told : ℕ → CsvCause
-told n =
+cause_numbered : ℕ → CsvCause
+cause_numbered n =
     if n == 2 then cause.Columns else if n == 3 then cause.NotUtf8
     else if n == 4 then cause.EmptyName else if n == 40 then cause.UidMismatch
     else cause.DuplicateUid
 
 abbrev IsPlain : CsvCause → Type 0
-IsPlain why = (why ≡ told (cause_number why)) × ((cause_number why ≤ 4) ⊎ (40 ≤ cause_number why))
+IsPlain why = (why ≡ cause_numbered (cause_number why)) × ((cause_number why ≤ 4) ⊎ (40 ≤ cause_number why))
 
 abbrev IsBad : CsvCause → Type 0
 IsBad why = (fault : CardFault) × (why ≡ cause.BadCard fault)
 
 module _ (f : Form) (earlier : List (List Line)) (row : Row) where
-  kind_of : (why : CsvCause) → Applies f earlier row why → IsBad why ⊎ IsPlain why
-  unfolding told
+  kind_of : (why : CsvCause) → CauseApplies f earlier row why → IsBad why ⊎ IsPlain why
+  unfolding cause_numbered
   kind_of cause.BadHeader none = absurd none
   kind_of cause.Columns is = inr (refl, inl (omega arith))
   kind_of cause.NotUtf8 is = inr (refl, inl (omega arith))
@@ -84,21 +84,21 @@ module _ (f : Form) (earlier : List (List Line)) (row : Row) where
   kind_of cause.Memory none = absurd none
 
   not_both : (a b : CsvCause) → IsBad a → IsPlain b → cause_number a ≡ cause_number b → ⊥
-  not_both a b (fault, is) (told, inl small) same =
+  not_both a b (fault, is) (cause_numbered, inl small) same =
       let few = few_numbers fault in
       let n = ap cause_number is in
       omega (arith, few, n, small, same)
-  not_both a b (fault, is) (told, inr large) same =
+  not_both a b (fault, is) (cause_numbered, inr large) same =
       let few = few_numbers fault in
       let n = ap cause_number is in
       omega (arith, few, n, large, same)
 
-  by_kind : FaultsAreOne → (a b : CsvCause) → Applies f earlier row a → Applies f earlier row b → cause_number a ≡ cause_number b → IsBad a ⊎ IsPlain a → IsBad b ⊎ IsPlain b → a ≡ b
+  by_kind : FaultsAreOne → (a b : CsvCause) → CauseApplies f earlier row a → CauseApplies f earlier row b → cause_number a ≡ cause_number b → IsBad a ⊎ IsPlain a → IsBad b ⊎ IsPlain b → a ≡ b
   by_kind one a b is too same (inl (x, bad)) (inl (y, bad_too)) =
-      bad ∙ ap (λ fault. cause.BadCard fault) (one_fault one f row x y (subst (Applies f earlier row) bad is) (subst (Applies f earlier row) bad_too too)) ∙ sym bad_too
+      bad ∙ ap (λ fault. cause.BadCard fault) (one_fault one f row x y (subst (CauseApplies f earlier row) bad is) (subst (CauseApplies f earlier row) bad_too too)) ∙ sym bad_too
   by_kind one a b is too same (inl bad) (inr plain) = absurd (not_both a b bad plain same)
   by_kind one a b is too same (inr plain) (inl bad) = absurd (not_both b a bad plain (sym same))
-  by_kind one a b is too same (inr plain) (inr plain_too) = plain.0 ∙ ap told same ∙ sym plain_too.0
+  by_kind one a b is too same (inr plain) (inr plain_too) = plain.0 ∙ ap cause_numbered same ∙ sym plain_too.0
 
   pub least_is_one : FaultsAreOne → (a b : CsvCause) → IsLeastCause f earlier row a → IsLeastCause f earlier row b → a ≡ b
   least_is_one one a b is too =
@@ -109,13 +109,13 @@ module _ (f : Form) (earlier : List (List Line)) (row : Row) where
 -- ---- one first fault
 
 fault_is : (a b : CsvFault) → a.row ≡ b.row → a.cause ≡ b.cause → a ≡ b
-fault_is a b place why = ap (λ row. fault_at row a.cause) place ∙ ap (λ why. fault_at b.row why) why
+fault_is a b place why = ap (λ row. row_fault row a.cause) place ∙ ap (λ why. row_fault b.row why) why
 
 module _ (one_card : (text : List ℕ) (a b : List Line) → Spells text a → Spells text b → a ≡ b) (one : FaultsAreOne) where
   same_row : (text : List ℕ) (a b : CsvFault) (is : IsFirstFaultyRow text a) (too : IsFirstFaultyRow text b) → too.kind ≡ is.kind → too.before ≡ is.before → too.row ≡ is.row → a ≡ b
   same_row text a b is too kind before row =
-      let each = subst (λ rows. StandForEach is.kind rows too.cards) before (subst (λ f. StandForEach f too.before too.cards) kind too.stand.each) in
-      let cards : too.cards ≡ is.cards = each_one one_card is.kind is.before too.cards is.cards each is.stand.each in
+      let each = subst (λ rows. RowsRepresentEach is.kind rows too.cards) before (subst (λ f. RowsRepresentEach f too.before too.cards) kind too.represent.each) in
+      let cards : too.cards ≡ is.cards = each_one one_card is.kind is.before too.cards is.cards each is.represent.each in
       let least = subst (λ f. IsLeastCause f is.cards is.row b.cause) kind (subst (λ lines. IsLeastCause too.kind lines is.row b.cause) cards (subst (λ at. IsLeastCause too.kind too.cards at b.cause) row too.cause)) in
       fault_is a b (is.place ∙ ap (λ rows. length rows + 1) (sym before) ∙ sym too.place)
       (least_is_one is.kind is.cards is.row one a.cause b.cause is.cause least)
@@ -128,9 +128,9 @@ module _ (one_card : (text : List ℕ) (a b : List Line) → Spells text a → S
       by_end : too.kind ≡ is.kind → ((too.before ≡ is.before) × (too.row ≡ is.row)) ⊎ ((after : List Row) × (too.before ≡ is.before ++ is.row ∷ after)) → a ≡ b
       by_end kind (inl (before, row)) = same_row text a b is too kind before row
       by_end kind (inr (after, longer)) =
-          absurd (none_behind one_card is.kind is.before is.row after is.cards too.cards is.stand.each
-          (subst (λ rows. StandForEach is.kind rows too.cards) longer (subst (λ f. StandForEach f too.before too.cards) kind too.stand.each))
-          too.stand.distinct a.cause is.cause.applies)
+          absurd (none_after one_card is.kind is.before is.row after is.cards too.cards is.represent.each
+          (subst (λ rows. RowsRepresentEach is.kind rows too.cards) longer (subst (λ f. RowsRepresentEach f too.before too.cards) kind too.represent.each))
+          too.represent.distinct a.cause is.cause.applies)
 
   rows_one : (text : List ℕ) (a b : CsvFault) (is : IsFirstFaultyRow text a) (too : IsFirstFaultyRow text b) → Begins (header is.kind ∷ (is.before ++ is.row ∷ [])) (header too.kind ∷ (too.before ++ too.row ∷ [])) ⊎ Begins (header too.kind ∷ (too.before ++ too.row ∷ [])) (header is.kind ∷ (is.before ++ is.row ∷ [])) → a ≡ b
   rows_one text a b is too (inl more) = one_way text a b is too more
@@ -146,7 +146,7 @@ module _ (one_card : (text : List ℕ) (a b : List Line) → Spells text a → S
       either (inl more) = other is.kind (sym (first_is (header is.kind) row (is.before ++ is.row ∷ []) more.0 more.1))
       either (inr more) = other is.kind (first_is row (header is.kind) [] ((is.before ++ is.row ∷ []) ++ more.0) more.1)
 
-  pub first_faults_one : (text : List ℕ) (a b : CsvFault) → IsFirstFault text a → IsFirstFault text b → a ≡ b
+  pub first_faults_one : (text : List ℕ) (a b : CsvFault) → IsFirstRowFault text a → IsFirstRowFault text b → a ≡ b
   first_faults_one text a b (inl bad) (inl bad_too) = bad.1 ∙ sym bad_too.1
   first_faults_one text a b (inl bad) (inr is) = absurd (bad_or_row text b bad.0 is)
   first_faults_one text a b (inr is) (inl bad) = absurd (bad_or_row text a bad.0 is)

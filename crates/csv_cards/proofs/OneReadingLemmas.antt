@@ -10,7 +10,7 @@ use Rattle.vcard_text.specs.Spelling.{Spells}
 use Rattle.csv_cards.specs.declared.form.Form.{Form}
 use Rattle.csv_cards.specs.declared.form.Form.TheVariants as form
 use Rattle.csv_cards.specs.Rows.{Row, AreRows, header}
-use Rattle.csv_cards.specs.Reading.{AreCards, StandForEach, StandsFor}
+use Rattle.csv_cards.specs.Reading.{TextHasCards, RowsRepresentEach, RowRepresents}
 
 -- ---- rows
 
@@ -56,20 +56,20 @@ header_one form.Cards form.Columns rows more e = absurd (omega (arith, ap first_
 header_one form.Columns form.Cards rows more e = absurd (omega (arith, ap first_length e))
 
 module _ (one_card : (text : List ℕ) (a b : List Line) → Spells text a → Spells text b → a ≡ b) where
-  pub stands_for_one : (f : Form) (row : Row) (a b : List Line) → StandsFor f row a → StandsFor f row b → a ≡ b
-  stands_for_one form.Cards row a b one other = one_card _ a b one.holds.text other.holds.text
-  stands_for_one form.Columns row a b one other = one.holds.lines ∙ sym other.holds.lines
+  pub represents_one : (f : Form) (row : Row) (a b : List Line) → RowRepresents f row a → RowRepresents f row b → a ≡ b
+  represents_one form.Cards row a b one other = one_card _ a b one.holds.text other.holds.text
+  represents_one form.Columns row a b one other = one.holds.lines ∙ sym other.holds.lines
 
-  pub each_one : (f : Form) (rows : List Row) (a b : List (List Line)) → StandForEach f rows a → StandForEach f rows b → a ≡ b
+  pub each_one : (f : Form) (rows : List Row) (a b : List (List Line)) → RowsRepresentEach f rows a → RowsRepresentEach f rows b → a ≡ b
   each_one f [] [] [] one other = refl
   each_one f [] [] (d ∷ ds) one other = absurd other
   each_one f [] (c ∷ cs) b one other = absurd one
   each_one f (r ∷ rs) [] b one other = absurd one
   each_one f (r ∷ rs) (c ∷ cs) [] one other = absurd other
-  each_one f (r ∷ rs) (c ∷ cs) (d ∷ ds) one other = ap (λ x. x ∷ cs) (stands_for_one f r c d one.0 other.0) ∙ ap (λ xs. d ∷ xs) (each_one f rs cs ds one.1 other.1)
+  each_one f (r ∷ rs) (c ∷ cs) (d ∷ ds) one other = ap (λ x. x ∷ cs) (represents_one f r c d one.0 other.0) ∙ ap (λ xs. d ∷ xs) (each_one f rs cs ds one.1 other.1)
 
-  pub cards_one : (text : List ℕ) (a b : List (List Line)) → AreCards text a → AreCards text b → a ≡ b
+  pub cards_one : (text : List ℕ) (a b : List (List Line)) → TextHasCards text a → TextHasCards text b → a ≡ b
   cards_one text a b one other =
       let rows = are_rows_one text _ _ one.are_rows other.are_rows in
       let kind = header_one one.kind other.kind one.rows other.rows rows in
-      each_one other.kind other.rows a b (subst (λ f. StandForEach f other.rows a) kind (subst (λ rs. StandForEach one.kind rs a) (ap (drop 1) rows) one.stand.each)) other.stand.each
+      each_one other.kind other.rows a b (subst (λ f. RowsRepresentEach f other.rows a) kind (subst (λ rs. RowsRepresentEach one.kind rs a) (ap (drop 1) rows) one.represent.each)) other.represent.each

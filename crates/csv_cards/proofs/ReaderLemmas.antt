@@ -1,12 +1,12 @@
--- A reader that stands behind rows of its text, and reads one more.
+-- A reader that has read rows of its text, and reads one more.
 use Rattle.std.proofs.Common.{Bor, ◌≡◌, ◌∷◌, ◌++◌, [], ℕ, List, Some, true, false, refl, sym, ap, subst, ◌∙◌, inl, inr, ⊎_elim, map, cond, ◌≢◌, zero, suc, arith, length, get_or, ◌<◌, ◌+◌}
 use Rattle.csv.specs.Reading.{ReadRecord, reader_state, took_first, is_flexible, default_config, strip_bom}
 use Rattle.csv.specs.declared.parser.State.TheVariants as st
 use Rattle.csv.specs.declared.reader.Reader.{Reader}
 use Rattle.csv.proofs.ReadFacts.{rows-more, rows-end}
 use Rattle.csv_cards.specs.Rows.{Row, AreRows, header}
-use Rattle.csv_cards.specs.Readers.{HasUids, HaveRead, IsBehind, TakesRow}
-use Rattle.csv_cards.specs.Reading.{IsFirstFaultyRow, IsLeastCause, StandForAll, StandForEach, StandsFor, fault_at}
+use Rattle.csv_cards.specs.internal.ReaderState.{HasUids, HasReadCards, HasReadRows, AppendsRowCard}
+use Rattle.csv_cards.specs.Reading.{IsFirstFaultyRow, IsLeastCause, RowsRepresent, RowsRepresentEach, RowRepresents, row_fault}
 use Rattle.csv_cards.specs.declared.cause.CsvCause.{CsvCause}
 use Rattle.csv_cards.specs.declared.form.Form.{Form}
 use Rattle.std.specs.Option.{IsSome}
@@ -25,22 +25,22 @@ use Rattle.vcard_lines.specs.declared.line.Line.{Line}
 use Rattle.vcard_text.specs.Cards.{uid_of}
 
 module _ (a b : Reader (Bor (List ℕ))) (fields : Row) (text : List ℕ) (rows : List Row) where
-  pub one_more_read : IsBehind a text rows → ReadRecord (λ s. Some s.now) a b true fields → took_first b ≡ true → is_flexible b ≡ is_flexible a → IsBehind b text (rows ++ fields ∷ [])
-  one_more_read behind read took flexible =
-      let more = rows-more (λ (s : Bor (List ℕ)). Some s.now) a b fields default_config st.StartRecord (strip_bom text) behind.rest rows behind.config behind.source behind.reached read in
+  pub one_more_read : HasReadRows a text rows → ReadRecord (λ s. Some s.now) a b true fields → took_first b ≡ true → is_flexible b ≡ is_flexible a → HasReadRows b text (rows ++ fields ∷ [])
+  one_more_read has_read read took flexible =
+      let more = rows-more (λ (s : Bor (List ℕ)). Some s.now) a b fields default_config st.StartRecord (strip_bom text) has_read.rest rows has_read.config has_read.source has_read.reached read in
       record {
-        plain = read.3 ∙ behind.plain;
+        plain = read.3 ∙ has_read.plain;
         ready = inl took;
-        config = read.2 ∙ behind.config;
-        flexible = flexible ∙ behind.flexible;
+        config = read.2 ∙ has_read.config;
+        flexible = flexible ∙ has_read.flexible;
         rest = more.0;
         source = more.1;
         reached = more.2;
       }
 
-  pub none_left : IsBehind a text rows → ReadRecord (λ s. Some s.now) a b false fields → AreRows text rows
-  none_left behind read =
-      (a.state, behind.rest, behind.reached, rows-end (λ (s : Bor (List ℕ)). Some s.now) a b fields default_config behind.rest behind.config behind.source read)
+  pub none_left : HasReadRows a text rows → ReadRecord (λ s. Some s.now) a b false fields → AreRows text rows
+  none_left has_read read =
+      (a.state, has_read.rest, has_read.reached, rows-end (λ (s : Bor (List ℕ)). Some s.now) a b fields default_config has_read.rest has_read.config has_read.source read)
 
 -- ---- the UIDs so far
 
@@ -82,19 +82,19 @@ module _ (uids : finite.FinMap text_cmp (Unit {0})) (cards : List (List Line)) (
 
 -- ---- one more row and its card
 
-each_more : (f : Form) (rows : List Row) (cards : List (List Line)) (row : Row) (card : List Line) → StandForEach f rows cards → StandsFor f row card → StandForEach f (rows ++ row ∷ []) (cards ++ card ∷ [])
-each_more f [] [] row card each stands = (stands, tt)
-each_more f [] (c ∷ cs) row card each stands = absurd each
-each_more f (r ∷ rs) [] row card each stands = absurd each
-each_more f (r ∷ rs) (c ∷ cs) row card each stands = (each.0, each_more f rs cs row card each.1 stands)
+each_more : (f : Form) (rows : List Row) (cards : List (List Line)) (row : Row) (card : List Line) → RowsRepresentEach f rows cards → RowRepresents f row card → RowsRepresentEach f (rows ++ row ∷ []) (cards ++ card ∷ [])
+each_more f [] [] row card each represents = (represents, tt)
+each_more f [] (c ∷ cs) row card each represents = absurd each
+each_more f (r ∷ rs) [] row card each represents = absurd each
+each_more f (r ∷ rs) (c ∷ cs) row card each represents = (each.0, each_more f rs cs row card each.1 represents)
 
 differs : (uids : List (List ℕ)) (uid : List ℕ) → (Contains uids uid → ⊥) → (k : ℕ) (d : List ℕ) → k < length uids → get_or uids k d ≢ uid
 differs uids uid new k d small same = new (subst (Contains uids) same (Contains-get_or uids k d small))
 
-pub one_more_stands : (f : Form) (rows : List Row) (row : Row) (old new : List (List Line)) → StandForAll f rows old → TakesRow f old row new → StandForAll f (rows ++ row ∷ []) new
-one_more_stands f rows row old new stand takes = rw takes.behind (record {
-  each = each_more f rows old row takes.card stand.each takes.stands;
-  distinct = subst (AllPairs (λ a b. a ≢ b)) (sym (map-append uid_of old (takes.card ∷ []))) (all_pairs_push (λ a b. a ≢ b) (map uid_of old) (uid_of takes.card) stand.distinct (differs (map uid_of old) (uid_of takes.card) takes.first));
+pub one_more_represents : (f : Form) (rows : List Row) (row : Row) (old new : List (List Line)) → RowsRepresent f rows old → AppendsRowCard f old row new → RowsRepresent f (rows ++ row ∷ []) new
+one_more_represents f rows row old new represent takes = rw takes.has_read (record {
+  each = each_more f rows old row takes.card represent.each takes.represents;
+  distinct = subst (AllPairs (λ a b. a ≢ b)) (sym (map-append uid_of old (takes.card ∷ []))) (all_pairs_push (λ a b. a ≢ b) (map uid_of old) (uid_of takes.card) represent.distinct (differs (map uid_of old) (uid_of takes.card) takes.first));
 })
 
 pub none_yet : HasUids finite.empty []
@@ -103,28 +103,28 @@ none_yet q = (λ some. cc (subst IsSome (finite.get-empty text_cmp q) some), λ 
     nothing : (q : List ℕ) → Contains {X = List ℕ} [] q → ⊥
     nothing q (i, small, e) = omega (arith, small)
 
-pub none_stand : (f : Form) → StandForAll f [] []
-none_stand f = record { each = tt; distinct = λ i j d below small. absurd (omega (arith, small)) }
+pub none_represent : (f : Form) → RowsRepresent f [] []
+none_represent f = record { each = tt; distinct = λ i j d below small. absurd (omega (arith, small)) }
 
 -- ---- from row to row
 
 module _ (f : Form) (a b : Reader (Bor (List ℕ))) (text : List ℕ) (number : ℕ) (old new : List (List Line)) (row : Row) where
-  pub goes_on : (read : HaveRead f a text number old) → IsBehind b text ((header f ∷ read.rows) ++ row ∷ []) → TakesRow f old row new → HaveRead f b text (number + 1) new
-  goes_on read behind takes = record {
+  pub goes_on : (read : HasReadCards f a text number old) → HasReadRows b text ((header f ∷ read.rows) ++ row ∷ []) → AppendsRowCard f old row new → HasReadCards f b text (number + 1) new
+  goes_on read has_read takes = record {
     rows = read.rows ++ row ∷ [];
-    behind = behind;
-    stand = one_more_stands f read.rows row old new read.stand takes;
+    has_read = has_read;
+    represent = one_more_represents f read.rows row old new read.represent takes;
     count = ap (λ n. n + 1) read.count ∙ ap (λ n. n + 1) (sym (length-append read.rows (row ∷ [])));
   }
 
-  pub fails : (why : CsvCause) (read : HaveRead f a text number old) → IsBehind b text ((header f ∷ read.rows) ++ row ∷ []) → IsLeastCause f old row why → IsFirstFaultyRow text (fault_at number why)
-  fails why read behind least = record {
+  pub fails : (why : CsvCause) (read : HasReadCards f a text number old) → HasReadRows b text ((header f ∷ read.rows) ++ row ∷ []) → IsLeastCause f old row why → IsFirstFaultyRow text (row_fault number why)
+  fails why read has_read least = record {
     kind = f;
     before = read.rows;
     row = row;
     cards = old;
-    begin = record { state = reader_state b; rest = behind.rest; reached = behind.reached };
-    stand = read.stand;
+    begin = record { state = reader_state b; rest = has_read.rest; reached = has_read.reached };
+    represent = read.represent;
     place = read.count;
     cause = least;
   }

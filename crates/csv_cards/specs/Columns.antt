@@ -1,11 +1,12 @@
--- The card that a row of form Columns stands for: which field is which line (RFC 6350, section 6).
--- This project's own.
-use Rattle.std.specs.Prelude.{ℕ, Bool, false, ◌==◌, ◌&&◌, List, [], ◌∷◌, ◌++◌, codes, None, if◌then◌else◌, length}
+-- The property lines of a row of form Columns: which column becomes which line (RFC 6350, section
+-- 6). This project's own.
+use Rattle.std.specs.Prelude.{ℕ, Bool, false, ◌==◌, ◌&&◌, List, [], ◌∷◌, ◌++◌, codes, None}
+use Rattle.std.specs.Prelude.{if◌then◌else◌, length}
 use Rattle.std.specs.Str.{chars, encode_utf8_all}
 use Rattle.base_types.specs.Octets.{line_feed, carriage_return}
 use Rattle.vcard_lines.specs.declared.line.Line.{Line}
-use Rattle.text_values.specs.TextValues.{escaped}
-use Rattle.csv_cards.specs.Rows.{Row, field}
+use Rattle.vcard_values.specs.TextValues.{escaped_value}
+use Rattle.csv_cards.specs.Rows.{Row, row_field}
 
 -- ---- line ends
 
@@ -13,18 +14,18 @@ abbrev pub begins_with_line_feed : List ℕ → Bool
 begins_with_line_feed [] = false
 begins_with_line_feed (c ∷ cs) = c == line_feed
 
--- characters without each carriage return that stands directly before a line feed
-unfoldable pub with_plain_line_ends : List ℕ → List ℕ
-with_plain_line_ends [] = []
-with_plain_line_ends (c ∷ cs) =
-    if (c == carriage_return) && begins_with_line_feed cs then with_plain_line_ends cs
-    else c ∷ with_plain_line_ends cs
+-- the characters without each carriage return directly before a line feed
+unfoldable pub with_lf_line_ends : List ℕ → List ℕ
+with_lf_line_ends [] = []
+with_lf_line_ends (c ∷ cs) =
+    if (c == carriage_return) && begins_with_line_feed cs then with_lf_line_ends cs
+    else c ∷ with_lf_line_ends cs
 
--- the field at the place, its lines ended by line feeds alone
+-- the field at the index, with CRLF replaced by LF
 abbrev pub column : Row → ℕ → List ℕ
-column row place = encode_utf8_all (with_plain_line_ends (chars (field row place)))
+column row place = encode_utf8_all (with_lf_line_ends (chars (row_field row place)))
 
--- ---- the columns in their order
+-- ---- the columns in order
 
 abbrev pub uid_in : Row → List ℕ
 uid_in row = column row 0
@@ -59,27 +60,27 @@ plain_line name value = record { group = None; name = name; params = []; value =
 abbrev pub is_empty : List ℕ → Bool
 is_empty text = length text == 0
 
--- the line that has the text for its value, and none where the text is empty
-abbrev pub line_if_any : List ℕ → List ℕ → List Line
-line_if_any name text = if is_empty text then [] else plain_line name (escaped text) ∷ []
+-- the line with the text as its value; none if the text is empty
+abbrev pub nonempty_line : List ℕ → List ℕ → List Line
+nonempty_line name text = if is_empty text then [] else plain_line name (escaped_value text) ∷ []
 
--- a name's five components, of which the first two are family and given names (section 6.2.2)
+-- the five components of a name, of which the first two are family and given name (section 6.2.2)
 abbrev pub name_value : List ℕ → List ℕ → List ℕ
-name_value family given = escaped family ++ codes ";" ++ escaped given ++ codes ";;;"
+name_value family given = escaped_value family ++ codes ";" ++ escaped_value given ++ codes ";;;"
 
--- the name's line, and none where both names are empty
-abbrev pub name_line_if_any : List ℕ → List ℕ → List Line
-name_line_if_any family given =
+-- the N line; none if both names are empty
+abbrev pub nonempty_name_line : List ℕ → List ℕ → List Line
+nonempty_name_line family given =
     if is_empty family && is_empty given then []
     else plain_line (codes "N") (name_value family given) ∷ []
 
--- The UID is taken as it stands, all else is escaped.
+-- The UID is used as written; everything else is escaped.
 abbrev pub column_lines : Row → List Line
 column_lines row =
     plain_line (codes "UID") (uid_in row)
-    ∷ plain_line (codes "FN") (escaped (name_in row))
-    ∷ (name_line_if_any (family_in row) (given_in row)
-    ++ line_if_any (codes "EMAIL") (email_in row)
-    ++ line_if_any (codes "TEL") (telephone_in row)
-    ++ line_if_any (codes "ORG") (organization_in row)
-    ++ line_if_any (codes "NOTE") (note_in row))
+    ∷ plain_line (codes "FN") (escaped_value (name_in row))
+    ∷ (nonempty_name_line (family_in row) (given_in row)
+    ++ nonempty_line (codes "EMAIL") (email_in row)
+    ++ nonempty_line (codes "TEL") (telephone_in row)
+    ++ nonempty_line (codes "ORG") (organization_in row)
+    ++ nonempty_line (codes "NOTE") (note_in row))

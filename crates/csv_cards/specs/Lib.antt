@@ -3,8 +3,5 @@ pub mod Columns
 pub mod Causes
 pub mod Reading
 pub mod Writing
-pub mod Readers
-pub mod LineEnds
-pub mod OneRow
-pub mod Writers
 pub mod ReadBack
+pub mod internal

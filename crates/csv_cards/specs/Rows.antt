@@ -11,12 +11,12 @@ use Rattle.csv_cards.specs.declared.form.Form.TheVariants as form
 abbrev pub Row : Type 0
 Row = List (List ℕ)
 
--- These are all rows of the text, which may have one byte order mark in front.
+-- These are all rows of the text, without its byte order mark, if it has one.
 abbrev pub AreRows : List ℕ → List Row → Type 0
 AreRows text rows = AreRecords default_config st.StartRecord (strip_bom text) rows
 
 -- The text's rows begin with these.
-pub record BeginWith (text : List ℕ) (rows : List Row) : Type 0 where
+pub record RowsBeginWith (text : List ℕ) (rows : List Row) : Type 0 where
   pub state : State
   pub rest : List ℕ
   pub reached : Reached default_config st.StartRecord (strip_bom text) rows state rest
@@ -28,6 +28,6 @@ header form.Columns =
     codes "uid" ∷ codes "fn" ∷ codes "family" ∷ codes "given" ∷ codes "email" ∷ codes "tel"
     ∷ codes "org" ∷ codes "note" ∷ []
 
--- the field at the place, counted from 0
-abbrev pub field : Row → ℕ → List ℕ
-field row place = get_or row place []
+-- the field at the index, counted from 0; empty if there are fewer fields
+abbrev pub row_field : Row → ℕ → List ℕ
+row_field row place = get_or row place []

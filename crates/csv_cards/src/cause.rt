@@ -1,6 +1,6 @@
-//! Why a row stands for no card.
+//! `CsvCause`: why a row isn't a card.
 ghost use Rattle.std.specs.Prelude.{◌≡◌};
-ghost use Rattle.csv_cards.specs.Causes.{cause_number, cause_of};
+ghost use Rattle.csv_cards.specs.Causes.{cause_number, card_fault_cause};
 ghost use Rattle.csv_cards.specs.declared.cause.CsvCause.TheVariants.{Memory};
 
 use std::alloc::{AllocError, AllocFailed};
@@ -9,9 +9,9 @@ use vcard_text::{CardFault, NoMemory};
 /// What is wrong with a row.
 #[derive(Clone, Copy, Debug, PartialEq, Eq)]
 pub enum CsvCause {
-    /// There is no row, or the first is neither header.
+    /// There is no row, or the first row is neither header.
     BadHeader,
-    /// The row hasn't as many fields as the header.
+    /// The row doesn't have as many fields as the header.
     Columns,
     /// A field isn't UTF-8.
     NotUtf8,
@@ -19,17 +19,17 @@ pub enum CsvCause {
     EmptyName,
     /// The card has this fault.
     BadCard(CardFault),
-    /// The field `uid` isn't empty, and isn't the card's UID.
+    /// The field `uid` isn't empty and differs from the card's UID.
     UidMismatch,
-    /// A card of an earlier row has the UID.
+    /// The card of an earlier row has the same UID.
     DuplicateUid,
     /// An allocation failed.
     Memory,
 }
 
 impl CsvCause {
-    /// The number under which the cause is reported: 1 to 4, 20 more than the number of a card's
-    /// fault, 40, 41 and 50.
+    /// The number of the cause: 1 to 4; for `BadCard` 20 more than the number of the card's fault;
+    /// 40, 41 and 50.
     pub fn number(&self) -> u8
         ensures { result ≡ cause_number self.now }
     {
@@ -47,7 +47,7 @@ impl CsvCause {
 }
 
 impl From<CardFault> for CsvCause {
-    ghost from_gives = { λ fault cause. cause ≡ cause_of fault };
+    ghost from_gives = { λ fault cause. cause ≡ card_fault_cause fault };
 
     fn from(fault: CardFault) -> CsvCause {
         match fault {

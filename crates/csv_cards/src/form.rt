@@ -1,10 +1,10 @@
-//! The two forms of rows.
+//! `Form`: the two formats of rows.
 
-/// What the rows of a CSV text are.
+/// What the rows of a CSV text contain.
 #[derive(Clone, Copy, Debug, PartialEq, Eq)]
 pub enum Form {
-    /// A UID and a card's text, under the header `uid,vcard`.
+    /// A UID and a card's text. The header is `uid,vcard`.
     Cards,
-    /// A card's parts, under the header `uid,fn,family,given,email,tel,org,note`.
+    /// A card's parts. The header is `uid,fn,family,given,email,tel,org,note`.
     Columns,
 }

@@ -1,5 +1,5 @@
-//! Cards as rows of CSV (RFC 4180), read and written: a card's text in a row, or its parts in
-//! columns.
+//! Reads and writes cards as rows of CSV (RFC 4180): either a card's text in one field, or its
+//! parts in columns.
 #![tactic(auto)]
 
 mod cause;

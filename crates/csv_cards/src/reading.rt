@@ -1,26 +1,29 @@
-//! The cards of a CSV text.
-ghost use Rattle.std.specs.Prelude.{◌≡◌, ◌≢◌, ◌∷◌, ◌++◌, [], ℕ, List, IfOk, IfErr, OnOk, Ok, Err, MatchResult, Contains, map};
+//! Reads cards from CSV text.
+ghost use Rattle.std.specs.Prelude.{◌≡◌, ◌≢◌, ◌∷◌, ◌++◌, [], ℕ, List, IfOk, IfErr, OnOk, Ok, Err};
+ghost use Rattle.std.specs.Prelude.{MatchResult, Contains, map};
 ghost use Rattle.csv.specs.Records.{fields_of};
 ghost use Rattle.vcard_lines.specs.declared.line.Line.{Line};
 ghost use Rattle.vcard_text.specs.Cards.{uid_of};
-ghost use Rattle.csv_cards.specs.Rows.{AreRows, BeginWith, header};
-ghost use Rattle.csv_cards.specs.Reading.{AreCards, IsFirstFault, IsFirstFaultyRow, IsLeastCause, HasBadHeader, fault_at};
-ghost use Rattle.csv_cards.specs.Readers.{HasUids, IsBehind, TakesRow};
-ghost use Rattle.csv_cards.specs.declared.cause.CsvCause.TheVariants.{BadHeader, DuplicateUid, Memory};
+ghost use Rattle.csv_cards.specs.Rows.{AreRows, RowsBeginWith, header};
+ghost use Rattle.csv_cards.specs.Reading.{TextHasCards, IsFirstRowFault, IsFirstFaultyRow};
+ghost use Rattle.csv_cards.specs.Reading.{IsLeastCause, HasBadHeader, row_fault};
+ghost use Rattle.csv_cards.specs.internal.ReaderState.{HasUids, HasReadRows, AppendsRowCard};
+ghost use Rattle.csv_cards.specs.declared.cause.CsvCause.TheVariants.{BadHeader, DuplicateUid};
+ghost use Rattle.csv_cards.specs.declared.cause.CsvCause.TheVariants.{Memory};
 
 use crate::cause::CsvCause;
 use crate::fault::CsvFault;
 use crate::form::Form;
-use crate::laws::{cards_of_rows_are_one, first_fault_without_cards};
+use crate::laws::{cards_of_rows_are_unique, first_fault_without_cards};
 use crate::records::{form_of, read_record, reader_of};
 use crate::row::card_of_row;
 use csv::{ByteRecord, Reader};
 use std::alloc::Global;
-use vcard_text::laws::card_is_one;
+use vcard_text::laws::card_is_unique;
 use vcard_text::{Card, TextMap};
 
-/// Takes the card behind the others, unless one of them has its UID.
-fn take_card(
+/// Appends the card. `DuplicateUid` if an earlier card has its UID.
+fn push_card(
     alloc: Global,
     cards: &mut Vec<Card>,
     uids: &mut TextMap<()>,
@@ -41,8 +44,8 @@ fn take_card(
     Ok(())
 }
 
-/// Takes the card of one more row behind those of the rows before it.
-fn take_row(
+/// Appends the card of one more row.
+fn push_row(
     alloc: Global,
     form: Form,
     cards: &mut Vec<Card>,
@@ -50,26 +53,26 @@ fn take_row(
     row: &ByteRecord,
 ) -> Result<(), CsvCause>
     requires { HasUids uids.old cards.old.items }
-    ensures taken { OnOk result (TakesRow form cards.old.items (fields_of row.now)
+    ensures appended { OnOk result (AppendsRowCard form cards.old.items (fields_of row.now)
         cards.new.items) }
     ensures uids { OnOk result (HasUids uids.new cards.new.items) }
     ensures cause { IfErr result (λ cause. cause ≢ Memory
         → IsLeastCause form cards.old.items (fields_of row.now) cause) }
 {
-    // A law, which does nothing: a text spells at most one card.
-    card_is_one();
+    // A law: a text spells at most one card.
+    card_is_unique();
 
     let card = card_of_row(alloc, form, row)?;
-    take_card(alloc, cards, uids, card)
+    push_card(alloc, cards, uids, card)
 }
 
-/// Reads the header, and answers its form.
+/// Reads the header and returns its form.
 fn read_header(alloc: Global, reader: &mut Reader<&[u8]>) -> Result<Form, CsvFault>
-    ensures form { (text : List ℕ) → IsBehind reader.old text []
-        → IfOk result (λ form. IsBehind reader.new text (header form ∷ [])) }
-    ensures fault { (text : List ℕ) → IsBehind reader.old text []
+    ensures form { (text : List ℕ) → HasReadRows reader.old text []
+        → IfOk result (λ form. HasReadRows reader.new text (header form ∷ [])) }
+    ensures fault { (text : List ℕ) → HasReadRows reader.old text []
         → IfErr result (λ fault. fault.cause ≢ Memory
-        → HasBadHeader text × (fault ≡ fault_at 0 BadHeader)) }
+        → HasBadHeader text × (fault ≡ row_fault 0 BadHeader)) }
 {
     let mut row = ByteRecord::new(alloc);
     let Ok(found) = read_record(reader, &mut row) else {
@@ -93,11 +96,11 @@ fn read_header(alloc: Global, reader: &mut Reader<&[u8]>) -> Result<Form, CsvFau
     }
 }
 
-/// The cards of the rows that stand behind the header.
+/// Reads the cards of the rows after the header.
 fn read_cards(alloc: Global, form: Form, reader: &mut Reader<&[u8]>) -> Result<Vec<Card>, CsvFault>
-    ensures cards { (text : List ℕ) → IsBehind reader.old text (header form ∷ [])
-        → IfOk result (λ cards. AreCards text cards.items) }
-    ensures fault { (text : List ℕ) → IsBehind reader.old text (header form ∷ [])
+    ensures cards { (text : List ℕ) → HasReadRows reader.old text (header form ∷ [])
+        → IfOk result (λ cards. TextHasCards text cards.items) }
+    ensures fault { (text : List ℕ) → HasReadRows reader.old text (header form ∷ [])
         → IfErr result (λ fault. fault.cause ≢ Memory → IsFirstFaultyRow text fault) }
 {
     let mut cards = Vec::new(alloc);
@@ -113,7 +116,7 @@ fn read_cards(alloc: Global, form: Form, reader: &mut Reader<&[u8]>) -> Result<V
         if !found {
             return Ok(cards);
         }
-        match take_row(alloc, form, &mut cards, &mut uids, &row) {
+        match push_row(alloc, form, &mut cards, &mut uids, &row) {
             Ok(()) => {}
             Err(cause) => return Err(CsvFault { row: number, cause }),
         }
@@ -124,30 +127,29 @@ fn read_cards(alloc: Global, form: Form, reader: &mut Reader<&[u8]>) -> Result<V
     })
 }
 
-/// The cards that a CSV text's rows stand for (RFC 4180), in the order of the rows. The library
-/// `csv` reads the records: fields between commas, in quotes or not, one byte order mark in front
-/// taken off.
+/// Reads the cards of a CSV text (RFC 4180), in row order. The library `csv` reads the records:
+/// fields separated by commas, quoted or not, after an optional byte order mark.
 ///
-/// Under the header `uid,vcard` a row gives a card's UID, or nothing, and the card's text. Under
-/// `uid,fn,family,given,email,tel,org,note` a row gives a card's parts, of which the first two must
-/// not be empty. All fields are UTF-8, and no two cards have one UID.
+/// Under the header `uid,vcard` a row has a card's UID, which may be empty, and the card's text.
+/// Under `uid,fn,family,given,email,tel,org,note` a row has a card's parts, of which the first two
+/// must not be empty. All fields must be UTF-8, and no two cards may have the same UID.
 ///
 /// An `Err` is the first faulty row, with the cause of the least number among those that apply to
-/// it. `Memory` comes in place of any answer where an allocation fails. The work is linear in the
-/// text but for looking UIDs up, and one row of the text is kept beside the cards at a time.
+/// it. `Memory` replaces any result if an allocation fails. The work is linear in the text, apart
+/// from the lookups of UIDs. Besides the cards and their UIDs only one row at a time is kept.
 pub fn read_rows(alloc: Global, text: &[u8]) -> Result<Vec<Card>, CsvFault>
-    // What is read are the cards that the rows stand for.
-    ensures cards { IfOk result (λ cards. AreCards text.now cards.items) }
+    // Cards that are returned are the ones that the rows represent.
+    ensures cards { IfOk result (λ cards. TextHasCards text.now cards.items) }
 
-    // A text whose rows stand for cards is read as these, unless memory runs out.
-    ensures every { (cards : List (List Line)) → AreCards text.now cards
+    // For a text whose rows represent cards these are returned, unless memory runs out.
+    ensures every { (cards : List (List Line)) → TextHasCards text.now cards
         → MatchResult result (λ read. read.items ≡ cards) (λ fault. fault.cause ≡ Memory) }
 
-    // What is refused is refused for the first fault, unless memory ran out.
-    ensures fault { IfErr result (λ fault. fault.cause ≢ Memory → IsFirstFault text.now fault) }
+    // An `Err` is the text's first fault, unless memory ran out.
+    ensures fault { IfErr result (λ fault. fault.cause ≢ Memory → IsFirstRowFault text.now fault) }
 {
-    // Laws, which do nothing: a text has one list of cards, or a first fault.
-    cards_of_rows_are_one();
+    // Laws: a text has exactly one list of cards, or a first fault.
+    cards_of_rows_are_unique();
     first_fault_without_cards();
 
     let mut reader = reader_of(alloc, text);

@@ -1,8 +1,9 @@
-//! Records, and their fields.
-ghost use Rattle.std.specs.Prelude.{◌≡◌, ◌≢◌, ◌↔◌, ◌∷◌, ◌++◌, [], ℕ, List, IfOk, IfSome, IfNone, IsTrue, IsUtf8, OnOk, map, true, false};
+//! Reads CSV records and their fields.
+ghost use Rattle.std.specs.Prelude.{◌≡◌, ◌≢◌, ◌↔◌, ◌∷◌, ◌++◌, [], ℕ, List, IfOk, IfSome, IfNone};
+ghost use Rattle.std.specs.Prelude.{IsTrue, IsUtf8, OnOk, map, true, false};
 ghost use Rattle.csv.specs.Records.{AllText, fields_of};
-ghost use Rattle.csv_cards.specs.Rows.{Row, AreRows, header, field};
-ghost use Rattle.csv_cards.specs.Readers.{IsBehind};
+ghost use Rattle.csv_cards.specs.Rows.{Row, AreRows, header, row_field};
+ghost use Rattle.csv_cards.specs.internal.ReaderState.{HasReadRows};
 ghost use Rattle.csv_cards.specs.declared.form.Form.{Form};
 
 use crate::form::Form;
@@ -10,10 +11,10 @@ use csv::{ByteRecord, Reader, ReaderBuilder};
 use std::alloc::Global;
 use vcard_text::NoMemory;
 
-/// A reader of a text's records, of any lengths and with no header row of its own. It takes off
-/// one byte order mark.
+/// A reader of a text's records, with any number of fields each. It treats no row as a header, and
+/// skips a byte order mark.
 pub(crate) fn reader_of(alloc: Global, text: &[u8]) -> Reader<&[u8]>
-    ensures { IsBehind result text.now [] }
+    ensures { HasReadRows result text.now [] }
 {
     ReaderBuilder::new()
         .has_headers(false)
@@ -21,17 +22,17 @@ pub(crate) fn reader_of(alloc: Global, text: &[u8]) -> Reader<&[u8]>
         .from_reader(alloc, text)
 }
 
-/// Reads the next record, and answers whether there is one. Over memory the library gives no error
-/// but out of memory; its contract leaves one of the reader underneath open, which is taken for
-/// out of memory too.
+/// Reads the next record and returns whether there is one. When reading from memory, the library
+/// fails only by running out of memory. Its contract also allows an error of the underlying reader,
+/// which is reported as out of memory too.
 pub(crate) fn read_record(
     reader: &mut Reader<&[u8]>,
     row: &mut ByteRecord,
 ) -> Result<bool, NoMemory>
-    ensures more { (text : List ℕ) (rows : List Row) → IsBehind reader.old text rows
+    ensures more { (text : List ℕ) (rows : List Row) → HasReadRows reader.old text rows
         → IfOk result (λ found. found ≡ true
-        → IsBehind reader.new text (rows ++ fields_of row.new ∷ [])) }
-    ensures end { (text : List ℕ) (rows : List Row) → IsBehind reader.old text rows
+        → HasReadRows reader.new text (rows ++ fields_of row.new ∷ [])) }
+    ensures end { (text : List ℕ) (rows : List Row) → HasReadRows reader.old text rows
         → IfOk result (λ found. found ≡ false → AreRows text rows) }
 {
     let Ok(found) = reader.read_byte_record(row) else {
@@ -40,12 +41,12 @@ pub(crate) fn read_record(
     Ok(found)
 }
 
-/// The field at the place, and nothing where there are fewer fields.
-pub(crate) fn field(row: &ByteRecord, place: usize) -> &[u8]
-    ensures { result.now ≡ field (fields_of row.now) place }
+/// The field at the index, or an empty one if there are fewer fields.
+pub(crate) fn row_field(row: &ByteRecord, place: usize) -> &[u8]
+    ensures { result.now ≡ row_field (fields_of row.now) place }
 {
     match row.get(place) {
-        Some(field) => field,
+        Some(row_field) => row_field,
         None => b"",
     }
 }
@@ -57,25 +58,25 @@ fn is_utf8(octets: &[u8]) -> bool
 }
 
 /// Whether each field is UTF-8.
-pub(crate) fn is_text(row: &ByteRecord) -> bool
+pub(crate) fn is_utf8_row(row: &ByteRecord) -> bool
     ensures { IsTrue result ↔ AllText (fields_of row.now) }
 {
     for place in 0..row.len() {
-        if !is_utf8(field(row, place)) {
+        if !is_utf8(row_field(row, place)) {
             return false;
         }
     }
     true
 }
 
-/// Whether the field at the place is the name.
+/// Whether the field at the index equals the name.
 fn is_field(row: &ByteRecord, place: usize, name: &str) -> bool
-    ensures { IsTrue result ↔ (field (fields_of row.now) place ≡ name.now) }
+    ensures { IsTrue result ↔ (row_field (fields_of row.now) place ≡ name.now) }
 {
-    field(row, place) == name.as_bytes()
+    row_field(row, place) == name.as_bytes()
 }
 
-/// Whether the fields are these names.
+/// Whether the fields are exactly these names.
 fn has_fields(row: &ByteRecord, names: &[&str]) -> bool
     ensures { IsTrue result ↔ (fields_of row.now ≡ map (λ name. name.now) names.now) }
 {
@@ -90,7 +91,7 @@ fn has_fields(row: &ByteRecord, names: &[&str]) -> bool
     true
 }
 
-/// The form that has the record for its header.
+/// The form whose header is this record.
 pub(crate) fn form_of(row: &ByteRecord) -> Option<Form>
     ensures some { IfSome result (λ form. fields_of row.now ≡ header form) }
     ensures none { IfNone result ((form : Form) → fields_of row.now ≢ header form) }

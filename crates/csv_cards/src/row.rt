@@ -1,24 +1,28 @@
-//! The card that one row stands for.
-ghost use Rattle.std.specs.Prelude.{◌≡◌, ◌≢◌, ◌⊎◌, [], true, false, IfOk, IfErr, IsTrue, List, length};
+//! Converts one row into a card.
+ghost use Rattle.std.specs.Prelude.{◌≡◌, ◌≢◌, ◌⊎◌, [], true, false, IfOk, IfErr, IsTrue, List};
+ghost use Rattle.std.specs.Prelude.{length};
 ghost use Rattle.csv.specs.Records.{AllText, fields_of};
 ghost use Rattle.vcard_lines.specs.declared.line.Line.{Line};
 ghost use Rattle.vcard_text.specs.Cards.{uid_of};
 ghost use Rattle.csv_cards.specs.Rows.{header};
 ghost use Rattle.csv_cards.specs.Columns.{name_in};
-ghost use Rattle.csv_cards.specs.Reading.{IsLeastCause, ListsCard, SpellsCard, StandsFor};
-ghost use Rattle.csv_cards.specs.OneRow.{IsColumnsCause, IsTextCause};
+ghost use Rattle.csv_cards.specs.Reading.{IsLeastCause, ColumnsListCard, RowSpellsCard};
+ghost use Rattle.csv_cards.specs.Reading.{RowRepresents};
+ghost use Rattle.csv_cards.specs.internal.RowCauses.{IsColumnsCause, IsTextCause};
 ghost use Rattle.csv_cards.specs.declared.cause.CsvCause.TheVariants.{Memory};
 
 use crate::cause::CsvCause;
 use crate::columns::{column, column_lines};
 use crate::form::Form;
-use crate::records::{field, is_text};
+use crate::records::{is_utf8_row, row_field};
 use csv::ByteRecord;
 use std::alloc::Global;
-use vcard_text::laws::{first_fault_without_card, first_made_fault_is_computed, spelled_is_card};
+use vcard_text::laws::{
+    first_fault_of_lines_is_computed, first_fault_without_card, spelled_is_card,
+};
 use vcard_text::{Card, NoMemory, card_of_lines, read_card};
 
-/// How many fields a row of the form has.
+/// The number of fields in a row of the form.
 fn field_count(form: Form) -> usize
     ensures { result ≡ length (header form) }
 {
@@ -28,7 +32,7 @@ fn field_count(form: Form) -> usize
     }
 }
 
-/// Whether the UID that a row gives is none, or the card's.
+/// Whether the UID in a row is empty or the card's.
 fn is_uid_of(given: &[u8], card: &Card) -> bool
     ensures yes { IsTrue result → (given.now ≡ []) ⊎ (given.now ≡ uid_of card.now) }
     ensures no { result ≡ false → (given.now ≢ []) × (given.now ≢ uid_of card.now) }
@@ -36,20 +40,20 @@ fn is_uid_of(given: &[u8], card: &Card) -> bool
     given.is_empty() || given == card.uid().as_bytes()
 }
 
-/// The card of a row of a UID and a card's text.
-fn spelled_card(alloc: Global, row: &ByteRecord) -> Result<Card, CsvCause>
-    ensures card { IfOk result (λ card. SpellsCard (fields_of row.now) card) }
+/// The card of a row with a UID and a card's text.
+fn card_of_text_row(alloc: Global, row: &ByteRecord) -> Result<Card, CsvCause>
+    ensures card { IfOk result (λ card. RowSpellsCard (fields_of row.now) card) }
     ensures cause { IfErr result (λ cause. cause ≢ Memory
         → IsTextCause (fields_of row.now) cause) }
 {
-    let card = read_card(alloc, field(row, 1))?;
-    if !is_uid_of(field(row, 0), &card) {
+    let card = read_card(alloc, row_field(row, 1))?;
+    if !is_uid_of(row_field(row, 0), &card) {
         return Err(CsvCause::UidMismatch);
     }
     Ok(card)
 }
 
-/// Whether the row of columns has a name.
+/// Whether the name column of the row isn't empty.
 fn has_name(alloc: Global, row: &ByteRecord) -> Result<bool, NoMemory>
     requires { AllText (fields_of row.now) }
     ensures yes { IfOk result (λ has. has ≡ true → name_in (fields_of row.now) ≢ []) }
@@ -59,13 +63,13 @@ fn has_name(alloc: Global, row: &ByteRecord) -> Result<bool, NoMemory>
 }
 
 /// The card of a row of columns.
-fn listed_card(alloc: Global, row: &ByteRecord) -> Result<Card, CsvCause>
+fn card_of_column_row(alloc: Global, row: &ByteRecord) -> Result<Card, CsvCause>
     requires { AllText (fields_of row.now) }
-    ensures card { IfOk result (λ card. ListsCard (fields_of row.now) card) }
+    ensures card { IfOk result (λ card. ColumnsListCard (fields_of row.now) card) }
     ensures cause { IfErr result (λ cause. cause ≢ Memory
         → IsColumnsCause (fields_of row.now) cause) }
 {
-    // A law, which does nothing: what a text spells is a card.
+    // A law: what a text spells is a card.
     spelled_is_card();
 
     if !has_name(alloc, row)? {
@@ -75,25 +79,25 @@ fn listed_card(alloc: Global, row: &ByteRecord) -> Result<Card, CsvCause>
     Ok(card_of_lines(alloc, lines)?)
 }
 
-/// The card that the row stands for, whatever stood before it, or the least cause why it stands
-/// for none.
+/// The card of the row, regardless of the rows before it, or the least-numbered cause why it has
+/// none.
 pub(crate) fn card_of_row(alloc: Global, form: Form, row: &ByteRecord) -> Result<Card, CsvCause>
-    ensures card { IfOk result (λ card. StandsFor form (fields_of row.now) card) }
+    ensures card { IfOk result (λ card. RowRepresents form (fields_of row.now) card) }
     ensures cause { IfErr result (λ cause. cause ≢ Memory → (earlier : List (List Line))
         → IsLeastCause form earlier (fields_of row.now) cause) }
 {
-    // Laws, which do nothing: a text and lines have at most one first fault.
+    // Laws: a text and lines have at most one first fault.
     first_fault_without_card();
-    first_made_fault_is_computed();
+    first_fault_of_lines_is_computed();
 
     if row.len() != field_count(form) {
         return Err(CsvCause::Columns);
     }
-    if !is_text(row) {
+    if !is_utf8_row(row) {
         return Err(CsvCause::NotUtf8);
     }
     match form {
-        Form::Cards => spelled_card(alloc, row),
-        Form::Columns => listed_card(alloc, row),
+        Form::Cards => card_of_text_row(alloc, row),
+        Form::Columns => card_of_column_row(alloc, row),
     }
 }

@@ -1,13 +1,14 @@
-//! The CSV text of cards.
+//! Writes cards as CSV text.
 ghost use Rattle.std.specs.Prelude.{◌≡◌, ◌∷◌, [], IfOk, OnOk, map, string_bytes};
 ghost use Rattle.std.specs.FinMap as finite;
 ghost use Rattle.csv.specs.Writing.{default_writer, row_text};
 ghost use Rattle.csv_cards.specs.Rows.{header};
-ghost use Rattle.csv_cards.specs.Reading.{AreCards};
-ghost use Rattle.csv_cards.specs.ReadBack.{AreUnderUids};
-ghost use Rattle.csv_cards.specs.Writing.{csv_text, first_component, first_text, first_value, row_of};
+ghost use Rattle.csv_cards.specs.Reading.{TextHasCards};
+ghost use Rattle.csv_cards.specs.ReadBack.{AreUnderOwnUids};
+ghost use Rattle.csv_cards.specs.Writing.{csv_text, first_component, first_text, first_value};
+ghost use Rattle.csv_cards.specs.Writing.{card_row};
 ghost use Rattle.csv_cards.specs.declared.form.Form.TheVariants.{Cards, Columns};
-ghost use Rattle.csv_cards.specs.Writers.{Adds, IsFresh};
+ghost use Rattle.csv_cards.specs.internal.WriterState.{AppendsOctets, IsAtRowStart};
 
 use crate::form::Form;
 use crate::laws::written_cards_are_read;
@@ -16,7 +17,7 @@ use csv::{Writer, WriterBuilder};
 use std::alloc::Global;
 use vcard_text::{Card, NoMemory, components, unescape, write_card};
 
-/// The value of the card's first line of the name, and nothing where it has none.
+/// The value of the card's first line with the name, or an empty text if it has none.
 fn first_value<'a>(card: &'a Card, name: &str) -> &'a str
     ensures { result.now ≡ first_value name.now card.now }
 {
@@ -26,14 +27,14 @@ fn first_value<'a>(card: &'a Card, name: &str) -> &'a str
     }
 }
 
-/// The text of the card's first line of the name.
+/// The text of the card's first line with the name.
 fn first_text(alloc: Global, card: &Card, name: &str) -> Result<String, NoMemory>
     ensures { IfOk result (λ text. string_bytes text ≡ first_text name.now card.now) }
 {
     unescape(alloc, first_value(card, name))
 }
 
-/// The component at the place of the card's first line of the name.
+/// The component at the index of the card's first line with the name.
 fn first_component(alloc: Global, card: &Card, name: &str, place: usize) -> Result<String, NoMemory>
     ensures { IfOk result (λ text. string_bytes text ≡ first_component name.now place card.now) }
 {
@@ -46,10 +47,10 @@ fn first_component(alloc: Global, card: &Card, name: &str, place: usize) -> Resu
 
 /// Writes a row.
 fn write_fields(writer: &mut Writer<Vec<u8>>, fields: &[&[u8]]) -> Result<(), NoMemory>
-    requires { IsFresh writer.old }
-    ensures fresh { OnOk result (IsFresh writer.new) }
-    ensures adds { OnOk result (Adds writer.old writer.new
-        (row_text default_writer (map (λ field. field.now) fields.now))) }
+    requires { IsAtRowStart writer.old }
+    ensures row_start { OnOk result (IsAtRowStart writer.new) }
+    ensures appends { OnOk result (AppendsOctets writer.old writer.new
+        (row_text default_writer (map (λ row_field. row_field.now) fields.now))) }
 {
     match writer.write_fields(fields) {
         Ok(()) => Ok(()),
@@ -58,9 +59,9 @@ fn write_fields(writer: &mut Writer<Vec<u8>>, fields: &[&[u8]]) -> Result<(), No
 }
 
 fn write_header(writer: &mut Writer<Vec<u8>>, form: Form) -> Result<(), NoMemory>
-    requires { IsFresh writer.old }
-    ensures fresh { OnOk result (IsFresh writer.new) }
-    ensures adds { OnOk result (Adds writer.old writer.new
+    requires { IsAtRowStart writer.old }
+    ensures row_start { OnOk result (IsAtRowStart writer.new) }
+    ensures appends { OnOk result (AppendsOctets writer.old writer.new
         (row_text default_writer (header form))) }
 {
     match form {
@@ -74,23 +75,23 @@ fn write_header(writer: &mut Writer<Vec<u8>>, form: Form) -> Result<(), NoMemory
     }
 }
 
-/// Writes the row of a card's UID and text.
+/// Writes a row with the card's UID and text.
 fn write_text(alloc: Global, writer: &mut Writer<Vec<u8>>, card: &Card) -> Result<(), NoMemory>
-    requires { IsFresh writer.old }
-    ensures fresh { OnOk result (IsFresh writer.new) }
-    ensures adds { OnOk result (Adds writer.old writer.new
-        (row_text default_writer (row_of Cards card.now))) }
+    requires { IsAtRowStart writer.old }
+    ensures row_start { OnOk result (IsAtRowStart writer.new) }
+    ensures appends { OnOk result (AppendsOctets writer.old writer.new
+        (row_text default_writer (card_row Cards card.now))) }
 {
     let text = write_card(alloc, card)?;
     write_fields(writer, &[card.uid().as_bytes(), text.as_slice()])
 }
 
-/// Writes the row of a card's parts.
+/// Writes a row with the card's parts in columns.
 fn write_columns(alloc: Global, writer: &mut Writer<Vec<u8>>, card: &Card) -> Result<(), NoMemory>
-    requires { IsFresh writer.old }
-    ensures fresh { OnOk result (IsFresh writer.new) }
-    ensures adds { OnOk result (Adds writer.old writer.new
-        (row_text default_writer (row_of Columns card.now))) }
+    requires { IsAtRowStart writer.old }
+    ensures row_start { OnOk result (IsAtRowStart writer.new) }
+    ensures appends { OnOk result (AppendsOctets writer.old writer.new
+        (row_text default_writer (card_row Columns card.now))) }
 {
     let name = first_text(alloc, card, "FN")?;
     let family = first_component(alloc, card, "N", 0)?;
@@ -114,17 +115,17 @@ fn write_columns(alloc: Global, writer: &mut Writer<Vec<u8>>, card: &Card) -> Re
     )
 }
 
-/// Writes the row of a card.
+/// Writes the row of a card in the form.
 fn write_row(
     alloc: Global,
     writer: &mut Writer<Vec<u8>>,
     form: Form,
     card: &Card,
 ) -> Result<(), NoMemory>
-    requires { IsFresh writer.old }
-    ensures fresh { OnOk result (IsFresh writer.new) }
-    ensures adds { OnOk result (Adds writer.old writer.new
-        (row_text default_writer (row_of form card.now))) }
+    requires { IsAtRowStart writer.old }
+    ensures row_start { OnOk result (IsAtRowStart writer.new) }
+    ensures appends { OnOk result (AppendsOctets writer.old writer.new
+        (row_text default_writer (card_row form card.now))) }
 {
     match form {
         Form::Cards => write_text(alloc, writer, card),
@@ -132,7 +133,7 @@ fn write_row(
     }
 }
 
-/// The text of the cards in their order. One row at a time is kept before it is written.
+/// The CSV text of the cards, in order. Besides the output only one row at a time is kept.
 fn write_list(alloc: Global, cards: &[&Card], form: Form) -> Result<Vec<u8>, NoMemory>
     ensures { IfOk result (λ text. text.items
         ≡ csv_text form (map (λ card. card.now) cards.now)) }
@@ -148,27 +149,27 @@ fn write_list(alloc: Global, cards: &[&Card], form: Form) -> Result<Vec<u8>, NoM
     }
 }
 
-/// The CSV text of the cards, in the order of the octets of their UIDs: the header of the form and
-/// a row for each card, as the library `csv` writes rows, each ended by a line feed (RFC 4180).
+/// Writes cards as CSV text (RFC 4180): the header of the form and a row for each card, in the
+/// octet order of their UIDs. The library `csv` writes the rows, each ended by a line feed.
 ///
 /// In form `Cards` a row is the card's UID and its canonical text. In form `Columns` it is the UID,
 /// the text of the first FN line, the first two components of the first N line, the texts of the
 /// first EMAIL and TEL lines, the first component of the first ORG line and the text of the first
-/// NOTE line, each empty where there is no such line. The only `Err` is out of memory.
+/// NOTE line; each is empty if there is no such line. The only `Err` is out of memory.
 pub fn write_rows<C: CardsInOrder>(
     alloc: Global,
     cards: &C,
     form: Form,
 ) -> Result<Vec<u8>, NoMemory>
-    // It is the header and the cards' rows.
+    // The text is the header and the cards' rows.
     ensures text { IfOk result (λ text. text.items
         ≡ csv_text form (finite.values (C.cards cards.now))) }
 
-    // What form `Cards` writes of cards under their own UIDs is read as these cards, in order.
-    ensures read_back { IfOk result (λ text. form ≡ Cards → AreUnderUids (C.cards cards.now)
-        → AreCards text.items (finite.values (C.cards cards.now))) }
+    // In form `Cards`, cards under their own UIDs are read back as the same cards, in order.
+    ensures read_back { IfOk result (λ text. form ≡ Cards → AreUnderOwnUids (C.cards cards.now)
+        → TextHasCards text.items (finite.values (C.cards cards.now))) }
 {
-    // A law, which does nothing: what form `Cards` writes is read as the cards.
+    // A law: what form `Cards` writes is read back as the cards.
     written_cards_are_read();
 
     let list = cards.in_order(alloc)?;

@@ -1,9 +1,9 @@
--- The octets that are sent for each reply of the service, and for each fault of a request. This
--- project's own.
+-- The octets to send for each reply of the service and for each fault of a request. This project's
+-- own.
 use Rattle.std.specs.Prelude.{ℕ, Bool, true, List, codes, Option, None}
 use Rattle.serde_json.specs.Data.{Data}
 use Rattle.serde_json.specs.Written.{compact_text}
-use Rattle.book_model.specs.RefusalNumbers.{fault_number, fault_text}
+use Rattle.book_model.specs.RefusalNumbers.{book_fault_number, book_fault_text}
 use Rattle.book_commands.specs.declared.reply.Reply.{Reply}
 use Rattle.book_commands.specs.declared.reply.Reply.TheVariants as reply
 use Rattle.http_requests.specs.HeadFaults as head
@@ -11,9 +11,11 @@ use Rattle.http_requests.specs.declared.head_fault.HeadFault.{HeadFault}
 use Rattle.http_routes.specs.RouteFaults as route
 use Rattle.http_routes.specs.declared.fault.RouteFault.{RouteFault}
 use Rattle.page_json.specs.PageValues.{page_value}
-use Rattle.page_json.specs.Reportable.{page_texts}
+use Rattle.page_json.specs.WrittenPages.{page_texts}
 use Rattle.http_replies.specs.Messages.{Message, message_octets}
-use Rattle.reply_values.specs.ReplyValues.{created_value, put_value, gone_value, moved_value, imported_value, forgot_value, books_value, card_value, tally_value, people_value, fault_value, refusal_value}
+use Rattle.reply_json.specs.ReplyValues.{created_value, put_value, gone_value, moved_value}
+use Rattle.reply_json.specs.ReplyValues.{imported_value, forgot_value, books_value, card_value}
+use Rattle.reply_json.specs.ReplyValues.{tally_value, people_value, fault_value, refusal_value}
 use Rattle.http_replies.specs.Statuses.{reply_status}
 
 -- the body of a reply: JSON (RFC 8259), or rows of CSV (RFC 4180)
@@ -25,7 +27,7 @@ abbrev pub media_type : Body → List ℕ
 media_type (json value) = codes "application/json"
 media_type (csv rows) = codes "text/csv"
 
--- JSON stands with no space in it
+-- JSON is written without spaces
 abbrev pub body_octets : Body → List ℕ
 body_octets (json value) = compact_text value
 body_octets (csv rows) = rows
@@ -44,9 +46,10 @@ reply_body (reply.Tally tally) = json (tally_value tally)
 reply_body (reply.Csv rows) = csv rows
 reply_body (reply.People reached) = json (people_value reached)
 reply_body (reply.Refused refusal) = json (refusal_value refusal)
-reply_body (reply.Fault fault) = json (fault_value (fault_text fault) (fault_number fault))
+reply_body (reply.Fault fault) =
+    json (fault_value (book_fault_text fault) (book_fault_number fault))
 
--- what is told with this status, these methods and this body
+-- the message with this status, these methods and this body
 abbrev pub message_of : ℕ → Option (List ℕ) → Body → Message
 message_of status allow body = record {
   status = status;
@@ -55,19 +58,19 @@ message_of status allow body = record {
   body = body_octets body;
 }
 
--- what is sent for a reply of the service, before the connection is closed or goes on
+-- the octets for a reply of the service; the connection is then closed or kept open
 abbrev pub reply_octets : Reply → Bool → List ℕ
-reply_octets told close =
-    message_octets (message_of (reply_status told) None (reply_body told)) close
+reply_octets reply_sent close =
+    message_octets (message_of (reply_status reply_sent) None (reply_body reply_sent)) close
 
--- what is sent for a head's fault, which closes the connection
+-- the octets for a fault of a head, which closes the connection
 abbrev pub head_fault_octets : HeadFault → List ℕ
 head_fault_octets fault =
-    message_octets (message_of (head.fault_status fault) None
-    (json (fault_value (head.fault_text fault) (head.fault_number fault)))) true
+    message_octets (message_of (head.head_fault_status fault) None
+    (json (fault_value (head.head_fault_text fault) (head.head_fault_number fault)))) true
 
--- what is sent where a request is no route's
+-- the octets for a request that asks for no command
 abbrev pub route_fault_octets : RouteFault → Bool → List ℕ
 route_fault_octets fault close =
-    message_octets (message_of (route.fault_status fault) (route.fault_allow fault)
-    (json (fault_value (route.fault_text fault) (route.fault_number fault)))) close
+    message_octets (message_of (route.route_fault_status fault) (route.route_fault_allow fault)
+    (json (fault_value (route.route_fault_text fault) (route.route_fault_number fault)))) close

@@ -4,7 +4,13 @@ use Rattle.std.specs.Prelude.{ℕ}
 use Rattle.book_model.specs.declared.answers.PutAnswer.{PutAnswer}
 use Rattle.book_model.specs.declared.answers.PutAnswer.TheVariants as put
 use Rattle.book_model.specs.declared.refusal.Refusal.{Refusal}
-use Rattle.book_model.specs.declared.refusal.Refusal.TheVariants.{NoSuchBook, BookExists, BadBookName, NoSuchCard, BadCard, UidMismatch, VersionMismatch, UidTaken, SameBook, BadToken, BadLimit, BookFull, ChangesSpent, BadImport, BadKey, BadForget, NotGroup, TooManyBooks}
+use Rattle.book_model.specs.declared.refusal.Refusal.TheVariants.{NoSuchBook, BookExists}
+use Rattle.book_model.specs.declared.refusal.Refusal.TheVariants.{BadBookName, NoSuchCard, BadCard}
+use Rattle.book_model.specs.declared.refusal.Refusal.TheVariants.{UidMismatch, VersionMismatch}
+use Rattle.book_model.specs.declared.refusal.Refusal.TheVariants.{UidTaken, SameBook, BadToken}
+use Rattle.book_model.specs.declared.refusal.Refusal.TheVariants.{BadLimit, BookFull, ChangesSpent}
+use Rattle.book_model.specs.declared.refusal.Refusal.TheVariants.{BadImport, BadKey, BadForget}
+use Rattle.book_model.specs.declared.refusal.Refusal.TheVariants.{NotGroup, TooManyBooks}
 use Rattle.book_commands.specs.declared.reply.Reply.{Reply}
 use Rattle.book_commands.specs.declared.reply.Reply.TheVariants as reply
 

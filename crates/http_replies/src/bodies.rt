@@ -4,11 +4,11 @@ ghost use Rattle.serde_json.specs.Data.{Data};
 ghost use Rattle.serde_json.specs.View.{view};
 ghost use Rattle.serde_json.specs.Written.{compact_text, has_float};
 ghost use Rattle.http_replies.specs.Replies.{body_octets, media_type, reply_body};
-ghost use Rattle.reply_values.specs.ReplyValues.{fault_value};
+ghost use Rattle.reply_json.specs.ReplyValues.{fault_value};
 
 use book_commands::Reply;
 use page_json::write_report;
-use reply_values::{
+use reply_json::{
     books_value, card_value, created_value, fault_value, forgot_value, gone_value, imported_value,
     moved_value, people_value, put_value, refusal_value, tally_value,
 };
@@ -20,23 +20,24 @@ pub(crate) const JSON: &str = "application/json";
 
 pub(crate) const CSV: &str = "text/csv";
 
-/// The text of a value, with no space in it, where there was memory for the value.
+/// The compact JSON text of a value, or the error of building the value.
 fn text_of(alloc: Global, value: Result<Value, NoMemory>) -> Result<Vec<u8>, NoMemory>
-    ensures { (told : Data) → has_float told ≡ false → IfOk value (λ value. view value ≡ told)
-        → IfOk result (λ text. text.items ≡ compact_text told) }
+    ensures { (expected : Data) → has_float expected ≡ false
+        → IfOk value (λ value. view value ≡ expected)
+        → IfOk result (λ text. text.items ≡ compact_text expected) }
 {
     let value = value?;
     Ok(value.to_vec(alloc)?)
 }
 
-/// The JSON of a fault with this word and number.
-pub(crate) fn fault_text(alloc: Global, word: &str, number: u8) -> Result<Vec<u8>, NoMemory>
+/// The JSON of a fault with this text and number.
+pub(crate) fn fault_json(alloc: Global, word: &str, number: u8) -> Result<Vec<u8>, NoMemory>
     ensures { IfOk result (λ text. text.items ≡ compact_text (fault_value word.now number)) }
 {
     text_of(alloc, fault_value(alloc, word, number))
 }
 
-/// The kind of a reply's body (RFC 9110, section 8.3).
+/// The media type of a reply's body (RFC 9110, section 8.3).
 pub(crate) fn media_type_of(reply: &Reply) -> &'static str
     ensures { result.now ≡ media_type (reply_body reply.now) }
 {
@@ -46,7 +47,7 @@ pub(crate) fn media_type_of(reply: &Reply) -> &'static str
     }
 }
 
-/// The octets of a reply's body. Rows of CSV are moved.
+/// The octets of a reply's body. Rows of CSV are moved, not copied.
 pub(crate) fn body_of(alloc: Global, reply: Reply) -> Result<Vec<u8>, NoMemory>
     ensures { IfOk result (λ body. body.items ≡ body_octets (reply_body reply)) }
 {
@@ -66,6 +67,6 @@ pub(crate) fn body_of(alloc: Global, reply: Reply) -> Result<Vec<u8>, NoMemory>
         Reply::Csv(rows) => Ok(rows.into_vec()),
         Reply::People(reached) => text_of(alloc, people_value(alloc, &reached)),
         Reply::Refused(refusal) => text_of(alloc, refusal_value(alloc, refusal)),
-        Reply::Fault(fault) => fault_text(alloc, fault.text(), fault.number()),
+        Reply::Fault(fault) => fault_json(alloc, fault.text(), fault.number()),
     }
 }

@@ -1,4 +1,5 @@
-//! The octets of replies over HTTP (RFC 9110, RFC 9112), with their bodies in JSON (RFC 8259).
+//! Formats the replies of the service as HTTP messages (RFC 9110, RFC 9112) with JSON bodies (RFC
+//! 8259).
 #![tactic(auto)]
 
 mod bodies;

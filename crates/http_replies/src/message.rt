@@ -1,12 +1,15 @@
-//! A reply's head and body, one behind the other.
-ghost use Rattle.std.specs.Prelude.{◌≡◌, ◌++◌, IfOk, OnOk, decimal, length, option_map, string_bytes};
-ghost use Rattle.http_replies.specs.Messages.{allow_line, connection_option, field, head_octets, line, message_octets, phrase_of, status_line, told};
+//! Formats a reply: the status line, the fields and the body.
+ghost use Rattle.std.specs.Prelude.{◌≡◌, ◌++◌, IfOk, OnOk, decimal, length, option_map};
+ghost use Rattle.std.specs.Prelude.{string_bytes};
+ghost use Rattle.http_replies.specs.Messages.{allow_line, connection_option, header_field};
+ghost use Rattle.http_replies.specs.Messages.{head_octets, crlf_line, message_octets, phrase_of};
+ghost use Rattle.http_replies.specs.Messages.{status_line, message_value};
 
 use base_types::NoMemory;
 use http::StatusCode;
 use std::alloc::Global;
 
-/// What is told, before it is written.
+/// A reply before it is formatted.
 #[derive(Drop)]
 pub(crate) struct Message {
     pub(crate) status: StatusCode,
@@ -15,17 +18,17 @@ pub(crate) struct Message {
     pub(crate) body: Vec<u8>,
 }
 
-/// The phrase of a status, and none where it has none (RFC 9110, section 15).
+/// The reason phrase of a status, or the empty text if it has none (RFC 9110, section 15).
 fn phrase_of(status: StatusCode) -> &'static str
     ensures { result.now ≡ phrase_of status }
 {
     status.canonical_reason().unwrap_or("")
 }
 
-/// Puts the status line behind what stands there (RFC 9112, section 4).
+/// Appends the status line (RFC 9112, section 4).
 fn push_status(head: &mut String, status: StatusCode) -> Result<(), NoMemory>
     ensures { OnOk result (string_bytes head.new
-        ≡ string_bytes head.old ++ line (status_line status)) }
+        ≡ string_bytes head.old ++ crlf_line (status_line status)) }
 {
     head.push_str("HTTP/1.1 ")?;
     head.push_str(status.as_str())?;
@@ -35,10 +38,10 @@ fn push_status(head: &mut String, status: StatusCode) -> Result<(), NoMemory>
     Ok(())
 }
 
-/// Puts a field behind what stands there (RFC 9112, section 5).
+/// Appends a field (RFC 9112, section 5).
 fn push_field(head: &mut String, name: &str, value: &str) -> Result<(), NoMemory>
     ensures { OnOk result (string_bytes head.new
-        ≡ string_bytes head.old ++ line (field name.now value.now)) }
+        ≡ string_bytes head.old ++ crlf_line (header_field name.now value.now)) }
 {
     head.push_str(name)?;
     head.push_str(": ")?;
@@ -47,7 +50,7 @@ fn push_field(head: &mut String, name: &str, value: &str) -> Result<(), NoMemory
     Ok(())
 }
 
-/// Puts the methods behind what stands there, where there are some (RFC 9110, section 10.2.1).
+/// Appends an Allow field, if there are methods (RFC 9110, section 10.2.1).
 fn push_allow(head: &mut String, allow: Option<&str>) -> Result<(), NoMemory>
     ensures { OnOk result (string_bytes head.new ≡ string_bytes head.old
         ++ allow_line (option_map (λ methods. methods.now) allow.entry)) }
@@ -58,14 +61,14 @@ fn push_allow(head: &mut String, allow: Option<&str>) -> Result<(), NoMemory>
     }
 }
 
-/// The word for what becomes of the connection (RFC 9110, section 7.6.1).
+/// The value of the Connection field (RFC 9110, section 7.6.1).
 fn connection_option(close: bool) -> &'static str
     ensures { result.now ≡ connection_option close }
 {
     if close { "close" } else { "keep-alive" }
 }
 
-/// How many octets a body has, in decimal.
+/// The length of a body in decimal.
 fn length_text(alloc: Global, body: &[u8]) -> Result<String, NoMemory>
     ensures { IfOk result (λ text. string_bytes text ≡ decimal (length body.now)) }
 {
@@ -73,9 +76,10 @@ fn length_text(alloc: Global, body: &[u8]) -> Result<String, NoMemory>
     Ok(format!(in alloc; "{length}")?)
 }
 
-/// The lines of the head, with the empty one that ends it.
+/// The head of the reply, with the empty line that ends it.
 fn head_of(alloc: Global, message: &Message, close: bool) -> Result<String, NoMemory>
-    ensures { IfOk result (λ head. string_bytes head ≡ head_octets (told message.now) close) }
+    ensures { IfOk result (λ head.
+        string_bytes head ≡ head_octets (message_value message.now) close) }
 {
     let length = length_text(alloc, message.body.as_slice())?;
     let mut head = String::new(alloc);
@@ -94,7 +98,8 @@ pub(crate) fn message_octets(
     message: &Message,
     close: bool,
 ) -> Result<Vec<u8>, NoMemory>
-    ensures { IfOk result (λ octets. octets.items ≡ message_octets (told message.now) close) }
+    ensures { IfOk result (λ octets.
+        octets.items ≡ message_octets (message_value message.now) close) }
 {
     let mut octets = head_of(alloc, message, close)?.into_bytes();
     octets.extend_from_slice(message.body.as_slice())?;

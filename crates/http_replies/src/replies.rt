@@ -1,8 +1,8 @@
-//! The octets that are sent for each reply and each fault.
+//! The octets to send for each reply and each fault.
 ghost use Rattle.std.specs.Prelude.{◌≡◌, IfOk};
 ghost use Rattle.http_replies.specs.Replies.{head_fault_octets, reply_octets, route_fault_octets};
 
-use crate::bodies::{JSON, body_of, fault_text, media_type_of};
+use crate::bodies::{JSON, body_of, fault_json, media_type_of};
 use crate::message::{Message, message_octets};
 use crate::statuses::reply_status;
 use book_commands::Reply;
@@ -12,9 +12,9 @@ use http_routes::RouteFault;
 use std::alloc::Global;
 use vcard_text::NoMemory;
 
-/// The octets that are sent for a reply of the service: the status line, the fields Content-Type,
-/// Content-Length and Connection, an empty line, and the body. `close` says that the connection is
-/// closed behind the reply. `NoMemory` where an allocation fails.
+/// The octets to send for a reply of the service: the status line, the fields Content-Type,
+/// Content-Length and Connection, an empty line, and the body. With `close` the Connection field
+/// announces that the connection closes after the reply. `NoMemory` if an allocation fails.
 pub fn reply_bytes(alloc: Global, reply: Reply, close: bool) -> Result<Vec<u8>, NoMemory>
     ensures { IfOk result (λ octets. octets.items ≡ reply_octets reply close) }
 {
@@ -30,7 +30,7 @@ pub fn reply_bytes(alloc: Global, reply: Reply, close: bool) -> Result<Vec<u8>, 
     message_octets(alloc, &message, close)
 }
 
-/// The octets that are sent for a head's fault, which closes the connection. `NoMemory` where an
+/// The octets to send for a fault of a head, which closes the connection. `NoMemory` if an
 /// allocation fails.
 pub fn head_fault_bytes(alloc: Global, fault: HeadFault) -> Result<Vec<u8>, NoMemory>
     ensures { IfOk result (λ octets. octets.items ≡ head_fault_octets fault) }
@@ -38,7 +38,7 @@ pub fn head_fault_bytes(alloc: Global, fault: HeadFault) -> Result<Vec<u8>, NoMe
     let Ok(status) = StatusCode::from_u16(fault.status()) else {
         unreachable!()
     };
-    let body = fault_text(alloc, fault.text(), fault.number())?;
+    let body = fault_json(alloc, fault.text(), fault.number())?;
     let message = Message {
         status,
         media_type: JSON,
@@ -48,15 +48,15 @@ pub fn head_fault_bytes(alloc: Global, fault: HeadFault) -> Result<Vec<u8>, NoMe
     message_octets(alloc, &message, true)
 }
 
-/// The octets that are sent where a request is no route's, with an Allow field where the route has
-/// other methods (RFC 9110, section 15.5.6). `NoMemory` where an allocation fails.
+/// The octets to send for a request that asks for no command, with an Allow field for a wrong
+/// method (RFC 9110, section 15.5.6). `NoMemory` if an allocation fails.
 pub fn route_fault_bytes(alloc: Global, fault: RouteFault, close: bool) -> Result<Vec<u8>, NoMemory>
     ensures { IfOk result (λ octets. octets.items ≡ route_fault_octets fault close) }
 {
     let Ok(status) = StatusCode::from_u16(fault.status()) else {
         unreachable!()
     };
-    let body = fault_text(alloc, fault.text(), fault.number())?;
+    let body = fault_json(alloc, fault.text(), fault.number())?;
     let message = Message {
         status,
         media_type: JSON,

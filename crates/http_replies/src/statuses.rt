@@ -15,8 +15,7 @@ fn put_status(answer: PutAnswer) -> StatusCode
     }
 }
 
-/// The status of a refusal: what isn't there, what is there already or isn't fit for it, what the
-/// client couldn't have meant, and what there is no room for.
+/// The status of a refusal.
 fn refusal_status(refusal: Refusal) -> StatusCode
     ensures { result ≡ refusal_status refusal }
 {

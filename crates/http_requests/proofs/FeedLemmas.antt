@@ -1,4 +1,4 @@
--- A piece is taken in steps.
+-- A piece is consumed in steps.
 use Rattle.std.proofs.Common.{◌≡◌, ◌∙◌, ◌+◌, ℕ, List, [], ◌∷◌, ◌++◌, length, refl, sym, ap, subst, append_assoc, false, inl, inr, arith, take, drop, length-append, length-drop, ◌-◌, Some, None}
 use Rattle.std.proofs.lemmas.List.{append-nil, take-append-drop, take_all}
 use Rattle.httparse.specs.Grammar.{print_request}
@@ -11,9 +11,9 @@ use Rattle.http_requests.specs.declared.head_state.HeadState.{HeadState}
 use Rattle.http_requests.specs.declared.progress.Progress.{Progress}
 use Rattle.http_requests.specs.declared.progress.Stage.{Stage}
 use Rattle.http_requests.specs.declared.progress.Stage.TheVariants as stage
-use Rattle.http_requests.specs.Handling.{Doing, FaultReplies, Runs}
-use Rattle.http_requests.specs.Feeding.{IsRest, IsStopped, HandlesPart, TakesPiece, LosesPiece}
-use Rattle.http_requests.specs.Progress.{Holds, IsOpen, IsClosed, IsBeginning, IsWaiting, GoesOn, Stops, open_octets}
+use Rattle.http_requests.specs.HandlerRuns.{HandlerRelation, FaultReplies, HandlesPrefix}
+use Rattle.http_requests.specs.SessionFeeding.{IsPartialRequest, ClosesSession, HandlesSomePrefix, FeedsPiece, FeedsPieceInPart}
+use Rattle.http_requests.specs.internal.Progress.{MatchesStage, IsOpen, IsClosed, IsPartialHead, IsPartialBody, StaysOpen, BecomesClosed, open_octets}
 use Rattle.http_requests.proofs.RunLemmas.{run_none, run_on, run_answered, stopped_on, stopped_more, part_on}
 
 -- ---- open and closed
@@ -33,17 +33,17 @@ closed_where held (stage.Head state) is = absurd (cc is)
 closed_where held (stage.Body head start end) is = absurd (cc is)
 closed_where held stage.Closed is = tt
 
-pub closed_holds : (held : List ℕ) (at : Stage) → IsClosed at → Holds held at
+pub closed_holds : (held : List ℕ) (at : Stage) → IsClosed at → MatchesStage held at
 closed_holds held (stage.Head state) is = absurd is
 closed_holds held (stage.Body head start end) is = absurd is
 closed_holds held stage.Closed is = tt
 
 -- ---- what an open session holds begins with no whole request
 
-beginning_none : (held : List ℕ) (state : HeadState) → IsBeginning held state → HasNoRequest held
+beginning_none : (held : List ℕ) (state : HeadState) → IsPartialHead held state → HasNoRequest held
 beginning_none held state is r rest b = none_ended held (λ e. is.not_ended (is.state_is ∙ e)) r.head (r.body ++ rest) b.0
 
-waiting_none : (held : List ℕ) (head : Head) (start end : ℕ) → IsWaiting held head start end → HasNoRequest held
+waiting_none : (held : List ℕ) (head : Head) (start end : ℕ) → IsPartialBody held head start end → HasNoRequest held
 waiting_none held head start end is r rest b =
     let has = is.has_head in
     let h = has.whole_head in
@@ -53,12 +53,12 @@ waiting_none held head start end is r rest b =
     let size : length r.body ≡ head.length = b.1 ∙ ap body_length same.0 ∙ sym (ap (λ (v : Head). v.length) has.head_is) in
     absurd (omega (arith, held_long, body_long, size, is.not_whole, has.start_is, is.end_is))
 
-holds_none : (held : List ℕ) (at : Stage) → Holds held at → IsOpen at → HasNoRequest held
+holds_none : (held : List ℕ) (at : Stage) → MatchesStage held at → IsOpen at → HasNoRequest held
 holds_none held (stage.Head state) is open_ = beginning_none held state is
 holds_none held (stage.Body head start end) is open_ = waiting_none held head start end is
 holds_none held stage.Closed is open_ = absurd (open_ tt)
 
-holds_rest : (held : List ℕ) (at : Stage) → Holds held at → IsOpen at → IsRest held
+holds_rest : (held : List ℕ) (at : Stage) → MatchesStage held at → IsOpen at → IsPartialRequest held
 holds_rest held (stage.Head state) is open_ = inl (λ e. is.not_ended (is.state_is ∙ e), is.short)
 holds_rest held (stage.Body head start end) is open_ = inr (is.has_head.whole_head, is.body, is.has_head.begins, is.has_head.good)
 holds_rest held stage.Closed is open_ = absurd (open_ tt)
@@ -72,67 +72,67 @@ pub empty_rest : (rest : List ℕ) → length rest ≡ 0 → rest ≡ []
 empty_rest [] e = refl
 empty_rest (x ∷ xs) e = absurd (omega arith)
 
-module _ {S : Type 0} (does : Doing S) (reply_to : FaultReplies) where
-  -- the piece up to rest was taken
+module _ {S : Type 0} (does : HandlerRelation S) (reply_to : FaultReplies) where
+  -- the piece up to the rest was consumed
   pub record SoFar (held piece : List ℕ) (w : S) (out : List ℕ) (v : S) (now rest : List ℕ) : Type 0 where
     pub used : List ℕ
     pub is : piece ≡ used ++ rest
-    pub runs : Runs does reply_to (held ++ used) w out v false now
+    pub runs : HandlesPrefix does reply_to (held ++ used) w out v false now
 
   pub so_far_start : (held piece : List ℕ) (w : S) (out : List ℕ) → out ≡ [] → SoFar held piece w out w held piece
   so_far_start held piece w out none = record {
     used = [];
     is = refl;
-    runs = subst (λ t. Runs does reply_to t w out w false held) (sym (append-nil held)) (subst (λ t. Runs does reply_to held w t w false held) (sym none) (run_none does reply_to held w));
+    runs = subst (λ t. HandlesPrefix does reply_to t w out w false held) (sym (append-nil held)) (subst (λ t. HandlesPrefix does reply_to held w t w false held) (sym none) (run_none does reply_to held w));
   }
 
   so_far_step : (held piece : List ℕ) (w : S) (out : List ℕ) (u : S) (now rest : List ℕ) (n : ℕ) (more : List ℕ) (v : S) (new : Progress)
-      → SoFar held piece w out u now rest → GoesOn does reply_to (now ++ take n rest) u out more v new → SoFar held piece w more v new.held.items (drop n rest)
+      → SoFar held piece w out u now rest → StaysOpen does reply_to (now ++ take n rest) u out more v new → SoFar held piece w more v new.held.items (drop n rest)
   so_far_step held piece w out u now rest n more v new far step =
       let ran = run_on does reply_to (held ++ far.used) (take n rest) w u v out step.added false now new.held.items far.runs step.runs in
       record {
         used = far.used ++ take n rest;
         is = far.is ∙ ap (λ t. far.used ++ t) (sym (take-append-drop n rest)) ∙ sym (append_assoc far.used (take n rest) (drop n rest));
-        runs = subst (λ t. Runs does reply_to (held ++ (far.used ++ take n rest)) w t v false new.held.items) (sym step.out_is)
-            (subst (λ t. Runs does reply_to t w (out ++ step.added) v false new.held.items) (append_assoc held far.used (take n rest)) ran);
+        runs = subst (λ t. HandlesPrefix does reply_to (held ++ (far.used ++ take n rest)) w t v false new.held.items) (sym step.out_is)
+            (subst (λ t. HandlesPrefix does reply_to t w (out ++ step.added) v false new.held.items) (append_assoc held far.used (take n rest)) ran);
       }
 
   pub so_far_cut : (held piece : List ℕ) (w : S) (out : List ℕ) (u : S) (now rest : List ℕ) (n : ℕ) (more : List ℕ) (v : S) (new : Progress)
-      → SoFar held piece w out u now rest → GoesOn does reply_to (now ++ take n rest) u out more v new → SoFar held piece w more v new.held.items (take (length rest - n) (drop n rest))
+      → SoFar held piece w out u now rest → StaysOpen does reply_to (now ++ take n rest) u out more v new → SoFar held piece w more v new.held.items (take (length rest - n) (drop n rest))
   so_far_cut held piece w out u now rest n more v new far step =
       subst (λ t. SoFar held piece w more v new.held.items t) (sym (cut_rest rest n)) (so_far_step held piece w out u now rest n more v new far step)
 
-  -- ---- where the piece was taken, by what contracts see
+  -- ---- the consumed piece, as contracts see it
 
-  -- a closed session takes nothing
-  pub takes_nothing : (held piece : List ℕ) (at : Stage) (w : S) (out : List ℕ) → IsClosed at → out ≡ [] → TakesPiece does reply_to (open_octets held at) w piece out w (open_octets held at)
+  -- a closed session ignores the piece
+  pub takes_nothing : (held piece : List ℕ) (at : Stage) (w : S) (out : List ℕ) → IsClosed at → out ≡ [] → FeedsPiece does reply_to (open_octets held at) w piece out w (open_octets held at)
   takes_nothing held piece (stage.Head state) w out is none = absurd is
   takes_nothing held piece (stage.Body head start end) w out is none = absurd is
   takes_nothing held piece stage.Closed w out is none = (none, refl, refl)
 
   pub takes_stop : (held piece : List ℕ) (at : Stage) (w : S) (out : List ℕ) (u : S) (now rest : List ℕ) (n : ℕ) (more : List ℕ) (v : S) (new : Progress) → IsOpen at
-      → SoFar held piece w out u now rest → Stops does reply_to (now ++ take n rest) u out more v new → TakesPiece does reply_to (open_octets held at) w piece more v (open_octets new.held.items new.stage)
+      → SoFar held piece w out u now rest → BecomesClosed does reply_to (now ++ take n rest) u out more v new → FeedsPiece does reply_to (open_octets held at) w piece more v (open_octets new.held.items new.stage)
   takes_stop held piece at w out u now rest n more v new is_open far step =
       let stopped = stopped_on does reply_to (held ++ far.used) (take n rest) w u v out step.added now far.runs step.stopped in
       let further = stopped_more does reply_to ((held ++ far.used) ++ take n rest) (drop n rest) w v (out ++ step.added) stopped in
       let whole : ((held ++ far.used) ++ take n rest) ++ drop n rest ≡ held ++ piece =
       append_assoc (held ++ far.used) (take n rest) (drop n rest) ∙ ap (λ t. (held ++ far.used) ++ t) (take-append-drop n rest)
       ∙ append_assoc held far.used rest ∙ ap (λ t. held ++ t) (sym far.is) in
-      let said : IsStopped does reply_to (held ++ piece) w more v = subst (λ t. IsStopped does reply_to (held ++ piece) w t v) (sym step.out_is) (subst (λ t. IsStopped does reply_to t w (out ++ step.added) v) whole further) in
-      subst (λ o. TakesPiece does reply_to o w piece more v (open_octets new.held.items new.stage)) (sym (open_is held at is_open))
-      (subst (λ o. TakesPiece does reply_to (Some held) w piece more v o) (sym (closed_is new.held.items new.stage step.is_closed)) said)
+      let said : ClosesSession does reply_to (held ++ piece) w more v = subst (λ t. ClosesSession does reply_to (held ++ piece) w t v) (sym step.out_is) (subst (λ t. ClosesSession does reply_to t w (out ++ step.added) v) whole further) in
+      subst (λ o. FeedsPiece does reply_to o w piece more v (open_octets new.held.items new.stage)) (sym (open_is held at is_open))
+      (subst (λ o. FeedsPiece does reply_to (Some held) w piece more v o) (sym (closed_is new.held.items new.stage step.is_closed)) said)
 
-  pub takes_all : (held piece : List ℕ) (at : Stage) (w : S) (out : List ℕ) (v : S) (now : Progress) (rest : List ℕ) → IsOpen at → Holds now.held.items now.stage → IsOpen now.stage
-      → SoFar held piece w out v now.held.items rest → rest ≡ [] → TakesPiece does reply_to (open_octets held at) w piece out v (open_octets now.held.items now.stage)
+  pub takes_all : (held piece : List ℕ) (at : Stage) (w : S) (out : List ℕ) (v : S) (now : Progress) (rest : List ℕ) → IsOpen at → MatchesStage now.held.items now.stage → IsOpen now.stage
+      → SoFar held piece w out v now.held.items rest → rest ≡ [] → FeedsPiece does reply_to (open_octets held at) w piece out v (open_octets now.held.items now.stage)
   takes_all held piece at w out v now rest is_open holds still far none =
-      let run : Runs does reply_to (held ++ piece) w out v false now.held.items = subst (λ t. Runs does reply_to (held ++ t) w out v false now.held.items) (sym (far.is ∙ ap (λ t. far.used ++ t) none ∙ append-nil far.used)) far.runs in
+      let run : HandlesPrefix does reply_to (held ++ piece) w out v false now.held.items = subst (λ t. HandlesPrefix does reply_to (held ++ t) w out v false now.held.items) (sym (far.is ∙ ap (λ t. far.used ++ t) none ∙ append-nil far.used)) far.runs in
       let all = run_answered does reply_to (held ++ piece) w out v false now.held.items run (λ _. holds_none now.held.items now.stage holds still) in
-      subst (λ o. TakesPiece does reply_to o w piece out v (open_octets now.held.items now.stage)) (sym (open_is held at is_open))
-      (subst (λ o. TakesPiece does reply_to (Some held) w piece out v o) (sym (open_is now.held.items now.stage still)) (all, holds_rest now.held.items now.stage holds still))
+      subst (λ o. FeedsPiece does reply_to o w piece out v (open_octets now.held.items now.stage)) (sym (open_is held at is_open))
+      (subst (λ o. FeedsPiece does reply_to (Some held) w piece out v o) (sym (open_is now.held.items now.stage still)) (all, holds_rest now.held.items now.stage holds still))
 
   pub loses_part : (held piece : List ℕ) (at : Stage) (w : S) (out : List ℕ) (u : S) (now rest : List ℕ) (v : S) → IsOpen at
-      → SoFar held piece w out u now rest → HandlesPart does reply_to (now ++ rest) u v → LosesPiece does reply_to (open_octets held at) w piece v
+      → SoFar held piece w out u now rest → HandlesSomePrefix does reply_to (now ++ rest) u v → FeedsPieceInPart does reply_to (open_octets held at) w piece v
   loses_part held piece at w out u now rest v is_open far part =
-      subst (λ o. LosesPiece does reply_to o w piece v) (sym (open_is held at is_open))
-      (subst (λ t. HandlesPart does reply_to t w v) (append_assoc held far.used rest ∙ ap (λ t. held ++ t) (sym far.is))
+      subst (λ o. FeedsPieceInPart does reply_to o w piece v) (sym (open_is held at is_open))
+      (subst (λ t. HandlesSomePrefix does reply_to t w v) (append_assoc held far.used rest ∙ ap (λ t. held ++ t) (sym far.is))
       (part_on does reply_to (held ++ far.used) rest w u v out now far.runs part))

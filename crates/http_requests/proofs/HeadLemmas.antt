@@ -1,4 +1,4 @@
--- What the parser's spans say of a head that ends where the text does.
+-- The parser's spans of a head that ends where the text does.
 use Rattle.std.proofs.Common.{◌≡◌, ◌∙◌, ◌≤◌, ◌<◌, ℕ, List, [], length, sym, ap, subst, Bool, arith, take, drop, map, Option, IsUtf8, IsTrue, true}
 use Rattle.std.specs.List.{All}
 use Rattle.std.proofs.lemmas.Str.Ascii.{IsAscii-from_all}
@@ -11,12 +11,12 @@ use Rattle.httparse.specs.Spans.{IsRequestAt, RequestOverflows, AreFieldsAt, hea
 use Rattle.httparse.specs.declared.spans.HeaderSpan.{HeaderSpan}
 use Rattle.httparse.specs.declared.spans.RequestSpans.{RequestSpans}
 use Rattle.http_requests.specs.declared.head_fault.HeadFault.{HeadFault}
-use Rattle.http_requests.specs.HeadEnds.{EndsAtLast}
-use Rattle.http_requests.specs.Fields.{fault, fault_in, body_length, length_in, closes, closes_in, fields_of}
-use Rattle.http_requests.specs.Requests.{BeginsHead, NeverHasHead}
+use Rattle.http_requests.specs.HeadEnds.{EndsAtLastOctet}
+use Rattle.http_requests.specs.Fields.{fault_of_head, fault_in_fields, body_length, length_in_fields, closes, closes_by_fields, fields_of}
+use Rattle.http_requests.specs.Requests.{StartsWithHead, NeverHasHead}
 use Rattle.http_requests.proofs.EndLemmas.{ended_is}
 use Rattle.http_requests.specs.declared.head.Head.{Head}
-use Rattle.http_requests.specs.FoundHeads.{head_of, IsUnreadable}
+use Rattle.http_requests.specs.ParsedHeads.{head_of, IsUnreadable}
 
 pub unreadable : (text : List ℕ) (room : ℕ) → room ≡ 64 → RequestOverflows room text → IsUnreadable text
 unreadable text room is over = subst (λ k. RequestOverflows k text) is over
@@ -30,29 +30,29 @@ few_fields buf headers count room fields are fits =
     omega (arith, same, fits)
 
 -- the head is the text
-pub is_text : (text : List ℕ) (spans : List HeaderSpan) (r : RequestSpans) (h : RequestHead) → EndsAtLast text → IsRequestAt text spans r h → print_request h ≡ text
+pub is_text : (text : List ℕ) (spans : List HeaderSpan) (r : RequestSpans) (h : RequestHead) → EndsAtLastOctet text → IsRequestAt text spans r h → print_request h ≡ text
 is_text text spans r h ends at =
     (ended_is text ends [] h (drop r.len text) (subst (λ t. ReadsRequest t h (drop r.len text)) (sym (append-nil text)) at.reads)).0
 
-pub stands : (text : List ℕ) (spans : List HeaderSpan) (r : RequestSpans) (h : RequestHead) → EndsAtLast text → length text ≤ 16384 → r.headers ≤ 64 → IsRequestAt text spans r h → BeginsHead text h []
-stands text spans r h ends short few at =
+pub starts_with_head : (text : List ℕ) (spans : List HeaderSpan) (r : RequestSpans) (h : RequestHead) → EndsAtLastOctet text → length text ≤ 16384 → r.headers ≤ 64 → IsRequestAt text spans r h → StartsWithHead text h []
+starts_with_head text spans r h ends short few at =
     let is = is_text text spans r h ends at in
     ((at.reads.0, sym is ∙ sym (append-nil (print_request h))), omega (arith, short, ap length is), few_fields text spans r.headers 64 h.fields at.fields few)
 
 pub fault_is : (text : List ℕ) (spans : List HeaderSpan) (r : RequestSpans) (h : RequestHead) (o : Option HeadFault) → IsRequestAt text spans r h
-    → fault_in r.version (map (header_bytes text) (take r.headers spans)) ≡ o → fault h ≡ o
-unfolding fault
-fault_is text spans r h o at is = ap (λ n. fault_in n (fields_of h)) (sym at.version) ∙ ap (fault_in r.version) (sym at.fields) ∙ is
+    → fault_in_fields r.version (map (header_bytes text) (take r.headers spans)) ≡ o → fault_of_head h ≡ o
+unfolding fault_of_head
+fault_is text spans r h o at is = ap (λ n. fault_in_fields n (fields_of h)) (sym at.version) ∙ ap (fault_in_fields r.version) (sym at.fields) ∙ is
 
 pub length_is : (text : List ℕ) (spans : List HeaderSpan) (r : RequestSpans) (h : RequestHead) (n : ℕ) → IsRequestAt text spans r h
-    → length_in r.version (map (header_bytes text) (take r.headers spans)) ≡ n → body_length h ≡ n
+    → length_in_fields r.version (map (header_bytes text) (take r.headers spans)) ≡ n → body_length h ≡ n
 unfolding body_length
-length_is text spans r h n at is = ap (λ k. length_in k (fields_of h)) (sym at.version) ∙ ap (length_in r.version) (sym at.fields) ∙ is
+length_is text spans r h n at is = ap (λ k. length_in_fields k (fields_of h)) (sym at.version) ∙ ap (length_in_fields r.version) (sym at.fields) ∙ is
 
 pub close_is : (text : List ℕ) (spans : List HeaderSpan) (r : RequestSpans) (h : RequestHead) (b : Bool) → IsRequestAt text spans r h
-    → b ≡ closes_in r.version (map (header_bytes text) (take r.headers spans)) → b ≡ closes h
+    → b ≡ closes_by_fields r.version (map (header_bytes text) (take r.headers spans)) → b ≡ closes h
 unfolding closes
-close_is text spans r h b at is = is ∙ ap (closes_in r.version) at.fields ∙ ap (λ k. closes_in k (fields_of h)) at.version
+close_is text spans r h b at is = is ∙ ap (closes_by_fields r.version) at.fields ∙ ap (λ k. closes_by_fields k (fields_of h)) at.version
 
 pub head_is : (head : Head) (h : RequestHead) → head.method ≡ h.method → head.target ≡ h.target → head.close ≡ closes h → head.length ≡ body_length h → head ≡ head_of h
 head_is head h m t c l = λ i. record { method = m i; target = t i; close = c i; length = l i }

@@ -3,8 +3,7 @@ pub mod Fields
 pub mod HeadEnds
 pub mod Requests
 pub mod RequestLaws
-pub mod Scans
-pub mod FoundHeads
-pub mod Handling
-pub mod Progress
-pub mod Feeding
+pub mod ParsedHeads
+pub mod HandlerRuns
+pub mod SessionFeeding
+pub mod internal

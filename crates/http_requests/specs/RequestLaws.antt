@@ -1,31 +1,31 @@
--- A stream has one list of requests, and it can be cut anywhere.
+-- A stream has exactly one list of requests, and the stream can be cut anywhere.
 use Rattle.std.specs.Prelude.{◌≡◌, ℕ, Bool, true, false, List, ◌++◌}
-use Rattle.http_requests.specs.Requests.{Request, Leads, AreRequests}
+use Rattle.http_requests.specs.Requests.{Request, StartsWithRequests, AreAllRequests}
 
--- octets have one list of requests, and one rest
+-- the octets determine the list of requests and the rest
 abbrev pub RequestsAreDetermined : Type 0
 RequestsAreDetermined =
     (octets : List ℕ) (some others : List Request) (ended stopped : Bool) (rest left : List ℕ)
-    → AreRequests octets some ended rest → AreRequests octets others stopped left
+    → AreAllRequests octets some ended rest → AreAllRequests octets others stopped left
     → (some ≡ others) × (ended ≡ stopped) × (rest ≡ left)
 
--- the requests of both pieces are those of the first, and then those of its rest and the second
-abbrev pub RequestsGoOn : Type 0
-RequestsGoOn =
+-- the requests of two pieces are those of the first, then those of its rest and the second piece
+abbrev pub RequestsConcatenate : Type 0
+RequestsConcatenate =
     (piece next : List ℕ) (some others : List Request) (ended : Bool) (middle rest : List ℕ)
-    → AreRequests piece some false middle → AreRequests (middle ++ next) others ended rest
-    → AreRequests (piece ++ next) (some ++ others) ended rest
+    → AreAllRequests piece some false middle → AreAllRequests (middle ++ next) others ended rest
+    → AreAllRequests (piece ++ next) (some ++ others) ended rest
 
--- or those of the first alone, where its list has ended
-abbrev pub EndedRequestsStay : Type 0
-EndedRequestsStay =
+-- if the list of the first piece has ended, they are those of the first piece
+abbrev pub EndedListIsFinal : Type 0
+EndedListIsFinal =
     (piece next : List ℕ) (requests : List Request) (rest : List ℕ)
-    → AreRequests piece requests true rest
-    → AreRequests (piece ++ next) requests true (rest ++ next)
+    → AreAllRequests piece requests true rest
+    → AreAllRequests (piece ++ next) requests true (rest ++ next)
 
--- requests that lead somewhere are a beginning of the list
-abbrev pub LeadingRequestsBegin : Type 0
-LeadingRequestsBegin =
+-- requests at the front of the octets are a prefix of the list
+abbrev pub LeadingRequestsArePrefix : Type 0
+LeadingRequestsArePrefix =
     (octets : List ℕ) (some all : List Request) (ended stopped : Bool) (rest left : List ℕ)
-    → Leads octets some ended rest → AreRequests octets all stopped left
+    → StartsWithRequests octets some ended rest → AreAllRequests octets all stopped left
     → (more : List Request) × (all ≡ some ++ more)

@@ -1,47 +1,51 @@
-//! What a head's fields say.
-ghost use Rattle.std.specs.Prelude.{◌≡◌, ◌≤◌, ◌<◌, ◌+◌, ◌^◌, length, map, All, Some, None, MatchOption, MatchResult, IfSome, true, false, eqb};
+//! Reads the fields of a request head: the body length, and whether to close.
+ghost use Rattle.std.specs.Prelude.{◌≡◌, ◌≤◌, ◌<◌, ◌+◌, ◌^◌, length, map, All, Some, None};
+ghost use Rattle.std.specs.Prelude.{MatchOption, MatchResult, IfSome, true, false, eqb};
 ghost use Rattle.std.specs.List.{list_all, list_any, position};
 ghost use Rattle.std.specs.Char.{is_ascii_digit};
 ghost use Rattle.std.specs.Str.Parse.{digits_value};
 ghost use Rattle.httparse.specs.Spans.{IsHeaderWithin, header_bytes};
 ghost use Rattle.base_types.specs.Octets.{comma};
-ghost use Rattle.http_requests.specs.Fields.{is_named, count_named, first_named, is_length, fault_in, length_in, longest_body, is_close, has_close, asks_close, closes_in};
+ghost use Rattle.http_requests.specs.Fields.{field_is_named, count_fields_named, first_field_named};
+ghost use Rattle.http_requests.specs.Fields.{is_length, fault_in_fields, length_in_fields};
+ghost use Rattle.http_requests.specs.Fields.{longest_body, is_close, has_close, asks_close};
+ghost use Rattle.http_requests.specs.Fields.{closes_by_fields};
 
 use crate::head_fault::HeadFault;
 use httparse::spans::{HeaderSpan, Span};
 
 /// Whether the field has the name, in any case.
-fn is_named(text: &[u8], field: HeaderSpan, name: &str) -> bool
+fn field_is_named(text: &[u8], field: HeaderSpan, name: &str) -> bool
     requires { IsHeaderWithin (length text.now) field }
-    ensures { result ≡ is_named name.now (header_bytes text.now field) }
+    ensures { result ≡ field_is_named name.now (header_bytes text.now field) }
 {
     field.name.of(text).eq_ignore_ascii_case(name.as_bytes())
 }
 
-/// How many fields have the name.
-fn count_named(text: &[u8], fields: &[HeaderSpan], name: &str) -> usize
+/// The number of fields with the name.
+fn count_fields_named(text: &[u8], fields: &[HeaderSpan], name: &str) -> usize
     requires { All (IsHeaderWithin (length text.now)) fields.now }
-    ensures { result ≡ count_named name.now (map (header_bytes text.now) fields.now) }
+    ensures { result ≡ count_fields_named name.now (map (header_bytes text.now) fields.now) }
 {
     let mut count = 0;
     for i in 0..fields.len() {
-        if is_named(text, fields[i], name) {
+        if field_is_named(text, fields[i], name) {
             count += 1;
         }
     }
     count
 }
 
-/// The first field of the name.
-fn first_named(text: &[u8], fields: &[HeaderSpan], name: &str) -> Option<HeaderSpan>
+/// The first field with the name.
+fn first_field_named(text: &[u8], fields: &[HeaderSpan], name: &str) -> Option<HeaderSpan>
     requires { All (IsHeaderWithin (length text.now)) fields.now }
     ensures { MatchOption result
-        (first_named name.now (map (header_bytes text.now) fields.now) ≡ None)
-        (λ field. (first_named name.now (map (header_bytes text.now) fields.now)
+        (first_field_named name.now (map (header_bytes text.now) fields.now) ≡ None)
+        (λ field. (first_field_named name.now (map (header_bytes text.now) fields.now)
         ≡ Some (header_bytes text.now field)) × IsHeaderWithin (length text.now) field) }
 {
     for i in 0..fields.len() {
-        if is_named(text, fields[i], name) {
+        if field_is_named(text, fields[i], name) {
             return Some(fields[i]);
         }
     }
@@ -54,7 +58,7 @@ fn all_digits(value: &[u8]) -> bool
     value.iter().all(|octet| octet.is_ascii_digit())
 }
 
-/// The number that at most 15 digits write.
+/// The value of at most 15 decimal digits.
 fn number(value: &[u8]) -> u64
     requires digits { list_all is_ascii_digit value.now ≡ true }
     requires short { length value.now ≤ 15 }
@@ -67,8 +71,8 @@ fn number(value: &[u8]) -> u64
     number
 }
 
-/// The number that the value writes, where it is 1 to 15 digits.
-fn written_length(value: &[u8]) -> Option<u64>
+/// The value as a number, or `None` unless it is 1 to 15 decimal digits.
+fn parse_length(value: &[u8]) -> Option<u64>
     ensures { MatchOption result (is_length value.now ≡ false)
         (λ length. (is_length value.now ≡ true) × (length ≡ digits_value 10 value.now)) }
 {
@@ -79,7 +83,7 @@ fn written_length(value: &[u8]) -> Option<u64>
     }
 }
 
-/// The length of the body, or the first fault that the fields have.
+/// The length of the body, or the first fault of the fields.
 pub(crate) fn length_or_fault(
     minor: u8,
     text: &[u8],
@@ -87,24 +91,24 @@ pub(crate) fn length_or_fault(
 ) -> Result<u64, HeadFault>
     requires { All (IsHeaderWithin (length text.now)) fields.now }
     ensures { MatchResult result
-        (λ octets. (fault_in minor (map (header_bytes text.now) fields.now) ≡ None)
-        × (length_in minor (map (header_bytes text.now) fields.now) ≡ octets)
+        (λ octets. (fault_in_fields minor (map (header_bytes text.now) fields.now) ≡ None)
+        × (length_in_fields minor (map (header_bytes text.now) fields.now) ≡ octets)
         × (octets ≤ longest_body))
-        (λ fault. fault_in minor (map (header_bytes text.now) fields.now) ≡ Some fault) }
+        (λ fault. fault_in_fields minor (map (header_bytes text.now) fields.now) ≡ Some fault) }
 {
-    if minor == 1 && count_named(text, fields, "host") != 1 {
+    if minor == 1 && count_fields_named(text, fields, "host") != 1 {
         return Err(HeadFault::BadHost);
     }
-    if count_named(text, fields, "transfer-encoding") > 0 {
+    if count_fields_named(text, fields, "transfer-encoding") > 0 {
         return Err(HeadFault::TransferEncoding);
     }
-    if count_named(text, fields, "content-length") > 1 {
+    if count_fields_named(text, fields, "content-length") > 1 {
         return Err(HeadFault::BadLength);
     }
-    let Some(field) = first_named(text, fields, "content-length") else {
+    let Some(field) = first_field_named(text, fields, "content-length") else {
         return Ok(0);
     };
-    match written_length(field.value.of(text)) {
+    match parse_length(field.value.of(text)) {
         None => Err(HeadFault::BadLength),
         Some(octets) => {
             if octets > 8_388_608 {
@@ -122,9 +126,9 @@ fn is_close(part: &[u8]) -> bool
     part.trim_ascii().eq_ignore_ascii_case(b"close")
 }
 
-/// Where the first comma is.
-fn comma_in(value: &[u8]) -> Option<usize>
-    ensures is { result ≡ position (λ octet. eqb octet comma) value.now }
+/// The position of the first comma.
+fn find_comma(value: &[u8]) -> Option<usize>
+    ensures first { result ≡ position (λ octet. eqb octet comma) value.now }
     ensures bound { IfSome result (λ i. i < length value.now) }
     ensures fits { IfSome result (λ i. i + 1 < 2 ^ 64) }
 {
@@ -135,7 +139,7 @@ fn has_close(value: &[u8]) -> bool
     ensures { result ≡ has_close value.now }
 {
     let mut rest = value;
-    while let Some(at) = comma_in(rest) {
+    while let Some(at) = find_comma(rest) {
         if is_close(&rest[..at]) {
             return true;
         }
@@ -144,13 +148,13 @@ fn has_close(value: &[u8]) -> bool
     is_close(rest)
 }
 
-/// Whether a field asks to close.
+/// Whether a Connection field has the option `close`.
 fn asks_close(text: &[u8], fields: &[HeaderSpan]) -> bool
     requires { All (IsHeaderWithin (length text.now)) fields.now }
     ensures { result ≡ list_any asks_close (map (header_bytes text.now) fields.now) }
 {
     for i in 0..fields.len() {
-        if is_named(text, fields[i], "connection") && has_close(fields[i].value.of(text)) {
+        if field_is_named(text, fields[i], "connection") && has_close(fields[i].value.of(text)) {
             return true;
         }
     }
@@ -160,7 +164,7 @@ fn asks_close(text: &[u8], fields: &[HeaderSpan]) -> bool
 /// Whether the connection is closed after the reply.
 pub(crate) fn closes(minor: u8, text: &[u8], fields: &[HeaderSpan]) -> bool
     requires { All (IsHeaderWithin (length text.now)) fields.now }
-    ensures { result ≡ closes_in minor (map (header_bytes text.now) fields.now) }
+    ensures { result ≡ closes_by_fields minor (map (header_bytes text.now) fields.now) }
 {
     minor == 0 || asks_close(text, fields)
 }

@@ -1,7 +1,7 @@
-//! A head, read out of the octets up to its end.
+//! Parses a request head.
 ghost use Rattle.std.specs.Prelude.{◌≡◌, ◌≤◌, length, IfOk};
-ghost use Rattle.http_requests.specs.FoundHeads.{IsFoundHead};
-ghost use Rattle.http_requests.specs.HeadEnds.{EndsAtLast};
+ghost use Rattle.http_requests.specs.ParsedHeads.{IsParsedHead};
+ghost use Rattle.http_requests.specs.HeadEnds.{EndsAtLastOctet};
 
 use crate::fields::{closes, length_or_fault};
 use crate::head_fault::HeadFault;
@@ -10,47 +10,49 @@ use httparse::Status;
 use httparse::spans::{EMPTY_HEADER_SPAN, RequestSpans, parse_request};
 use std::alloc::Global;
 
-/// What a handler sees of a request's head.
+/// The head of a request, as a handler sees it.
 #[derive(Debug, Drop)]
 pub struct Head {
-    /// The method, as it was written.
+    /// The method, as received.
     pub method: Text,
-    /// The target, as it was written.
+    /// The target, as received.
     pub target: Text,
     /// Whether the connection is closed after the reply.
     pub close: bool,
-    /// The octets of the body, at most 8,388,608.
+    /// The length of the body in octets, at most 8,388,608.
     pub length: u64,
 }
 
-/// What octets that end as a head does are.
+/// The result of parsing octets that end where a head ends.
 #[derive(Debug, Drop)]
-pub enum FoundHead {
+pub enum ParsedHead {
     /// A head without a fault.
     Good(Head),
     /// A head whose fields have a fault: `BadHost` or a later one.
     Faulty(HeadFault),
-    /// No head, or one of more than 64 fields.
+    /// No head, or a head with more than 64 fields.
     Unreadable,
 }
 
-/// Reads a head out of the octets up to its end.
-pub fn read_head(alloc: Global, text: &[u8]) -> Result<FoundHead, NoMemory>
-    requires ends { EndsAtLast text.now }
+/// Parses a head. The octets end where the head ends.
+///
+/// `NoMemory` if an allocation fails.
+pub fn read_head(alloc: Global, text: &[u8]) -> Result<ParsedHead, NoMemory>
+    requires ends { EndsAtLastOctet text.now }
     requires short { length text.now ≤ 16384 }
-    ensures { IfOk result (IsFoundHead text.now) }
+    ensures { IfOk result (IsParsedHead text.now) }
 {
     let mut spans = [EMPTY_HEADER_SPAN; 64];
     match parse_request(text, &mut spans) {
         Ok(Status::Complete(parts)) => {
             let fields = &spans[..parts.headers];
             match length_or_fault(parts.version, text, fields) {
-                Err(fault) => Ok(FoundHead::Faulty(fault)),
+                Err(fault) => Ok(ParsedHead::Faulty(fault)),
                 Ok(length) => {
                     let close = closes(parts.version, text, fields);
                     let method = String::from_utf8_lossy(alloc, parts.method.of(text))?;
                     let target = String::from_utf8_lossy(alloc, parts.path.of(text))?;
-                    Ok(FoundHead::Good(Head {
+                    Ok(ParsedHead::Good(Head {
                         method: Text::new(method),
                         target: Text::new(target),
                         close,
@@ -59,7 +61,7 @@ pub fn read_head(alloc: Global, text: &[u8]) -> Result<FoundHead, NoMemory>
                 }
             }
         }
-        Ok(Status::Partial) => Ok(FoundHead::Unreadable),
-        Err(_) => Ok(FoundHead::Unreadable),
+        Ok(Status::Partial) => Ok(ParsedHead::Unreadable),
+        Err(_) => Ok(ParsedHead::Unreadable),
     }
 }

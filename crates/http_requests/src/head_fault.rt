@@ -1,28 +1,29 @@
-//! What is wrong with a head.
+//! The faults of a request head.
 ghost use Rattle.std.specs.Prelude.{◌≡◌};
-ghost use Rattle.http_requests.specs.HeadFaults.{fault_number, fault_status, fault_text};
+ghost use Rattle.http_requests.specs.HeadFaults.{head_fault_number, head_fault_status};
+ghost use Rattle.http_requests.specs.HeadFaults.{head_fault_text};
 
-/// Why a request is refused before its body is taken. Each closes the connection.
+/// Why a request is refused before its body is read. Each fault closes the connection.
 #[derive(Clone, Copy, Debug, PartialEq, Eq)]
 pub enum HeadFault {
-    /// What stands there is no head, or one of more than 64 fields.
+    /// The octets are no head, or a head with more than 64 fields.
     BadHead,
-    /// The first 16,384 octets are still a beginning.
+    /// The first 16,384 octets are still an incomplete head.
     HeadTooLarge,
-    /// Version 1.1 hasn't exactly one Host field.
+    /// A request of version 1.1 doesn't have exactly one Host field.
     BadHost,
     /// There is a Transfer-Encoding field.
     TransferEncoding,
-    /// There are two Content-Length fields, or the one hasn't 1 to 15 digits.
+    /// There are several Content-Length fields, or the value isn't 1 to 15 digits.
     BadLength,
     /// The body's length is above 8,388,608.
     BodyTooLarge,
 }
 
 impl HeadFault {
-    /// The number under which the fault is reported: 21 to 26, in the order of the variants.
+    /// The number of the fault: 21 to 26, in the order of the variants.
     pub fn number(self) -> u8
-        ensures { result ≡ fault_number self }
+        ensures { result ≡ head_fault_number self }
     {
         match self {
             HeadFault::BadHead => 21,
@@ -36,7 +37,7 @@ impl HeadFault {
 
     /// The status of the reply (RFC 9110, section 15; RFC 6585, section 5).
     pub fn status(self) -> u16
-        ensures { result ≡ fault_status self }
+        ensures { result ≡ head_fault_status self }
     {
         match self {
             HeadFault::BadHead => 400,
@@ -48,9 +49,9 @@ impl HeadFault {
         }
     }
 
-    /// The text under which the fault is reported.
+    /// The text of the fault.
     pub fn text(self) -> &'static str
-        ensures { result.now ≡ fault_text self }
+        ensures { result.now ≡ head_fault_text self }
     {
         match self {
             HeadFault::BadHead => "bad-head",

@@ -1,32 +1,33 @@
-//! How far a head has come.
+//! Finds the end of a head, one octet at a time.
 ghost use Rattle.std.specs.Prelude.{◌≡◌, ◌↔◌, IsTrue};
 ghost use Rattle.http_requests.specs.HeadEnds.{next};
 ghost use Rattle.http_requests.specs.declared.head_state.HeadState.TheVariants.{Ended};
 
-/// How far a head has come, so that each octet is looked at once wherever the stream is cut.
+/// The state of the search for the end of a head. Each octet is examined once, however the stream
+/// is cut.
 #[derive(Clone, Copy, Debug, PartialEq, Eq)]
 pub enum HeadState {
-    /// There were line ends alone.
+    /// Only line ends so far.
     Blank,
     /// Within a line.
     InLine,
     /// At the start of a line.
     LineStart,
-    /// Behind a carriage return that starts a line.
+    /// After a carriage return at the start of a line.
     Return,
-    /// Behind an empty line.
+    /// After an empty line: the head has ended.
     Ended,
 }
 
 impl HeadState {
-    /// Whether an empty line has come.
+    /// Whether the head has ended.
     pub fn has_ended(self) -> bool
         ensures { IsTrue result ↔ (self ≡ Ended) }
     {
         matches!(self, HeadState::Ended)
     }
 
-    /// The state behind one octet more.
+    /// The state after one more octet.
     pub fn next(self, octet: u8) -> HeadState
         ensures { result ≡ next self octet }
     {

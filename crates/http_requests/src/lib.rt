@@ -1,5 +1,5 @@
-//! Requests out of a stream of octets that comes in any pieces: their heads, where they end, and a
-//! session that has each request handled once it is whole.
+//! Splits a stream of octets, received in pieces of any size, into HTTP/1.1 requests. A session
+//! passes each request to a handler once it is complete.
 #![tactic(auto)]
 
 mod fields;
@@ -12,7 +12,7 @@ mod progress;
 mod session;
 
 pub use handler::Handler;
-pub use head::{FoundHead, Head, read_head};
+pub use head::{Head, ParsedHead, read_head};
 pub use head_fault::HeadFault;
 pub use head_state::HeadState;
 pub use session::Session;

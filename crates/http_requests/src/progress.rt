@@ -1,14 +1,18 @@
-//! How far the request at the front has come.
-ghost use Rattle.std.specs.Prelude.{◌≡◌, ◌≢◌, ◌≤◌, ◌<◌, ◌-◌, ◌↔◌, [], ◌++◌, length, take, IfOk, OnErr, IsTrue};
-ghost use Rattle.http_requests.specs.HeadEnds.{after, EndsAtLast};
-ghost use Rattle.http_requests.specs.Feeding.{HandlesPart, LosesPiece, TakesPiece};
-ghost use Rattle.http_requests.specs.FoundHeads.{IsBoundFault};
-ghost use Rattle.http_requests.specs.Progress.{Holds, IsBeginning, IsClosed, IsOpen, IsWaiting, IsWhole, Settles, open_octets};
-ghost use Rattle.http_requests.specs.Scans.{Scans};
+//! The state of a session: the octets of the incomplete request at the front.
+ghost use Rattle.std.specs.Prelude.{◌≡◌, ◌≢◌, ◌≤◌, ◌<◌, ◌-◌, ◌↔◌, [], ◌++◌, length, take, IfOk};
+ghost use Rattle.std.specs.Prelude.{OnErr, IsTrue};
+ghost use Rattle.http_requests.specs.HeadEnds.{head_state_after, EndsAtLastOctet};
+ghost use Rattle.http_requests.specs.SessionFeeding.{HandlesSomePrefix, FeedsPieceInPart};
+ghost use Rattle.http_requests.specs.SessionFeeding.{FeedsPiece};
+ghost use Rattle.http_requests.specs.ParsedHeads.{IsBoundFault};
+ghost use Rattle.http_requests.specs.internal.Progress.{MatchesStage, IsPartialHead, IsClosed};
+ghost use Rattle.http_requests.specs.internal.Progress.{IsOpen, IsPartialBody, IsCompleteRequest};
+ghost use Rattle.http_requests.specs.internal.Progress.{StepsSession, open_octets};
+ghost use Rattle.http_requests.specs.internal.HeadScans.{Scans};
 ghost use Rattle.http_requests.specs.declared.head_state.HeadState.TheVariants.{Blank, Ended};
 
 use crate::handler::Handler;
-use crate::head::{FoundHead, Head, read_head};
+use crate::head::{Head, ParsedHead, read_head};
 use crate::head_fault::HeadFault;
 use crate::head_state::HeadState;
 use base_types::NoMemory;
@@ -17,25 +21,25 @@ use httparse::spans::{EMPTY_HEADER_SPAN, RequestSpans, parse_request};
 use std::alloc::Global;
 use std::mem;
 
-/// What the octets held are.
+/// What the held octets are.
 #[derive(Debug, Drop)]
 pub(crate) enum Stage {
-    /// The beginning of a head.
+    /// The start of a head.
     Head(HeadState),
-    /// A head and some of its body, which is between the two places.
+    /// A head and part of its body. The numbers are where the body starts and ends.
     Body(Head, usize, usize),
-    /// Nothing that is of use: no more is taken.
+    /// The session is closed and ignores further octets.
     Closed,
 }
 
-/// The octets of the request at the front, and what they are.
+/// The octets of the request at the front, and their stage.
 #[derive(Debug, Drop)]
 pub(crate) struct Progress {
     pub(crate) held: Vec<u8>,
     pub(crate) stage: Stage,
 }
 
-/// Goes over the octets until a head ends, at most over so many, and answers how many it went over.
+/// Scans at most `room` octets for the end of a head. Returns the number scanned and the state.
 fn scan(state: HeadState, piece: &[u8], room: usize) -> (usize, HeadState)
     requires not_ended { state ≢ Ended }
     ensures { Scans state piece.now room result.0 result.1 }
@@ -51,9 +55,9 @@ fn scan(state: HeadState, piece: &[u8], room: usize) -> (usize, HeadState)
     (limit, state)
 }
 
-/// What is wrong where no head has ended within the bound.
+/// The fault of octets that reach the bound without the end of a head.
 fn bound_fault(text: &[u8]) -> HeadFault
-    requires not_ended { after Blank text.now ≢ Ended }
+    requires not_ended { head_state_after Blank text.now ≢ Ended }
     ensures { IsBoundFault text.now result }
 {
     let mut spans = [EMPTY_HEADER_SPAN; 64];
@@ -66,7 +70,7 @@ fn bound_fault(text: &[u8]) -> HeadFault
 
 impl Progress {
     pub(crate) fn new(alloc: Global) -> Progress
-        ensures holds { Holds result.held.items result.stage }
+        ensures holds { MatchesStage result.held.items result.stage }
         ensures is_open { IsOpen result.stage }
         ensures nothing { result.held.items ≡ [] }
     {
@@ -82,7 +86,7 @@ impl Progress {
         matches!(&self.stage, Stage::Closed)
     }
 
-    /// Replies to the head or the beginning that has the fault.
+    /// Appends the reply to a head with the fault.
     fn refuse<H: Handler>(
         alloc: Global,
         handler: &H,
@@ -96,7 +100,7 @@ impl Progress {
         Ok(())
     }
 
-    /// Has the request that is held whole handled, and tells whether the connection goes on.
+    /// Handles the complete request that is held. Returns whether the session stays open.
     fn handle<H: Handler>(
         &mut self,
         alloc: Global,
@@ -105,11 +109,11 @@ impl Progress {
         head: &Head,
         start: usize,
     ) -> Result<bool, NoMemory>
-        requires whole { IsWhole self.old.held.items head.now start }
+        requires whole { IsCompleteRequest self.old.held.items head.now start }
         requires closed { IsClosed self.old.stage }
-        ensures ok { IfOk result (Settles H.does H.fault_reply self.old.held.items handler.old
+        ensures ok { IfOk result (StepsSession H.does H.fault_reply self.old.held.items handler.old
             out.old.items out.new.items handler.new self.new) }
-        ensures err { OnErr result (HandlesPart H.does H.fault_reply self.old.held.items
+        ensures err { OnErr result (HandlesSomePrefix H.does H.fault_reply self.old.held.items
             handler.old handler.new) }
         ensures err_closed { OnErr result (IsClosed self.new.stage) }
     {
@@ -124,24 +128,24 @@ impl Progress {
         }
     }
 
-    /// Settles what is held, once a head ends there.
-    fn end_head<H: Handler>(
+    /// Parses the held head once it has ended. Returns whether the session stays open.
+    fn finish_head<H: Handler>(
         &mut self,
         alloc: Global,
         handler: &mut H,
         out: &mut Vec<u8>,
     ) -> Result<bool, NoMemory>
-        requires ends { EndsAtLast self.old.held.items }
+        requires ends { EndsAtLastOctet self.old.held.items }
         requires short { length self.old.held.items ≤ 16384 }
         requires closed { IsClosed self.old.stage }
-        ensures ok { IfOk result (Settles H.does H.fault_reply self.old.held.items handler.old
+        ensures ok { IfOk result (StepsSession H.does H.fault_reply self.old.held.items handler.old
             out.old.items out.new.items handler.new self.new) }
-        ensures err { OnErr result (HandlesPart H.does H.fault_reply self.old.held.items
+        ensures err { OnErr result (HandlesSomePrefix H.does H.fault_reply self.old.held.items
             handler.old handler.new) }
         ensures err_closed { OnErr result (IsClosed self.new.stage) }
     {
         match read_head(alloc, &self.held)? {
-            FoundHead::Good(head) => {
+            ParsedHead::Good(head) => {
                 let start = self.held.len();
                 if head.length == 0 {
                     self.handle(alloc, handler, out, &head, start)
@@ -151,19 +155,19 @@ impl Progress {
                     Ok(true)
                 }
             }
-            FoundHead::Faulty(fault) => {
+            ParsedHead::Faulty(fault) => {
                 Progress::refuse(alloc, &*handler, out, fault)?;
                 Ok(false)
             }
-            FoundHead::Unreadable => {
+            ParsedHead::Unreadable => {
                 Progress::refuse(alloc, &*handler, out, HeadFault::BadHead)?;
                 Ok(false)
             }
         }
     }
 
-    /// Takes octets of a head, and answers how many, and whether the connection goes on.
-    fn take_head<H: Handler>(
+    /// Consumes octets of a head. Returns how many, and whether the session stays open.
+    fn consume_head<H: Handler>(
         &mut self,
         alloc: Global,
         handler: &mut H,
@@ -171,22 +175,22 @@ impl Progress {
         state: HeadState,
         piece: &[u8],
     ) -> Result<(usize, bool), NoMemory>
-        requires holds { IsBeginning self.old.held.items state }
+        requires holds { IsPartialHead self.old.held.items state }
         requires closed { IsClosed self.old.stage }
         requires some { 0 < length piece.now }
-        ensures used { IfOk result (λ taken. (0 < taken.0) × (taken.0 ≤ length piece.now)) }
-        ensures ok { IfOk result (λ taken. Settles H.does H.fault_reply
-            (self.old.held.items ++ take taken.0 piece.now) handler.old out.old.items
-            out.new.items handler.new self.new taken.1) }
-        ensures err { OnErr result (HandlesPart H.does H.fault_reply
+        ensures used { IfOk result (λ outcome. (0 < outcome.0) × (outcome.0 ≤ length piece.now)) }
+        ensures ok { IfOk result (λ outcome. StepsSession H.does H.fault_reply
+            (self.old.held.items ++ take outcome.0 piece.now) handler.old out.old.items
+            out.new.items handler.new self.new outcome.1) }
+        ensures err { OnErr result (HandlesSomePrefix H.does H.fault_reply
             (self.old.held.items ++ piece.now) handler.old handler.new) }
         ensures err_closed { OnErr result (IsClosed self.new.stage) }
     {
         let (used, state) = scan(state, piece, 16384 - self.held.len());
         self.held.extend_from_slice(&piece[..used])?;
         if state.has_ended() {
-            let goes_on = self.end_head(alloc, handler, out)?;
-            Ok((used, goes_on))
+            let stays_open = self.finish_head(alloc, handler, out)?;
+            Ok((used, stays_open))
         } else if self.held.len() < 16384 {
             self.stage = Stage::Head(state);
             Ok((used, true))
@@ -197,8 +201,8 @@ impl Progress {
         }
     }
 
-    /// Takes octets of a body, and answers how many, and whether the connection goes on.
-    fn take_body<H: Handler>(
+    /// Consumes octets of a body. Returns how many, and whether the session stays open.
+    fn consume_body<H: Handler>(
         &mut self,
         alloc: Global,
         handler: &mut H,
@@ -208,14 +212,14 @@ impl Progress {
         end: usize,
         piece: &[u8],
     ) -> Result<(usize, bool), NoMemory>
-        requires holds { IsWaiting self.old.held.items head start end }
+        requires holds { IsPartialBody self.old.held.items head start end }
         requires closed { IsClosed self.old.stage }
         requires some { 0 < length piece.now }
-        ensures used { IfOk result (λ taken. (0 < taken.0) × (taken.0 ≤ length piece.now)) }
-        ensures ok { IfOk result (λ taken. Settles H.does H.fault_reply
-            (self.old.held.items ++ take taken.0 piece.now) handler.old out.old.items
-            out.new.items handler.new self.new taken.1) }
-        ensures err { OnErr result (HandlesPart H.does H.fault_reply
+        ensures used { IfOk result (λ outcome. (0 < outcome.0) × (outcome.0 ≤ length piece.now)) }
+        ensures ok { IfOk result (λ outcome. StepsSession H.does H.fault_reply
+            (self.old.held.items ++ take outcome.0 piece.now) handler.old out.old.items
+            out.new.items handler.new self.new outcome.1) }
+        ensures err { OnErr result (HandlesSomePrefix H.does H.fault_reply
             (self.old.held.items ++ piece.now) handler.old handler.new) }
         ensures err_closed { OnErr result (IsClosed self.new.stage) }
     {
@@ -225,12 +229,12 @@ impl Progress {
             self.stage = Stage::Body(head, start, end);
             Ok((used, true))
         } else {
-            let goes_on = self.handle(alloc, handler, out, &head, start)?;
-            Ok((used, goes_on))
+            let stays_open = self.handle(alloc, handler, out, &head, start)?;
+            Ok((used, stays_open))
         }
     }
 
-    /// Takes some octets more, and answers how many, and whether the connection goes on.
+    /// Consumes some more octets. Returns how many, and whether the session stays open.
     fn advance<H: Handler>(
         &mut self,
         alloc: Global,
@@ -238,39 +242,39 @@ impl Progress {
         out: &mut Vec<u8>,
         piece: &[u8],
     ) -> Result<(usize, bool), NoMemory>
-        requires holds { Holds self.old.held.items self.old.stage }
+        requires holds { MatchesStage self.old.held.items self.old.stage }
         requires is_open { IsOpen self.old.stage }
         requires some { 0 < length piece.now }
-        ensures used { IfOk result (λ taken. (0 < taken.0) × (taken.0 ≤ length piece.now)) }
-        ensures ok { IfOk result (λ taken. Settles H.does H.fault_reply
-            (self.old.held.items ++ take taken.0 piece.now) handler.old out.old.items
-            out.new.items handler.new self.new taken.1) }
-        ensures err { OnErr result (HandlesPart H.does H.fault_reply
+        ensures used { IfOk result (λ outcome. (0 < outcome.0) × (outcome.0 ≤ length piece.now)) }
+        ensures ok { IfOk result (λ outcome. StepsSession H.does H.fault_reply
+            (self.old.held.items ++ take outcome.0 piece.now) handler.old out.old.items
+            out.new.items handler.new self.new outcome.1) }
+        ensures err { OnErr result (HandlesSomePrefix H.does H.fault_reply
             (self.old.held.items ++ piece.now) handler.old handler.new) }
         ensures err_closed { OnErr result (IsClosed self.new.stage) }
     {
         match mem::replace(&mut self.stage, Stage::Closed) {
-            Stage::Head(state) => self.take_head(alloc, handler, out, state, piece),
+            Stage::Head(state) => self.consume_head(alloc, handler, out, state, piece),
             Stage::Body(head, start, end) => {
-                self.take_body(alloc, handler, out, head, start, end, piece)
+                self.consume_body(alloc, handler, out, head, start, end, piece)
             }
             Stage::Closed => Ok((piece.len(), false)),
         }
     }
 
-    /// Takes the whole piece, and answers the replies to the requests that are whole now.
+    /// Consumes the whole piece. Returns the replies to the requests that it completes.
     pub(crate) fn feed<H: Handler>(
         &mut self,
         alloc: Global,
         handler: &mut H,
         piece: &[u8],
     ) -> Result<Vec<u8>, NoMemory>
-        requires holds { Holds self.old.held.items self.old.stage }
-        ensures holds { Holds self.new.held.items self.new.stage }
-        ensures takes { IfOk result (λ replies. TakesPiece H.does H.fault_reply
+        requires holds { MatchesStage self.old.held.items self.old.stage }
+        ensures holds { MatchesStage self.new.held.items self.new.stage }
+        ensures fed { IfOk result (λ replies. FeedsPiece H.does H.fault_reply
             (open_octets self.old.held.items self.old.stage) handler.old piece.now
             replies.items handler.new (open_octets self.new.held.items self.new.stage)) }
-        ensures loses { OnErr result (LosesPiece H.does H.fault_reply
+        ensures fed_in_part { OnErr result (FeedsPieceInPart H.does H.fault_reply
             (open_octets self.old.held.items self.old.stage) handler.old piece.now handler.new) }
         ensures err_closed { OnErr result (IsClosed self.new.stage) }
     {
@@ -280,8 +284,8 @@ impl Progress {
         }
         let mut rest = piece;
         while !rest.is_empty() {
-            let (used, goes_on) = self.advance(alloc, handler, &mut out, rest)?;
-            if !goes_on {
+            let (used, stays_open) = self.advance(alloc, handler, &mut out, rest)?;
+            if !stays_open {
                 return Ok(out);
             }
             rest = &rest[used..];

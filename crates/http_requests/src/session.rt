@@ -1,6 +1,6 @@
-//! One connection's requests, in any pieces.
+//! The requests of one connection, received in pieces.
 ghost use Rattle.std.specs.Prelude.{◌≡◌, ◌↔◌, [], Some, None, IfOk, OnErr, IsTrue};
-ghost use Rattle.http_requests.specs.Feeding.{TakesPiece, LosesPiece};
+ghost use Rattle.http_requests.specs.SessionFeeding.{FeedsPiece, FeedsPieceInPart};
 
 use crate::handler::Handler;
 use crate::progress::Progress;
@@ -8,8 +8,8 @@ use base_types::NoMemory;
 use std::alloc::Global;
 use std::marker::Model;
 
-/// One connection's octets that belong to no request that was handled. Contracts see the octets
-/// that it holds while it is open, and `None` once it is closed. It holds at most one request.
+/// The requests of one connection. It holds the octets of at most one incomplete request. In
+/// contracts its value is those octets while it is open, and `None` once it is closed.
 #[derive(Debug, Drop)]
 pub struct Session {
     progress: Progress,
@@ -17,17 +17,18 @@ pub struct Session {
 
 impl Model for Session {
     ghost use Rattle.std.specs.Prelude.{ℕ, List, Option};
-    ghost use Rattle.http_requests.specs.Progress.{Holds, open_octets};
+    ghost use Rattle.http_requests.specs.internal.Progress.{MatchesStage, open_octets};
 
     ghost Value = { Option (List ℕ) };
 
     ghost view = { λ session. open_octets session.progress.held.items session.progress.stage };
 
-    ghost invariant = { λ session. Holds session.progress.held.items session.progress.stage };
+    ghost invariant = { λ session.
+        MatchesStage session.progress.held.items session.progress.stage };
 }
 
 impl Session {
-    /// The session of a new connection, which takes no memory.
+    /// The session of a new connection. It allocates nothing.
     pub fn new(alloc: Global) -> Session
         ensures { result ≡ Some [] }
     {
@@ -36,27 +37,27 @@ impl Session {
         }
     }
 
-    /// Whether nothing more is taken.
+    /// Whether the session is closed.
     pub fn closed(&self) -> bool
         ensures { IsTrue result ↔ (self.now ≡ None) }
     {
         self.progress.is_closed()
     }
 
-    /// Takes the next piece of the stream, has the requests handled that are whole now, and
-    /// answers their replies. A closed session ignores the piece.
+    /// Consumes the next piece of the stream, passes each request that it completes to the
+    /// handler, and returns the replies. A closed session ignores the piece.
     ///
-    /// `NoMemory` where an allocation fails: requests at the front were handled, each wholly,
-    /// their replies are lost, and the session is closed.
+    /// `NoMemory` if an allocation fails: some requests, from the first on, were handled
+    /// completely, their replies are lost, and the session is closed.
     pub fn feed<H: Handler>(
         &mut self,
         alloc: Global,
         handler: &mut H,
         piece: &[u8],
     ) -> Result<Vec<u8>, NoMemory>
-        ensures takes { IfOk result (λ replies. TakesPiece H.does H.fault_reply
+        ensures fed { IfOk result (λ replies. FeedsPiece H.does H.fault_reply
             self.old handler.old piece.now replies.items handler.new self.new) }
-        ensures loses { OnErr result (LosesPiece H.does H.fault_reply
+        ensures fed_in_part { OnErr result (FeedsPieceInPart H.does H.fault_reply
             self.old handler.old piece.now handler.new) }
         ensures no_memory_closes { OnErr result (self.new ≡ None) }
     {

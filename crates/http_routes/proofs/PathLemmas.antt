@@ -5,8 +5,8 @@ use Rattle.std.proofs.lemmas.List.Splits.{join_with_byte-slice_split}
 use Rattle.std.proofs.lemmas.Slice.Eq.{bytes_eq-Decides}
 use Rattle.matchit.specs.Seek.{has_slash, slash}
 use Rattle.http_routes.proofs.RouterLemmas.{book-is, books-is, card_in_book, first-in_book, export_in_book, forget_in_book, import_in_book, move_in_book, people_in_book, route_in_book, sync_in_book, tally_in_book}
-use Rattle.http_routes.specs.Paths.{fits_part, fits_parts, is_name, is_path_of, parts_of, route_of, routes}
-use Rattle.http_routes.specs.RouterRows.{routed}
+use Rattle.http_routes.specs.Paths.{fits_part, fits_parts, is_placeholder, is_path_of, parts_of, route_of, routes}
+use Rattle.http_routes.specs.internal.RouterRows.{matched_route}
 use Rattle.http_routes.specs.Routes.{path_of}
 use Rattle.http_routes.specs.declared.route.Route.{Route}
 use Rattle.http_routes.specs.declared.route.Route.TheVariants as route
@@ -46,8 +46,8 @@ both_true false b is = absurd (not_true is)
     not_true : false ≡ true → ⊥
     not_true e = cc
 
--- what stands at a word of a route, at a name, and at its end
-fits-word : (own : List ℕ) (others parts : List (List ℕ)) → is_name own ≡ false → fits_parts (own ∷ others) parts ≡ true → (rest : List (List ℕ)) × (parts ≡ own ∷ rest) × (fits_parts others rest ≡ true)
+-- the parts at a fixed part of a route, at a name, and at its end
+fits-word : (own : List ℕ) (others parts : List (List ℕ)) → is_placeholder own ≡ false → fits_parts (own ∷ others) parts ≡ true → (rest : List (List ℕ)) × (parts ≡ own ∷ rest) × (fits_parts others rest ≡ true)
 fits-word own others [] plain fits = absurd (never fits)
   where
     never : false ≡ true → ⊥
@@ -57,7 +57,7 @@ fits-word own others (part ∷ rest) plain fits =
     let word : bytes_eq own part ≡ true = rw plain at both.0 in
     (rest, ap (λ one. one ∷ rest) (sym ((bytes_eq-Decides own part).0 word)), both.1)
 
-fits-name : (own : List ℕ) (others parts : List (List ℕ)) → is_name own ≡ true → fits_parts (own ∷ others) parts ≡ true → (b : ℕ) × (part : List ℕ) × (rest : List (List ℕ)) × (parts ≡ (b ∷ part) ∷ rest) × (fits_parts others rest ≡ true)
+fits-name : (own : List ℕ) (others parts : List (List ℕ)) → is_placeholder own ≡ true → fits_parts (own ∷ others) parts ≡ true → (b : ℕ) × (part : List ℕ) × (rest : List (List ℕ)) × (parts ≡ (b ∷ part) ∷ rest) × (fits_parts others rest ≡ true)
 fits-name own others [] named fits = absurd (never fits)
   where
     never : false ≡ true → ⊥
@@ -115,7 +115,7 @@ of_card others parts fits =
     )
 
 abbrev leads_to : List (List ℕ) → Option Route
-leads_to parts = routed (join_with_byte slash parts)
+leads_to parts = matched_route (join_with_byte slash parts)
 
 leads-books : (parts : List (List ℕ)) → fits_parts ([] ∷ codes "books" ∷ []) parts ≡ true → leads_to parts ≡ Some route.Books
 leads-books parts fits =
@@ -130,7 +130,7 @@ leads-book parts are fits =
     let part : IsPart (book.0 ∷ book.1) = (subst AreParts whole are).1.1.0 in
     ap leads_to whole ∙ book-is book.0 book.1 part.0 (no_slash (book.0 ∷ book.1) part)
 
-leads-word : (word : List ℕ) (to : Route) (parts : List (List ℕ)) → is_name word ≡ false → route_in_book (slash ∷ word) ≡ Some to → AreParts parts → fits_parts ([] ∷ codes "books" ∷ codes "{book}" ∷ word ∷ []) parts ≡ true → leads_to parts ≡ Some to
+leads-word : (word : List ℕ) (to : Route) (parts : List (List ℕ)) → is_placeholder word ≡ false → route_in_book (slash ∷ word) ≡ Some to → AreParts parts → fits_parts ([] ∷ codes "books" ∷ codes "{book}" ∷ word ∷ []) parts ≡ true → leads_to parts ≡ Some to
 leads-word word to parts plain leads are fits =
     let book = of_book (word ∷ []) parts fits in
     let last = fits-word word [] book.2 plain book.4 in
@@ -140,7 +140,7 @@ leads-word word to parts plain leads are fits =
     ∙ ap (λ found. option_map (λ row. row.value) found) (first-in_book book.0 book.1 word part.0 (no_slash (book.0 ∷ book.1) part))
     ∙ leads
 
--- what stands behind the book's part of a card's path
+-- the octets after the book's part of a card's path
 abbrev card_rest : ℕ → List ℕ → List (List ℕ) → List ℕ
 card_rest d uid rest = codes "cards" ++ slash ∷ join_with_byte slash ((d ∷ uid) ∷ rest)
 
@@ -158,7 +158,7 @@ leads-card_end parts are fits =
     ap leads_to whole
     ∙ leads-card route.Card card.0 card.1 card.2 card.3 [] (subst AreParts whole are) (λ small none. card_in_book card.2 card.3 small none)
 
-leads-card_word : (word : List ℕ) (to : Route) (parts : List (List ℕ)) → is_name word ≡ false → ((d : ℕ) (uid : List ℕ) → d < 256 → has_slash (d ∷ uid) ≡ false → route_in_book (codes "/cards/" ++ ((d ∷ uid) ++ slash ∷ word)) ≡ Some to) → AreParts parts → fits_parts ([] ∷ codes "books" ∷ codes "{book}" ∷ codes "cards" ∷ codes "{uid}" ∷ word ∷ []) parts ≡ true → leads_to parts ≡ Some to
+leads-card_word : (word : List ℕ) (to : Route) (parts : List (List ℕ)) → is_placeholder word ≡ false → ((d : ℕ) (uid : List ℕ) → d < 256 → has_slash (d ∷ uid) ≡ false → route_in_book (codes "/cards/" ++ ((d ∷ uid) ++ slash ∷ word)) ≡ Some to) → AreParts parts → fits_parts ([] ∷ codes "books" ∷ codes "{book}" ∷ codes "cards" ∷ codes "{uid}" ∷ word ∷ []) parts ≡ true → leads_to parts ≡ Some to
 leads-card_word word to parts plain leads are fits =
     let card = of_card (word ∷ []) parts fits in
     let last = fits-word word [] card.4 plain card.6 in
@@ -179,9 +179,9 @@ leads-parts route.Move parts are fits = leads-card_word (codes "move") route.Mov
 leads-parts route.People parts are fits = leads-card_word (codes "people") route.People parts refl people_in_book are fits
 
 -- a path of a route's form leads to the route
-pub leads : (to : Route) (path : List ℕ) → AreOctets path → is_path_of to path ≡ true → routed path ≡ Some to
+pub leads : (to : Route) (path : List ℕ) → AreOctets path → is_path_of to path ≡ true → matched_route path ≡ Some to
 leads to path small fits =
-    ap routed (sym (join_with_byte-slice_split slash path)) ∙ leads-parts to (parts_of path) (parts-are path small) fits
+    ap matched_route (sym (join_with_byte-slice_split slash path)) ∙ leads-parts to (parts_of path) (parts-are path small) fits
 
 -- what is answered where the route that the path leads to is looked at once more
 abbrev pub looked_at : Option Route → List ℕ → Option Route
@@ -239,29 +239,29 @@ looked-none path none None = refl
 looked-none path none (Some to) =
     ap (λ v. cond v (Some to) None) (none-is (λ r. is_path_of r path) to none)
 
-looked-found : (path : List ℕ) (to : Route) → AreOctets path → find (λ r. is_path_of r path) routes ≡ Some to → looked_at (routed path) path ≡ Some to
+looked-found : (path : List ℕ) (to : Route) → AreOctets path → find (λ r. is_path_of r path) routes ≡ Some to → looked_at (matched_route path) path ≡ Some to
 looked-found path to small found =
     let fits : is_path_of to path ≡ true = find-is (λ r. is_path_of r path) routes to found in
     ap (λ one. looked_at one path) (leads to path small fits) ∙ ap (λ v. cond v (Some to) None) fits
 
-looked : (path : List ℕ) (v : Option Route) → AreOctets path → find (λ r. is_path_of r path) routes ≡ v → looked_at (routed path) path ≡ v
-looked path None small is = looked-none path is (routed path)
+looked : (path : List ℕ) (v : Option Route) → AreOctets path → find (λ r. is_path_of r path) routes ≡ v → looked_at (matched_route path) path ≡ v
+looked path None small is = looked-none path is (matched_route path)
 looked path (Some to) small is = looked-found path to small is
 
-pub looked_at-is : (path : List ℕ) → AreOctets path → looked_at (routed path) path ≡ route_of path
+pub looked_at-is : (path : List ℕ) → AreOctets path → looked_at (matched_route path) path ≡ route_of path
 unfolding route_of
 looked_at-is path small = looked path (find (λ r. is_path_of r path) routes) small refl
 
 -- the answer of each way that the look-up goes
-pub route-none : (path : List ℕ) → AreOctets path → None ≡ routed path → None ≡ route_of path
+pub route-none : (path : List ℕ) → AreOctets path → None ≡ matched_route path → None ≡ route_of path
 route-none path small led = ap (λ one. looked_at one path) led ∙ looked_at-is path small
 
-pub route-yes : (path : List ℕ) (parts : List (List ℕ)) (to : Route) → AreOctets path → Some to ≡ routed path → fits_parts (parts_of (path_of to)) parts ≡ true → parts ≡ parts_of path → Some to ≡ route_of path
+pub route-yes : (path : List ℕ) (parts : List (List ℕ)) (to : Route) → AreOctets path → Some to ≡ matched_route path → fits_parts (parts_of (path_of to)) parts ≡ true → parts ≡ parts_of path → Some to ≡ route_of path
 route-yes path parts to small led fits same =
     let is : is_path_of to path ≡ true = ap (fits_parts (parts_of (path_of to))) (sym same) ∙ fits in
     sym (ap (λ v. cond v (Some to) None) is) ∙ ap (λ one. looked_at one path) led ∙ looked_at-is path small
 
-pub route-no : (path : List ℕ) (parts : List (List ℕ)) (to : Route) → AreOctets path → Some to ≡ routed path → fits_parts (parts_of (path_of to)) parts ≡ false → parts ≡ parts_of path → None ≡ route_of path
+pub route-no : (path : List ℕ) (parts : List (List ℕ)) (to : Route) → AreOctets path → Some to ≡ matched_route path → fits_parts (parts_of (path_of to)) parts ≡ false → parts ≡ parts_of path → None ≡ route_of path
 route-no path parts to small led fits same =
     let is : is_path_of to path ≡ false = ap (fits_parts (parts_of (path_of to))) (sym same) ∙ fits in
     sym (ap (λ v. cond v (Some to) None) is) ∙ ap (λ one. looked_at one path) led ∙ looked_at-is path small

@@ -6,22 +6,22 @@ use Rattle.std.proofs.lemmas.Str.{IsUtf8-from_is_utf8, is_utf8-from_IsUtf8}
 use Rattle.percent_encoding.specs.Percent.{percent_decode}
 use Rattle.book_commands.specs.declared.command.Command.{Command}
 use Rattle.http_routes.proofs.OutcomeLemmas.{failed, went_on}
-use Rattle.http_routes.specs.Asks.{ask_of}
-use Rattle.http_routes.specs.Commands.{◌>>=◌, asked, command_with, path_in, path_len, query_in, text_in}
-use Rattle.http_routes.specs.Outcomes.{Gives}
+use Rattle.http_routes.specs.Actions.{action_of}
+use Rattle.http_routes.specs.Commands.{◌>>=◌, requested_command, command_with, path_in, path_len, query_in, decode_part}
+use Rattle.http_routes.specs.internal.Results.{MatchesExpected}
 use Rattle.http_routes.specs.Paths.{book_part, parts_of, route_of, uid_part}
-use Rattle.http_routes.specs.declared.ask.Ask.{Ask}
+use Rattle.http_routes.specs.declared.action.Action.{Action}
 use Rattle.http_routes.specs.declared.fault.RouteFault.{RouteFault}
 use Rattle.http_routes.specs.declared.fault.RouteFault.TheVariants.{NoRoute, BadMethod, BadPath}
 use Rattle.http_routes.specs.declared.no_command.NoCommand.{NoCommand}
 use Rattle.http_routes.specs.declared.route.Route.{Route}
 
 -- a part whose octets are a text
-pub text_is : (part : List ℕ) → IsUtf8 (percent_decode part) → text_in part ≡ Ok (percent_decode part)
+pub text_is : (part : List ℕ) → IsUtf8 (percent_decode part) → decode_part part ≡ Ok (percent_decode part)
 text_is part is =
     ap (λ v. cond v (Ok (percent_decode part)) (Err BadPath)) (is_utf8-from_IsUtf8 (percent_decode part) is)
 
-pub text_is_none : (part : List ℕ) → (IsUtf8 (percent_decode part) → ⊥) → text_in part ≡ Err BadPath
+pub text_is_none : (part : List ℕ) → (IsUtf8 (percent_decode part) → ⊥) → decode_part part ≡ Err BadPath
 text_is_none part none =
     by (is_utf8 (percent_decode part)) (λ is. none (IsUtf8-from_is_utf8 (percent_decode part) is))
   where
@@ -52,47 +52,47 @@ route-is found other seen items path target finds same parts cut is =
     ap route_of (sym cut) ∙ sym at ∙ is
 
 module _ (method target body : List ℕ) where
-  pub asked-no_route : route_of (path_in target) ≡ None → asked method target body ≡ Err NoRoute
-  unfolding asked
+  pub asked-no_route : route_of (path_in target) ≡ None → requested_command method target body ≡ Err NoRoute
+  unfolding requested_command
   asked-no_route none = rw none refl
 
-  pub asked-no_method : (route : Route) → route_of (path_in target) ≡ Some route → ask_of route method ≡ None → asked method target body ≡ Err (BadMethod route)
-  unfolding asked
+  pub asked-no_method : (route : Route) → route_of (path_in target) ≡ Some route → action_of route method ≡ None → requested_command method target body ≡ Err (BadMethod route)
+  unfolding requested_command
   asked-no_method route is none = rw (is, none) refl
 
   -- what is left once the route has the method
-  abbrev pub with_texts : Ask → Result Command RouteFault
-  with_texts ask =
-      text_in (book_part (path_in target))
-      >>= (λ book. text_in (uid_part (path_in target)) >>= (λ uid. command_with ask book uid body (query_in target)))
+  abbrev pub with_texts : Action → Result Command RouteFault
+  with_texts action =
+      decode_part (book_part (path_in target))
+      >>= (λ book. decode_part (uid_part (path_in target)) >>= (λ uid. command_with action book uid body (query_in target)))
 
-  asked-is : (route : Route) (ask : Ask) → route_of (path_in target) ≡ Some route → ask_of route method ≡ Some ask → asked method target body ≡ with_texts ask
-  unfolding asked
-  asked-is route ask is wanted = rw (is, wanted) refl
+  asked-is : (route : Route) (action : Action) → route_of (path_in target) ≡ Some route → action_of route method ≡ Some action → requested_command method target body ≡ with_texts action
+  unfolding requested_command
+  asked-is route action is wanted = rw (is, wanted) refl
 
-  pub asked-goes : (route : Route) (ask : Ask) (result : Result Command NoCommand) → route_of (path_in target) ≡ Some route → ask_of route method ≡ Some ask → Gives (with_texts ask) result → Gives (asked method target body) result
-  asked-goes route ask result is wanted given =
-      subst (λ all. Gives all result) (sym (asked-is route ask is wanted)) given
+  pub asked-goes : (route : Route) (action : Action) (result : Result Command NoCommand) → route_of (path_in target) ≡ Some route → action_of route method ≡ Some action → MatchesExpected (with_texts action) result → MatchesExpected (requested_command method target body) result
+  asked-goes route action result is wanted given =
+      subst (λ all. MatchesExpected all result) (sym (asked-is route action is wanted)) given
 
   -- the book's part is no text
-  pub book_failed : (ask : Ask) (part : List ℕ) (e : NoCommand) (result : Result Command NoCommand) → part ≡ book_part (path_in target) → Gives (text_in part) (Err e) → result ≡ Err e → Gives (with_texts ask) result
-  book_failed ask part e result at given same =
-      failed (text_in (book_part (path_in target))) (λ book. text_in (uid_part (path_in target)) >>= (λ uid. command_with ask book uid body (query_in target))) e result
-      (subst (λ p. Gives (text_in p) (Err e)) at given)
+  pub book_failed : (action : Action) (part : List ℕ) (e : NoCommand) (result : Result Command NoCommand) → part ≡ book_part (path_in target) → MatchesExpected (decode_part part) (Err e) → result ≡ Err e → MatchesExpected (with_texts action) result
+  book_failed action part e result at given same =
+      failed (decode_part (book_part (path_in target))) (λ book. decode_part (uid_part (path_in target)) >>= (λ uid. command_with action book uid body (query_in target))) e result
+      (subst (λ p. MatchesExpected (decode_part p) (Err e)) at given)
       same
 
   -- the card's part is none
-  pub uid_failed : (ask : Ask) (first part book : List ℕ) (e : NoCommand) (result : Result Command NoCommand) → first ≡ book_part (path_in target) → text_in first ≡ Ok book → part ≡ uid_part (path_in target) → Gives (text_in part) (Err e) → result ≡ Err e → Gives (with_texts ask) result
-  uid_failed ask first part book e result at read at_uid given same =
-      went_on (text_in (book_part (path_in target))) (λ one. text_in (uid_part (path_in target)) >>= (λ uid. command_with ask one uid body (query_in target))) book result
-      (ap text_in (sym at) ∙ read)
-      (failed (text_in (uid_part (path_in target))) (λ uid. command_with ask book uid body (query_in target)) e result (subst (λ p. Gives (text_in p) (Err e)) at_uid given) same)
+  pub uid_failed : (action : Action) (first part book : List ℕ) (e : NoCommand) (result : Result Command NoCommand) → first ≡ book_part (path_in target) → decode_part first ≡ Ok book → part ≡ uid_part (path_in target) → MatchesExpected (decode_part part) (Err e) → result ≡ Err e → MatchesExpected (with_texts action) result
+  uid_failed action first part book e result at read at_uid given same =
+      went_on (decode_part (book_part (path_in target))) (λ one. decode_part (uid_part (path_in target)) >>= (λ uid. command_with action one uid body (query_in target))) book result
+      (ap decode_part (sym at) ∙ read)
+      (failed (decode_part (uid_part (path_in target))) (λ uid. command_with action book uid body (query_in target)) e result (subst (λ p. MatchesExpected (decode_part p) (Err e)) at_uid given) same)
 
   -- both are texts, and the query was read
-  pub texts_read : (ask : Ask) (first part book uid query : List ℕ) (result : Result Command NoCommand) → first ≡ book_part (path_in target) → text_in first ≡ Ok book → part ≡ uid_part (path_in target) → text_in part ≡ Ok uid → query ≡ query_in target → Gives (command_with ask book uid body query) result → Gives (with_texts ask) result
-  texts_read ask first part book uid query result at read at_uid read_uid at_query given =
-      went_on (text_in (book_part (path_in target))) (λ one. text_in (uid_part (path_in target)) >>= (λ other. command_with ask one other body (query_in target))) book result
-      (ap text_in (sym at) ∙ read)
-      (went_on (text_in (uid_part (path_in target))) (λ other. command_with ask book other body (query_in target)) uid result
-      (ap text_in (sym at_uid) ∙ read_uid)
-      (subst (λ q. Gives (command_with ask book uid body q) result) at_query given))
+  pub texts_read : (action : Action) (first part book uid query : List ℕ) (result : Result Command NoCommand) → first ≡ book_part (path_in target) → decode_part first ≡ Ok book → part ≡ uid_part (path_in target) → decode_part part ≡ Ok uid → query ≡ query_in target → MatchesExpected (command_with action book uid body query) result → MatchesExpected (with_texts action) result
+  texts_read action first part book uid query result at read at_uid read_uid at_query given =
+      went_on (decode_part (book_part (path_in target))) (λ one. decode_part (uid_part (path_in target)) >>= (λ other. command_with action one other body (query_in target))) book result
+      (ap decode_part (sym at) ∙ read)
+      (went_on (decode_part (uid_part (path_in target))) (λ other. command_with action book other body (query_in target)) uid result
+      (ap decode_part (sym at_uid) ∙ read_uid)
+      (subst (λ q. MatchesExpected (command_with action book uid body q) result) at_query given))

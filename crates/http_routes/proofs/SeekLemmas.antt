@@ -13,15 +13,15 @@ and-false false = refl
 -- what is left of a row is nothing, or begins with a slash
 pub data Ends : List ℕ → Type 0 where
   stops : Ends []
-  goes_on : (rest : List ℕ) → Ends (slash ∷ rest)
+  continues : (rest : List ℕ) → Ends (slash ∷ rest)
 
 keeps : (seg text : List ℕ) → Ends text → better seg (slash ∷ []) (segment text) ≡ slash ∷ []
 keeps seg text stops = refl
-keeps seg text (goes_on rest) = refl
+keeps seg text (continues rest) = refl
 
-taken : (seg text : List ℕ) → Ends text → cuts seg (slash ∷ []) ≡ true → text ≢ [] → better seg [] (segment text) ≡ slash ∷ []
-taken seg text stops cut some = absurd (some refl)
-taken seg text (goes_on rest) cut some = rw cut refl
+better_cut : (seg text : List ℕ) → Ends text → cuts seg (slash ∷ []) ≡ true → text ≢ [] → better seg [] (segment text) ≡ slash ∷ []
+better_cut seg text stops cut some = absurd (some refl)
+better_cut seg text (continues rest) cut some = rw cut refl
 
 -- the slash that ends a part
 pub segment-slash : (part rest : List ℕ) → has_slash part ≡ false → segment (part ++ slash ∷ rest) ≡ part ++ slash ∷ []
@@ -40,7 +40,7 @@ segment-end (b ∷ part) none = by (b == slash) refl none (segment-end part)
     by true is none ih = cc
     by false is none ih = rw (is, ih none) refl
 
--- a part that isn't empty, behind which a slash stands, is cut in front of it
+-- a part that isn't empty, followed by a slash, is cut before the slash
 pub cuts-slash : (b : ℕ) (part : List ℕ) → cuts ((b ∷ part) ++ slash ∷ []) (slash ∷ []) ≡ true
 cuts-slash b part =
     let long : length ((b ∷ part) ++ slash ∷ []) ≡ length part + 2 = omega (arith, length-append (b ∷ part) (slash ∷ [])) in
@@ -49,7 +49,7 @@ cuts-slash b part =
     let rest : drop (length ((b ∷ part) ++ slash ∷ []) - 1) ((b ∷ part) ++ slash ∷ []) ≡ slash ∷ [] = ap (λ n. drop n ((b ∷ part) ++ slash ∷ [])) at ∙ drop-append_seam (b ∷ part) (slash ∷ []) in
     rw (far, rest) refl
 
--- and one with no slash behind it isn't cut
+-- a part with no slash after it isn't cut
 ends_elsewhere : (n : ℕ) (part : List ℕ) → has_slash part ≡ false → pointwise nat_eq (slash ∷ []) (drop n part) ≡ false
 ends_elsewhere zero [] none = refl
 ends_elsewhere (suc n) [] none = refl
@@ -83,21 +83,21 @@ others_small b text small = by (ltb b param_token) small
 
 module _ {K : Type 0} where
   -- each row with a parameter in front
-  abbrev pub behind_param : RowsOf K → RowsOf K
-  behind_param [] = []
-  behind_param (row ∷ rows) = (param_token ∷ row.0, row.1) ∷ behind_param rows
+  abbrev pub after_param : RowsOf K → RowsOf K
+  after_param [] = []
+  after_param (row ∷ rows) = (param_token ∷ row.0, row.1) ∷ after_param rows
 
-  pub step-param : (rows : RowsOf K) → step param_token (behind_param rows) ≡ rows
+  pub step-param : (rows : RowsOf K) → step param_token (after_param rows) ≡ rows
   step-param [] = refl
   step-param (row ∷ rows) = ap (λ rest. row ∷ rest) (step-param rows)
 
-  pub step-octet : (b : ℕ) (rows : RowsOf K) → b < 256 → step b (behind_param rows) ≡ []
+  pub step-octet : (b : ℕ) (rows : RowsOf K) → b < 256 → step b (after_param rows) ≡ []
   step-octet b [] small = refl
   step-octet b (row ∷ rows) small =
       let ne : (param_token == b) ≡ false = grind arith in
       rw ne (step-octet b rows small)
 
-  pub step-catch : (rows : RowsOf K) → own (step catch_all_token (behind_param rows)) ≡ None
+  pub step-catch : (rows : RowsOf K) → own (step catch_all_token (after_param rows)) ≡ None
   step-catch [] = refl
   step-catch (row ∷ rows) = step-catch rows
 
@@ -137,17 +137,17 @@ module _ {K : Type 0} where
   longest-kept seg [] ends = refl
   longest-kept seg (row ∷ rows) ends = rw (keeps seg row.0 ends.0) (longest-kept seg rows ends.1)
 
-  -- some row goes on
-  abbrev pub any_goes_on : RowsOf K → Bool
-  any_goes_on [] = false
-  any_goes_on (([], key) ∷ rows) = any_goes_on rows
-  any_goes_on ((_ ∷ _, key) ∷ rows) = true
+  -- some row continues
+  abbrev pub any_continues : RowsOf K → Bool
+  any_continues [] = false
+  any_continues (([], key) ∷ rows) = any_continues rows
+  any_continues ((_ ∷ _, key) ∷ rows) = true
 
-  pub longest-slash : (seg : List ℕ) (rows : RowsOf K) → cuts seg (slash ∷ []) ≡ true → AllEnd rows → any_goes_on rows ≡ true → longest_suffix seg rows ≡ slash ∷ []
+  pub longest-slash : (seg : List ℕ) (rows : RowsOf K) → cuts seg (slash ∷ []) ≡ true → AllEnd rows → any_continues rows ≡ true → longest_suffix seg rows ≡ slash ∷ []
   longest-slash seg [] cut ends some = cc
   longest-slash seg (([], key) ∷ rows) cut ends some = longest-slash seg rows cut ends.1 some
   longest-slash seg ((x ∷ text, key) ∷ rows) cut ends some =
-      rw (taken seg (x ∷ text) ends.0 cut (λ e. cc)) (longest-kept seg rows ends.1)
+      rw (better_cut seg (x ∷ text) ends.0 cut (λ e. cc)) (longest-kept seg rows ends.1)
 
   pub longest-none : (seg : List ℕ) (rows : RowsOf K) → cuts seg (slash ∷ []) ≡ false → AllEnd rows → longest_suffix seg rows ≡ []
   longest-none seg [] cut ends = refl
@@ -155,7 +155,7 @@ module _ {K : Type 0} where
     where
       none : (text : List ℕ) → Ends text → better seg [] (segment text) ≡ []
       none text stops = refl
-      none text (goes_on rest) = rw cut refl
+      none text (continues rest) = rw cut refl
 
   pub param-slash : (b : ℕ) (part rest : List ℕ) (rows : RowsOf K) → has_slash (b ∷ part) ≡ false → longest_suffix ((b ∷ part) ++ slash ∷ []) rows ≡ slash ∷ [] → param_step rows ((b ∷ part) ++ slash ∷ rest) ≡ (length (b ∷ part), with_suffix (slash ∷ []) rows)
   unfolding param_step
@@ -168,16 +168,16 @@ module _ {K : Type 0} where
   unfolding param_step
   param-end part rows none longest = rw (segment-end part none, longest, none) refl
 
-  -- a part that isn't empty and no slash behind it: the row that stops there
-  pub first-end : (b : ℕ) (part : List ℕ) (rows : RowsOf K) → b < 256 → has_slash (b ∷ part) ≡ false → AllEnd rows → first (behind_param rows) (b ∷ part) ≡ own rows
+  -- a part that isn't empty and no slash after it: the row that stops there
+  pub first-end : (b : ℕ) (part : List ℕ) (rows : RowsOf K) → b < 256 → has_slash (b ∷ part) ≡ false → AllEnd rows → first (after_param rows) (b ∷ part) ≡ own rows
   unfolding seek
   first-end b part rows small none ends =
       let at = param-end (b ∷ part) rows none (longest-none (b ∷ part) rows (cuts-none (b ∷ part) none) ends) in
       let less : length (b ∷ part) - 1 ≡ length part = omega arith in
       simp (step-octet b rows small, seek-none 0 part, step-param rows, at, less, step-catch rows, seek-over part rows, or_else-none) refl
 
-  -- a part that isn't empty and a slash behind it: the rows that go on
-  pub first-slash : (b : ℕ) (part rest : List ℕ) (rows : RowsOf K) → b < 256 → has_slash (b ∷ part) ≡ false → longest_suffix ((b ∷ part) ++ slash ∷ []) rows ≡ slash ∷ [] → first (behind_param rows) ((b ∷ part) ++ slash ∷ rest) ≡ first (with_suffix (slash ∷ []) rows) (slash ∷ rest)
+  -- a part that isn't empty and a slash after it: the rows that continue
+  pub first-slash : (b : ℕ) (part rest : List ℕ) (rows : RowsOf K) → b < 256 → has_slash (b ∷ part) ≡ false → longest_suffix ((b ∷ part) ++ slash ∷ []) rows ≡ slash ∷ [] → first (after_param rows) ((b ∷ part) ++ slash ∷ rest) ≡ first (with_suffix (slash ∷ []) rows) (slash ∷ rest)
   unfolding seek
   first-slash b part rest rows small none longest =
       let at = param-slash b part rest rows none longest in
@@ -185,39 +185,39 @@ module _ {K : Type 0} where
       simp (step-octet b rows small, seek-none 0 (part ++ slash ∷ rest), step-param rows, at, less, step-catch rows, seek-past part (slash ∷ rest) (with_suffix (slash ∷ []) rows), or_else-none) refl
 
   -- an empty part fits no name
-  pub first-no_part : (rest : List ℕ) (rows : RowsOf K) → AllEnd rows → first (behind_param rows) (slash ∷ rest) ≡ None
+  pub first-no_part : (rest : List ℕ) (rows : RowsOf K) → AllEnd rows → first (after_param rows) (slash ∷ rest) ≡ None
   unfolding seek param_step
   first-no_part rest rows ends =
       let cut : cuts (slash ∷ []) (slash ∷ []) ≡ false = refl in
       let small : slash < 256 = omega arith in
       simp (step-octet slash rows small, seek-none 0 rest, step-param rows, longest-none (slash ∷ []) rows cut ends, step-catch rows, seek-none 0 rest) refl
 
-  pub first-nothing : (rows : RowsOf K) → first (behind_param rows) [] ≡ None
+  pub first-nothing : (rows : RowsOf K) → first (after_param rows) [] ≡ None
   unfolding seek
   first-nothing [] = refl
   first-nothing (row ∷ rows) = first-nothing rows
 
   -- each row with a text in front
-  abbrev pub behind_text : List ℕ → RowsOf K → RowsOf K
-  behind_text text [] = []
-  behind_text text (row ∷ rows) = (text ++ row.0, row.1) ∷ behind_text text rows
+  abbrev pub after_text : List ℕ → RowsOf K → RowsOf K
+  after_text text [] = []
+  after_text text (row ∷ rows) = (text ++ row.0, row.1) ∷ after_text text rows
 
-  step-text : (b : ℕ) (text : List ℕ) (rows : RowsOf K) → step b (behind_text (b ∷ text) rows) ≡ behind_text text rows
+  step-text : (b : ℕ) (text : List ℕ) (rows : RowsOf K) → step b (after_text (b ∷ text) rows) ≡ after_text text rows
   step-text b text [] = refl
   step-text b text (row ∷ rows) =
       let same : (b == b) ≡ true = grind arith in
       rw (same, step-text b text rows) refl
 
-  step-other : (x b : ℕ) (text : List ℕ) (rows : RowsOf K) → (x == b) ≡ false → step b (behind_text (x ∷ text) rows) ≡ []
+  step-other : (x b : ℕ) (text : List ℕ) (rows : RowsOf K) → (x == b) ≡ false → step b (after_text (x ∷ text) rows) ≡ []
   step-other x b text [] other = refl
   step-other x b text (row ∷ rows) other = rw other (step-other x b text rows other)
 
   -- what a text leads to
-  pub first-text : (text path : List ℕ) (rows : RowsOf K) → list_all (λ b. ltb b param_token) text ≡ true → first (behind_text text rows) (text ++ path) ≡ first rows path
+  pub first-text : (text path : List ℕ) (rows : RowsOf K) → list_all (λ b. ltb b param_token) text ≡ true → first (after_text text rows) (text ++ path) ≡ first rows path
   unfolding seek
   first-text [] path rows small = ap (λ all. first all path) (nothing rows)
     where
-      nothing : (all : RowsOf K) → behind_text [] all ≡ all
+      nothing : (all : RowsOf K) → after_text [] all ≡ all
       nothing [] = refl
       nothing (row ∷ rest) = ap (λ more. row ∷ more) (nothing rest)
   first-text (b ∷ text) path rows small =
@@ -249,7 +249,7 @@ module _ {K : Type 0} where
   first-stop b path rows key =
       rw (step-stop b rows key, step-stop param_token rows key, step-stop catch_all_token rows key) refl
 
-  -- an octet that every row has to stand at
+  -- an octet that every row needs
   pub first-octet : (b : ℕ) (path : List ℕ) (rows : RowsOf K) → step param_token rows ≡ [] → step catch_all_token rows ≡ [] → first rows (b ∷ path) ≡ first (step b rows) path
   unfolding seek
   first-octet b path rows param catch =

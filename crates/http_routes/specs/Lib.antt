@@ -1,9 +1,8 @@
 pub mod Routes
 pub mod RouteFaults
 pub mod Paths
-pub mod Asks
+pub mod Actions
 pub mod Queries
 pub mod Commands
 pub mod WorkedPaths
-pub mod RouterRows
-pub mod Outcomes
+pub mod internal

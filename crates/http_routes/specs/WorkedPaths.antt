@@ -1,4 +1,4 @@
--- Which route some paths are of.
+-- The routes of some example paths.
 use Rattle.std.specs.Prelude.{◌≡◌, Some, None, codes}
 use Rattle.http_routes.specs.Paths.{route_of}
 use Rattle.http_routes.specs.declared.route.Route.TheVariants as route

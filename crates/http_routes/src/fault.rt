@@ -1,27 +1,28 @@
-//! Why a request is no route's.
+//! The faults of a request that asks for no command.
 ghost use Rattle.std.specs.Prelude.{◌≡◌, option_map};
-ghost use Rattle.http_routes.specs.RouteFaults.{fault_allow, fault_number, fault_status, fault_text};
+ghost use Rattle.http_routes.specs.RouteFaults.{route_fault_allow, route_fault_number};
+ghost use Rattle.http_routes.specs.RouteFaults.{route_fault_status, route_fault_text};
 
 use crate::route::Route;
 
-/// Why a whole request asks for nothing. None closes the connection.
+/// Why a complete request asks for no command. None of these closes the connection.
 #[derive(Clone, Copy, Debug, PartialEq, Eq)]
 pub enum RouteFault {
-    /// No route has such a path, or the target doesn't begin with a slash.
+    /// No route matches the path, or the target doesn't start with a slash.
     NoRoute,
-    /// The route has other methods.
+    /// The route doesn't have the method.
     BadMethod(Route),
-    /// A part of the path isn't UTF-8 once it is decoded.
+    /// A percent-decoded part of the path isn't UTF-8.
     BadPath,
-    /// The query has a name that the route doesn't have, a name twice, hasn't one that it must
-    /// have, or a value that isn't the name's.
+    /// The query has an unknown name or a name twice, lacks a required name, or has an invalid
+    /// value.
     BadQuery,
 }
 
 impl RouteFault {
-    /// The number under which the fault is reported: 27 to 30, in the order of the variants.
+    /// The number of the fault: 27 to 30, in the order of the variants.
     pub fn number(self) -> u8
-        ensures { result ≡ fault_number self }
+        ensures { result ≡ route_fault_number self }
     {
         match self {
             RouteFault::NoRoute => 27,
@@ -33,7 +34,7 @@ impl RouteFault {
 
     /// The status of the reply (RFC 9110, section 15.5).
     pub fn status(self) -> u16
-        ensures { result ≡ fault_status self }
+        ensures { result ≡ route_fault_status self }
     {
         match self {
             RouteFault::NoRoute => 404,
@@ -43,9 +44,9 @@ impl RouteFault {
         }
     }
 
-    /// The text under which the fault is reported.
+    /// The text of the fault.
     pub fn text(self) -> &'static str
-        ensures { result.now ≡ fault_text self }
+        ensures { result.now ≡ route_fault_text self }
     {
         match self {
             RouteFault::NoRoute => "no-route",
@@ -55,9 +56,10 @@ impl RouteFault {
         }
     }
 
-    /// The methods that a reply to a wrong method must tell (RFC 9110, section 15.5.6).
+    /// The value of the Allow field that a reply to a wrong method must have (RFC 9110, section
+    /// 15.5.6).
     pub fn allow(self) -> Option<&'static str>
-        ensures { option_map (λ methods. methods.now) result ≡ fault_allow self }
+        ensures { option_map (λ methods. methods.now) result ≡ route_fault_allow self }
     {
         match self {
             RouteFault::BadMethod(route) => Some(route.allow()),

@@ -1,8 +1,8 @@
-//! Which route some paths are of, worked from the definitions.
+//! The routes of some example paths. Each law is a function that does nothing.
 ghost use Rattle.http_routes.specs.WorkedPaths.{WorkedPaths};
 
-/// An empty part is no name, and a part that is escaped stands as it is: these paths are of these
-/// routes, or of none.
+/// The routes of these paths, or none. An empty part is no name, and an escaped part isn't decoded
+/// before the match.
 pub fn worked_paths_are_routes()
     ensures { WorkedPaths }
 {}

@@ -1,8 +1,8 @@
-//! What requests over HTTP ask of the service: the command of each, or its first fault, by one
-//! table of routes.
+//! Maps the method, target and body of an HTTP request to a command of the service, or to the
+//! first fault of the request.
 #![tactic(auto)]
 
-mod ask;
+mod action;
 mod fault;
 pub mod laws;
 mod method;
@@ -13,7 +13,7 @@ mod request;
 mod route;
 mod router;
 
-pub use ask::Ask;
+pub use action::Action;
 pub use fault::RouteFault;
 pub use no_command::NoCommand;
 pub use request::read_request;

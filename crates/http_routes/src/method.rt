@@ -1,46 +1,46 @@
-//! What a method asks of a route.
+//! Maps a route and a method to an action.
 ghost use Rattle.std.specs.Prelude.{◌≡◌, [], ◌∷◌};
-ghost use Rattle.http_routes.specs.Asks as asks;
+ghost use Rattle.http_routes.specs.Actions as actions;
 ghost use Rattle.http_routes.specs.declared.route.Route.TheVariants.{Card};
 
-use crate::ask::Ask;
+use crate::action::Action;
 use crate::route::Route;
 
-/// What is asked for, where the method is the route's own.
-fn only(own: &str, ask: Ask, method: &str) -> Option<Ask>
-    ensures { result ≡ asks.named_ask method.now ((own.now, ask) ∷ []) }
+/// The action of a route with a single method.
+fn only(own: &str, action: Action, method: &str) -> Option<Action>
+    ensures { result ≡ actions.action_named method.now ((own.now, action) ∷ []) }
 {
-    if own == method { Some(ask) } else { None }
+    if own == method { Some(action) } else { None }
 }
 
-/// What the method asks of a card.
-fn ask_of_card(method: &str) -> Option<Ask>
-    ensures { result ≡ asks.named_ask method.now (asks.asks_of Card) }
+/// The action of a method on a card.
+fn card_action(method: &str) -> Option<Action>
+    ensures { result ≡ actions.action_named method.now (actions.actions_of Card) }
 {
     if "GET" == method {
-        Some(Ask::Get)
+        Some(Action::Get)
     } else if "PUT" == method {
-        Some(Ask::Put)
+        Some(Action::Put)
     } else {
-        only("DELETE", Ask::Remove, method)
+        only("DELETE", Action::Remove, method)
     }
 }
 
-/// What the method asks of the route, where the route has it.
-#[tactic(auto, unfolding(crate::specs::Asks::ask_of))]
-pub(crate) fn ask_of(route: Route, method: &str) -> Option<Ask>
-    ensures { result ≡ asks.ask_of route method.now }
+/// The action of the method on the route, or `None` if the route doesn't have the method.
+#[tactic(auto, unfolding(crate::specs::Actions::action_of))]
+pub(crate) fn action_of(route: Route, method: &str) -> Option<Action>
+    ensures { result ≡ actions.action_of route method.now }
 {
     match route {
-        Route::Books => only("GET", Ask::Books, method),
-        Route::Book => only("PUT", Ask::CreateBook, method),
-        Route::Tally => only("GET", Ask::TallyOf, method),
-        Route::Sync => only("GET", Ask::Report, method),
-        Route::Import => only("POST", Ask::Import, method),
-        Route::Export => only("GET", Ask::Export, method),
-        Route::Forget => only("POST", Ask::Forget, method),
-        Route::Card => ask_of_card(method),
-        Route::Move => only("POST", Ask::MoveCard, method),
-        Route::People => only("GET", Ask::People, method),
+        Route::Books => only("GET", Action::Books, method),
+        Route::Book => only("PUT", Action::CreateBook, method),
+        Route::Tally => only("GET", Action::TallyOf, method),
+        Route::Sync => only("GET", Action::Report, method),
+        Route::Import => only("POST", Action::Import, method),
+        Route::Export => only("GET", Action::Export, method),
+        Route::Forget => only("POST", Action::Forget, method),
+        Route::Card => card_action(method),
+        Route::Move => only("POST", Action::MoveCard, method),
+        Route::People => only("GET", Action::People, method),
     }
 }

@@ -1,13 +1,13 @@
-//! Why there is no command.
+//! The error of `read_request`.
 
 use crate::fault::RouteFault;
 use base_types::NoMemory;
 use std::alloc::AllocError;
 
-/// Why a whole request was read without a command.
+/// Why a complete request was read without a command.
 #[derive(Clone, Copy, Debug, PartialEq, Eq)]
 pub enum NoCommand {
-    /// The request asks for nothing.
+    /// The request asks for no command.
     Fault(RouteFault),
     /// An allocation failed.
     Memory,

@@ -1,9 +1,9 @@
-//! The parts of a path, and the route whose path it is.
+//! Splits a path into parts and finds its route.
 ghost use Rattle.std.specs.Prelude.{◌≡◌, [], IfOk, get_or, map};
-ghost use Rattle.http_routes.specs.Commands.{text_in};
-ghost use Rattle.http_routes.specs.Outcomes.{Gives};
+ghost use Rattle.http_routes.specs.Commands.{decode_part};
+ghost use Rattle.http_routes.specs.internal.Results.{MatchesExpected};
 ghost use Rattle.http_routes.specs.Paths as paths;
-ghost use Rattle.http_routes.specs.RouterRows.{routed};
+ghost use Rattle.http_routes.specs.internal.RouterRows.{matched_route};
 ghost use Rattle.http_routes.specs.Routes.{path_of};
 
 use crate::fault::RouteFault;
@@ -14,7 +14,7 @@ use base_types::{NoMemory, Text};
 use percent_encoding::{DecodeError, percent_decode};
 use std::alloc::{AllocError, Global};
 
-/// The parts between the slashes, as they stand.
+/// The parts between the slashes, not decoded.
 pub(crate) fn parts_of(alloc: Global, path: &str) -> Result<Vec<&str>, AllocError>
     ensures { IfOk result (λ parts.
         map (λ part. part.now) parts.items ≡ paths.parts_of path.now) }
@@ -22,7 +22,7 @@ pub(crate) fn parts_of(alloc: Global, path: &str) -> Result<Vec<&str>, AllocErro
     path.split('/').collect(alloc)
 }
 
-/// The part at the place, and the empty one where there are fewer.
+/// The part at the index, or the empty text if there are fewer parts.
 pub(crate) fn part_at<'a>(parts: &[&'a str], place: usize) -> &'a str
     ensures { result.now ≡ get_or (map (λ part. part.now) parts.now) place [] }
 {
@@ -32,7 +32,8 @@ pub(crate) fn part_at<'a>(parts: &[&'a str], place: usize) -> &'a str
     }
 }
 
-/// Whether the part of a path is one that the route's own part stands for.
+/// Whether a part of a path matches a part of a route: a name in braces matches any part that isn't
+/// empty.
 fn fits_part(own: &str, part: &str) -> bool
     ensures { result ≡ paths.fits_part own.now part.now }
 {
@@ -42,7 +43,7 @@ fn fits_part(own: &str, part: &str) -> bool
     }
 }
 
-/// Whether there are as many parts as the route's own, each one that its own stands for.
+/// Whether the parts match those of a route, one for one.
 fn fits_parts(own: &[&str], parts: &[&str]) -> bool
     ensures { result ≡ paths.fits_parts (map (λ part. part.now) own.now)
         (map (λ part. part.now) parts.now) }
@@ -56,7 +57,7 @@ fn fits_parts(own: &[&str], parts: &[&str]) -> bool
     fits_part(name, part) && fits_parts(others, rest)
 }
 
-/// Whether the parts are those of one of the route's paths.
+/// Whether the parts match the route.
 fn is_path_of(alloc: Global, route: Route, parts: &[&str]) -> Result<bool, NoMemory>
     ensures { IfOk result (λ is. is ≡ paths.fits_parts (paths.parts_of (path_of route))
         (map (λ part. part.now) parts.now)) }
@@ -65,9 +66,9 @@ fn is_path_of(alloc: Global, route: Route, parts: &[&str]) -> Result<bool, NoMem
     Ok(fits_parts(&own, parts))
 }
 
-/// The route that the router leads the path to.
-fn led_to(alloc: Global, path: &str) -> Result<Option<Route>, NoMemory>
-    ensures { IfOk result (λ route. route ≡ routed path.now) }
+/// The route that the router finds for the path.
+fn match_route(alloc: Global, path: &str) -> Result<Option<Route>, NoMemory>
+    ensures { IfOk result (λ route. route ≡ matched_route path.now) }
 {
     let Ok(router) = router(alloc) else {
         return Err(NoMemory);
@@ -78,12 +79,12 @@ fn led_to(alloc: Global, path: &str) -> Result<Option<Route>, NoMemory>
     }
 }
 
-/// The route that has such a path, whose parts these are.
+/// The route of the path. The parts are those of the path.
 pub(crate) fn route_of(alloc: Global, path: &str, parts: &[&str]) -> Result<Option<Route>, NoMemory>
     ensures { map (λ part. part.now) parts.now ≡ paths.parts_of path.now →
         IfOk result (λ route. route ≡ paths.route_of path.now) }
 {
-    let found = led_to(alloc, path)?;
+    let found = match_route(alloc, path)?;
     let Some(route) = found else {
         return Ok(None);
     };
@@ -91,10 +92,9 @@ pub(crate) fn route_of(alloc: Global, path: &str, parts: &[&str]) -> Result<Opti
     if fits { Ok(Some(route)) } else { Ok(None) }
 }
 
-/// The text that a part of a path stands for (RFC 3986, section 2.1). `BadPath` where it isn't
-/// UTF-8.
-pub(crate) fn text_in(alloc: Global, part: &str) -> Result<Text, NoCommand>
-    ensures { Gives (text_in part.now) result }
+/// The percent-decoded text of a part (RFC 3986, section 2.1). `BadPath` if it isn't UTF-8.
+pub(crate) fn decode_part(alloc: Global, part: &str) -> Result<Text, NoCommand>
+    ensures { MatchesExpected (decode_part part.now) result }
 {
     match percent_decode(part.as_bytes()).decode_utf8(alloc) {
         Ok(text) => Ok(Text::new(text.into_owned(alloc)?)),

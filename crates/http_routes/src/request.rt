@@ -1,22 +1,24 @@
-//! What a whole request asks for.
+//! Reads the command of a complete request.
 ghost use Rattle.std.specs.Prelude.{◌≡◌, Err, IfOk, Ok, map};
 ghost use Rattle.http_routes.specs.Commands as commands;
-ghost use Rattle.http_routes.specs.Outcomes.{Gives};
+ghost use Rattle.http_routes.specs.internal.Results.{MatchesExpected};
 ghost use Rattle.http_routes.specs.declared.fault.RouteFault.{RouteFault};
 ghost use Rattle.http_routes.specs.declared.no_command.NoCommand.TheVariants.{Fault};
 
-use crate::ask::Ask;
+use crate::action::Action;
 use crate::fault::RouteFault;
-use crate::method::ask_of;
+use crate::method::action_of;
 use crate::no_command::NoCommand;
-use crate::path::{part_at, parts_of, route_of, text_in};
-use crate::query::{form_of, has_names_of, number_in, number_of, pairs_of, value_or_empty};
+use crate::path::{decode_part, part_at, parts_of, route_of};
+use crate::query::{
+    export_form_of, has_valid_names, number_of, pairs_of, parse_number, value_or_empty,
+};
 use base_types::{Items, Text};
 use book_commands::Command;
 use std::alloc::Global;
 
-/// The path of a target and its query: what stands before the first question mark, and behind it.
-fn cut_target(target: &str) -> (&str, &str)
+/// The path and the query of a target: the text before and after the first question mark.
+fn split_target(target: &str) -> (&str, &str)
     ensures path { result.0.now ≡ commands.path_in target.now }
     ensures query { result.1.now ≡ commands.query_in target.now }
 {
@@ -26,23 +28,23 @@ fn cut_target(target: &str) -> (&str, &str)
     }
 }
 
-/// The command of what was asked for, with the texts of the path, the body, and a query whose
-/// names are in order. `BadQuery` where a value isn't its name's.
+/// The command of an action, given the texts of the path, the body, and a query whose names are
+/// checked. `BadQuery` if a value is invalid.
 fn command_of(
     alloc: Global,
-    ask: Ask,
+    action: Action,
     book: Text,
     uid: Text,
     body: &[u8],
     pairs: &[(Text, Text)],
 ) -> Result<Command, NoCommand>
-    ensures { Gives (commands.command_of ask book uid body.now pairs.now) result }
+    ensures { MatchesExpected (commands.command_of action book uid body.now pairs.now) result }
 {
-    match ask {
-        Ask::CreateBook => Ok(Command::CreateBook { book }),
-        Ask::Books => Ok(Command::Books),
-        Ask::Get => Ok(Command::Get { book, uid }),
-        Ask::Put => {
+    match action {
+        Action::CreateBook => Ok(Command::CreateBook { book }),
+        Action::Books => Ok(Command::Books),
+        Action::Get => Ok(Command::Get { book, uid }),
+        Action::Put => {
             let expect = number_of("version", pairs)?;
             let text = Items::from_vec(Vec::from_slice(alloc, body)?);
             Ok(Command::Put {
@@ -52,11 +54,11 @@ fn command_of(
                 text,
             })
         }
-        Ask::Remove => {
+        Action::Remove => {
             let expect = number_of("version", pairs)?;
             Ok(Command::Remove { book, uid, expect })
         }
-        Ask::MoveCard => {
+        Action::MoveCard => {
             let expect = number_of("version", pairs)?;
             let to = Text::copy_of(alloc, value_or_empty("to", pairs))?;
             Ok(Command::MoveCard {
@@ -66,81 +68,82 @@ fn command_of(
                 expect,
             })
         }
-        Ask::Report => {
+        Action::Report => {
             let limit = number_of("limit", pairs)?;
             let token = Text::copy_of(alloc, value_or_empty("token", pairs))?;
             Ok(Command::Report { book, token, limit })
         }
-        Ask::Import => {
+        Action::Import => {
             let key = Text::copy_of(alloc, value_or_empty("key", pairs))?;
             let body = Items::from_vec(Vec::from_slice(alloc, body)?);
             Ok(Command::Import { book, key, body })
         }
-        Ask::Forget => {
-            let upto = number_in(value_or_empty("upto", pairs))?;
+        Action::Forget => {
+            let upto = parse_number(value_or_empty("upto", pairs))?;
             Ok(Command::Forget { book, upto })
         }
-        Ask::TallyOf => Ok(Command::TallyOf { book }),
-        Ask::Export => {
-            let form = form_of(pairs)?;
+        Action::TallyOf => Ok(Command::TallyOf { book }),
+        Action::Export => {
+            let form = export_form_of(pairs)?;
             Ok(Command::Export { book, form })
         }
-        Ask::People => Ok(Command::People { book, uid }),
+        Action::People => Ok(Command::People { book, uid }),
     }
 }
 
-/// What the query must say of what was asked for, and the command. `BadQuery` where it doesn't.
+/// Checks the names of the query and builds the command. `BadQuery` if a name or a value is
+/// invalid.
 fn command_with(
     alloc: Global,
-    ask: Ask,
+    action: Action,
     book: Text,
     uid: Text,
     body: &[u8],
     query: &str,
 ) -> Result<Command, NoCommand>
-    ensures { Gives (commands.command_with ask book uid body.now query.now) result }
+    ensures { MatchesExpected (commands.command_with action book uid body.now query.now) result }
 {
     let pairs = pairs_of(alloc, query.as_bytes())?;
-    if !has_names_of(ask, &pairs) {
+    if !has_valid_names(action, &pairs) {
         return Err(NoCommand::Fault(RouteFault::BadQuery));
     }
-    command_of(alloc, ask, book, uid, body, &pairs)
+    command_of(alloc, action, book, uid, body, &pairs)
 }
 
-/// What a whole request asks for: the command of its method, target and body. A command that takes
-/// the body has a copy of its octets.
+/// The command of a complete request, by its method, target and body. A command with a body has a
+/// copy of the octets.
 ///
-/// Of what is wrong with it the first is answered: `NoRoute` where no route has the path, up to
-/// the first question mark, as it stands; `BadMethod` where the route hasn't the method;
-/// `BadPath` where the part that names a book or a card isn't UTF-8 once it is decoded (RFC 3986,
-/// section 2.1); `BadQuery` where the query has a name that isn't the method's, or a name twice,
-/// or hasn't one that it must have, or where a number isn't 1 to 15 digits or a form neither
-/// `cards` nor `columns`. `Memory` may come in place of any answer.
+/// Returns the first fault in this order: `NoRoute` if no route matches the path, which ends at
+/// the first question mark and isn't decoded; `BadMethod` if the route doesn't have the method;
+/// `BadPath` if the part that names a book or a card isn't UTF-8 after percent-decoding (RFC 3986,
+/// section 2.1); `BadQuery` if the query has an unknown name or a name twice, or lacks a required
+/// name, or if a number isn't 1 to 15 digits or a form is neither `cards` nor `columns`. `Memory`
+/// if an allocation fails, in place of any result.
 pub fn read_request(
     alloc: Global,
     method: &str,
     target: &str,
     body: &[u8],
 ) -> Result<Command, NoCommand>
-    // What is answered is the command that the request asks for.
+    // The result is the command that the request asks for.
     ensures command { IfOk result (λ command.
-        commands.asked method.now target.now body.now ≡ Ok command) }
+        commands.requested_command method.now target.now body.now ≡ Ok command) }
 
-    // A fault is the first that the request has.
+    // A fault is the first fault of the request.
     ensures fault { (fault : RouteFault) → result ≡ Err (Fault fault)
-        → commands.asked method.now target.now body.now ≡ Err fault }
+        → commands.requested_command method.now target.now body.now ≡ Err fault }
 {
-    let (path, query) = cut_target(target);
+    let (path, query) = split_target(target);
     let parts = parts_of(alloc, path)?;
     let found = route_of(alloc, path, &parts)?;
     let Some(route) = found else {
         return Err(NoCommand::Fault(RouteFault::NoRoute));
     };
-    let wanted = ask_of(route, method);
-    let Some(ask) = wanted else {
+    let wanted = action_of(route, method);
+    let Some(action) = wanted else {
         return Err(NoCommand::Fault(RouteFault::BadMethod(route)));
     };
-    let book = text_in(alloc, part_at(&parts, 2))?;
-    let uid = text_in(alloc, part_at(&parts, 4))?;
-    command_with(alloc, ask, book, uid, body, query)
+    let book = decode_part(alloc, part_at(&parts, 2))?;
+    let uid = decode_part(alloc, part_at(&parts, 4))?;
+    command_with(alloc, action, book, uid, body, query)
 }

@@ -2,33 +2,33 @@
 ghost use Rattle.std.specs.Prelude.{◌≡◌};
 ghost use Rattle.http_routes.specs.Routes.{allow_of, path_of};
 
-/// What a path is about.
+/// A route: a form of paths, with its methods.
 #[derive(Clone, Copy, Debug, PartialEq, Eq)]
 pub enum Route {
     /// All books.
     Books,
-    /// One book, which is made by it.
+    /// One book, for its creation.
     Book,
-    /// A book in numbers.
+    /// The counts of a book.
     Tally,
     /// What changed in a book since a token (RFC 6578, section 3.2).
     Sync,
-    /// Rows of CSV that come into a book.
+    /// The import of CSV rows into a book.
     Import,
     /// A book's cards as rows of CSV.
     Export,
-    /// The removed members that a book is no longer to remember.
+    /// Dropping the tombstones of a book, up to a number.
     Forget,
     /// The card of a UID in a book.
     Card,
-    /// Taking a card to another book.
+    /// Moving a card to another book.
     Move,
-    /// Whom a group reaches.
+    /// The people that a group reaches.
     People,
 }
 
 impl Route {
-    /// The paths that are taken: each name in braces stands for one part that isn't empty.
+    /// The form of the paths: each name in braces matches one part that isn't empty.
     pub fn path(self) -> &'static str
         ensures { result.now ≡ path_of self }
     {
@@ -46,7 +46,7 @@ impl Route {
         }
     }
 
-    /// The methods that the route takes, as an Allow field has them (RFC 9110, section 10.2.1).
+    /// The methods of the route, as the value of an Allow field (RFC 9110, section 10.2.1).
     pub fn allow(self) -> &'static str
         ensures { result.now ≡ allow_of self }
     {

@@ -1,13 +1,13 @@
-//! The router of the table's paths.
+//! The router of the library `matchit` with all routes.
 ghost use Rattle.std.specs.Prelude.{◌≡◌, IfOk};
-ghost use Rattle.http_routes.specs.RouterRows.{router_rows};
+ghost use Rattle.http_routes.specs.internal.RouterRows.{router_rows};
 
 use crate::route::Route;
 use matchit::{InsertError, Router};
 use std::alloc::Global;
 
-/// The router of all routes. Its rows are those of the table, as the library reads their paths.
-#[tactic(auto, unfolding(crate::specs::RouterRows::router_rows))]
+/// The router with all routes. Its rows are the paths of the routes, as the library parses them.
+#[tactic(auto, unfolding(crate::specs::internal::RouterRows::router_rows))]
 pub(crate) fn router(alloc: Global) -> Result<Router<Route>, InsertError>
     ensures { IfOk result (λ router. router ≡ router_rows) }
 {

@@ -1,4 +1,4 @@
--- What is written of a page: a value without floats, nested 3 deep, that is of the page.
+-- The written value of a page: without floats, nested 3 deep, and it encodes the page.
 use Rattle.std.proofs.Common.{◌≡◌, ◌≤◌, List, [], ◌∷◌, map, false, refl, arith}
 use Rattle.std.specs.List.{AllByRecursion}
 use Rattle.serde_json.specs.Data.{depth, items_depth}
@@ -8,10 +8,10 @@ use Rattle.serde_json.specs.Written.{has_float, items_have_float}
 use Rattle.book_model.specs.declared.page.Entry.{Entry}
 use Rattle.book_model.specs.declared.page.Entry.TheVariants.{Changed, Removed}
 use Rattle.book_model.specs.declared.page.Page.{Page}
-use Rattle.page_json.specs.PageTexts.{MemberTexts, changed, removed, PageTexts, HasVersion, TellEntries, TellsEntry}
-use Rattle.page_json.specs.PageValues.{SayMembers, member_value, page_value}
-use Rattle.page_json.specs.PagesOfTexts.{PageOf}
-use Rattle.page_json.specs.Reportable.{IsReportable, IsReportableEntry, SpellsItsCard, member_texts, page_texts}
+use Rattle.page_json.specs.PageTexts.{MemberTexts, changed, removed, PageTexts, HasVersion, DescribeEntries, DescribesEntry}
+use Rattle.page_json.specs.PageValues.{EncodeMembers, member_value, page_value}
+use Rattle.page_json.specs.PageJson.{PageOf}
+use Rattle.page_json.specs.WrittenPages.{IsWellFormedPage, IsWellFormedEntry, SpellsItsCard, member_texts, page_texts}
 
 -- ---- the value
 
@@ -31,27 +31,27 @@ members_are_shallow (removed uid ∷ ms) = omega (arith, members_are_shallow ms)
 pub page_is_shallow : (page : PageTexts) → depth (page_value page) ≤ max_depth
 page_is_shallow page = omega (arith, members_are_shallow page.members)
 
--- ---- the page that it is of
+-- ---- the encoded page
 
-has_version : (e : Entry) → IsReportableEntry e → HasVersion (member_texts e)
+has_version : (e : Entry) → IsWellFormedEntry e → HasVersion (member_texts e)
 has_version (Changed uid version card) is = is.0
 has_version (Removed uid) is = tt
 
-each_said : (es : List Entry) → AllByRecursion IsReportableEntry es → SayMembers (map member_value (map member_texts es)) (map member_texts es)
-each_said [] all = tt
-each_said (e ∷ es) all = (record { form = refl; version = has_version e all.0 }, each_said es all.1)
+each_encoded : (es : List Entry) → AllByRecursion IsWellFormedEntry es → EncodeMembers (map member_value (map member_texts es)) (map member_texts es)
+each_encoded [] all = tt
+each_encoded (e ∷ es) all = (record { form = refl; version = has_version e all.0 }, each_encoded es all.1)
 
-told : (e : Entry) → IsReportableEntry e → SpellsItsCard e → TellsEntry (member_texts e) e
-told (Changed uid version card) is spells = (refl, refl, spells, is.1)
-told (Removed uid) is spells = refl
+described : (e : Entry) → IsWellFormedEntry e → SpellsItsCard e → DescribesEntry (member_texts e) e
+described (Changed uid version card) is spells = (refl, refl, spells, is.1)
+described (Removed uid) is spells = refl
 
-each_told : (es : List Entry) → AllByRecursion IsReportableEntry es → AllByRecursion SpellsItsCard es → TellEntries (map member_texts es) es
-each_told [] all spell = tt
-each_told (e ∷ es) all spell = (told e all.0 spell.0, each_told es all.1 spell.1)
+each_described : (es : List Entry) → AllByRecursion IsWellFormedEntry es → AllByRecursion SpellsItsCard es → DescribeEntries (map member_texts es) es
+each_described [] all spell = tt
+each_described (e ∷ es) all spell = (described e all.0 spell.0, each_described es all.1 spell.1)
 
-pub written_of_page : (page : Page) → IsReportable page → AllByRecursion SpellsItsCard page.entries → PageOf (page_value (page_texts page)) page
+pub written_of_page : (page : Page) → IsWellFormedPage page → AllByRecursion SpellsItsCard page.entries → PageOf (page_value (page_texts page)) page
 written_of_page page is spell = record {
   texts = page_texts page;
-  shape = record { members = map member_value (map member_texts page.entries); form = refl; each = each_said page.entries is.entries };
-  tells = record { entries = each_told page.entries is.entries spell; token = is.token; truncated = refl };
+  shape = record { members = map member_value (map member_texts page.entries); form = refl; each = each_encoded page.entries is.entries };
+  describes = record { entries = each_described page.entries is.entries spell; token = is.token; truncated = refl };
 }

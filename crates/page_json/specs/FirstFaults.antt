@@ -1,5 +1,5 @@
--- What is wrong with a text that is of no page: that it isn't JSON; then its shape; then the first
--- member that tells no entry; then the token. This project's own.
+-- The first fault of a text that isn't a page's: it isn't JSON; then its shape; then the first
+-- member that describes no entry; then the token. This project's own.
 use Rattle.std.specs.Prelude.{ℕ, ◌≡◌, ◌≢◌, ◌⊎◌, List, ◌∷◌, ◌++◌}
 use Rattle.serde_json.specs.Data.{Data}
 use Rattle.vcard_lines.specs.declared.line.Line.{Line}
@@ -7,56 +7,58 @@ use Rattle.vcard_text.specs.Cards.{uid_of}
 use Rattle.vcard_text.specs.Spelling.{Spells}
 use Rattle.book_model.specs.declared.page.Entry.{Entry}
 use Rattle.book_model.specs.declared.token.Token.{Token}
-use Rattle.book_devices.specs.TokenTexts.{IsToken}
+use Rattle.sync_core.specs.TokenTexts.{IsTokenText}
 use Rattle.page_json.specs.declared.fault.ReportFault.{ReportFault}
-use Rattle.page_json.specs.declared.fault.ReportFault.TheVariants.{NotJson, BadShape, BadCard, BadToken}
-use Rattle.page_json.specs.PageTexts.{MemberTexts, changed, removed, PageTexts, TellEntries}
-use Rattle.page_json.specs.PageValues.{HasShape}
-use Rattle.page_json.specs.PagesOfTexts.{IsJson}
+use Rattle.page_json.specs.declared.fault.ReportFault.TheVariants.{NotJson, BadShape, BadCard}
+use Rattle.page_json.specs.declared.fault.ReportFault.TheVariants.{BadToken}
+use Rattle.page_json.specs.PageTexts.{MemberTexts, changed, removed, PageTexts, DescribeEntries}
+use Rattle.page_json.specs.PageValues.{HasPageShape}
+use Rattle.page_json.specs.PageJson.{IsJson}
 
--- the text spells a card of another UID
-pub record HasOtherUid (uid text : List ℕ) : Type 0 where
+-- the text is that of a card with another UID
+pub record CardHasOtherUid (uid text : List ℕ) : Type 0 where
   pub card : List Line
   pub spelled : Spells text card
   pub other : uid_of card ≢ uid
 
--- The text spells no card (BadCard), or a card of another UID (BadShape).
-abbrev pub MisspellsCard : List ℕ → List ℕ → ReportFault → Type 0
-MisspellsCard uid text fault =
+-- The text isn't a card's (BadCard), or is that of a card with another UID (BadShape).
+abbrev pub HasCardFault : List ℕ → List ℕ → ReportFault → Type 0
+HasCardFault uid text fault =
     ((fault ≡ BadCard) × ((card : List Line) → Spells text card → ⊥))
-    ⊎ ((fault ≡ BadShape) × HasOtherUid uid text)
+    ⊎ ((fault ≡ BadShape) × CardHasOtherUid uid text)
 
--- The member tells no entry, for this fault.
-abbrev pub MemberHas : MemberTexts → ReportFault → Type 0
-MemberHas (changed uid version text) fault = MisspellsCard uid text fault
-MemberHas (removed uid) fault = ⊥
+-- The member describes no entry, because of this fault.
+abbrev pub HasMemberFault : MemberTexts → ReportFault → Type 0
+HasMemberFault (changed uid version text) fault = HasCardFault uid text fault
+HasMemberFault (removed uid) fault = ⊥
 
--- the members before this one tell entries, and this one has the fault
-pub record IsOfFirstFaultyMember (members : List MemberTexts) (fault : ReportFault) : Type 0 where
+-- the members before this one describe entries, and this one has the fault
+pub record IsFirstMemberFault (members : List MemberTexts) (fault : ReportFault) : Type 0 where
   pub before : List MemberTexts
   pub faulty : MemberTexts
   pub others : List MemberTexts
   pub members_are : members ≡ before ++ faulty ∷ others
   pub entries : List Entry
-  pub told : TellEntries before entries
-  pub has_it : MemberHas faulty fault
+  pub described : DescribeEntries before entries
+  pub has_fault : HasMemberFault faulty fault
 
--- each member tells an entry, and the token's text is of no token
+-- each member describes an entry, and the token's text isn't that of a token
 pub record HasBadToken (page : PageTexts) : Type 0 where
   pub entries : List Entry
-  pub told : TellEntries page.members entries
-  pub none : (token : Token) → IsToken page.token token → ⊥
+  pub described : DescribeEntries page.members entries
+  pub none : (token : Token) → IsTokenText page.token token → ⊥
 
--- The first fault of a page's texts: of the first member that tells no entry, and then the token's.
-abbrev pub TextsHave : PageTexts → ReportFault → Type 0
-TextsHave page fault =
-    IsOfFirstFaultyMember page.members fault ⊎ ((fault ≡ BadToken) × HasBadToken page)
+-- The first fault of a page's texts: that of the first faulty member, and then that of the token.
+abbrev pub HasPageTextFault : PageTexts → ReportFault → Type 0
+HasPageTextFault page fault =
+    IsFirstMemberFault page.members fault ⊎ ((fault ≡ BadToken) × HasBadToken page)
 
--- The text's first fault: that it isn't JSON; then that its value hasn't the shape of a page; and
--- then that of the page's texts.
-pub data IsFirstFault (text : List ℕ) (fault : ReportFault) : Type 0 where
-  of_json : fault ≡ NotJson → ((value : Data) → IsJson text value → ⊥) → IsFirstFault text fault
+-- The text's first fault: it isn't JSON; then its value hasn't the shape of a page; and then the
+-- first fault of the page's texts.
+pub data IsFirstReportFault (text : List ℕ) (fault : ReportFault) : Type 0 where
+  of_json : fault ≡ NotJson → ((value : Data) → IsJson text value → ⊥)
+      → IsFirstReportFault text fault
   of_shape : fault ≡ BadShape → (value : Data) → IsJson text value
-      → ((page : PageTexts) → HasShape value page → ⊥) → IsFirstFault text fault
-  of_texts : (value : Data) → IsJson text value → (page : PageTexts) → HasShape value page
-      → TextsHave page fault → IsFirstFault text fault
+      → ((page : PageTexts) → HasPageShape value page → ⊥) → IsFirstReportFault text fault
+  of_texts : (value : Data) → IsJson text value → (page : PageTexts) → HasPageShape value page
+      → HasPageTextFault page fault → IsFirstReportFault text fault

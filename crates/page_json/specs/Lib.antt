@@ -1,8 +1,8 @@
 pub mod FaultNumbers
 pub mod PageTexts
 pub mod PageValues
-pub mod PagesOfTexts
+pub mod PageJson
 pub mod FirstFaults
-pub mod Reportable
+pub mod WrittenPages
 pub mod ReportLaws
-pub mod Reading
+pub mod internal

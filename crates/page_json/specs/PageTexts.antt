@@ -1,4 +1,5 @@
--- A page whose cards and token are still texts, and the page that it tells. This project's own.
+-- A page whose cards and token are still unparsed texts, and the page that these describe. This
+-- project's own.
 use Rattle.std.specs.Prelude.{ℕ, ◌≡◌, ◌<◌, ◌≤◌, List, [], ◌∷◌, Bool}
 use Rattle.vcard_text.specs.Cards.{uid_of}
 use Rattle.vcard_text.specs.Spelling.{Spells}
@@ -6,10 +7,10 @@ use Rattle.book_model.specs.declared.page.Entry.{Entry}
 use Rattle.book_model.specs.declared.page.Entry.TheVariants.{Changed, Removed}
 use Rattle.book_model.specs.declared.page.Page.{Page}
 use Rattle.book_model.specs.Pages.{token_of}
-use Rattle.book_devices.specs.TokenTexts.{IsToken}
+use Rattle.sync_core.specs.TokenTexts.{IsTokenText}
 
--- what a page says of one member: the UID, the version and the card's text, or the UID of one that
--- is gone
+-- one member of a page: the UID, the version and the card's text of a live one, or the UID of a
+-- removed one
 pub data MemberTexts : Type 0 where
   changed : List ℕ → ℕ → List ℕ → MemberTexts
   removed : List ℕ → MemberTexts
@@ -27,24 +28,24 @@ abbrev pub HasVersion : MemberTexts → Type 0
 HasVersion (changed uid version text) = IsVersion version
 HasVersion (removed uid) = Unit {0}
 
--- The entry is the member's: its text spells the entry's card, whose UID is the member's.
-abbrev pub TellsEntry : MemberTexts → Entry → Type 0
-TellsEntry (changed uid version text) (Changed own number card) =
+-- The texts describe the entry: the text is that of the entry's card, whose UID is the member's.
+abbrev pub DescribesEntry : MemberTexts → Entry → Type 0
+DescribesEntry (changed uid version text) (Changed own number card) =
     (own ≡ uid) × (number ≡ version) × Spells text card × (uid_of card ≡ uid)
-TellsEntry (changed uid version text) (Removed own) = ⊥
-TellsEntry (removed uid) (Changed own number card) = ⊥
-TellsEntry (removed uid) (Removed own) = own ≡ uid
+DescribesEntry (changed uid version text) (Removed own) = ⊥
+DescribesEntry (removed uid) (Changed own number card) = ⊥
+DescribesEntry (removed uid) (Removed own) = own ≡ uid
 
--- The entries are the members', one for one.
-abbrev pub TellEntries : List MemberTexts → List Entry → Type 0
-TellEntries [] [] = Unit {0}
-TellEntries [] (entry ∷ entries) = ⊥
-TellEntries (member ∷ members) [] = ⊥
-TellEntries (member ∷ members) (entry ∷ entries) =
-    TellsEntry member entry × TellEntries members entries
+-- The texts describe the entries, one for one.
+abbrev pub DescribeEntries : List MemberTexts → List Entry → Type 0
+DescribeEntries [] [] = Unit {0}
+DescribeEntries [] (entry ∷ entries) = ⊥
+DescribeEntries (member ∷ members) [] = ⊥
+DescribeEntries (member ∷ members) (entry ∷ entries) =
+    DescribesEntry member entry × DescribeEntries members entries
 
--- The page is that of the texts: the token is that of its book and mark.
-pub record TellsPage (texts : PageTexts) (page : Page) : Type 0 where
-  pub entries : TellEntries texts.members page.entries
-  pub token : IsToken texts.token (token_of page)
+-- The texts describe the page: its entries, the token of its book and mark, and its truncation.
+pub record DescribesPage (texts : PageTexts) (page : Page) : Type 0 where
+  pub entries : DescribeEntries texts.members page.entries
+  pub token : IsTokenText texts.token (token_of page)
   pub truncated : texts.truncated ≡ page.truncated

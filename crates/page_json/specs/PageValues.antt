@@ -1,7 +1,8 @@
 -- The JSON of a page (RFC 8259), with the statuses that RFC 6578, section 3.6, gives of members.
 -- The names in it are this project's own.
 use Rattle.std.specs.Prelude.{ℕ, ◌≡◌, List, [], ◌∷◌, codes, map}
-use Rattle.serde_json.specs.Data.{Data, number, unsigned, string, boolean, array, object, member as with_member, no_members}
+use Rattle.serde_json.specs.Data.{Data, number, unsigned, string, boolean, array, object}
+use Rattle.serde_json.specs.Data.{member as with_member, no_members}
 use Rattle.serde_json.specs.View.{items_of}
 use Rattle.page_json.specs.PageTexts.{MemberTexts, changed, removed, PageTexts, HasVersion}
 
@@ -9,7 +10,7 @@ use Rattle.page_json.specs.PageTexts.{MemberTexts, changed, removed, PageTexts, 
 abbrev pub status_ok : ℕ
 status_ok = 200
 
--- the status of a member that is gone (RFC 9110, section 15.5.5)
+-- the status of a member that was removed (RFC 9110, section 15.5.5)
 abbrev pub status_not_found : ℕ
 status_not_found = 404
 
@@ -36,28 +37,28 @@ member_value (changed uid version text) =
     (number (unsigned version))
 member_value (removed uid) = removed_object (number (unsigned status_not_found)) (string uid)
 
--- The value says the member: these keys and no others, these kinds of values, this status, and a
+-- The value encodes the member: exactly these keys, these types of values, this status, and a
 -- version within its bounds.
-pub record SaysMember (value : Data) (member : MemberTexts) : Type 0 where
+pub record EncodesMember (value : Data) (member : MemberTexts) : Type 0 where
   pub form : value ≡ member_value member
   pub version : HasVersion member
 
--- The values say the members, one for one.
-abbrev pub SayMembers : List Data → List MemberTexts → Type 0
-SayMembers [] [] = Unit {0}
-SayMembers [] (member ∷ members) = ⊥
-SayMembers (value ∷ values) [] = ⊥
-SayMembers (value ∷ values) (member ∷ members) =
-    SaysMember value member × SayMembers values members
+-- The values encode the members, one for one.
+abbrev pub EncodeMembers : List Data → List MemberTexts → Type 0
+EncodeMembers [] [] = Unit {0}
+EncodeMembers [] (member ∷ members) = ⊥
+EncodeMembers (value ∷ values) [] = ⊥
+EncodeMembers (value ∷ values) (member ∷ members) =
+    EncodesMember value member × EncodeMembers values members
 
--- The value has the shape of a page, and says these texts.
-pub record HasShape (value : Data) (page : PageTexts) : Type 0 where
+-- The value has the shape of a page, and encodes these texts.
+pub record HasPageShape (value : Data) (page : PageTexts) : Type 0 where
   pub members : List Data
   pub form : value ≡ page_object (array (items_of members)) (string page.token)
       (boolean page.truncated)
-  pub each : SayMembers members page.members
+  pub each : EncodeMembers members page.members
 
--- the value that is written of a page
+-- the JSON value of a page
 abbrev pub page_value : PageTexts → Data
 page_value page =
     page_object (array (items_of (map member_value page.members))) (string page.token)

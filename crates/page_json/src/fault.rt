@@ -1,6 +1,6 @@
-//! Why a text is of no page.
+//! Why a text isn't a page's.
 ghost use Rattle.std.specs.Prelude.{◌≡◌};
-ghost use Rattle.page_json.specs.FaultNumbers.{fault_number, fault_of_card};
+ghost use Rattle.page_json.specs.FaultNumbers.{report_fault_number, fault_of_card};
 ghost use Rattle.page_json.specs.declared.fault.ReportFault.TheVariants.{Memory};
 
 use std::alloc::{AllocError, AllocFailed};
@@ -8,26 +8,26 @@ use std::error::Error;
 use std::fmt;
 use vcard_text::{CardFault, NoMemory};
 
-/// What is wrong with a text that was to be a page's.
+/// What is wrong with the text of a page.
 #[derive(Clone, Copy, Debug, PartialEq, Eq)]
 pub enum ReportFault {
     /// The text isn't JSON, isn't UTF-8, or nests deeper than 127.
     NotJson,
-    /// A name, a kind of value or a status is another than in a page, a version isn't from 1 to
+    /// A name, a type of value or a status isn't that of a page, a version isn't from 1 to
     /// 9,999,999,999,999, or a member's UID isn't its card's.
     BadShape,
-    /// A member's text spells no card.
+    /// The card text of a member isn't a card's.
     BadCard,
-    /// The token's text is of no token.
+    /// The token's text isn't that of a token.
     BadToken,
     /// An allocation failed.
     Memory,
 }
 
 impl ReportFault {
-    /// The number under which the fault is reported, from 1 to 5.
+    /// The number of the fault in replies, from 1 to 5.
     pub fn number(&self) -> u8
-        ensures { result ≡ fault_number self.now }
+        ensures { result ≡ report_fault_number self.now }
     {
         match self {
             ReportFault::NotJson => 1,
@@ -41,9 +41,9 @@ impl ReportFault {
 
 impl fmt::Display for ReportFault {
     ghost use Rattle.std.specs.Prelude.{Some};
-    ghost use Rattle.page_json.specs.FaultNumbers.{fault_text};
+    ghost use Rattle.page_json.specs.FaultNumbers.{report_fault_text};
 
-    ghost output = { λ fault. Some (fault_text fault) };
+    ghost output = { λ fault. Some (report_fault_text fault) };
 
     fn fmt<W: fmt::Write>(&self, f: &mut fmt::Formatter<W>) -> fmt::Result {
         f.write_str(match self {

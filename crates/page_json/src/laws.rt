@@ -1,47 +1,49 @@
-//! Laws of pages and their JSON. Each is a function that does nothing, whose clause holds of all
-//! pages, values and texts.
-ghost use Rattle.page_json.specs.ReportLaws.{FirstFaultsAreOne, PagesHaveNoFault, ReportsAreReportable, TextsTellPages, ValuesTellPages};
+//! Laws of pages and their JSON. Each is a function without effect at run time, whose clause
+//! holds of all pages, values and texts.
+ghost use Rattle.page_json.specs.ReportLaws.{FirstFaultsAreUnique, PagesHaveNoFault};
+ghost use Rattle.page_json.specs.ReportLaws.{ReportPagesAreWellFormed, TextsDeterminePages};
+ghost use Rattle.page_json.specs.ReportLaws.{ValuesDeterminePages};
 
-use book_devices::laws::token_texts_are_one;
 use book_laws::well_formed::pages_fit_well_formed_books;
-use vcard_text::laws::card_is_one;
+use sync_core::token_laws::token_texts_are_unique;
+use vcard_text::laws::card_is_unique;
 
-/// A value is of at most one page.
-pub fn values_tell_pages()
-    ensures { ValuesTellPages }
+/// A JSON value encodes at most one page.
+pub fn values_determine_pages()
+    ensures { ValuesDeterminePages }
 {
-    // Laws, which do nothing: a text spells at most one card, and is of at most one token.
-    card_is_one();
-    token_texts_are_one();
+    // Laws without effect: a text is that of at most one card, and of at most one token.
+    card_is_unique();
+    token_texts_are_unique();
 }
 
-/// A text is of at most one page.
-pub fn texts_tell_pages()
-    ensures { TextsTellPages }
+/// A text is that of at most one page.
+pub fn texts_determine_pages()
+    ensures { TextsDeterminePages }
 {
-    values_tell_pages();
+    values_determine_pages();
 }
 
-/// A text that is of a page has no first fault.
+/// The text of a page has no first fault.
 pub fn pages_have_no_first_fault()
     ensures { PagesHaveNoFault }
 {
-    // A law, which does nothing: a text spells at most one card.
-    card_is_one();
+    // A law without effect: a text is that of at most one card.
+    card_is_unique();
 }
 
 /// A text has at most one first fault.
-pub fn first_faults_are_one()
-    ensures { FirstFaultsAreOne }
+pub fn first_faults_are_unique()
+    ensures { FirstFaultsAreUnique }
 {
-    // A law, which does nothing: a text spells at most one card.
-    card_is_one();
+    // A law without effect: a text is that of at most one card.
+    card_is_unique();
 }
 
-/// A page that a report of well-formed books answers is read back from what is written of it.
-pub fn reports_are_reportable()
-    ensures { ReportsAreReportable }
+/// Every page that a report of well-formed books returns is read back from its written text.
+pub fn report_pages_are_well_formed()
+    ensures { ReportPagesAreWellFormed }
 {
-    // A law, which does nothing: a page fits the book that it is of.
+    // A law without effect: a page fits its book.
     pages_fit_well_formed_books();
 }

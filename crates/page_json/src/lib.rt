@@ -1,4 +1,4 @@
-//! A page of a report as JSON (RFC 8259), written and read.
+//! Writes and reads a page of a report as JSON (RFC 8259).
 #![tactic(auto)]
 
 mod fault;

@@ -1,13 +1,13 @@
-//! One member of a page, as its JSON says it.
+//! One member of a page in JSON.
 ghost use Rattle.std.specs.Prelude.{◌≡◌, ◌≢◌, ◌<◌, ◌≤◌, ℕ, List, IfOk, IfErr, IfSome, IfNone};
 ghost use Rattle.serde_json.specs.Data.{Data};
 ghost use Rattle.serde_json.specs.View.{view};
 ghost use Rattle.vcard_text.specs.Cards.{uid_of};
 ghost use Rattle.vcard_text.specs.Spelling.{Spells};
-ghost use Rattle.page_json.specs.PageTexts.{MemberTexts, changed, removed, TellsEntry};
-ghost use Rattle.page_json.specs.PageValues.{SaysMember, changed_object, removed_object};
-ghost use Rattle.page_json.specs.FirstFaults.{MemberHas, MisspellsCard};
-ghost use Rattle.page_json.specs.Reading.{texts_of};
+ghost use Rattle.page_json.specs.PageTexts.{MemberTexts, changed, removed, DescribesEntry};
+ghost use Rattle.page_json.specs.PageValues.{EncodesMember, changed_object, removed_object};
+ghost use Rattle.page_json.specs.FirstFaults.{HasMemberFault, HasCardFault};
+ghost use Rattle.page_json.specs.internal.ParsedTexts.{texts_of};
 ghost use Rattle.page_json.specs.declared.fault.ReportFault.TheVariants.{Memory};
 
 use crate::fault::ReportFault;
@@ -19,13 +19,13 @@ use vcard_text::{Card, Text, read_card};
 /// The status of a member that is live (RFC 9110, section 15.3.1).
 pub(crate) const STATUS_OK: u64 = 200;
 
-/// The status of a member that is gone (RFC 9110, section 15.5.5).
+/// The status of a member that was removed (RFC 9110, section 15.5.5).
 pub(crate) const STATUS_NOT_FOUND: u64 = 404;
 
 /// The greatest version.
 const VERSION_MAX: u64 = 9_999_999_999_999;
 
-/// A member whose card is still a text.
+/// A member whose card is still an unparsed text.
 #[derive(Clone, Copy, Drop)]
 pub(crate) enum Member<'a> {
     Changed {
@@ -38,7 +38,7 @@ pub(crate) enum Member<'a> {
     },
 }
 
-/// The card, the status, the UID and the version of an object that has these and no more.
+/// The card, the status, the UID and the version of an object that has exactly these.
 fn changed_parts(value: &Value) -> Option<(&Value, &Value, &Value, &Value)>
     ensures some { IfSome result (λ parts. view value.now ≡ changed_object (view parts.0.now)
         (view parts.1.now) (view parts.2.now) (view parts.3.now)) }
@@ -64,7 +64,7 @@ fn changed_parts(value: &Value) -> Option<(&Value, &Value, &Value, &Value)>
     }
 }
 
-/// The status and the UID of an object that has these and no more.
+/// The status and the UID of an object that has exactly these.
 fn removed_parts(value: &Value) -> Option<(&Value, &Value)>
     ensures some { IfSome result (λ parts. view value.now
         ≡ removed_object (view parts.0.now) (view parts.1.now)) }
@@ -84,11 +84,11 @@ fn removed_parts(value: &Value) -> Option<(&Value, &Value)>
     }
 }
 
-/// The member that is live, where the value says one.
+/// The live member that the value encodes, if it encodes one.
 fn changed_member(value: &Value) -> Option<Member<'_>>
-    ensures some { IfSome result (λ member. SaysMember (view value.now) (texts_of member)) }
+    ensures some { IfSome result (λ member. EncodesMember (view value.now) (texts_of member)) }
     ensures none { IfNone result ((uid text : List ℕ) (version : ℕ) →
-        SaysMember (view value.now) (changed uid version text) → ⊥) }
+        EncodesMember (view value.now) (changed uid version text) → ⊥) }
 {
     let (card, status, uid, version) = changed_parts(value)?;
     let card = card.as_str()?;
@@ -102,10 +102,11 @@ fn changed_member(value: &Value) -> Option<Member<'_>>
     }
 }
 
-/// The member that is gone, where the value says one.
+/// The removed member that the value encodes, if it encodes one.
 fn removed_member(value: &Value) -> Option<Member<'_>>
-    ensures some { IfSome result (λ member. SaysMember (view value.now) (texts_of member)) }
-    ensures none { IfNone result ((uid : List ℕ) → SaysMember (view value.now) (removed uid) → ⊥) }
+    ensures some { IfSome result (λ member. EncodesMember (view value.now) (texts_of member)) }
+    ensures none { IfNone result
+        ((uid : List ℕ) → EncodesMember (view value.now) (removed uid) → ⊥) }
 {
     let (status, uid) = removed_parts(value)?;
     let status = status.as_u64()?;
@@ -117,11 +118,11 @@ fn removed_member(value: &Value) -> Option<Member<'_>>
     }
 }
 
-/// The member that the value says.
+/// The member that the value encodes, if it encodes one.
 pub(crate) fn member_of(value: &Value) -> Option<Member<'_>>
-    ensures some { IfSome result (λ member. SaysMember (view value.now) (texts_of member)) }
+    ensures some { IfSome result (λ member. EncodesMember (view value.now) (texts_of member)) }
     ensures none { IfNone result ((texts : MemberTexts) →
-        SaysMember (view value.now) texts → ⊥) }
+        EncodesMember (view value.now) texts → ⊥) }
 {
     match changed_member(value) {
         Some(member) => Some(member),
@@ -129,11 +130,11 @@ pub(crate) fn member_of(value: &Value) -> Option<Member<'_>>
     }
 }
 
-/// The entry that the member tells.
+/// The entry of the member: parses its card, if it is live.
 pub(crate) fn entry_of(alloc: Global, member: Member<'_>) -> Result<Entry, ReportFault>
-    ensures entry { IfOk result (λ entry. TellsEntry (texts_of member.entry) entry) }
+    ensures entry { IfOk result (λ entry. DescribesEntry (texts_of member.entry) entry) }
     ensures fault { IfErr result (λ fault. fault ≢ Memory
-        → MemberHas (texts_of member.entry) fault) }
+        → HasMemberFault (texts_of member.entry) fault) }
 {
     match member {
         Member::Changed { uid, version, card } => {
@@ -148,12 +149,12 @@ pub(crate) fn entry_of(alloc: Global, member: Member<'_>) -> Result<Entry, Repor
     }
 }
 
-/// The card that the text spells, which is to have the UID.
+/// The card of the text. `BadShape` where it doesn't have the UID.
 fn card_of(alloc: Global, uid: &str, text: &str) -> Result<Card, ReportFault>
     ensures spelled { IfOk result (λ card. Spells text.now card) }
     ensures uid { IfOk result (λ card. uid_of card ≡ uid.now) }
     ensures fault { IfErr result (λ fault. fault ≢ Memory
-        → MisspellsCard uid.now text.now fault) }
+        → HasCardFault uid.now text.now fault) }
 {
     let card = read_card(alloc, text.as_bytes())?;
     if card.uid() != uid {

@@ -1,10 +1,10 @@
-//! The parts of a page, as its JSON says them.
+//! The parts of a page in JSON.
 ghost use Rattle.std.specs.Prelude.{◌≡◌, ◌≢◌, ℕ, Bool, List, IfOk, IfErr, IfSome, IfNone, map};
 ghost use Rattle.serde_json.specs.Data.{Data, Items, array, boolean, string};
 ghost use Rattle.serde_json.specs.View.{items_view, view};
 ghost use Rattle.page_json.specs.PageTexts.{MemberTexts, PageTexts};
-ghost use Rattle.page_json.specs.PageValues.{HasShape, SayMembers, page_object};
-ghost use Rattle.page_json.specs.Reading.{texts_of, texts_of_parts};
+ghost use Rattle.page_json.specs.PageValues.{HasPageShape, EncodeMembers, page_object};
+ghost use Rattle.page_json.specs.internal.ParsedTexts.{texts_of, texts_of_parts};
 ghost use Rattle.page_json.specs.declared.fault.ReportFault.TheVariants.{BadShape, Memory};
 
 use crate::fault::ReportFault;
@@ -12,7 +12,7 @@ use crate::member::{Member, member_of};
 use serde_json::Value;
 use std::alloc::Global;
 
-/// A page whose cards and token are still texts.
+/// A page whose cards and token are still unparsed texts.
 #[derive(Drop)]
 pub(crate) struct Parts<'a> {
     pub(crate) members: Vec<Member<'a>>,
@@ -20,7 +20,7 @@ pub(crate) struct Parts<'a> {
     pub(crate) truncated: bool,
 }
 
-/// The members, the token and the mark of truncation of an object that has these and no more.
+/// The members, the token and the truncation flag of an object that has exactly these.
 fn page_parts(value: &Value) -> Option<(&Value, &Value, &Value)>
     ensures some { IfSome result (λ parts. view value.now
         ≡ page_object (view parts.0.now) (view parts.1.now) (view parts.2.now)) }
@@ -41,8 +41,8 @@ fn page_parts(value: &Value) -> Option<(&Value, &Value, &Value)>
     }
 }
 
-/// The same, where these are a list, a text and a truth value.
-fn plain_parts(value: &Value) -> Option<(&Vec<Value>, &str, bool)>
+/// The same, where they are an array, a string and a boolean.
+fn typed_parts(value: &Value) -> Option<(&Vec<Value>, &str, bool)>
     ensures some { IfSome result (λ parts. view value.now
         ≡ page_object (array (items_view parts.0.now.items)) (string parts.1.now)
         (boolean parts.2)) }
@@ -56,12 +56,12 @@ fn plain_parts(value: &Value) -> Option<(&Vec<Value>, &str, bool)>
     Some((members, token, truncated))
 }
 
-/// The members that the values say.
+/// The members that the values encode. `BadShape` where one encodes none.
 fn members_of<'a>(alloc: Global, values: &'a [Value]) -> Result<Vec<Member<'a>>, ReportFault>
-    ensures members { IfOk result (λ members. SayMembers (map view values.now)
+    ensures members { IfOk result (λ members. EncodeMembers (map view values.now)
         (map texts_of members.items)) }
     ensures fault { IfErr result (λ fault. fault ≢ Memory → (fault ≡ BadShape)
-        × ((texts : List MemberTexts) → SayMembers (map view values.now) texts → ⊥)) }
+        × ((texts : List MemberTexts) → EncodeMembers (map view values.now) texts → ⊥)) }
 {
     let mut members = Vec::new(alloc);
     for value in values {
@@ -73,13 +73,13 @@ fn members_of<'a>(alloc: Global, values: &'a [Value]) -> Result<Vec<Member<'a>>,
     Ok(members)
 }
 
-/// The parts of the page that the value has the shape of.
+/// The parts of the page that the value encodes. `BadShape` where it hasn't the shape of a page.
 pub(crate) fn parts_of(alloc: Global, value: &Value) -> Result<Parts<'_>, ReportFault>
-    ensures shape { IfOk result (λ parts. HasShape (view value.now) (texts_of_parts parts)) }
+    ensures shape { IfOk result (λ parts. HasPageShape (view value.now) (texts_of_parts parts)) }
     ensures fault { IfErr result (λ fault. fault ≢ Memory → (fault ≡ BadShape)
-        × ((page : PageTexts) → HasShape (view value.now) page → ⊥)) }
+        × ((page : PageTexts) → HasPageShape (view value.now) page → ⊥)) }
 {
-    let Some((values, token, truncated)) = plain_parts(value) else {
+    let Some((values, token, truncated)) = typed_parts(value) else {
         return Err(ReportFault::BadShape);
     };
     let members = members_of(alloc, values)?;

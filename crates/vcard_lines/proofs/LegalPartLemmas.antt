@@ -14,13 +14,13 @@ use Rattle.vcard_lines.proofs.FrontLemmas.{of_class, all_of_class}
 pub name_from_test : (octets : List ℕ) → is_name octets ≡ true → IsName octets
 name_from_test octets e =
     let p = and_parts (nat_lt 0 (length octets)) (list_all is_name_octet octets) e in
-    record { some = ltb-true 0 (length octets) p.0; of_class = of_class is_name_octet octets p.1 }
+    record { nonempty = ltb-true 0 (length octets) p.0; of_class = of_class is_name_octet octets p.1 }
 
 lt_test : (n : ℕ) → 0 < n → nat_lt 0 n ≡ true
 lt_test n l = grind (arith, nat_tests, l)
 
 pub name_to_test : (octets : List ℕ) → IsName octets → is_name octets ≡ true
-name_to_test octets n = rw (lt_test (length octets) n.some, all_of_class is_name_octet octets n.of_class) refl
+name_to_test octets n = rw (lt_test (length octets) n.nonempty, all_of_class is_name_octet octets n.of_class) refl
 
 values_from_test : (values : List ParamValue) → list_all is_value values ≡ true → AllByRecursion IsValue values
 values_from_test [] e = tt
@@ -34,10 +34,10 @@ pub param_from_test : (param : Param) → is_param param ≡ true → IsParam pa
 param_from_test param e =
     let p = and_parts _ (list_all is_value param.values) e in
     let q = and_parts (is_name param.name) (nat_lt 0 (length param.values)) p.0 in
-    record { name = name_from_test param.name q.0; some = ltb-true 0 (length param.values) q.1; values = values_from_test param.values p.1 }
+    record { name = name_from_test param.name q.0; nonempty = ltb-true 0 (length param.values) q.1; values = values_from_test param.values p.1 }
 
 pub param_to_test : (param : Param) → IsParam param → is_param param ≡ true
-param_to_test param i = rw (name_to_test param.name i.name, lt_test (length param.values) i.some, values_to_test param.values i.values) refl
+param_to_test param i = rw (name_to_test param.name i.name, lt_test (length param.values) i.nonempty, values_to_test param.values i.values) refl
 
 params_from_test : (params : List Param) → list_all is_param params ≡ true → AllByRecursion IsParam params
 params_from_test [] e = tt

@@ -9,8 +9,8 @@ use Rattle.std.proofs.lemmas.List.Elements.{recursion_from_All}
 use Rattle.std.proofs.lemmas.Bool.{and_parts, eqb-true, eq-eqb, both_ways, false_from_ne_true}
 use Rattle.std.proofs.lemmas.Str.{IsUtf8-nil, IsUtf8-append, IsUtf8-take, IsUtf8-drop, IsCharBoundary-before_ascii, encode_ascii, inside_one}
 use Rattle.vcard_lines.specs.LogicalLines.{continues}
-use Rattle.vcard_lines.specs.Unfolding.{before, unfolded_from, unfolded, logical_lines}
-use Rattle.vcard_lines.proofs.FrontLemmas.{boundary_behind_space}
+use Rattle.vcard_lines.specs.Unfolding.{cons_nonempty, unfold_from, unfold_lines, logical_lines}
+use Rattle.vcard_lines.proofs.FrontLemmas.{boundary_after_space}
 use Rattle.vcard_lines.proofs.FoldingLoopLemmas.{one_char}
 use Rattle.vcard_lines.proofs.ReadBackLemmas.{is_feed, NoFeed, some_part}
 use Rattle.vcard_lines.proofs.UnfoldingLemmas.{goes_on, ends, at_last}
@@ -72,22 +72,22 @@ lines_utf8 text u = lines_of_utf8 (slice_split is_feed text) (subst (λ t. AllUt
 
 -- ---- logical lines
 
-before_utf8 : (line : List ℕ) (others : List (List ℕ)) → IsUtf8 line → AllUtf8 others → AllUtf8 (before line others)
+before_utf8 : (line : List ℕ) (others : List (List ℕ)) → IsUtf8 line → AllUtf8 others → AllUtf8 (cons_nonempty line others)
 before_utf8 [] others u a = a
 before_utf8 (x ∷ line) others u a = (u, a)
 
-unfolded_from_utf8 : (pieces : List (List ℕ)) (line : List ℕ) → AllUtf8 pieces → IsUtf8 line → AllUtf8 (unfolded_from line pieces)
+unfolded_from_utf8 : (pieces : List (List ℕ)) (line : List ℕ) → AllUtf8 pieces → IsUtf8 line → AllUtf8 (unfold_from line pieces)
 unfolded_from_utf8 [] line p u = subst AllUtf8 (sym (at_last line)) (before_utf8 line [] u tt)
 unfolded_from_utf8 (x ∷ pieces) line p u =
-    elim (continues x) as (λ t. continues x ≡ t → AllUtf8 (unfolded_from line (x ∷ pieces))) [
-      | true ↦ λ e. subst AllUtf8 (sym (goes_on line x pieces e)) (unfolded_from_utf8 pieces (line ++ drop 1 x) p.1 (IsUtf8-append line (drop 1 x) u (IsUtf8-drop x 1 p.0 (boundary_behind_space x p.0 e))))
+    elim (continues x) as (λ t. continues x ≡ t → AllUtf8 (unfold_from line (x ∷ pieces))) [
+      | true ↦ λ e. subst AllUtf8 (sym (goes_on line x pieces e)) (unfolded_from_utf8 pieces (line ++ drop 1 x) p.1 (IsUtf8-append line (drop 1 x) u (IsUtf8-drop x 1 p.0 (boundary_after_space x p.0 e))))
       | false ↦ λ e. subst AllUtf8 (sym (ends line x pieces e)) (before_utf8 line _ u (unfolded_from_utf8 pieces x p.1 p.0))
     ] refl
 
 pub logical_lines_utf8 : (text : List ℕ) → IsUtf8 text → AllUtf8 (logical_lines text)
-unfolding unfolded
+unfolding unfold_lines
 logical_lines_utf8 text u = all (lines text) (lines_utf8 text u)
   where
-    all : (pieces : List (List ℕ)) → AllUtf8 pieces → AllUtf8 (unfolded pieces)
+    all : (pieces : List (List ℕ)) → AllUtf8 pieces → AllUtf8 (unfold_lines pieces)
     all [] a = tt
     all (x ∷ pieces) a = unfolded_from_utf8 pieces x a.1 a.0

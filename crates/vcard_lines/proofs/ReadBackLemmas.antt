@@ -9,8 +9,8 @@ use Rattle.std.proofs.lemmas.Str.{encodes-chars, encodes-append, IsUtf8-nil, IsU
 use Rattle.std.proofs.lemmas.List.{length-append, take_at}
 use Rattle.std.proofs.lemmas.List.Elements.{All-from_recursion}
 use Rattle.std.proofs.lemmas.List.Splits.{slice_split_at}
-use Rattle.vcard_lines.specs.LogicalLines.{continues, Block, block_pieces, block_text, has_octets, AreLogicalLines}
-use Rattle.vcard_lines.specs.Folding.{FitsPhysicalLine, IsPhysicalLine, further_line, physical_of, physical_lines, ended_line, folded}
+use Rattle.vcard_lines.specs.LogicalLines.{continues, Block, block_pieces, block_text, is_nonempty, AreLogicalLines}
+use Rattle.vcard_lines.specs.Folding.{FitsPhysicalLine, IsPhysicalLine, continuation_line, encode_physical, physical_lines, crlf_line, folded_text}
 use Rattle.vcard_lines.proofs.FrontLemmas.{ascii_utf8}
 use Rattle.vcard_lines.proofs.FoldingLemmas.{is_folding}
 use Rattle.vcard_lines.proofs.BlockLemmas.{AllContinue, AllGoOn, AllBegin, block_of}
@@ -58,7 +58,7 @@ some_part (b ∷ bs) = elim (is_feed b) as (λ t. (part : List ℕ) × (parts : 
     onto [] = (b ∷ [], [], refl)
     onto (part ∷ parts) = (b ∷ part, parts, refl)
 
--- what stands before a CRLF is the first physical line
+-- the text before a CRLF is the first physical line
 lines-first : (p rest : List ℕ) → NoFeed p → lines (p ++ (13 ∷ 10 ∷ rest)) ≡ p ∷ lines rest
 lines-first p rest n =
     let q = some_part rest in
@@ -70,36 +70,37 @@ lines-first p rest n =
     ∙ ap (λ parts. p ∷ lines_of_parts parts) (sym q.2)
 
 -- lines that are ended by CRLF are the first physical lines
-lines-ended : (ps : List (List ℕ)) (rest : List ℕ) → AllByRecursion NoFeed ps → lines (flat_map ended_line ps ++ rest) ≡ ps ++ lines rest
+lines-ended : (ps : List (List ℕ)) (rest : List ℕ) → AllByRecursion NoFeed ps → lines (flat_map crlf_line ps ++ rest) ≡ ps ++ lines rest
 lines-ended [] rest n = refl
 lines-ended (p ∷ ps) rest n =
-    ap lines (append_assoc (ended_line p) (flat_map ended_line ps) rest ∙ append_assoc p (13 ∷ 10 ∷ []) (flat_map ended_line ps ++ rest))
-    ∙ lines-first p (flat_map ended_line ps ++ rest) n.0
+    ap lines (append_assoc (crlf_line p) (flat_map crlf_line ps) rest ∙ append_assoc p (13 ∷ 10 ∷ []) (flat_map crlf_line ps ++ rest))
+    ∙ lines-first p (flat_map crlf_line ps ++ rest) n.0
     ∙ ap (λ ls. p ∷ ls) (lines-ended ps rest n.1)
 
 -- ---- one logical line
 
 -- the octets of a line's pieces are those of the line
-pieces_octets : (first : List ℕ) (further : List (List ℕ)) → encode_utf8_all (first ++ concat further) ≡ encode_utf8_all first ++ flat_map (drop 1) (map further_line further)
+pieces_octets : (first : List ℕ) (further : List (List ℕ)) → encode_utf8_all (first ++ concat further) ≡ encode_utf8_all first ++ flat_map (drop 1) (map continuation_line further)
 pieces_octets first further = encodes-append first (concat further) ∙ ap (λ t. encode_utf8_all first ++ t) (others further)
   where
-    others : (ps : List (List ℕ)) → encode_utf8_all (concat ps) ≡ flat_map (drop 1) (map further_line ps)
+    others : (ps : List (List ℕ)) → encode_utf8_all (concat ps) ≡ flat_map (drop 1) (map continuation_line ps)
     others [] = refl
     others (p ∷ ps) = encodes-append p (concat ps) ∙ ap (λ t. encode_utf8_all p ++ t) (others ps)
 
 -- pieces have no line feed where they have none together
-further_no_feed : (ps : List (List ℕ)) → NoFeed (flat_map (drop 1) (map further_line ps)) → AllByRecursion NoFeed (map further_line ps)
+further_no_feed : (ps : List (List ℕ)) → NoFeed (flat_map (drop 1) (map continuation_line ps)) → AllByRecursion NoFeed (map continuation_line ps)
 further_no_feed [] n = tt
 further_no_feed (p ∷ ps) n =
-    ((refl, front_part (encode_utf8_all p) (flat_map (drop 1) (map further_line ps)) n), further_no_feed ps (back_part (encode_utf8_all p) (flat_map (drop 1) (map further_line ps)) n))
+    ((refl, front_part (encode_utf8_all p) (flat_map (drop 1) (map continuation_line ps)) n), further_no_feed ps (back_part (encode_utf8_all p) (flat_map (drop 1) (map continuation_line ps)) n))
 
-all_continue : (ps : List (List ℕ)) → AllContinue (map further_line ps)
+all_continue : (ps : List (List ℕ)) → AllContinue (map continuation_line ps)
 all_continue [] = tt
 all_continue (p ∷ ps) = (refl, all_continue ps)
 
--- What a logical line is: a text without a line feed that isn't empty and begins with no space or tab.
+-- What a logical line is: a text without a line feed that isn't empty and begins with no space or
+-- tab.
 pub record IsLogicalLine (line : List ℕ) : Type 0 where
-  pub some : 0 < length line
+  pub nonempty : 0 < length line
   pub utf8 : IsUtf8 line
   pub no_feed : NoFeed line
   pub begins : continues line ≡ false
@@ -110,8 +111,8 @@ front_begins (x ∷ front) rest b = b
 
 -- a folding's pieces are the line's
 record ArePiecesOf (line : List ℕ) (first : List ℕ) (further : List (List ℕ)) : Type 0 where
-  text : encode_utf8_all first ++ flat_map (drop 1) (map further_line further) ≡ line
-  no_feed : AllByRecursion NoFeed (physical_of first further)
+  text : encode_utf8_all first ++ flat_map (drop 1) (map continuation_line further) ≡ line
+  no_feed : AllByRecursion NoFeed (encode_physical first further)
 
 are_pieces : (line : List ℕ) (first : List ℕ) (further : List (List ℕ)) → IsUtf8 line → NoFeed line → chars line ≡ first ++ concat further → ArePiecesOf line first further
 are_pieces line first further u n whole =
@@ -120,17 +121,17 @@ are_pieces line first further u n whole =
     record {
       text = text;
       no_feed = (
-        front_part (encode_utf8_all first) (flat_map (drop 1) (map further_line further)) all,
-        further_no_feed further (back_part (encode_utf8_all first) (flat_map (drop 1) (map further_line further)) all),
+        front_part (encode_utf8_all first) (flat_map (drop 1) (map continuation_line further)) all,
+        further_no_feed further (back_part (encode_utf8_all first) (flat_map (drop 1) (map continuation_line further)) all),
       );
     }
 
 -- a folded line is a block
 record IsBlockOf (line rest : List ℕ) : Type 0 where
   block : Block
-  pieces : lines (folded line ++ rest) ≡ block_pieces block ++ lines rest
+  pieces : lines (folded_text line ++ rest) ≡ block_pieces block ++ lines rest
   text : block_text block ≡ line
-  go_on : AllContinue block.further
+  continue_reading : AllContinue block.further
   begins : continues block.first ≡ false
 
 block_folded : (line rest : List ℕ) → IsLogicalLine line → IsBlockOf line rest
@@ -138,38 +139,38 @@ block_folded line rest is =
     let f = is_folding line in
     let p = are_pieces line f.first f.further is.utf8 is.no_feed f.whole in
     record {
-      block = block_of (encode_utf8_all f.first) (map further_line f.further);
-      pieces = ap (λ ps. lines (flat_map ended_line ps ++ rest)) f.physical_are ∙ lines-ended (physical_of f.first f.further) rest p.no_feed;
+      block = block_of (encode_utf8_all f.first) (map continuation_line f.further);
+      pieces = ap (λ ps. lines (flat_map crlf_line ps ++ rest)) f.physical_are ∙ lines-ended (encode_physical f.first f.further) rest p.no_feed;
       text = p.text;
-      go_on = all_continue f.further;
-      begins = front_begins (encode_utf8_all f.first) (flat_map (drop 1) (map further_line f.further)) (ap continues p.text ∙ is.begins);
+      continue_reading = all_continue f.further;
+      begins = front_begins (encode_utf8_all f.first) (flat_map (drop 1) (map continuation_line f.further)) (ap continues p.text ∙ is.begins);
     }
 
 -- ---- all logical lines
 
 record AreBlocksOf (logical : List (List ℕ)) : Type 0 where
   blocks : List Block
-  pieces : lines (flat_map folded logical) ≡ flat_map block_pieces blocks
+  pieces : lines (flat_map folded_text logical) ≡ flat_map block_pieces blocks
   texts : map block_text blocks ≡ logical
-  go_on : AllGoOn blocks
+  continue_reading : AllGoOn blocks
   begin : AllBegin blocks
 
 blocks_folded : (logical : List (List ℕ)) → AllByRecursion IsLogicalLine logical → AreBlocksOf logical
-blocks_folded [] a = record { blocks = []; pieces = refl; texts = refl; go_on = tt; begin = tt }
+blocks_folded [] a = record { blocks = []; pieces = refl; texts = refl; continue_reading = tt; begin = tt }
 blocks_folded (l ∷ ls) a =
-    let one = block_folded l (flat_map folded ls) a.0 in
+    let one = block_folded l (flat_map folded_text ls) a.0 in
     let others = blocks_folded ls a.1 in
     record {
       blocks = one.block ∷ others.blocks;
       pieces = one.pieces ∙ ap (λ ps. block_pieces one.block ++ ps) others.pieces;
       texts = ap (λ t. t ∷ map block_text others.blocks) one.text ∙ ap (λ ts. l ∷ ts) others.texts;
-      go_on = (one.go_on, others.go_on);
+      continue_reading = (one.continue_reading, others.continue_reading);
       begin = (one.begins, others.begin);
     }
 
-all_kept : (logical : List (List ℕ)) → AllByRecursion IsLogicalLine logical → filter has_octets logical ≡ logical
+all_kept : (logical : List (List ℕ)) → AllByRecursion IsLogicalLine logical → filter is_nonempty logical ≡ logical
 all_kept [] a = refl
-all_kept ([] ∷ ls) a = absurd (let some = a.0.some in omega arith)
+all_kept ([] ∷ ls) a = absurd (let nonempty = a.0.nonempty in omega arith)
 all_kept ((x ∷ l) ∷ ls) a = ap (λ ts. (x ∷ l) ∷ ts) (all_kept ls a.1)
 
 but_first : (blocks : List Block) → AllBegin blocks → AllBegin (drop 1 blocks)
@@ -177,13 +178,13 @@ but_first [] b = tt
 but_first (k ∷ ks) b = b.1
 
 -- logical lines that were folded are read back
-pub read_back : (logical : List (List ℕ)) → AllByRecursion IsLogicalLine logical → AreLogicalLines (flat_map folded logical) logical
+pub read_back : (logical : List (List ℕ)) → AllByRecursion IsLogicalLine logical → AreLogicalLines (flat_map folded_text logical) logical
 read_back logical a =
     let b = blocks_folded logical a in
     record {
       blocks = b.blocks;
-      cut = record { whole = b.pieces; further = b.go_on; first = but_first b.blocks b.begin };
-      logical_are = sym (ap (filter has_octets) b.texts ∙ all_kept logical a);
+      cut = record { whole = b.pieces; further = b.continue_reading; first = but_first b.blocks b.begin };
+      logical_are = sym (ap (filter is_nonempty) b.texts ∙ all_kept logical a);
     }
 
 -- ---- each physical line is UTF-8 and short enough, and so is folded text
@@ -199,7 +200,7 @@ back_scalars (c ∷ a) b s = back_scalars a b (and_parts (scalar c) (scalars (a 
 encodes_utf8 : (cs : List ℕ) → scalars cs ≡ true → IsUtf8 (encode_utf8_all cs)
 encodes_utf8 cs s = (cs, (s, refl))
 
-further_utf8 : (ps : List (List ℕ)) → scalars (concat ps) ≡ true → AllByRecursion IsUtf8 (map further_line ps)
+further_utf8 : (ps : List (List ℕ)) → scalars (concat ps) ≡ true → AllByRecursion IsUtf8 (map continuation_line ps)
 further_utf8 [] s = tt
 further_utf8 (p ∷ ps) s =
     (IsUtf8-append (32 ∷ []) (encode_utf8_all p) (ascii_utf8 (32 ∷ []) refl) (encodes_utf8 p (front_scalars p (concat ps) s)), further_utf8 ps (back_scalars p (concat ps) s))
@@ -210,11 +211,11 @@ physical_utf8 line u =
     let s : scalars (f.first ++ concat f.further) ≡ true = ap scalars (sym f.whole) ∙ scalars-chars line u in
     subst (AllByRecursion IsUtf8) (sym f.physical_are) (encodes_utf8 f.first (front_scalars f.first (concat f.further) s), further_utf8 f.further (back_scalars f.first (concat f.further) s))
 
-ended_utf8 : (ps : List (List ℕ)) → AllByRecursion IsUtf8 ps → IsUtf8 (flat_map ended_line ps)
+ended_utf8 : (ps : List (List ℕ)) → AllByRecursion IsUtf8 ps → IsUtf8 (flat_map crlf_line ps)
 ended_utf8 [] a = IsUtf8-nil
-ended_utf8 (p ∷ ps) a = IsUtf8-append (ended_line p) (flat_map ended_line ps) (IsUtf8-append p (13 ∷ 10 ∷ []) a.0 (ascii_utf8 (13 ∷ 10 ∷ []) refl)) (ended_utf8 ps a.1)
+ended_utf8 (p ∷ ps) a = IsUtf8-append (crlf_line p) (flat_map crlf_line ps) (IsUtf8-append p (13 ∷ 10 ∷ []) a.0 (ascii_utf8 (13 ∷ 10 ∷ []) refl)) (ended_utf8 ps a.1)
 
-pub folded_utf8 : (line : List ℕ) → IsUtf8 line → IsUtf8 (folded line)
+pub folded_utf8 : (line : List ℕ) → IsUtf8 line → IsUtf8 (folded_text line)
 folded_utf8 line u = ended_utf8 (physical_lines line) (physical_utf8 line u)
 
 are_short : (ps : List (List ℕ)) → AllByRecursion IsUtf8 ps → AllByRecursion FitsPhysicalLine ps → AllByRecursion IsPhysicalLine ps
@@ -222,13 +223,13 @@ are_short [] u f = tt
 are_short (p ∷ ps) u f = (record { utf8 = u.0; fits = f.0 }, are_short ps u.1 f.1)
 
 -- the physical lines of folded texts, one by one
-pub physical_folded : (logical : List (List ℕ)) → AllByRecursion IsLogicalLine logical → AllByRecursion IsPhysicalLine (lines (flat_map folded logical))
+pub physical_folded : (logical : List (List ℕ)) → AllByRecursion IsLogicalLine logical → AllByRecursion IsPhysicalLine (lines (flat_map folded_text logical))
 physical_folded [] a = tt
 physical_folded (l ∷ ls) a =
     let f = is_folding l in
     let p = are_pieces l f.first f.further a.0.utf8 a.0.no_feed f.whole in
-    subst (AllByRecursion IsPhysicalLine) (sym (lines-ended (physical_lines l) (flat_map folded ls) (subst (AllByRecursion NoFeed) (sym f.physical_are) p.no_feed)))
-    (both (physical_lines l) (lines (flat_map folded ls)) (are_short (physical_lines l) (physical_utf8 l a.0.utf8) f.fit) (physical_folded ls a.1))
+    subst (AllByRecursion IsPhysicalLine) (sym (lines-ended (physical_lines l) (flat_map folded_text ls) (subst (AllByRecursion NoFeed) (sym f.physical_are) p.no_feed)))
+    (both (physical_lines l) (lines (flat_map folded_text ls)) (are_short (physical_lines l) (physical_utf8 l a.0.utf8) f.fit) (physical_folded ls a.1))
   where
     both : (ps qs : List (List ℕ)) → AllByRecursion IsPhysicalLine ps → AllByRecursion IsPhysicalLine qs → AllByRecursion IsPhysicalLine (ps ++ qs)
     both [] qs a b = b

@@ -2,7 +2,7 @@
 use Rattle.std.proofs.Common.{◌≡◌, ℕ, ◌<◌, true, false, cond, ◌==◌, List, [], ◌∷◌, length, Option, Some, None, Result, Ok, Err, refl, ap, ◌∙◌, arith}
 use Rattle.std.proofs.lemmas.Bool.{eqb-true, eq-eqb}
 use Rattle.vcard_lines.specs.declared.fault.CardFault.{CardFault}
-use Rattle.vcard_lines.specs.Steps.{◌>>=◌, past, or_bad_line}
+use Rattle.vcard_lines.specs.ParseSteps.{◌>>=◌, strip_byte, or_bad_line}
 
 -- the value of a step that didn't fail
 pub bind_ok : {A B : Type 0} (step : Result A CardFault) (next : A → Result B CardFault) (y : B) → (step >>= next) ≡ Ok y → (x : A) × (step ≡ Ok x) × (next x ≡ Ok y)
@@ -25,16 +25,16 @@ pub some_read : {A : Type 0} (o : Option A) (x : A) → or_bad_line o ≡ Ok x �
 some_read None x e = absurd cc
 some_read (Some y) x e = ap (λ z. Some z) (same_ok y x e)
 
--- the octet stood at the front
-pub was_past : (octet : ℕ) (text more : List ℕ) → past octet text ≡ Some more → text ≡ octet ∷ more
-was_past octet [] more e = absurd cc
-was_past octet (o ∷ os) more e = elim (o == octet) as (λ t. (o == octet) ≡ t → cond t (Some os) None ≡ Some more → o ∷ os ≡ octet ∷ more) [
+-- the text began with the octet
+pub was_stripped : (octet : ℕ) (text more : List ℕ) → strip_byte octet text ≡ Some more → text ≡ octet ∷ more
+was_stripped octet [] more e = absurd cc
+was_stripped octet (o ∷ os) more e = elim (o == octet) as (λ t. (o == octet) ≡ t → cond t (Some os) None ≡ Some more → o ∷ os ≡ octet ∷ more) [
   | true ↦ λ t f. let same : os ≡ more = cc in ap (λ x. x ∷ os) (eqb-true o octet t) ∙ ap (λ x. octet ∷ x) same
   | false ↦ λ t f. absurd cc
 ] refl e
 
-pub is_past : (octet : ℕ) (more : List ℕ) → past octet (octet ∷ more) ≡ Some more
-is_past octet more = ap (λ b. cond b (Some more) None) (eq-eqb octet octet refl)
+pub is_stripped : (octet : ℕ) (more : List ℕ) → strip_byte octet (octet ∷ more) ≡ Some more
+is_stripped octet more = ap (λ b. cond b (Some more) None) (eq-eqb octet octet refl)
 
-pub past_shorter : (octet : ℕ) (text more : List ℕ) → past octet text ≡ Some more → length more < length text
-past_shorter octet text more e = omega (arith, ap length (was_past octet text more e))
+pub stripped_shorter : (octet : ℕ) (text more : List ℕ) → strip_byte octet text ≡ Some more → length more < length text
+stripped_shorter octet text more e = omega (arith, ap length (was_stripped octet text more e))

@@ -1,5 +1,5 @@
--- Lines whose parts are of the grammar, whatever their values are; and the tests of parts, each of
--- which passes exactly where the grammar says so, by the law `tests_follow_the_grammar`.
+-- Lines whose group, name and parameters match the grammar, whatever their values; and Boolean
+-- tests of parts, which agree with the grammar by the law `tests_agree_with_the_grammar`.
 use Rattle.std.specs.Prelude.{ℕ, Bool, true, ◌&&◌, nat_lt, List, length, Option, Some, None, IfSome}
 use Rattle.std.specs.List.{AllByRecursion, list_all}
 use Rattle.vcard_lines.specs.declared.line.ParamValue.{ParamValue}
@@ -7,7 +7,7 @@ use Rattle.vcard_lines.specs.declared.line.Param.{Param}
 use Rattle.vcard_lines.specs.declared.line.Line.{Line}
 use Rattle.vcard_lines.specs.Grammar.{is_name_octet, is_value_octet, IsName, IsParam}
 
--- the parts are of the grammar
+-- the group, the name and the parameters match the grammar
 pub record HasLegalParts (line : Line) : Type 0 where
   pub name : IsName line.name
   pub group : IfSome line.group IsName

@@ -4,7 +4,7 @@ pub mod LegalParts
 pub mod LogicalLines
 pub mod FoldingSteps
 pub mod Folding
-pub mod FoldingLoop
-pub mod Steps
-pub mod LineReading
+pub mod ParseSteps
+pub mod Parsing
 pub mod Unfolding
+pub mod internal

@@ -1,4 +1,4 @@
-//! The bound of counts.
+//! The upper bound of octet counts.
 
-/// The most that octets are counted to.
+/// The greatest count of octets. Greater counts saturate here.
 pub const COUNT_MAX: usize = usize::MAX;

@@ -1,14 +1,14 @@
-//! Why a text spells no card.
+//! `CardFault`: why a text or a list of lines isn't a card.
 ghost use Rattle.std.specs.Prelude.{◌≡◌};
 ghost use Rattle.vcard_lines.specs.declared.fault.CardFault.TheVariants.{Memory};
-ghost use Rattle.vcard_lines.specs.FaultNumbers.{fault_number};
+ghost use Rattle.vcard_lines.specs.FaultNumbers.{card_fault_number};
 
 use base_types::NoMemory;
 use std::alloc::{AllocError, AllocFailed};
 use std::error::Error;
 use std::fmt;
 
-/// What is wrong with a text or with lines that were to be a card.
+/// What is wrong with a text or a list of lines that isn't a card.
 #[derive(Clone, Copy, Debug, PartialEq, Eq)]
 pub enum CardFault {
     /// The text, or the canonical text, has more than 262,144 octets.
@@ -17,14 +17,14 @@ pub enum CardFault {
     NotUtf8,
     /// A logical line has a control character other than the tab.
     BadChar,
-    /// A logical line isn't of the grammar, or stands where it may not.
+    /// A logical line doesn't match the grammar, or is in a place where it isn't allowed.
     BadLine,
     /// The first line isn't `BEGIN:VCARD`, or there is none.
     NoBegin,
     /// The second line isn't `VERSION:4.0`, there is none, or a later line before END is named
     /// VERSION.
     BadVersion,
-    /// The text ends behind its second line, and before `END:VCARD`.
+    /// The text ends after its second line without `END:VCARD`.
     NoEnd,
     /// No line is named FN.
     NoName,
@@ -34,16 +34,16 @@ pub enum CardFault {
     BadUid,
     /// A second line is named UID or KIND.
     Twice,
-    /// A line is named MEMBER, and the kind isn't group.
+    /// A line is named MEMBER, but the card's kind isn't group.
     MemberOutsideGroup,
     /// An allocation failed.
     Memory,
 }
 
 impl CardFault {
-    /// The number under which the fault is reported, from 1 to 13.
+    /// The number of the fault, from 1 to 13.
     pub fn number(&self) -> u8
-        ensures { result ≡ fault_number self.now }
+        ensures { result ≡ card_fault_number self.now }
     {
         match self {
             CardFault::TooLong => 1,
@@ -65,9 +65,9 @@ impl CardFault {
 
 impl fmt::Display for CardFault {
     ghost use Rattle.std.specs.Prelude.{Some};
-    ghost use Rattle.vcard_lines.specs.FaultNumbers.{fault_text};
+    ghost use Rattle.vcard_lines.specs.FaultNumbers.{card_fault_text};
 
-    ghost output = { λ fault. Some (fault_text fault) };
+    ghost output = { λ fault. Some (card_fault_text fault) };
 
     fn fmt<W: fmt::Write>(&self, f: &mut fmt::Formatter<W>) -> fmt::Result {
         f.write_str(match self {
@@ -81,8 +81,8 @@ impl fmt::Display for CardFault {
             CardFault::NoName => "FN is missing",
             CardFault::NoUid => "UID is missing",
             CardFault::BadUid => "the UID is empty, too long or has a tab",
-            CardFault::Twice => "UID or KIND stands twice",
-            CardFault::MemberOutsideGroup => "MEMBER stands outside a group",
+            CardFault::Twice => "UID or KIND occurs twice",
+            CardFault::MemberOutsideGroup => "MEMBER outside a group",
             CardFault::Memory => "no memory",
         })
     }

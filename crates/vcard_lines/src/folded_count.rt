@@ -1,26 +1,28 @@
-//! How many octets lines have when they are folded (RFC 6350, section 3.2), counted over their
-//! parts without writing them.
+//! The length in octets of folded lines (RFC 6350, section 3.2), counted from their parts without
+//! writing them.
 ghost use Rattle.std.specs.Prelude.{◌≡◌, ◌<◌, ◌≤◌, [], length, min};
 ghost use Rattle.std.specs.Str.{IsAscii};
-ghost use Rattle.vcard_lines.specs.Grammar.{value_text, values_text, param_text, params_text, group_text, line_text};
-ghost use Rattle.vcard_lines.specs.Folding.{folded};
-ghost use Rattle.vcard_lines.specs.FoldingLoop.{FoldedPart, IsCount, IsLineCount, fold_char, CountsOn, CountsLine};
+ghost use Rattle.vcard_lines.specs.Grammar.{value_text, values_text, param_text, params_text};
+ghost use Rattle.vcard_lines.specs.Grammar.{group_text, line_text};
+ghost use Rattle.vcard_lines.specs.Folding.{folded_text};
+ghost use Rattle.vcard_lines.specs.internal.FoldingLoop.{FoldState, IsCount, IsLineCount};
+ghost use Rattle.vcard_lines.specs.internal.FoldingLoop.{fold_char, CountsChars, CountsLineText};
 
 use crate::bounds::COUNT_MAX;
 use crate::line::{Line, Param, ParamValue};
 use base_types::Text;
 
-/// What a logical line takes so far, folded: its octets, or the greatest number where there are
-/// more, and the octets that still fit into its last physical line.
+/// The count of a folded logical line so far: its octets, saturating at `COUNT_MAX`, and the octets
+/// that still fit into its last physical line.
 #[derive(Clone, Copy)]
 pub(crate) struct FoldedCount {
     octets: usize,
     room: usize,
 }
 
-/// Counts one character as it is folded.
+/// Counts one character of a folded line.
 fn count_char(count: &mut FoldedCount, c: char)
-    ensures { (part : FoldedPart) → IsCount count.old part → IsCount count.new (fold_char part c) }
+    ensures { (part : FoldState) → IsCount count.old part → IsCount count.new (fold_char part c) }
 {
     let len = c.len_utf8();
     if count.room < len {
@@ -31,21 +33,21 @@ fn count_char(count: &mut FoldedCount, c: char)
     count.room -= len;
 }
 
-/// Counts a text that may be folded anywhere, one character after another.
+/// Counts a text that may be folded anywhere, character by character.
 fn count_chars(count: &mut FoldedCount, text: &str)
-    ensures { CountsOn count.old count.new text.now }
+    ensures { CountsChars count.old count.new text.now }
 {
     for c in text.chars() {
         count_char(count, c);
     }
 }
 
-/// Counts a text of single octets that doesn't fit into the physical line: each further one takes
-/// 74 of them, and 3 octets more.
+/// Counts an ASCII text that doesn't fit into the physical line. Each continuation line has room
+/// for 74 octets and costs 3 more: CRLF and a space.
 fn count_ascii(count: &mut FoldedCount, text: &str)
     requires ascii { IsAscii text.now }
     requires long { count.old.room < length text.now }
-    ensures { CountsOn count.old count.new text.now }
+    ensures { CountsChars count.old count.new text.now }
 {
     let over = text.len() - count.room - 1;
     count.octets = count.octets.saturating_add(text.len());
@@ -56,14 +58,14 @@ fn count_ascii(count: &mut FoldedCount, text: &str)
 /// Counts a text that fits into the physical line.
 fn count_short(count: &mut FoldedCount, text: &str)
     requires { length text.now ≤ count.old.room }
-    ensures { CountsOn count.old count.new text.now }
+    ensures { CountsChars count.old count.new text.now }
 {
     count.octets = count.octets.saturating_add(text.len());
     count.room -= text.len();
 }
 
 fn count_text(count: &mut FoldedCount, text: &str)
-    ensures { CountsLine count.old count.new text.now }
+    ensures { CountsLineText count.old count.new text.now }
 {
     if text.len() <= count.room {
         count_short(count, text);
@@ -75,7 +77,7 @@ fn count_text(count: &mut FoldedCount, text: &str)
 }
 
 fn count_value(count: &mut FoldedCount, value: &ParamValue)
-    ensures { CountsLine count.old count.new (value_text value.now) }
+    ensures { CountsLineText count.old count.new (value_text value.now) }
 {
     if value.quoted {
         count_text(count, "\"");
@@ -87,7 +89,7 @@ fn count_value(count: &mut FoldedCount, value: &ParamValue)
 }
 
 fn count_values(count: &mut FoldedCount, values: &[ParamValue])
-    ensures { CountsLine count.old count.new (values_text values.now) }
+    ensures { CountsLineText count.old count.new (values_text values.now) }
 {
     let Some((first, others)) = values.split_first() else {
         return;
@@ -100,7 +102,7 @@ fn count_values(count: &mut FoldedCount, values: &[ParamValue])
 }
 
 fn count_param(count: &mut FoldedCount, param: &Param)
-    ensures { CountsLine count.old count.new (param_text param.now) }
+    ensures { CountsLineText count.old count.new (param_text param.now) }
 {
     count_text(count, param.name.as_str());
     count_text(count, "=");
@@ -108,7 +110,7 @@ fn count_param(count: &mut FoldedCount, param: &Param)
 }
 
 fn count_params(count: &mut FoldedCount, params: &[Param])
-    ensures { CountsLine count.old count.new (params_text params.now) }
+    ensures { CountsLineText count.old count.new (params_text params.now) }
 {
     for param in params {
         count_text(count, ";");
@@ -117,7 +119,7 @@ fn count_params(count: &mut FoldedCount, params: &[Param])
 }
 
 fn count_group(count: &mut FoldedCount, group: &Option<Text>)
-    ensures { CountsLine count.old count.new (group_text group.now) }
+    ensures { CountsLineText count.old count.new (group_text group.now) }
 {
     if let Some(group) = group {
         count_text(count, group.as_str());
@@ -126,7 +128,7 @@ fn count_group(count: &mut FoldedCount, group: &Option<Text>)
 }
 
 fn count_line(count: &mut FoldedCount, line: &Line)
-    ensures { CountsLine count.old count.new (line_text line.now) }
+    ensures { CountsLineText count.old count.new (line_text line.now) }
 {
     count_group(count, &line.group);
     count_text(count, line.name.as_str());
@@ -135,8 +137,8 @@ fn count_line(count: &mut FoldedCount, line: &Line)
     count_text(count, line.value.as_str());
 }
 
-/// A logical line's first physical line, with nothing in it.
-fn no_octets() -> FoldedCount
+/// The count of an empty first physical line.
+fn empty_line_count() -> FoldedCount
     ensures { IsLineCount result [] }
 {
     FoldedCount {
@@ -145,22 +147,20 @@ fn no_octets() -> FoldedCount
     }
 }
 
-/// How many octets a logical line takes, folded and ended by CRLF, or the greatest number where
-/// there are more.
+/// The length in octets of a logical line, folded and ended by CRLF. Saturates at `COUNT_MAX`.
 pub fn folded_len(line: &str) -> usize
-    ensures { result ≡ min COUNT_MAX (length (folded line.now)) }
+    ensures { result ≡ min COUNT_MAX (length (folded_text line.now)) }
 {
-    let mut count = no_octets();
+    let mut count = empty_line_count();
     count_text(&mut count, line);
     count.octets.saturating_add(2)
 }
 
-/// How many octets a property line takes, folded and ended by CRLF, or the greatest number where
-/// there are more.
+/// The length in octets of a property line, folded and ended by CRLF. Saturates at `COUNT_MAX`.
 pub fn folded_line_len(line: &Line) -> usize
-    ensures { result ≡ min COUNT_MAX (length (folded (line_text line.now))) }
+    ensures { result ≡ min COUNT_MAX (length (folded_text (line_text line.now))) }
 {
-    let mut count = no_octets();
+    let mut count = empty_line_count();
     count_line(&mut count, line);
     count.octets.saturating_add(2)
 }

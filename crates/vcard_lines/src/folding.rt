@@ -1,13 +1,13 @@
-//! The writer of folded lines (RFC 6350, section 3.2).
+//! Writes logical lines folded (RFC 6350, section 3.2).
 ghost use Rattle.std.specs.Prelude.{◌≡◌, ◌≤◌, [], ◌∷◌, ◌++◌, OnOk, string_bytes};
 ghost use Rattle.base_types.specs.Octets.{carriage_return, line_feed, space};
-ghost use Rattle.vcard_lines.specs.Folding.{folded};
-ghost use Rattle.vcard_lines.specs.FoldingLoop.{fold_char, folded_part, folded_from};
+ghost use Rattle.vcard_lines.specs.Folding.{folded_text};
+ghost use Rattle.vcard_lines.specs.internal.FoldingLoop.{fold_char, fold_state, append_folded};
 
 use base_types::NoMemory;
 
-/// Ends a physical line, and begins a further one of the same logical line.
-fn begin_further(out: &mut String) -> Result<(), NoMemory>
+/// Ends a physical line and begins a continuation line.
+fn begin_continuation(out: &mut String) -> Result<(), NoMemory>
     ensures { OnOk result (string_bytes out.new
         ≡ string_bytes out.old ++ carriage_return ∷ line_feed ∷ space ∷ []) }
 {
@@ -15,16 +15,16 @@ fn begin_further(out: &mut String) -> Result<(), NoMemory>
     Ok(())
 }
 
-/// Writes one character into the physical line, or behind a line end and a space.
-fn push_folded(out: &mut String, room: &mut usize, c: char) -> Result<(), NoMemory>
+/// Appends one character to the physical line, or to a new continuation line if it doesn't fit.
+fn push_folded_char(out: &mut String, room: &mut usize, c: char) -> Result<(), NoMemory>
     requires { room.old ≤ 75 }
-    ensures written { OnOk result (folded_part (string_bytes out.new) room.new
-        ≡ fold_char (folded_part (string_bytes out.old) room.old) c) }
+    ensures written { OnOk result (fold_state (string_bytes out.new) room.new
+        ≡ fold_char (fold_state (string_bytes out.old) room.old) c) }
     ensures room { OnOk result (room.new ≤ 75) }
 {
     let len = c.len_utf8();
     if *room < len {
-        begin_further(out)?;
+        begin_continuation(out)?;
         *room = 74;
     }
     out.push(c)?;
@@ -32,34 +32,34 @@ fn push_folded(out: &mut String, room: &mut usize, c: char) -> Result<(), NoMemo
     Ok(())
 }
 
-/// Writes what is left of a logical line, one character after another, where so many octets still
-/// fit into the physical line.
-fn write_rest(out: &mut String, mut room: usize, rest: &str) -> Result<(), NoMemory>
+/// Writes the rest of a logical line character by character and ends it. `room` is the number of
+/// octets that still fit into the physical line.
+fn write_line_tail(out: &mut String, mut room: usize, rest: &str) -> Result<(), NoMemory>
     requires { room ≤ 75 }
     ensures { OnOk result (string_bytes out.new
-        ≡ folded_from (string_bytes out.old) room rest.now) }
+        ≡ append_folded (string_bytes out.old) room rest.now) }
 {
     for c in rest.chars() {
-        push_folded(out, &mut room, c)?;
+        push_folded_char(out, &mut room, c)?;
     }
     out.push_str("\r\n")?;
     Ok(())
 }
 
-/// Writes a logical line behind what is there, folded and ended by CRLF. As many octets as a
-/// physical line has room for are written at once, unless they end inside a character.
+/// Appends a logical line, folded and ended by CRLF. Writes a whole physical line at a time until
+/// one would end inside a character.
 pub fn write_folded(out: &mut String, line: &str) -> Result<(), NoMemory>
-    ensures { OnOk result (string_bytes out.new ≡ string_bytes out.old ++ folded line.now) }
+    ensures { OnOk result (string_bytes out.new ≡ string_bytes out.old ++ folded_text line.now) }
 {
     let mut rest = line;
     let mut room = 75;
     while room < rest.len() {
-        let Some((piece, behind)) = rest.split_at_checked(room) else {
-            return write_rest(out, room, rest);
+        let Some((piece, tail)) = rest.split_at_checked(room) else {
+            return write_line_tail(out, room, rest);
         };
         out.push_str(piece)?;
-        begin_further(out)?;
-        rest = behind;
+        begin_continuation(out)?;
+        rest = tail;
         room = 74;
     }
     out.push_str(rest)?;

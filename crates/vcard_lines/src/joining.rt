@@ -1,4 +1,4 @@
-//! The joining of physical lines to logical ones (RFC 6350, section 3.2).
+//! Joins physical lines into logical lines (RFC 6350, section 3.2).
 ghost use Rattle.std.specs.Prelude.{◌≡◌, ◌++◌, IsTrue, OnOk, drop, string_bytes};
 ghost use Rattle.vcard_lines.specs.LogicalLines.{continues};
 ghost use Rattle.vcard_lines.specs.Unfolding.{line_so_far};
@@ -12,15 +12,15 @@ pub fn continues(piece: &str) -> bool
     matches!(piece.as_bytes().first(), Some(b' ' | b'\t'))
 }
 
-/// A physical line without the space or the tab that it begins with.
-fn without_first(piece: &str) -> &str
+/// A continuation line without its leading space or tab.
+fn without_leading_space(piece: &str) -> &str
     requires { IsTrue (continues piece.now) }
     ensures { result.now ≡ drop 1 piece.now }
 {
     &piece[1..]
 }
 
-/// The logical line so far: its one physical line, or what was joined of several.
+/// The logical line so far: its only physical line, or the text joined from several.
 pub fn line_so_far<'a>(first: &'a str, joined: &'a String) -> &'a str
     ensures { result.now ≡ line_so_far first.now (string_bytes joined.now) }
 {
@@ -31,7 +31,7 @@ pub fn line_so_far<'a>(first: &'a str, joined: &'a String) -> &'a str
     }
 }
 
-/// Joins a physical line to the logical line that it continues.
+/// Appends a continuation line to the logical line so far.
 pub fn join(first: &str, joined: &mut String, piece: &str) -> Result<(), NoMemory>
     requires { IsTrue (continues piece.now) }
     ensures { OnOk result (line_so_far first.now (string_bytes joined.new)
@@ -40,6 +40,6 @@ pub fn join(first: &str, joined: &mut String, piece: &str) -> Result<(), NoMemor
     if joined.is_empty() {
         joined.push_str(first)?;
     }
-    joined.push_str(without_first(piece))?;
+    joined.push_str(without_leading_space(piece))?;
     Ok(())
 }

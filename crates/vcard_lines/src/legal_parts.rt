@@ -1,15 +1,16 @@
-//! Whether the parts of a property line are of the grammar (RFC 6350, section 3.3).
+//! Checks the parts of a property line against the grammar (RFC 6350, section 3.3).
 ghost use Rattle.std.specs.Prelude.{◌≡◌};
 ghost use Rattle.std.specs.List.{list_all};
 ghost use Rattle.vcard_lines.specs.Grammar.{is_name_octet};
-ghost use Rattle.vcard_lines.specs.LegalParts.{is_name, is_value, is_param, is_group_name, has_legal_parts};
+ghost use Rattle.vcard_lines.specs.LegalParts.{is_name, is_value, is_param, is_group_name};
+ghost use Rattle.vcard_lines.specs.LegalParts.{has_legal_parts};
 
 use crate::line::{Line, Param, ParamValue};
 use crate::line_reader::{is_name_octet, is_value_octet};
 use base_types::Text;
 
-/// Whether each octet may stand in a name.
-fn is_of_name_octets(text: &str) -> bool
+/// Whether each octet is allowed in a name.
+fn are_name_octets(text: &str) -> bool
     ensures { result ≡ list_all is_name_octet text.now }
 {
     text.as_bytes().iter().all(|octet| is_name_octet(*octet))
@@ -18,7 +19,7 @@ fn is_of_name_octets(text: &str) -> bool
 fn is_name(text: &str) -> bool
     ensures { result ≡ is_name text.now }
 {
-    !text.is_empty() && is_of_name_octets(text)
+    !text.is_empty() && are_name_octets(text)
 }
 
 fn is_value(value: &ParamValue) -> bool
@@ -61,7 +62,7 @@ fn is_group_name(group: &Option<Text>) -> bool
     }
 }
 
-/// Whether the group, the name and the parameters are of the grammar (RFC 6350, section 3.3).
+/// Whether the group, the name and the parameters match the grammar (RFC 6350, section 3.3).
 pub fn has_legal_parts(line: &Line) -> bool
     ensures { result ≡ has_legal_parts line.now }
 {

@@ -1,6 +1,5 @@
-//! The lines of a vCard 4.0 text (RFC 6350, sections 3.2 and 3.3): physical lines that are joined
-//! to logical ones, the property lines that these spell, and how a property line is written and
-//! folded.
+//! Lines of vCard 4.0 text (RFC 6350, sections 3.2 and 3.3): joins physical lines into logical
+//! lines, reads property lines, and writes them folded.
 #![tactic(auto)]
 
 mod bounds;

@@ -1,6 +1,7 @@
-//! The writer of a property line, before it is folded (RFC 6350, section 3.3).
+//! Writes a property line, unfolded (RFC 6350, section 3.3).
 ghost use Rattle.std.specs.Prelude.{◌≡◌, ◌++◌, OnOk, string_bytes};
-ghost use Rattle.vcard_lines.specs.Grammar.{value_text, values_text, param_text, params_text, group_text, line_text};
+ghost use Rattle.vcard_lines.specs.Grammar.{value_text, values_text, param_text, params_text};
+ghost use Rattle.vcard_lines.specs.Grammar.{group_text, line_text};
 
 use crate::line::{Line, Param, ParamValue};
 use base_types::{NoMemory, Text};
@@ -18,7 +19,7 @@ fn push_value(out: &mut String, value: &ParamValue) -> Result<(), NoMemory>
     Ok(())
 }
 
-/// Writes values between commas.
+/// Writes values separated by commas.
 fn push_values(out: &mut String, values: &[ParamValue]) -> Result<(), NoMemory>
     ensures { OnOk result (string_bytes out.new ≡ string_bytes out.old ++ values_text values.now) }
 {
@@ -41,7 +42,7 @@ fn push_param(out: &mut String, param: &Param) -> Result<(), NoMemory>
     push_values(out, param.values.as_slice())
 }
 
-/// Writes parameters, each behind a semicolon.
+/// Writes parameters, each after a semicolon.
 fn push_params(out: &mut String, params: &[Param]) -> Result<(), NoMemory>
     ensures { OnOk result (string_bytes out.new ≡ string_bytes out.old ++ params_text params.now) }
 {
@@ -52,7 +53,7 @@ fn push_params(out: &mut String, params: &[Param]) -> Result<(), NoMemory>
     Ok(())
 }
 
-/// Writes a group and its dot, where there is one.
+/// Writes the group and its dot, if there is one.
 fn push_group(out: &mut String, group: &Option<Text>) -> Result<(), NoMemory>
     ensures { OnOk result (string_bytes out.new ≡ string_bytes out.old ++ group_text group.now) }
 {
@@ -63,7 +64,7 @@ fn push_group(out: &mut String, group: &Option<Text>) -> Result<(), NoMemory>
     Ok(())
 }
 
-/// Writes a line in place of what was there.
+/// Replaces the contents of `out` by the text of the line.
 pub fn write_line(out: &mut String, line: &Line) -> Result<(), NoMemory>
     ensures { OnOk result (string_bytes out.new ≡ line_text line.now) }
 {

@@ -9,12 +9,12 @@ use Rattle.vcard_lines.specs.declared.fault.CardFault.TheVariants.{BadChar, BadL
 use Rattle.vcard_lines.specs.declared.line.Line.{Line}
 use Rattle.vcard_text.specs.declared.scan.Place.{Place}
 use Rattle.vcard_text.specs.declared.scan.Place.TheVariants.{First, Second, Body, After}
-use Rattle.vcard_lines.specs.FaultNumbers.{fault_number}
-use Rattle.vcard_lines.specs.Grammar.{IsOf, is_permitted, SpellsLine}
-use Rattle.vcard_lines.specs.LineReading.{line_at}
-use Rattle.vcard_text.specs.Cards.{is_named, has_named, is_uid}
-use Rattle.vcard_text.specs.Spelling.{is_bracket, is_begin, is_version, is_end}
-use Rattle.vcard_text.specs.FirstFaults.{IsLeastFault, is_none, is_wrong_end, is_repeated, line_breaks, LineHas, of_characters, of_grammar, of_rules}
+use Rattle.vcard_lines.specs.FaultNumbers.{card_fault_number}
+use Rattle.vcard_lines.specs.Grammar.{AllInClass, is_permitted, SpellsLine}
+use Rattle.vcard_lines.specs.Parsing.{parse_line}
+use Rattle.vcard_text.specs.Cards.{line_is_named, has_line_named, is_uid}
+use Rattle.vcard_text.specs.Spelling.{is_card_delimiter, is_begin, is_version, is_end}
+use Rattle.vcard_text.specs.FirstFaults.{IsLeastFault, has_no_lines, is_malformed_end, repeats_uid_or_kind, line_breaks_rule, LogicalLineHasFault, of_characters, of_grammar, of_rules}
 use Rattle.vcard_text.specs.Scanning.{scan_at, fault_if, first_line_fault, second_line_fault, body_line_fault, line_fault, next_scan}
 use Rattle.vcard_text.proofs.RuleLemmas.{no_fault}
 use Rattle.vcard_lines.proofs.FrontLemmas.{of_class, all_of_class}
@@ -25,16 +25,16 @@ use Rattle.vcard_text.proofs.LeastLemmas.{least_of, found_or_none, least_found, 
 -- ---- names
 
 -- a line has one name
-pub other_name : (line : Line) (name other : List ℕ) → bytes_eq name other ≡ false → is_named name line ≡ true → is_named other line ≡ false
+pub other_name : (line : Line) (name other : List ℕ) → bytes_eq name other ≡ false → line_is_named name line ≡ true → line_is_named other line ≡ false
 other_name line name other apart e = ap (λ n. bytes_eq n other) ((bytes_eq-Decides line.name name).0 e) ∙ apart
 
-pub bracket_name : (name : List ℕ) (line : Line) → is_bracket name line ≡ true → is_named name line ≡ true
-bracket_name name line e = (and_parts (is_named name line) _ (and_parts _ _ (and_parts _ _ e).0).0).0
+pub bracket_name : (name : List ℕ) (line : Line) → is_card_delimiter name line ≡ true → line_is_named name line ≡ true
+bracket_name name line e = (and_parts (line_is_named name line) _ (and_parts _ _ (and_parts _ _ e).0).0).0
 
-pub version_name : (line : Line) → is_version line ≡ true → is_named (codes "VERSION") line ≡ true
-version_name line e = (and_parts (is_named (codes "VERSION") line) _ (and_parts _ _ e).0).0
+pub version_name : (line : Line) → is_version line ≡ true → line_is_named (codes "VERSION") line ≡ true
+version_name line e = (and_parts (line_is_named (codes "VERSION") line) _ (and_parts _ _ e).0).0
 
-no_bracket : (name : List ℕ) (line : Line) → is_named name line ≡ false → is_bracket name line ≡ false
+no_bracket : (name : List ℕ) (line : Line) → line_is_named name line ≡ false → is_card_delimiter name line ≡ false
 no_bracket name line e = rw e refl
 
 -- ---- tests in the order of their faults
@@ -44,7 +44,7 @@ abbrev by_tests : Bool → Bool → Bool → Bool → Bool → Option CardFault
 by_tests bad_line no_begin bad_version bad_uid twice =
     fault_if bad_line BadLine (fault_if no_begin NoBegin (fault_if bad_version BadVersion (fault_if bad_uid BadUid (fault_if twice Twice None))))
 
-tests_of : (before : List Line) (line : Line) → least_of (line_breaks before line) ≡ by_tests (line_breaks before line BadLine) (line_breaks before line NoBegin) (line_breaks before line BadVersion) (line_breaks before line BadUid) (line_breaks before line Twice)
+tests_of : (before : List Line) (line : Line) → least_of (line_breaks_rule before line) ≡ by_tests (line_breaks_rule before line BadLine) (line_breaks_rule before line NoBegin) (line_breaks_rule before line BadVersion) (line_breaks_rule before line BadUid) (line_breaks_rule before line Twice)
 tests_of before line = refl
 
 same_tests : (a b c d e a' b' c' d' e' : Bool) → a ≡ a' → b ≡ b' → c ≡ c' → d ≡ d' → e ≡ e' → by_tests a b c d e ≡ by_tests a' b' c' d' e'
@@ -64,48 +64,48 @@ or_false true = refl
 or_false false = refl
 
 -- a line that is neither named UID nor KIND is no second one
-not_repeated : (before : List Line) (line : Line) → is_named (codes "UID") line ≡ false → is_named (codes "KIND") line ≡ false → is_repeated before line ≡ false
-not_repeated before line u k = ap (λ b. (b && has_named (codes "UID") before) || (is_named (codes "KIND") line && has_named (codes "KIND") before)) u ∙ ap (λ b. b && has_named (codes "KIND") before) k
+not_repeated : (before : List Line) (line : Line) → line_is_named (codes "UID") line ≡ false → line_is_named (codes "KIND") line ≡ false → repeats_uid_or_kind before line ≡ false
+not_repeated before line u k = ap (λ b. (b && has_line_named (codes "UID") before) || (line_is_named (codes "KIND") line && has_line_named (codes "KIND") before)) u ∙ ap (λ b. b && has_line_named (codes "KIND") before) k
 
-none_repeated : (line : Line) → is_repeated [] line ≡ false
-none_repeated line = ap (λ b. b || (is_named (codes "KIND") line && false)) (and_false (is_named (codes "UID") line)) ∙ and_false (is_named (codes "KIND") line)
+none_repeated : (line : Line) → repeats_uid_or_kind [] line ≡ false
+none_repeated line = ap (λ b. b || (line_is_named (codes "KIND") line && false)) (and_false (line_is_named (codes "UID") line)) ∙ and_false (line_is_named (codes "KIND") line)
 
 -- ---- the first line
 
-first_tests : (line : Line) → least_of (line_breaks [] line) ≡ first_line_fault line
+first_tests : (line : Line) → least_of (line_breaks_rule [] line) ≡ first_line_fault line
 first_tests line =
     tests_of [] line
-    ∙ elim (is_begin line) as (λ b. is_begin line ≡ b → by_tests (is_wrong_end line) (not b) (is_named (codes "VERSION") line) (is_named (codes "UID") line && not (is_uid line.value)) (is_repeated [] line) ≡ fault_if (is_wrong_end line) BadLine (cond b None (Some NoBegin))) [
+    ∙ elim (is_begin line) as (λ b. is_begin line ≡ b → by_tests (is_malformed_end line) (not b) (line_is_named (codes "VERSION") line) (line_is_named (codes "UID") line && not (is_uid line.value)) (repeats_uid_or_kind [] line) ≡ fault_if (is_malformed_end line) BadLine (cond b None (Some NoBegin))) [
       | true ↦ λ e.
           let named = bracket_name (codes "BEGIN") line e in
-          same_tests (is_wrong_end line) false _ _ _ (is_wrong_end line) false false false false refl refl (other_name line (codes "BEGIN") (codes "VERSION") refl named)
+          same_tests (is_malformed_end line) false _ _ _ (is_malformed_end line) false false false false refl refl (other_name line (codes "BEGIN") (codes "VERSION") refl named)
           (ap (λ b. b && not (is_uid line.value)) (other_name line (codes "BEGIN") (codes "UID") refl named)) (none_repeated line)
       | false ↦ λ e. refl
     ] refl
 
 -- ---- the second line
 
-second_tests : (begin line : Line) → is_begin begin ≡ true → least_of (line_breaks (begin ∷ []) line) ≡ second_line_fault line
+second_tests : (begin line : Line) → is_begin begin ≡ true → least_of (line_breaks_rule (begin ∷ []) line) ≡ second_line_fault line
 second_tests begin line s =
     let named = bracket_name (codes "BEGIN") begin s in
     let no_end : list_any is_end (begin ∷ []) ≡ false = ap (λ b. b || false) (no_bracket (codes "END") begin (other_name begin (codes "BEGIN") (codes "END") refl named)) in
     tests_of (begin ∷ []) line
-    ∙ ap (λ b. by_tests ((b || is_named (codes "BEGIN") line) || is_wrong_end line) false (not (is_version line) || false) (is_named (codes "UID") line && not (is_uid line.value)) (is_repeated (begin ∷ []) line)) no_end
-    ∙ ap (λ b. by_tests (is_named (codes "BEGIN") line || is_wrong_end line) false b (is_named (codes "UID") line && not (is_uid line.value)) (is_repeated (begin ∷ []) line)) (or_false (not (is_version line)))
-    ∙ elim (is_version line) as (λ b. is_version line ≡ b → by_tests (is_named (codes "BEGIN") line || is_wrong_end line) false (not b) (is_named (codes "UID") line && not (is_uid line.value)) (is_repeated (begin ∷ []) line)
-    ≡ fault_if (is_named (codes "BEGIN") line || is_wrong_end line) BadLine (cond b None (Some BadVersion))) [
+    ∙ ap (λ b. by_tests ((b || line_is_named (codes "BEGIN") line) || is_malformed_end line) false (not (is_version line) || false) (line_is_named (codes "UID") line && not (is_uid line.value)) (repeats_uid_or_kind (begin ∷ []) line)) no_end
+    ∙ ap (λ b. by_tests (line_is_named (codes "BEGIN") line || is_malformed_end line) false b (line_is_named (codes "UID") line && not (is_uid line.value)) (repeats_uid_or_kind (begin ∷ []) line)) (or_false (not (is_version line)))
+    ∙ elim (is_version line) as (λ b. is_version line ≡ b → by_tests (line_is_named (codes "BEGIN") line || is_malformed_end line) false (not b) (line_is_named (codes "UID") line && not (is_uid line.value)) (repeats_uid_or_kind (begin ∷ []) line)
+    ≡ fault_if (line_is_named (codes "BEGIN") line || is_malformed_end line) BadLine (cond b None (Some BadVersion))) [
       | true ↦ λ e.
           let is = version_name line e in
           let no_uid = other_name line (codes "VERSION") (codes "UID") refl is in
           let no_kind = other_name line (codes "VERSION") (codes "KIND") refl is in
-          same_tests (is_named (codes "BEGIN") line || is_wrong_end line) false false _ _ (is_named (codes "BEGIN") line || is_wrong_end line) false false false false refl refl refl
+          same_tests (line_is_named (codes "BEGIN") line || is_malformed_end line) false false _ _ (line_is_named (codes "BEGIN") line || is_malformed_end line) false false false false refl refl refl
           (ap (λ b. b && not (is_uid line.value)) no_uid) (not_repeated (begin ∷ []) line no_uid no_kind)
       | false ↦ λ e. refl
     ] refl
 
 -- ---- a line between VERSION and END
 
--- lines that stand before it: BEGIN, VERSION and the card's lines so far
+-- the lines before it: BEGIN, VERSION and the card's lines so far
 pub record AreBefore (lines before : List Line) : Type 0 where
   pub begin : Line
   pub version : Line
@@ -115,50 +115,50 @@ pub record AreBefore (lines before : List Line) : Type 0 where
   pub are : before ≡ begin ∷ version ∷ lines
 
 module _ (begin version : Line) (lines : List Line) (s : is_begin begin ≡ true) (v : is_version version ≡ true) where
-  pub end_behind : list_any is_end (begin ∷ version ∷ lines) ≡ list_any is_end lines
-  end_behind =
+  pub end_after : list_any is_end (begin ∷ version ∷ lines) ≡ list_any is_end lines
+  end_after =
       ap (λ b. b || (is_end version || list_any is_end lines)) (no_bracket (codes "END") begin (other_name begin (codes "BEGIN") (codes "END") refl (bracket_name (codes "BEGIN") begin s)))
       ∙ ap (λ b. b || list_any is_end lines) (no_bracket (codes "END") version (other_name version (codes "VERSION") (codes "END") refl (version_name version v)))
 
-  pub named_behind : (name : List ℕ) → bytes_eq (codes "BEGIN") name ≡ false → bytes_eq (codes "VERSION") name ≡ false → has_named name (begin ∷ version ∷ lines) ≡ has_named name lines
-  named_behind name b w =
-      ap (λ t. t || (is_named name version || has_named name lines)) (other_name begin (codes "BEGIN") name b (bracket_name (codes "BEGIN") begin s))
-      ∙ ap (λ t. t || has_named name lines) (other_name version (codes "VERSION") name w (version_name version v))
+  pub named_after : (name : List ℕ) → bytes_eq (codes "BEGIN") name ≡ false → bytes_eq (codes "VERSION") name ≡ false → has_line_named name (begin ∷ version ∷ lines) ≡ has_line_named name lines
+  named_after name b w =
+      ap (λ t. t || (line_is_named name version || has_line_named name lines)) (other_name begin (codes "BEGIN") name b (bracket_name (codes "BEGIN") begin s))
+      ∙ ap (λ t. t || has_line_named name lines) (other_name version (codes "VERSION") name w (version_name version v))
 
-  repeated_behind : (line : Line) → is_repeated (begin ∷ version ∷ lines) line ≡ is_repeated lines line
-  repeated_behind line =
-      ap (λ b. (is_named (codes "UID") line && b) || (is_named (codes "KIND") line && has_named (codes "KIND") (begin ∷ version ∷ lines))) (named_behind (codes "UID") refl refl)
-      ∙ ap (λ b. (is_named (codes "UID") line && has_named (codes "UID") lines) || (is_named (codes "KIND") line && b)) (named_behind (codes "KIND") refl refl)
+  repeated_after : (line : Line) → repeats_uid_or_kind (begin ∷ version ∷ lines) line ≡ repeats_uid_or_kind lines line
+  repeated_after line =
+      ap (λ b. (line_is_named (codes "UID") line && b) || (line_is_named (codes "KIND") line && has_line_named (codes "KIND") (begin ∷ version ∷ lines))) (named_after (codes "UID") refl refl)
+      ∙ ap (λ b. (line_is_named (codes "UID") line && has_line_named (codes "UID") lines) || (line_is_named (codes "KIND") line && b)) (named_after (codes "KIND") refl refl)
 
   abbrev uid_test : Line → Bool
-  uid_test line = is_named (codes "UID") line && not (is_uid line.value)
+  uid_test line = line_is_named (codes "UID") line && not (is_uid line.value)
 
-  body_tests : (line : Line) → list_any is_end lines ≡ false → least_of (line_breaks (begin ∷ version ∷ lines) line) ≡ cond (is_end line) None (body_line_fault lines line)
+  body_tests : (line : Line) → list_any is_end lines ≡ false → least_of (line_breaks_rule (begin ∷ version ∷ lines) line) ≡ cond (is_end line) None (body_line_fault lines line)
   unfolding body_line_fault
   body_tests line none =
       tests_of (begin ∷ version ∷ lines) line
-      ∙ ap (λ b. by_tests ((b || is_named (codes "BEGIN") line) || is_wrong_end line) false (is_named (codes "VERSION") line) (uid_test line) (is_repeated (begin ∷ version ∷ lines) line)) (end_behind ∙ none)
-      ∙ ap (λ b. by_tests (is_named (codes "BEGIN") line || is_wrong_end line) false (is_named (codes "VERSION") line) (uid_test line) b) (repeated_behind line)
-      ∙ elim (is_end line) as (λ b. is_end line ≡ b → by_tests (is_named (codes "BEGIN") line || (is_named (codes "END") line && not b)) false (is_named (codes "VERSION") line) (uid_test line) (is_repeated lines line)
-      ≡ cond b None (by_tests (is_named (codes "BEGIN") line || is_named (codes "END") line) false (is_named (codes "VERSION") line) (uid_test line) (is_repeated lines line))) [
+      ∙ ap (λ b. by_tests ((b || line_is_named (codes "BEGIN") line) || is_malformed_end line) false (line_is_named (codes "VERSION") line) (uid_test line) (repeats_uid_or_kind (begin ∷ version ∷ lines) line)) (end_after ∙ none)
+      ∙ ap (λ b. by_tests (line_is_named (codes "BEGIN") line || is_malformed_end line) false (line_is_named (codes "VERSION") line) (uid_test line) b) (repeated_after line)
+      ∙ elim (is_end line) as (λ b. is_end line ≡ b → by_tests (line_is_named (codes "BEGIN") line || (line_is_named (codes "END") line && not b)) false (line_is_named (codes "VERSION") line) (uid_test line) (repeats_uid_or_kind lines line)
+      ≡ cond b None (by_tests (line_is_named (codes "BEGIN") line || line_is_named (codes "END") line) false (line_is_named (codes "VERSION") line) (uid_test line) (repeats_uid_or_kind lines line))) [
         | true ↦ λ e.
             let is = bracket_name (codes "END") line e in
             let no_uid = other_name line (codes "END") (codes "UID") refl is in
             let no_kind = other_name line (codes "END") (codes "KIND") refl is in
             same_tests _ false _ _ _ false false false false false
-            (ap (λ b. b || (is_named (codes "END") line && false)) (other_name line (codes "END") (codes "BEGIN") refl is) ∙ and_false (is_named (codes "END") line))
+            (ap (λ b. b || (line_is_named (codes "END") line && false)) (other_name line (codes "END") (codes "BEGIN") refl is) ∙ and_false (line_is_named (codes "END") line))
             refl (other_name line (codes "END") (codes "VERSION") refl is) (ap (λ b. b && not (is_uid line.value)) no_uid) (not_repeated lines line no_uid no_kind)
-        | false ↦ λ e. ap (λ b. by_tests (is_named (codes "BEGIN") line || b) false (is_named (codes "VERSION") line) (uid_test line) (is_repeated lines line)) (and_true (is_named (codes "END") line))
+        | false ↦ λ e. ap (λ b. by_tests (line_is_named (codes "BEGIN") line || b) false (line_is_named (codes "VERSION") line) (uid_test line) (repeats_uid_or_kind lines line)) (and_true (line_is_named (codes "END") line))
       ] refl
 
--- ---- a line behind END
+-- ---- a line after END
 
-after_tests : (before : List Line) (line : Line) → list_any is_end before ≡ true → least_of (line_breaks before line) ≡ Some BadLine
-after_tests before line e = ap (λ b. by_tests ((b || (not (is_none before) && is_named (codes "BEGIN") line)) || is_wrong_end line) (line_breaks before line NoBegin) (line_breaks before line BadVersion) (line_breaks before line BadUid) (line_breaks before line Twice)) e
+after_tests : (before : List Line) (line : Line) → list_any is_end before ≡ true → least_of (line_breaks_rule before line) ≡ Some BadLine
+after_tests before line e = ap (λ b. by_tests ((b || (not (has_no_lines before) && line_is_named (codes "BEGIN") line)) || is_malformed_end line) (line_breaks_rule before line NoBegin) (line_breaks_rule before line BadVersion) (line_breaks_rule before line BadUid) (line_breaks_rule before line Twice)) e
 
--- ---- where a line stands
+-- ---- the place of a line
 
--- lines that stand before a line behind END
+-- the lines before a line after END
 pub record AreBeforeLast (lines before : List Line) : Type 0 where
   pub begin : Line
   pub version : Line
@@ -168,12 +168,12 @@ pub record AreBeforeLast (lines before : List Line) : Type 0 where
   pub is_end_line : is_end last ≡ true
   pub are : before ≡ begin ∷ version ∷ (lines ++ last ∷ [])
 
--- the place, and the card's lines so far, are those behind the lines before
-abbrev pub Stands : Place → List Line → List Line → Type 0
-Stands First lines before = (lines ≡ []) × (before ≡ [])
-Stands Second lines before = (lines ≡ []) × ((begin : Line) × (is_begin begin ≡ true) × (before ≡ begin ∷ []))
-Stands Body lines before = AreBefore lines before
-Stands After lines before = AreBeforeLast lines before
+-- the place and the card's lines so far are those after the lines `before`
+abbrev pub IsScanPlace : Place → List Line → List Line → Type 0
+IsScanPlace First lines before = (lines ≡ []) × (before ≡ [])
+IsScanPlace Second lines before = (lines ≡ []) × ((begin : Line) × (is_begin begin ≡ true) × (before ≡ begin ∷ []))
+IsScanPlace Body lines before = AreBefore lines before
+IsScanPlace After lines before = AreBeforeLast lines before
 
 pub any_append : (p : Line → Bool) (xs ys : List Line) → list_any p (xs ++ ys) ≡ (list_any p xs || list_any p ys)
 any_append p [] ys = refl
@@ -190,16 +190,16 @@ or_true false = refl
 pub has_ended : (lines before : List Line) → AreBeforeLast lines before → list_any is_end before ≡ true
 has_ended lines before a =
     ap (list_any is_end) a.are
-    ∙ end_behind a.begin a.version (lines ++ a.last ∷ []) a.is_begin_line a.is_version_line
+    ∙ end_after a.begin a.version (lines ++ a.last ∷ []) a.is_begin_line a.is_version_line
     ∙ any_append is_end lines (a.last ∷ [])
     ∙ ap (λ b. list_any is_end lines || (b || false)) a.is_end_line
     ∙ or_true (list_any is_end lines)
 
-pub same_fault : (place : Place) (lines before : List Line) → Stands place lines before → (line : Line) → line_fault place lines line ≡ least_of (line_breaks before line)
+pub same_fault : (place : Place) (lines before : List Line) → IsScanPlace place lines before → (line : Line) → line_fault place lines line ≡ least_of (line_breaks_rule before line)
 unfolding line_fault
-same_fault First lines before s line = sym (ap (λ b. least_of (line_breaks b line)) s.1 ∙ first_tests line)
-same_fault Second lines before s line = sym (ap (λ b. least_of (line_breaks b line)) s.1.2 ∙ second_tests s.1.0 line s.1.1)
-same_fault Body lines before a line = sym (ap (λ b. least_of (line_breaks b line)) a.are ∙ body_tests a.begin a.version lines a.is_begin_line a.is_version_line line a.no_end)
+same_fault First lines before s line = sym (ap (λ b. least_of (line_breaks_rule b line)) s.1 ∙ first_tests line)
+same_fault Second lines before s line = sym (ap (λ b. least_of (line_breaks_rule b line)) s.1.2 ∙ second_tests s.1.0 line s.1.1)
+same_fault Body lines before a line = sym (ap (λ b. least_of (line_breaks_rule b line)) a.are ∙ body_tests a.begin a.version lines a.is_begin_line a.is_version_line line a.no_end)
 same_fault After lines before a line = sym (after_tests before line (has_ended lines before a))
 
 passes : (test : Bool) (fault : CardFault) → cond test None (Some fault) ≡ None → test ≡ true
@@ -207,12 +207,12 @@ passes true fault e = refl
 passes false fault e = absurd (cc)
 
 abbrev next_place : Place → List Line → Line → List Line → Type 0
-next_place place lines line before = Stands (next_scan place lines line).place (next_scan place lines line).lines before
+next_place place lines line before = IsScanPlace (next_scan place lines line).place (next_scan place lines line).lines before
 
-pub stands_next : (place : Place) (lines before : List Line) → Stands place lines before → (line : Line) → line_fault place lines line ≡ None → next_place place lines line (before ++ line ∷ [])
+pub at_next_place : (place : Place) (lines before : List Line) → IsScanPlace place lines before → (line : Line) → line_fault place lines line ≡ None → next_place place lines line (before ++ line ∷ [])
 unfolding line_fault next_scan
-stands_next First lines before s line e = (s.0, (line, passes (is_begin line) NoBegin (no_fault (is_wrong_end line) BadLine _ e).1, ap (λ b. b ++ line ∷ []) s.1))
-stands_next Second lines before s line e = record {
+at_next_place First lines before s line e = (s.0, (line, passes (is_begin line) NoBegin (no_fault (is_malformed_end line) BadLine _ e).1, ap (λ b. b ++ line ∷ []) s.1))
+at_next_place Second lines before s line e = record {
   begin = s.1.0;
   version = line;
   is_begin_line = s.1.1;
@@ -220,8 +220,8 @@ stands_next Second lines before s line e = record {
   no_end = ap (list_any is_end) s.0;
   are = ap (λ b. b ++ line ∷ []) s.1.2 ∙ ap (λ ls. s.1.0 ∷ line ∷ ls) (sym s.0);
 }
-stands_next Body lines before a line e =
-    elim (is_end line) as (λ b. is_end line ≡ b → Stands (cond b (scan_at After lines) (scan_at Body (lines ++ line ∷ []))).place (cond b (scan_at After lines) (scan_at Body (lines ++ line ∷ []))).lines (before ++ line ∷ [])) [
+at_next_place Body lines before a line e =
+    elim (is_end line) as (λ b. is_end line ≡ b → IsScanPlace (cond b (scan_at After lines) (scan_at Body (lines ++ line ∷ []))).place (cond b (scan_at After lines) (scan_at Body (lines ++ line ∷ []))).lines (before ++ line ∷ [])) [
       | true ↦ λ t. record {
         begin = a.begin;
         version = a.version;
@@ -240,57 +240,57 @@ stands_next Body lines before a line e =
         are = ap (λ b. b ++ line ∷ []) a.are;
       }
     ] refl
-stands_next After lines before a line e = absurd (cc)
+at_next_place After lines before a line e = absurd (cc)
 
 -- ---- the logical line
 
--- a text that spells a line has just the line's faults
-spelled_to : (before : List Line) (text : List ℕ) (line : Line) → SpellsLine text line → (fault : CardFault) → LineHas before text fault → line_breaks before line fault ≡ true
+-- a text that spells a line has exactly the line's faults
+spelled_to : (before : List Line) (text : List ℕ) (line : Line) → SpellsLine text line → (fault : CardFault) → LogicalLineHasFault before text fault → line_breaks_rule before line fault ≡ true
 spelled_to before text line s fault (of_characters is bad) = absurd (bad s.permitted)
 spelled_to before text line s fault (of_grammar is none) = absurd (none line s)
-spelled_to before text line s fault (of_rules other t h) = subst (λ l. line_breaks before l fault ≡ true) (one_line text other line t s) h
+spelled_to before text line s fault (of_rules other t h) = subst (λ l. line_breaks_rule before l fault ≡ true) (one_line text other line t s) h
 
-pub least_of_spelled : (before : List Line) (text : List ℕ) (line : Line) (fault : CardFault) → SpellsLine text line → least_of (line_breaks before line) ≡ Some fault → IsLeastFault (LineHas before text) fault
+pub least_of_spelled : (before : List Line) (text : List ℕ) (line : Line) (fault : CardFault) → SpellsLine text line → least_of (line_breaks_rule before line) ≡ Some fault → IsLeastFault (LogicalLineHasFault before text) fault
 least_of_spelled before text line fault s e =
-    least_along (λ f. line_breaks before line f ≡ true) (LineHas before text) fault (λ f h. of_rules line s h) (spelled_to before text line s) (least_found (line_breaks before line) fault e)
+    least_along (λ f. line_breaks_rule before line f ≡ true) (LogicalLineHasFault before text) fault (λ f h. of_rules line s h) (spelled_to before text line s) (least_found (line_breaks_rule before line) fault e)
 
-pub spelled_least : (before : List Line) (text : List ℕ) (line : Line) (fault : CardFault) → SpellsLine text line → IsLeastFault (LineHas before text) fault → least_of (line_breaks before line) ≡ Some fault
+pub spelled_least : (before : List Line) (text : List ℕ) (line : Line) (fault : CardFault) → SpellsLine text line → IsLeastFault (LogicalLineHasFault before text) fault → least_of (line_breaks_rule before line) ≡ Some fault
 spelled_least before text line fault s l =
-    least_again (line_breaks before line) fault (least_along (LineHas before text) (λ f. line_breaks before line f ≡ true) fault (spelled_to before text line s) (λ f h. of_rules line s h) l)
+    least_again (line_breaks_rule before line) fault (least_along (LogicalLineHasFault before text) (λ f. line_breaks_rule before line f ≡ true) fault (spelled_to before text line s) (λ f h. of_rules line s h) l)
 
-pub spelled_none : (before : List Line) (text : List ℕ) (line : Line) → SpellsLine text line → ((fault : CardFault) → LineHas before text fault → ⊥) → least_of (line_breaks before line) ≡ None
+pub spelled_none : (before : List Line) (text : List ℕ) (line : Line) → SpellsLine text line → ((fault : CardFault) → LogicalLineHasFault before text fault → ⊥) → least_of (line_breaks_rule before line) ≡ None
 spelled_none before text line s none = ⊎_elim
     (λ e. e)
-    (λ some. absurd (none some.0 (of_rules line s (least_found (line_breaks before line) some.0 some.1).has_it)))
-    (found_or_none (least_of (line_breaks before line)))
+    (λ some. absurd (none some.0 (of_rules line s (least_found (line_breaks_rule before line) some.0 some.1).has_it)))
+    (found_or_none (least_of (line_breaks_rule before line)))
 
-pub none_spelled : (before : List Line) (text : List ℕ) (line : Line) → SpellsLine text line → least_of (line_breaks before line) ≡ None → (fault : CardFault) → LineHas before text fault → ⊥
-none_spelled before text line s e fault h = both_ways (line_breaks before line fault) (none_passes (line_breaks before line) e fault) (spelled_to before text line s fault h)
+pub none_spelled : (before : List Line) (text : List ℕ) (line : Line) → SpellsLine text line → least_of (line_breaks_rule before line) ≡ None → (fault : CardFault) → LogicalLineHasFault before text fault → ⊥
+none_spelled before text line s e fault h = both_ways (line_breaks_rule before line fault) (none_passes (line_breaks_rule before line) e fault) (spelled_to before text line s fault h)
 
 -- a text that isn't read has the fault for which it isn't
-not_read : (text : List ℕ) (line : Line) (fault : CardFault) → line_at text ≡ Err fault → SpellsLine text line → ⊥
+not_read : (text : List ℕ) (line : Line) (fault : CardFault) → parse_line text ≡ Err fault → SpellsLine text line → ⊥
 not_read text line fault e s = apart (sym e ∙ line_again text line s)
   where
     apart : ◌≡◌ {A = Result Line CardFault} (Err fault) (Ok line) → ⊥
     apart h = cc
 
-no_less_number : (f g f' g' : CardFault) → f ≡ f' → g ≡ g' → fault_number f' ≤ fault_number g' → fault_number f ≤ fault_number g
+no_less_number : (f g f' g' : CardFault) → f ≡ f' → g ≡ g' → card_fault_number f' ≤ card_fault_number g' → card_fault_number f ≤ card_fault_number g
 no_less_number f g f' g' p q l = rw (p, q) l
 
-least_character : (before : List Line) (text : List ℕ) (fault : CardFault) → fault ≡ BadChar → (IsOf is_permitted text → ⊥) → (other : CardFault) → LineHas before text other → fault_number fault ≤ fault_number other
+least_character : (before : List Line) (text : List ℕ) (fault : CardFault) → fault ≡ BadChar → (AllInClass is_permitted text → ⊥) → (other : CardFault) → LogicalLineHasFault before text other → card_fault_number fault ≤ card_fault_number other
 least_character before text fault e bad other (of_characters is b) = no_less_number fault other BadChar BadChar e is (lit≤ tt)
 least_character before text fault e bad other (of_grammar is none) = no_less_number fault other BadChar BadLine e is (lit≤ tt)
 least_character before text fault e bad other (of_rules line s h) = absurd (bad s.permitted)
 
-least_grammar : (before : List Line) (text : List ℕ) (fault : CardFault) → fault ≡ BadLine → IsOf is_permitted text → ((line : Line) → SpellsLine text line → ⊥) → (other : CardFault) → LineHas before text other → fault_number fault ≤ fault_number other
+least_grammar : (before : List Line) (text : List ℕ) (fault : CardFault) → fault ≡ BadLine → AllInClass is_permitted text → ((line : Line) → SpellsLine text line → ⊥) → (other : CardFault) → LogicalLineHasFault before text other → card_fault_number fault ≤ card_fault_number other
 least_grammar before text fault e good none other (of_characters is b) = absurd (b good)
 least_grammar before text fault e good none other (of_grammar is n) = no_less_number fault other BadLine BadLine e is (lit≤ tt)
 least_grammar before text fault e good none other (of_rules line s h) = absurd (none line s)
 
-pub least_of_unread : (before : List Line) (text : List ℕ) (fault : CardFault) → line_at text ≡ Err fault → IsLeastFault (LineHas before text) fault
+pub least_of_unread : (before : List Line) (text : List ℕ) (fault : CardFault) → parse_line text ≡ Err fault → IsLeastFault (LogicalLineHasFault before text) fault
 least_of_unread before text fault e = ⊎_elim
     (λ character.
-    let bad : IsOf is_permitted text → ⊥ = λ p. both_ways (list_all is_permitted text) character.1 (all_of_class is_permitted text p) in
+    let bad : AllInClass is_permitted text → ⊥ = λ p. both_ways (list_all is_permitted text) character.1 (all_of_class is_permitted text p) in
     record { has_it = of_characters character.0 bad; least = least_character before text fault character.0 bad })
     (λ grammar.
     let none : (line : Line) → SpellsLine text line → ⊥ = λ line s. not_read text line fault e s in

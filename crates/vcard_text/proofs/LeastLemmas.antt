@@ -4,7 +4,7 @@ use Rattle.std.specs.List.{AllByRecursion, list_all}
 use Rattle.std.proofs.lemmas.Bool.{and_parts, leb-true, both_ways}
 use Rattle.vcard_lines.specs.declared.fault.CardFault.{CardFault}
 use Rattle.vcard_lines.specs.declared.fault.CardFault.TheVariants.{TooLong, NotUtf8, BadChar, BadLine, NoBegin, BadVersion, NoEnd, NoName, NoUid, BadUid, Twice, MemberOutsideGroup, Memory}
-use Rattle.vcard_lines.specs.FaultNumbers.{fault_number}
+use Rattle.vcard_lines.specs.FaultNumbers.{card_fault_number}
 use Rattle.vcard_text.specs.FirstFaults.{IsLeastFault}
 
 abbrev pub in_order : List CardFault
@@ -18,7 +18,7 @@ least_of test = find test in_order
 abbrev fault_numbered : ℕ → CardFault
 fault_numbered n = cond (n == 1) TooLong (cond (n == 2) NotUtf8 (cond (n == 3) BadChar (cond (n == 4) BadLine (cond (n == 5) NoBegin (cond (n == 6) BadVersion (cond (n == 7) NoEnd (cond (n == 8) NoName (cond (n == 9) NoUid (cond (n == 10) BadUid (cond (n == 11) Twice (cond (n == 12) MemberOutsideGroup Memory)))))))))))
 
-numbered_back : (fault : CardFault) → fault_numbered (fault_number fault) ≡ fault
+numbered_back : (fault : CardFault) → fault_numbered (card_fault_number fault) ≡ fault
 numbered_back TooLong = refl
 numbered_back NotUtf8 = refl
 numbered_back BadChar = refl
@@ -33,7 +33,7 @@ numbered_back Twice = refl
 numbered_back MemberOutsideGroup = refl
 numbered_back Memory = refl
 
-one_number : (f g : CardFault) → fault_number f ≡ fault_number g → f ≡ g
+one_number : (f g : CardFault) → card_fault_number f ≡ card_fault_number g → f ≡ g
 one_number f g e = sym (numbered_back f) ∙ ap fault_numbered e ∙ numbered_back g
 
 -- ---- all faults are in order
@@ -56,25 +56,25 @@ everywhere P a Memory = a.1.1.1.1.1.1.1.1.1.1.1.1.0
 -- each has a number that is no less than those before it
 abbrev are_ordered : List CardFault → Bool
 are_ordered [] = true
-are_ordered (f ∷ fs) = list_all (λ g. nat_le (fault_number f) (fault_number g)) fs && are_ordered fs
+are_ordered (f ∷ fs) = list_all (λ g. nat_le (card_fault_number f) (card_fault_number g)) fs && are_ordered fs
 
-no_less : (f : CardFault) (fs : List CardFault) → list_all (λ g. nat_le (fault_number f) (fault_number g)) fs ≡ true → AllByRecursion (λ g. fault_number f ≤ fault_number g) fs
+no_less : (f : CardFault) (fs : List CardFault) → list_all (λ g. nat_le (card_fault_number f) (card_fault_number g)) fs ≡ true → AllByRecursion (λ g. card_fault_number f ≤ card_fault_number g) fs
 no_less f [] e = tt
-no_less f (g ∷ gs) e = let p = and_parts (nat_le (fault_number f) (fault_number g)) _ e in (leb-true _ _ p.0, no_less f gs p.1)
+no_less f (g ∷ gs) e = let p = and_parts (nat_le (card_fault_number f) (card_fault_number g)) _ e in (leb-true _ _ p.0, no_less f gs p.1)
 
 module _ (test : CardFault → Bool) where
   -- no fault of these that passes has a smaller number
   abbrev IsLeastOf : List CardFault → CardFault → Type 0
-  IsLeastOf fs fault = (test fault ≡ true) × AllByRecursion (λ other. test other ≡ true → fault_number fault ≤ fault_number other) fs
+  IsLeastOf fs fault = (test fault ≡ true) × AllByRecursion (λ other. test other ≡ true → card_fault_number fault ≤ card_fault_number other) fs
 
-  weaker : (f : CardFault) (fs : List CardFault) → AllByRecursion (λ g. fault_number f ≤ fault_number g) fs → AllByRecursion (λ other. test other ≡ true → fault_number f ≤ fault_number other) fs
+  weaker : (f : CardFault) (fs : List CardFault) → AllByRecursion (λ g. card_fault_number f ≤ card_fault_number g) fs → AllByRecursion (λ other. test other ≡ true → card_fault_number f ≤ card_fault_number other) fs
   weaker f [] a = tt
   weaker f (g ∷ gs) a = (λ _. a.0, weaker f gs a.1)
 
   least_in : (fs : List CardFault) → are_ordered fs ≡ true → (fault : CardFault) → find test fs ≡ Some fault → IsLeastOf fs fault
   least_in [] o fault e = absurd (cc)
   least_in (f ∷ fs) o fault e =
-      let p = and_parts (list_all (λ g. nat_le (fault_number f) (fault_number g)) fs) (are_ordered fs) o in
+      let p = and_parts (list_all (λ g. nat_le (card_fault_number f) (card_fault_number g)) fs) (are_ordered fs) o in
       elim (test f) as (λ b. test f ≡ b → cond b (Some f) (find test fs) ≡ Some fault → IsLeastOf (f ∷ fs) fault) [
         | true ↦ λ t h. let same : f ≡ fault = cc in subst (λ g. IsLeastOf (f ∷ fs) g) same (t, ((λ _. omega arith), weaker f fs (no_less f fs p.0)))
         | false ↦ λ t h. let more = least_in fs p.1 fault h in (more.0, ((λ is. absurd (both_ways (test f) t is)), more.1))
@@ -90,7 +90,7 @@ module _ (test : CardFault → Bool) where
   pub least_found : (fault : CardFault) → least_of test ≡ Some fault → IsLeastFault (λ other. test other ≡ true) fault
   least_found fault e =
       let l = least_in in_order refl fault e in
-      record { has_it = l.0; least = λ other is. everywhere (λ o. test o ≡ true → fault_number fault ≤ fault_number o) l.1 other is }
+      record { has_it = l.0; least = λ other is. everywhere (λ o. test o ≡ true → card_fault_number fault ≤ card_fault_number o) l.1 other is }
 
   pub none_passes : least_of test ≡ None → (fault : CardFault) → test fault ≡ false
   none_passes e fault = everywhere (λ o. test o ≡ false) (none_in in_order e) fault

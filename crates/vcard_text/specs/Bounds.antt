@@ -1,7 +1,7 @@
--- The bounds of this profile, which the constants of the code have to equal. This project's own.
+-- The size limits of this profile, which the constants of the code must equal. This project's own.
 use Rattle.std.specs.Prelude.{ℕ}
 
--- the most octets of a text that is read, and of a canonical text
+-- the most octets of an input text, and of a canonical text
 abbrev pub text_octets_max : ℕ
 text_octets_max = 262144
 

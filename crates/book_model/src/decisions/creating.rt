@@ -1,4 +1,4 @@
-//! Whether a book may be made.
+//! Whether a book may be created.
 ghost use Rattle.std.specs.Prelude.{◌≡◌, ◌≤◌, IfOk};
 ghost use Rattle.book_model.specs.BookNames.{is_legal_name, is_octet_of_name};
 ghost use Rattle.book_model.specs.Creating.{new_id};
@@ -28,24 +28,24 @@ pub fn is_book_name(name: &str) -> bool
     true
 }
 
-/// The id of a new book of the name, in a store of so many books.
+/// The id of a new book of the name, in a store that has this number of books.
 ///
-/// Refused, by the first that holds, with `BadBookName`; `BookExists` where a book has the name;
+/// Refused, by the first that applies, with `BadBookName`; `BookExists` where a book has the name;
 /// `TooManyBooks` where the store has as many books as its limit.
 pub fn id_of_new_book(
     limits: Limits,
     name: &str,
-    is_taken: bool,
+    name_exists: bool,
     books: u64,
 ) -> Result<u64, Refusal>
-    ensures id { result ≡ new_id limits name.now is_taken books }
+    ensures id { result ≡ new_id limits name.now name_exists books }
     ensures within { IfOk result (λ id. id ≤ limits.books_max) }
     ensures least { IfOk result (λ id. 1 ≤ id) }
 {
     if !is_book_name(name) {
         return Err(Refusal::BadBookName);
     }
-    if is_taken {
+    if name_exists {
         return Err(Refusal::BookExists);
     }
     if books >= limits.books_max() {

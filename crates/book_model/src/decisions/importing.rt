@@ -1,7 +1,8 @@
-//! What an import comes to.
+//! The decisions of an import.
 ghost use Rattle.std.specs.Prelude.{◌≡◌, ◌<◌, ◌≤◌, ◌+◌, IfOk};
-ghost use Rattle.book_model.specs.Importing.{import_reason, import_tally, imported_so_far, is_key_octet, is_legal_key};
-ghost use Rattle.book_model.specs.Books.{stored_behind};
+ghost use Rattle.book_model.specs.Importing.{import_reason, import_tally, imported_so_far};
+ghost use Rattle.book_model.specs.Importing.{is_key_octet, is_legal_key};
+ghost use Rattle.book_model.specs.Books.{as_stored};
 
 use crate::answers::ImportTally;
 use crate::change::StoreReason;
@@ -32,9 +33,9 @@ pub fn is_import_key(key: &str) -> bool
     true
 }
 
-/// Why an import stores the card, by what is live at its UID: `None` where an equal card is.
+/// Why an import stores the card, given the live card under its UID. `None` where that is equal.
 pub fn reason_to_import(live: Option<(u64, &Card)>, card: &Card) -> Option<StoreReason>
-    ensures { result ≡ import_reason card.now (stored_behind live.entry) }
+    ensures { result ≡ import_reason card.now (as_stored live.entry) }
 {
     let Some((_, stored)) = live else {
         return Some(StoreReason::Import);
@@ -45,12 +46,12 @@ pub fn reason_to_import(live: Option<(u64, &Card)>, card: &Card) -> Option<Store
     Some(StoreReason::ImportEdit)
 }
 
-/// What an import answers that added, edited and found the same so many cards, by the live cards
-/// and the number of the book as it then is.
+/// The answer of an import with these counts, given the live cards and the number of the book
+/// after it.
 ///
-/// Refused, by the first that holds, with `BookFull` where cards were added and there are more
+/// Refused, by the first that applies, with `BookFull` where cards were added and there are more
 /// than the limit; `ChangesSpent` where cards were stored and the number is above the limit. So
-/// where one was stored, the number that is answered is within the limit.
+/// where a card was stored, the returned number is within the limit.
 pub fn tally_of_import(
     limits: Limits,
     added: u64,

@@ -1,6 +1,8 @@
-//! What a report is asked for, and the pages that answer it (RFC 6578, sections 3.2 to 3.7).
+//! The mark and the size of a report, and its pages (RFC 6578, sections 3.2 to 3.7).
 ghost use Rattle.std.specs.Prelude.{◌≡◌, ◌≤◌, IfOk, map, List};
-ghost use Rattle.book_model.specs.Pages.{Asked, Member, entry_in, row_is_due, mark_asked, page_size, IsReport, AreFirstOfMore, AreAllDue, last_number};
+ghost use Rattle.book_model.specs.Pages.{ReportRequest, MemberWithRow, entry_of_row, is_due_row};
+ghost use Rattle.book_model.specs.Pages.{requested_mark, page_size, IsReport, AreFirstDueRows};
+ghost use Rattle.book_model.specs.Pages.{AreAllDueRows, last_row_number};
 
 use crate::limits::Limits;
 use crate::page::{Entry, Page};
@@ -9,12 +11,12 @@ use crate::row::Row;
 use crate::token::{Mark, Token};
 use vcard_text::Items;
 
-/// The mark that the token stands for in the book with this id, number and horizon. Without a
-/// token it is that of an initial report.
+/// The mark of the token in the book with this id, number and horizon; without a token, the mark of
+/// an initial report.
 ///
-/// Refused with `BadToken`, by the first that holds, for `OtherBook`, `TooNew` and `TooOld`.
+/// Refused with `BadToken`, by the first cause that applies: `OtherBook`, `TooNew`, `TooOld`.
 pub fn mark_of(id: u64, number: u64, horizon: u64, token: Option<Token>) -> Result<Mark, Refusal>
-    ensures mark { result ≡ mark_asked id number horizon token }
+    ensures mark { result ≡ requested_mark id number horizon token }
     ensures at_within { IfOk result (λ mark. mark.at ≤ number) }
     ensures base_within { IfOk result (λ mark. mark.base ≤ number) }
 {
@@ -36,7 +38,8 @@ pub fn mark_of(id: u64, number: u64, horizon: u64, token: Option<Token>) -> Resu
     Ok(mark)
 }
 
-/// The most entries of the page. Refused with `BadLimit` where the limit is 0.
+/// The most entries of the page: the smaller of the limit and `page_max`. Refused with `BadLimit`
+/// where the limit is 0.
 pub fn size_of_page(limits: Limits, limit: Option<u64>) -> Result<u64, Refusal>
     ensures size { result ≡ page_size limits.page_max limit }
     ensures least { IfOk result (λ size. 1 ≤ size) }
@@ -49,20 +52,21 @@ pub fn size_of_page(limits: Limits, limit: Option<u64>) -> Result<u64, Refusal>
     }
 }
 
-/// Whether a report at the mark tells of the row: it changed after `at`, and is live or went after
-/// `base`.
+/// Whether the row is due at the mark: it changed after `at`, and its member is live or was removed
+/// after `base`.
 pub fn is_due(row: &Row, mark: Mark) -> bool
-    ensures { result ≡ row_is_due mark row.now }
+    ensures { result ≡ is_due_row mark row.now }
 {
     row.changed > mark.at && (row.card.is_some() || row.changed > mark.base)
 }
 
-/// The page at the mark of the first due rows, of which the last has this number, where there are
-/// more.
+/// The page of the first due rows at the mark, where there are more. `last` is the number of the
+/// last of them.
 pub fn truncated_page(id: u64, mark: Mark, entries: Items<Entry>, last: u64) -> Page
-    ensures report { (asked : Asked) (rows : List Member) → AreFirstOfMore asked rows
-        → asked.book.id ≡ id → asked.mark ≡ mark → entries ≡ map entry_in rows
-        → last ≡ last_number rows → IsReport asked result }
+    ensures report { (asked : ReportRequest) (rows : List MemberWithRow)
+        → AreFirstDueRows asked rows
+        → asked.book.id ≡ id → asked.mark ≡ mark → entries ≡ map entry_of_row rows
+        → last ≡ last_row_number rows → IsReport asked result }
 {
     Page {
         book: id,
@@ -75,10 +79,10 @@ pub fn truncated_page(id: u64, mark: Mark, entries: Items<Entry>, last: u64) -> 
     }
 }
 
-/// The page of all due rows, of a book with this number.
+/// The page of all due rows of a book with this number.
 pub fn whole_page(id: u64, number: u64, entries: Items<Entry>) -> Page
-    ensures report { (asked : Asked) (rows : List Member) → AreAllDue asked rows
-        → asked.book.id ≡ id → asked.book.number ≡ number → entries ≡ map entry_in rows
+    ensures report { (asked : ReportRequest) (rows : List MemberWithRow) → AreAllDueRows asked rows
+        → asked.book.id ≡ id → asked.book.number ≡ number → entries ≡ map entry_of_row rows
         → IsReport asked result }
 {
     Page {

@@ -1,20 +1,20 @@
 use Rattle.std.proofs.Common.{◌≡◌, Ok, inr, refl}
 use Rattle.http_replies.specs.Replies.{reply_octets}
-use Rattle.http_routes.specs.Commands.{asked}
-use Rattle.book_http.specs.Performing.{Performs}
+use Rattle.http_routes.specs.Commands.{requested_command}
+use Rattle.book_http.specs.StoreCommands.{PerformsOnStore}
 use Rattle.book_http.proofs.AnsweringLemmas.{on_err, performed}
 use Rattle.book_http.proofs.answering.answer.Goals as goal
 
 pub returns-in-Ok-clause-no_memory : goal.returns-in-Ok-clause-no_memory
 returns-in-Ok-clause-no_memory g c =
-    let is : asked c.args.head.now.method c.args.head.now.target c.args.body.now ≡ Ok c.in-Ok.command = cc (c.in-Ok.ensures.command, c.as_str.ensures, c.as_str-2.ensures) in
-    let did : Performs g.S.BookStore.books g.S.BookStore.limits g.S.BookStore.premise g.S.BookStore.may_fault c.args.store.now c.in-Ok.command c.perform-reply.result c.perform-reply.new.store =
+    let is : requested_command c.args.head.now.method c.args.head.now.target c.args.body.now ≡ Ok c.in-Ok.command = cc (c.in-Ok.ensures.command, c.as_str.ensures, c.as_str-2.ensures) in
+    let did : PerformsOnStore g.S.BookStore.books g.S.BookStore.limits g.S.BookStore.premise g.S.BookStore.may_fault c.args.store.now c.in-Ok.command c.perform-reply.result c.perform-reply.new.store =
     record {
       premises = c.perform-reply.ensures.premise;
       limits_are = c.perform-reply.ensures.limits;
       range = c.perform-reply.ensures.range;
       fault = c.perform-reply.ensures.fault;
-      kept = c.perform-reply.ensures.kept;
+      kept = c.perform-reply.ensures.unchanged;
       step = c.perform-reply.ensures.step;
     } in
     let octets = reply_octets c.perform-reply.result c.args.head.now.close in

@@ -12,18 +12,18 @@ returns-clause-sessions g c = sessions_run g.S.BookStore.books g.S.BookStore.lim
 
 pub returns-clause-cuts : goal.returns-clause-cuts
 returns-clause-cuts g c = cuts_run_alike g.S.BookStore.books g.S.BookStore.limits g.S.BookStore.premise g.S.BookStore.may_fault (record {
-  cards = c.card_is_one.ensures;
+  cards = c.card_is_unique.ensures;
   card_faults = c.first_fault_without_card.ensures.one;
   no_card_has_fault = c.first_fault_without_card.ensures.not_both;
-  rows_are_one = c.cards_of_rows_are_one.ensures;
+  rows_are_one = c.cards_of_rows_are_unique.ensures;
   row_faults = c.first_fault_without_cards.ensures.one;
   no_rows_have_fault = c.first_fault_without_cards.ensures.not_both;
-  tokens = c.token_texts_are_one.ensures;
-  expansions = c.expansion_is_one.ensures;
+  tokens = c.token_texts_are_unique.ensures;
+  expansions = c.expansion_is_unique.ensures;
 })
 
-pub returns-clause-lost : goal.returns-clause-lost
-returns-clause-lost g c = lost_pieces_run g.S.BookStore.books g.S.BookStore.limits g.S.BookStore.premise g.S.BookStore.may_fault
+pub returns-clause-out_of_memory : goal.returns-clause-out_of_memory
+returns-clause-out_of_memory g c = lost_pieces_run g.S.BookStore.books g.S.BookStore.limits g.S.BookStore.premise g.S.BookStore.may_fault
 
 pub returns-clause-connections : goal.returns-clause-connections
 returns-clause-connections g c = connections_run g.S.BookStore.books g.S.BookStore.limits g.S.BookStore.premise g.S.BookStore.may_fault
@@ -32,4 +32,4 @@ pub returns-clause-faults : goal.returns-clause-faults
 returns-clause-faults g c = faults_leave_runs g.S.BookStore.books g.S.BookStore.limits g.S.BookStore.premise g.S.BookStore.may_fault
 
 pub returns-clause-devices : goal.returns-clause-devices
-returns-clause-devices g c = readers_are_devices c.token_texts_are_one.ensures c.texts_tell_pages.ensures
+returns-clause-devices g c = readers_are_devices c.token_texts_are_unique.ensures c.texts_determine_pages.ensures

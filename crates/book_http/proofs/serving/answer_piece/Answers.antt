@@ -3,14 +3,14 @@ use Rattle.std.proofs.lemmas.Result.{err_from_is_err_and}
 use Rattle.std.specs.Io.KnownBytes.{Appends}
 use Rattle.book_http.proofs.serving.answer_piece.Goals as goal
 
-pub returns-in_err-replies-clause-loses : goal.returns-in_err-replies-clause-loses
-returns-in_err-replies-clause-loses g c =
+pub returns-in_err-replies-clause-failed : goal.returns-in_err-replies-clause-failed
+returns-in_err-replies-clause-failed g c =
     let p = err_from_is_err_and c.from_residual.result c.from_residual.ensures.1 in
-    rw (p.1, p.2) (c.in_err-replies.ensures.loses, refl)
+    rw (p.1, p.2) (c.in_err-replies.ensures.fed_in_part, refl)
 
-pub returns-clause-takes : goal.returns-clause-takes
-returns-clause-takes g c = record {
+pub returns-clause-answered : goal.returns-clause-answered
+returns-clause-answered g c = record {
   replies = c.in_ok-replies.replies.items;
-  takes = c.in_ok-replies.ensures.takes;
+  feeds = c.in_ok-replies.ensures.fed;
   out = subst (Appends (g.W.Write.contents c.args.writer.now) (g.W.Write.contents c.send.new.writer)) c.as_slice.ensures.value c.in_ok-send.ensures.sent;
 }

@@ -18,15 +18,15 @@ returns-in_err-answer_piece-in-Ok-clause-fault g c =
     (g.R.Read.remaining c.args.reader.now) (g.R.Read.remaining c.loop-turn.reader) (g.R.Read.remaining c.read.new.self)
     (g.W.Write.contents c.args.writer.now) (g.W.Write.contents c.loop-turn.writer) (g.W.Write.contents c.answer_piece.new.writer)
     c.args.handler.now c.loop-turn.handler c.answer_piece.new.handler c.loop-turn.session c.answer_piece.new.session (take c.in-Ok.count c.read.new.buf)
-    c.loop-turn.invariant.0 c.in-Ok.ensures.bytes.0 c.in_err-answer_piece-in-Ok.ensures.loses)
+    c.loop-turn.invariant.0 c.in-Ok.ensures.bytes.0 c.in_err-answer_piece-in-Ok.ensures.failed)
 
-pub returns-then-branch-clause-all : goal.returns-then-branch-clause-all
-returns-then-branch-clause-all g c =
+pub returns-then-branch-clause-served : goal.returns-then-branch-clause-served
+returns-then-branch-clause-served g c =
     turn_closed g.H.Handler.does g.H.Handler.fault_reply
     (g.R.Read.remaining c.args.reader.now) (g.R.Read.remaining c.loop-turn.reader) (g.R.Read.remaining c.read.new.self)
     (g.W.Write.contents c.args.writer.now) (g.W.Write.contents c.loop-turn.writer) (g.W.Write.contents c.answer_piece.new.writer)
     c.args.handler.now c.loop-turn.handler c.answer_piece.new.handler c.loop-turn.session c.answer_piece.new.session (take c.in-Ok.count c.read.new.buf)
-    c.loop-turn.invariant.0 c.in-Ok.ensures.bytes.0 c.in_ok-answer_piece-in-Ok.ensures.takes (c.in_ok-answer_piece-in-Ok.ensures.closed.0 c.if-branch.true)
+    c.loop-turn.invariant.0 c.in-Ok.ensures.bytes.0 c.in_ok-answer_piece-in-Ok.ensures.answered (c.in_ok-answer_piece-in-Ok.ensures.closed.0 c.if-branch.true)
 
 pub loop-turn-preserved : goal.loop-turn-preserved
 loop-turn-preserved g c =
@@ -36,7 +36,7 @@ loop-turn-preserved g c =
             (g.R.Read.remaining c.args.reader.now) (g.R.Read.remaining c.loop-turn.reader) (g.R.Read.remaining c.read.new.self)
             (g.W.Write.contents c.args.writer.now) (g.W.Write.contents c.loop-turn.writer) (g.W.Write.contents w.answer_piece.new.writer)
             c.args.handler.now c.loop-turn.handler w.answer_piece.new.handler c.loop-turn.session w.answer_piece.new.session (take w.in-Ok.count c.read.new.buf)
-            c.loop-turn.invariant.0 w.in-Ok.ensures.bytes.0 w.in_ok-answer_piece-in-Ok.ensures.takes (λ e. absurd (cc (w.in_ok-answer_piece-in-Ok.ensures.closed.1 e, w.if-branch.false))),
+            c.loop-turn.invariant.0 w.in-Ok.ensures.bytes.0 w.in_ok-answer_piece-in-Ok.ensures.answered (λ e. absurd (cc (w.in_ok-answer_piece-in-Ok.ensures.closed.1 e, w.if-branch.false))),
         omega (arith, c.loop-turn.invariant.1, c.read.auto.buf),
       )
       | in-Err+else-ne w ↦ rw (w.handler-is, w.writer-is, w.session-is) (

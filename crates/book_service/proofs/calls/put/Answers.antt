@@ -1,30 +1,30 @@
 use Rattle.std.proofs.Common.{List, ℕ, Ok, Err, subst}
 use Rattle.vcard_lines.specs.declared.line.Line.{Line}
-use Rattle.book_model.specs.Outcomes.{Does}
+use Rattle.book_model.specs.CallOutcomes.{MatchesStep}
 use Rattle.book_model.specs.Putting.{put_step}
-use Rattle.book_service.specs.OnRows.{DeniesIn}
+use Rattle.book_service.specs.internal.RowSteps.{IsFirstDenial}
 use Rattle.book_service.specs.Replies.{denied_reply}
 use Rattle.book_service.specs.Texts.{ReadsCard}
-use Rattle.book_service.specs.TextReaders.{IsReadAs}
+use Rattle.book_service.specs.internal.TextParsers.{ParserReturns}
 use Rattle.book_service.proofs.CallLemmas.{puts, puts_not}
 use Rattle.book_service.proofs.calls.put.Goals as goal
 
-pub returns-in-Ok-clause-does : goal.returns-in-Ok-clause-does
-returns-in-Ok-clause-does g c = λ premise.
+pub returns-in-Ok-clause-step : goal.returns-in-Ok-clause-step
+returns-in-Ok-clause-step g c = λ premise.
     let limits = g.S.BookStore.limits c.args.store.now in
     let old = g.S.BookStore.books c.args.store.now in
     let new = g.S.BookStore.books c.put.new.self in
     puts limits old new c.calls_follow_histories.ensures.putting c.args.book.now c.args.uid.now c.in-Ok.card c.args.expect c.args.text.now c.put.result
     (subst (λ (uid : List ℕ). ReadsCard uid c.args.text.now (Ok c.in-Ok.card)) c.as_str.ensures (subst (λ (text : List ℕ). ReadsCard c.as_str.result.now text (Ok c.in-Ok.card)) c.as_slice.ensures c.in-Ok.ensures))
-    (subst (λ (book : List ℕ). Does c.put.result (put_step limits old book c.in-Ok.card c.args.expect) old new) c.as_str-in-Ok.ensures (c.put.ensures.does premise))
+    (subst (λ (book : List ℕ). MatchesStep c.put.result (put_step limits old book c.in-Ok.card c.args.expect) old new) c.as_str-in-Ok.ensures (c.put.ensures.step premise))
 
-pub returns-in-Err-clause-does : goal.returns-in-Err-clause-does
-returns-in-Err-clause-does g c = λ premise.
+pub returns-in-Err-clause-step : goal.returns-in-Err-clause-step
+returns-in-Err-clause-step g c = λ premise.
     let limits = g.S.BookStore.limits c.args.store.now in
     let old = g.S.BookStore.books c.args.store.now in
     let new = g.S.BookStore.books c.first_denial.new.store in
     puts_not limits old new c.calls_follow_histories.ensures.lines c.args.book.now c.args.uid.now c.args.expect c.args.text.now c.in-Err.error (denied_reply c.first_denial.result)
-    (subst (λ (uid : List ℕ). IsReadAs {A = List Line} (ReadsCard uid c.args.text.now) (Err c.in-Err.error)) c.as_str.ensures
-    (subst (λ (text : List ℕ). IsReadAs {A = List Line} (ReadsCard c.as_str.result.now text) (Err c.in-Err.error)) c.as_slice.ensures c.in-Err.ensures))
-    (subst (λ (book : List ℕ). DeniesIn old book c.in-Err.error (denied_reply c.first_denial.result)) c.as_str-in-Err.ensures (c.first_denial.ensures.denies premise))
-    (c.first_denial.ensures.kept premise)
+    (subst (λ (uid : List ℕ). ParserReturns {A = List Line} (ReadsCard uid c.args.text.now) (Err c.in-Err.error)) c.as_str.ensures
+    (subst (λ (text : List ℕ). ParserReturns {A = List Line} (ReadsCard c.as_str.result.now text) (Err c.in-Err.error)) c.as_slice.ensures c.in-Err.ensures))
+    (subst (λ (book : List ℕ). IsFirstDenial old book c.in-Err.error (denied_reply c.first_denial.result)) c.as_str-in-Err.ensures (c.first_denial.ensures.denies premise))
+    (c.first_denial.ensures.reads_only premise)

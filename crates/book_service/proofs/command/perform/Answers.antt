@@ -2,14 +2,14 @@ use Rattle.std.proofs.Common.{sym, subst}
 use Rattle.book_service.specs.declared.event.Event.TheVariants.{Do}
 use Rattle.book_commands.specs.declared.reply.Reply.{Reply}
 use Rattle.book_commands.specs.declared.reply.Reply.TheVariants as reply
-use Rattle.book_service.specs.Faults.{IfFaultReply, MayComeOf}
+use Rattle.book_service.specs.Faults.{IfFaultReply, CommandFault}
 use Rattle.book_service.specs.Replies.{denied_reply}
-use Rattle.book_service.specs.Runs.{LeadsTo}
+use Rattle.book_service.specs.Runs.{StepsTo}
 use Rattle.book_model.specs.declared.denied.Fault.{Fault as FaultKind}
 use Rattle.book_service.proofs.EventLemmas.{command_happens}
 use Rattle.book_service.proofs.command.perform.Goals as goal
 
--- what is no fault's reply is no matter
+-- nothing to prove if the reply isn't a fault
 no_fault : (may : FaultKind → Type 0) (r : Reply) → IfFaultReply r (λ fault. ⊥) → IfFaultReply r may
 no_fault may (reply.Fault fault) none = absurd none
 no_fault may (reply.Refused refusal) none = tt
@@ -27,14 +27,14 @@ no_fault may (reply.Csv text) none = tt
 no_fault may (reply.People expansion) none = tt
 
 pub returns-in-Ok-clause-fault : goal.returns-in-Ok-clause-fault
-returns-in-Ok-clause-fault g c = no_fault (MayComeOf g.S.BookStore.may_fault c.args.command.now) c.in-Ok.reply c.in-Ok.ensures.told
+returns-in-Ok-clause-fault g c = no_fault (CommandFault g.S.BookStore.may_fault c.args.command.now) c.in-Ok.reply c.in-Ok.ensures.no_fault
 
 pub returns-in-Ok-clause-step : goal.returns-in-Ok-clause-step
 returns-in-Ok-clause-step g c = λ premise now at.
-    command_happens (g.S.BookStore.limits c.args.store.now) (g.S.BookStore.books c.args.store.now) (g.S.BookStore.books c.outcome_of.new.store) c.in-Ok.reply now at c.args.command.now (c.in-Ok.ensures.does premise)
+    command_happens (g.S.BookStore.limits c.args.store.now) (g.S.BookStore.books c.args.store.now) (g.S.BookStore.books c.perform_call.new.store) c.in-Ok.reply now at c.args.command.now (c.in-Ok.ensures.step premise)
 
 pub returns-in-Err-clause-step : goal.returns-in-Err-clause-step
 returns-in-Err-clause-step g c = λ premise now at.
-    let new = g.S.BookStore.books c.outcome_of.new.store in
-    subst (λ (r : Reply). LeadsTo now (Do c.args.command.now) r new now.devices) (sym c.denied_reply.ensures)
-    (command_happens (g.S.BookStore.limits c.args.store.now) (g.S.BookStore.books c.args.store.now) new (denied_reply c.in-Err.error) now at c.args.command.now (c.in-Err.ensures.does premise))
+    let new = g.S.BookStore.books c.perform_call.new.store in
+    subst (λ (r : Reply). StepsTo now (Do c.args.command.now) r new now.devices) (sym c.denied_reply.ensures)
+    (command_happens (g.S.BookStore.limits c.args.store.now) (g.S.BookStore.books c.args.store.now) new (denied_reply c.in-Err.error) now at c.args.command.now (c.in-Err.ensures.step premise))

@@ -1,16 +1,16 @@
 use Rattle.std.proofs.Common.{◌≡◌, ◌≤◌, length, take, vec_capacity}
-use Rattle.book_service.specs.Faults.{FaultsMayCome}
-use Rattle.book_service.specs.Runs.{Moment, IsAt, RanTo}
+use Rattle.book_service.specs.Faults.{AllowedFaults}
+use Rattle.book_service.specs.Runs.{SystemState, MatchesRows, RanTo}
 use Rattle.book_service.proofs.event.drive.Given as goal
 
 abbrev pub invariant-loop-event : goal.invariant-loop-event
 invariant-loop-event g l = record {
   room : length l.events ≤ vec_capacity l.replies;
-  told : length l.replies.items ≡ l.event-index;
+  received : length l.replies.items ≡ l.event-index;
   count : length l.devices.items ≡ length l.fn.devices.items;
   limits : g.S.BookStore.limits l.store ≡ g.S.BookStore.limits l.fn.store;
   premise : g.S.BookStore.premise l.store → g.S.BookStore.premise l.fn.store;
-  faults : FaultsMayCome g.S.BookStore.may_fault (take l.event-index l.events) l.replies.items;
-  ran : g.S.BookStore.premise l.store → (now : Moment) → IsAt now (g.S.BookStore.limits l.fn.store) (g.S.BookStore.books l.fn.store) → now.devices ≡ l.fn.devices.items →
+  faults : AllowedFaults g.S.BookStore.may_fault (take l.event-index l.events) l.replies.items;
+  ran : g.S.BookStore.premise l.store → (now : SystemState) → MatchesRows now (g.S.BookStore.limits l.fn.store) (g.S.BookStore.books l.fn.store) → now.devices ≡ l.fn.devices.items →
       RanTo now (take l.event-index l.events) l.replies.items (g.S.BookStore.books l.store) l.devices.items;
 }

@@ -1,45 +1,45 @@
 use Rattle.std.proofs.Common.{◌≡◌, ℕ, List, Result, Ok, Err, BTreeMap, String, Global, sym, ap, ◌∙◌, subst}
 use Rattle.std.proofs.lemmas.Result.{err_from_is_err_and}
-use Rattle.base_types.specs.TextMaps.{texts}
+use Rattle.base_types.specs.TextMaps.{octet_map}
 use Rattle.book_model.specs.declared.answers.Stored.{Stored}
 use Rattle.book_model.specs.declared.denied.Denied.{Denied}
 use Rattle.book_model.specs.declared.denied.Fault.TheVariants.{Memory}
 use Rattle.book_model.specs.Books.{LiveCards}
-use Rattle.book_model.specs.Outcomes.{Reads}
-use Rattle.book_model.specs.Reading.{cards_step}
+use Rattle.book_model.specs.CallOutcomes.{MatchesQuery}
+use Rattle.book_model.specs.BookQueries.{cards_step}
 use Rattle.book_commands.specs.declared.command.Command.TheVariants.{Export}
 use Rattle.book_commands.specs.declared.reply.Reply.TheVariants as reply
-use Rattle.book_service.specs.OnRows.{DoesCommand}
+use Rattle.book_service.specs.internal.RowSteps.{CommandOnRows}
 use Rattle.book_service.specs.Replies.{reply_to}
 use Rattle.book_service.proofs.WholeBookLemmas.{other_answer, exports, fails, cards_keep}
 use Rattle.book_service.proofs.whole_books.export.Goals as goal
 
-pub returns-in_err-stored-clause-does : goal.returns-in_err-stored-clause-does
-returns-in_err-stored-clause-does g c = λ premise.
+pub returns-in_err-stored-clause-step : goal.returns-in_err-stored-clause-step
+returns-in_err-stored-clause-step g c = λ premise.
     let limits = g.S.BookStore.limits c.args.store.now in
     let old = g.S.BookStore.books c.args.store.now in
     let new = g.S.BookStore.books c.cards.new.self in
     let p = err_from_is_err_and c.from_residual.result c.from_residual.ensures.1 in
-    subst (λ (o : Result (List ℕ) Denied). DoesCommand limits old (Export c.args.book.now c.args.form) (reply_to (λ (text : List ℕ). reply.Csv text) o) new) (sym (p.1 ∙ ap (λ (d : Denied). Err d) p.2))
-    (exports limits old new c.cards_follow_histories.ensures.all c.args.book.now c.args.form (Err c.in_err-stored.field-0.0)
-    (other_answer {A = BTreeMap (String Global) Stored} {B = LiveCards} (λ told cards. texts cards ≡ told) (λ told cards. cards ≡ told) c.in_err-stored.field-0.0 (cards_step old c.args.book.now) old new
-    (subst (λ (book : List ℕ). Reads {A = BTreeMap (String Global) Stored} (λ told cards. texts cards ≡ told) (Err c.in_err-stored.field-0.0) (cards_step old book) old new) c.as_str.ensures (c.in_err-stored.ensures.does premise))))
+    subst (λ (o : Result (List ℕ) Denied). CommandOnRows limits old (Export c.args.book.now c.args.form) (reply_to (λ (text : List ℕ). reply.Csv text) o) new) (sym (p.1 ∙ ap (λ (d : Denied). Err d) p.2))
+    (exports limits old new c.cards_refine_histories.ensures.all c.args.book.now c.args.form (Err c.in_err-stored.field-0.0)
+    (other_answer {A = BTreeMap (String Global) Stored} {B = LiveCards} (λ received cards. octet_map cards ≡ received) (λ received cards. cards ≡ received) c.in_err-stored.field-0.0 (cards_step old c.args.book.now) old new
+    (subst (λ (book : List ℕ). MatchesQuery {A = BTreeMap (String Global) Stored} (λ received cards. octet_map cards ≡ received) (Err c.in_err-stored.field-0.0) (cards_step old book) old new) c.as_str.ensures (c.in_err-stored.ensures.step premise))))
 
-pub returns-in_err-text-clause-does : goal.returns-in_err-text-clause-does
-returns-in_err-text-clause-does g c = λ premise.
+pub returns-in_err-text-clause-step : goal.returns-in_err-text-clause-step
+returns-in_err-text-clause-step g c = λ premise.
     let limits = g.S.BookStore.limits c.args.store.now in
     let old = g.S.BookStore.books c.args.store.now in
     let new = g.S.BookStore.books c.cards.new.self in
     let p = err_from_is_err_and c.from_residual-in_err-text.result c.from_residual-in_err-text.ensures.1 in
-    subst (λ (o : Result (List ℕ) Denied). DoesCommand limits old (Export c.args.book.now c.args.form) (reply_to (λ (text : List ℕ). reply.Csv text) o) new) (sym (p.1 ∙ ap (λ (d : Denied). Err d) p.2))
+    subst (λ (o : Result (List ℕ) Denied). CommandOnRows limits old (Export c.args.book.now c.args.form) (reply_to (λ (text : List ℕ). reply.Csv text) o) new) (sym (p.1 ∙ ap (λ (d : Denied). Err d) p.2))
     (fails limits old new (Export c.args.book.now c.args.form) Memory
-    (cards_keep limits old new (λ told cards. texts cards ≡ told) (Ok c.in_ok-stored.stored) c.as_str.result.now (c.in_ok-stored.ensures.does premise)))
+    (cards_keep limits old new (λ received cards. octet_map cards ≡ received) (Ok c.in_ok-stored.stored) c.as_str.result.now (c.in_ok-stored.ensures.step premise)))
 
-pub returns-clause-does : goal.returns-clause-does
-returns-clause-does g c = λ premise.
+pub returns-clause-step : goal.returns-clause-step
+returns-clause-step g c = λ premise.
     let limits = g.S.BookStore.limits c.args.store.now in
     let old = g.S.BookStore.books c.args.store.now in
     let new = g.S.BookStore.books c.cards.new.self in
-    subst (λ (text : List ℕ). DoesCommand limits old (Export c.args.book.now c.args.form) (reply.Csv text) new) (sym (c.from_vec.ensures ∙ c.in_ok-text.ensures.text))
-    (exports limits old new c.cards_follow_histories.ensures.all c.args.book.now c.args.form (Ok (texts c.in_ok-stored.stored))
-    (subst (λ (book : List ℕ). Reads {A = BTreeMap (String Global) Stored} (λ told cards. texts cards ≡ told) (Ok c.in_ok-stored.stored) (cards_step old book) old new) c.as_str.ensures (c.in_ok-stored.ensures.does premise)))
+    subst (λ (text : List ℕ). CommandOnRows limits old (Export c.args.book.now c.args.form) (reply.Csv text) new) (sym (c.from_vec.ensures ∙ c.in_ok-text.ensures.text))
+    (exports limits old new c.cards_refine_histories.ensures.all c.args.book.now c.args.form (Ok (octet_map c.in_ok-stored.stored))
+    (subst (λ (book : List ℕ). MatchesQuery {A = BTreeMap (String Global) Stored} (λ received cards. octet_map cards ≡ received) (Ok c.in_ok-stored.stored) (cards_step old book) old new) c.as_str.ensures (c.in_ok-stored.ensures.step premise)))

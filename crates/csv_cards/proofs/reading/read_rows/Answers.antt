@@ -21,7 +21,7 @@ returns-in_err-form-clause-every c =
 
 pub returns-clause-every : goal.returns-clause-every
 returns-clause-every c =
-    let behind = c.in_ok-form.ensures.form c.args.text.now c.reader_of-reader.ensures in
-    answers_cards (λ read. read.items) c.args.text.now (c.cards_of_rows_are_one.ensures c.args.text.now) (c.first_fault_without_cards.ensures.not_both c.args.text.now) c.read_cards.result
-    (c.read_cards.ensures.cards c.args.text.now behind)
-    (err_map c.read_cards.result (λ fault is n. inr (is n)) (c.read_cards.ensures.fault c.args.text.now behind))
+    let has_read = c.in_ok-form.ensures.form c.args.text.now c.reader_of-reader.ensures in
+    answers_cards (λ read. read.items) c.args.text.now (c.cards_of_rows_are_unique.ensures c.args.text.now) (c.first_fault_without_cards.ensures.not_both c.args.text.now) c.read_cards.result
+    (c.read_cards.ensures.cards c.args.text.now has_read)
+    (err_map c.read_cards.result (λ fault is n. inr (is n)) (c.read_cards.ensures.fault c.args.text.now has_read))

@@ -1,6 +1,6 @@
 use Rattle.std.proofs.Common.{◌≡◌, ◌∙◌, ◌≤◌, sym, subst, arith, length, Some, None, IsUtf8}
 use Rattle.http_requests.proofs.EndLemmas.{none_after_end}
-use Rattle.http_requests.proofs.HeadLemmas.{stands, fault_is, length_is, close_is, head_is, token_text}
+use Rattle.http_requests.proofs.HeadLemmas.{starts_with_head, fault_is, length_is, close_is, head_is, token_text}
 use Rattle.http_requests.proofs.head.read_head.Goals as goal
 
 pub returns-in-Err-length_or_fault : goal.returns-in-Err-length_or_fault
@@ -10,7 +10,7 @@ returns-in-Err-length_or_fault c =
     let room : length c.parse_request.new.headers ≡ 64 = c.parse_request.auto.headers in
     let few : c.in-Ok-Complete.parts.headers ≤ 64 = omega (arith, within.section.count_fits, room) in (
       of.0,
-      stands c.args.text.now c.parse_request.new.headers c.in-Ok-Complete.parts of.0 c.requires.ends c.requires.short few of.1,
+      starts_with_head c.args.text.now c.parse_request.new.headers c.in-Ok-Complete.parts of.0 c.requires.ends c.requires.short few of.1,
       fault_is c.args.text.now c.parse_request.new.headers c.in-Ok-Complete.parts of.0 (Some c.in-Err-length_or_fault.fault) of.1 c.in-Err-length_or_fault.ensures,
     )
 
@@ -26,7 +26,7 @@ returns-in_ok-target-in-Ok c =
     let target_text : IsUtf8 c.of-in-Ok.result.now = subst IsUtf8 (sym target_is) of.1.reads.0.target_text in
     let size = length_is c.args.text.now c.parse_request.new.headers c.in-Ok-Complete.parts of.0 c.in-Ok.length of.1 c.in-Ok.ensures.1 in (
       of.0,
-      stands c.args.text.now c.parse_request.new.headers c.in-Ok-Complete.parts of.0 c.requires.ends c.requires.short few of.1,
+      starts_with_head c.args.text.now c.parse_request.new.headers c.in-Ok-Complete.parts of.0 c.requires.ends c.requires.short few of.1,
       fault_is c.args.text.now c.parse_request.new.headers c.in-Ok-Complete.parts of.0 None of.1 c.in-Ok.ensures.0,
       head_is _ of.0
           (c.new.ensures ∙ c.in_ok-method-in-Ok.ensures.ok method_text ∙ method_is) (c.new-in-Ok.ensures ∙ c.in_ok-target-in-Ok.ensures.ok target_text ∙ target_is)

@@ -2,7 +2,7 @@ use Rattle.std.proofs.Common.{◌≡◌, map, take}
 use Rattle.std.specs.List.{AllByRecursion}
 use Rattle.serde_json.specs.View.{view}
 use Rattle.page_json.specs.PageValues.{member_value}
-use Rattle.page_json.specs.Reportable.{SpellsItsCard, member_texts}
+use Rattle.page_json.specs.WrittenPages.{SpellsItsCard, member_texts}
 use Rattle.page_json.proofs.writing.member_values.Given as goal
 
 -- the values so far are those of the entries so far

@@ -1,7 +1,7 @@
 use Rattle.std.proofs.Common.{rules, ◌≡◌, [], ◌∷◌, fold, chars, ap, sym, subst, ◌∙◌}
 use Rattle.std.proofs.lemmas.List.Sums.{fold-append}
 use Rattle.std.proofs.lemmas.Str.{Chars-Drains, encodes-chars}
-use Rattle.vcard_lines.specs.FoldingLoop.{IsCount, fold_char}
+use Rattle.vcard_lines.specs.internal.FoldingLoop.{IsCount, fold_char}
 use Rattle.vcard_lines.proofs.folded_count.count_chars.Goals as goal
 
 pub loop-c-preserved : goal.loop-c-preserved

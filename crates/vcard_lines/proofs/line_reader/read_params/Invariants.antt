@@ -1,14 +1,14 @@
 use Rattle.std.proofs.Common.{◌≡◌, length, IsUtf8}
-use Rattle.vcard_lines.specs.Steps.{many}
-use Rattle.vcard_lines.specs.LineReading.{param_at, params_at}
-use Rattle.vcard_lines.proofs.Readers.{behind_items}
+use Rattle.vcard_lines.specs.ParseSteps.{parse_many}
+use Rattle.vcard_lines.specs.Parsing.{parse_param, parse_params}
+use Rattle.vcard_lines.proofs.Readers.{after_items}
 use Rattle.vcard_lines.proofs.line_reader.read_params.Given as goal
 
 -- the params so far, and those of what is left, are all of the text
 abbrev pub invariant-loop-more : goal.invariant-loop-more
 invariant-loop-more l = record {
   utf8 : IsUtf8 l.rest;
-  whole : behind_items l.params (many 59 param_at (length l.rest) l.rest) ≡ params_at l.text;
+  whole : after_items l.params (parse_many 59 parse_param (length l.rest) l.rest) ≡ parse_params l.text;
 }
 
 abbrev pub decreases-loop-more : goal.decreases-loop-more

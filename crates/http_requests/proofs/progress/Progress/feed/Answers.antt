@@ -1,12 +1,12 @@
 use Rattle.std.proofs.Common.{◌∙◌, sym, length}
 use Rattle.std.proofs.lemmas.Bool.{eqb-true}
-use Rattle.http_requests.specs.Progress.{IsOpen}
+use Rattle.http_requests.specs.internal.Progress.{IsOpen}
 use Rattle.http_requests.proofs.StepLemmas.{on_err_from}
 use Rattle.http_requests.proofs.FeedLemmas.{so_far_start, so_far_cut, takes_nothing, takes_stop, takes_all, loses_part, closed_holds, empty_rest}
 use Rattle.http_requests.proofs.progress.Progress.feed.Goals as goal
 
-pub returns-then-is_closed-clause-takes : goal.returns-then-is_closed-clause-takes
-returns-then-is_closed-clause-takes g c =
+pub returns-then-is_closed-clause-fed : goal.returns-then-is_closed-clause-fed
+returns-then-is_closed-clause-fed g c =
     takes_nothing g.H.Handler.does g.H.Handler.fault_reply c.args.self.now.held.items c.args.piece.now c.args.self.now.stage c.args.handler.now c.new-out.result.items
     (c.is_closed.ensures.0 c.if-is_closed.true) c.new-out.ensures.items
 
@@ -23,25 +23,25 @@ loop-rest-init g c =
 pub returns-in_err-used-clause-holds : goal.returns-in_err-used-clause-holds
 returns-in_err-used-clause-holds g c = closed_holds c.advance.new.self.held.items c.advance.new.self.stage c.in_err-used.ensures.err_closed
 
-pub returns-in_err-used-clause-loses : goal.returns-in_err-used-clause-loses
-returns-in_err-used-clause-loses g c = on_err_from c.from_residual.result
+pub returns-in_err-used-clause-fed_in_part : goal.returns-in_err-used-clause-fed_in_part
+returns-in_err-used-clause-fed_in_part g c = on_err_from c.from_residual.result
     (loses_part g.H.Handler.does g.H.Handler.fault_reply c.args.self.now.held.items c.args.piece.now c.args.self.now.stage c.args.handler.now c.loop-rest.out.items c.loop-rest.handler c.loop-rest.self.held.items c.loop-rest.rest.now c.advance.new.handler
     c.loop-rest.invariant.was_open c.loop-rest.invariant.far c.in_err-used.ensures.err)
 
-pub returns-then-not-goes_on-clause-holds : goal.returns-then-not-goes_on-clause-holds
-returns-then-not-goes_on-clause-holds g c =
-    let step = rw c.if-not-goes_on.true at c.in_ok-used.ensures.ok in
+pub returns-then-not-stays_open-clause-holds : goal.returns-then-not-stays_open-clause-holds
+returns-then-not-stays_open-clause-holds g c =
+    let step = rw c.if-not-stays_open.true at c.in_ok-used.ensures.ok in
     closed_holds c.advance.new.self.held.items c.advance.new.self.stage step.is_closed
 
-pub returns-then-not-goes_on-clause-takes : goal.returns-then-not-goes_on-clause-takes
-returns-then-not-goes_on-clause-takes g c =
-    let step = rw c.if-not-goes_on.true at c.in_ok-used.ensures.ok in
+pub returns-then-not-stays_open-clause-fed : goal.returns-then-not-stays_open-clause-fed
+returns-then-not-stays_open-clause-fed g c =
+    let step = rw c.if-not-stays_open.true at c.in_ok-used.ensures.ok in
     takes_stop g.H.Handler.does g.H.Handler.fault_reply c.args.self.now.held.items c.args.piece.now c.args.self.now.stage c.args.handler.now c.loop-rest.out.items c.loop-rest.handler c.loop-rest.self.held.items c.loop-rest.rest.now c.in_ok-used.used
     c.advance.new.out.items c.advance.new.handler c.advance.new.self c.loop-rest.invariant.was_open c.loop-rest.invariant.far step
 
 pub loop-rest-preserved : goal.loop-rest-preserved
 loop-rest-preserved g c =
-    let step = rw c.if-not-goes_on.false at c.in_ok-used.ensures.ok in
+    let step = rw c.if-not-stays_open.false at c.in_ok-used.ensures.ok in
     record {
       holds = step.holds;
       is_open = step.is_open;
@@ -53,8 +53,8 @@ loop-rest-preserved g c =
 pub returns-clause-holds : goal.returns-clause-holds
 returns-clause-holds g c = c.loop-rest.invariant.holds
 
-pub returns-clause-takes : goal.returns-clause-takes
-returns-clause-takes g c =
+pub returns-clause-fed : goal.returns-clause-fed
+returns-clause-fed g c =
     takes_all g.H.Handler.does g.H.Handler.fault_reply c.args.self.now.held.items c.args.piece.now c.args.self.now.stage c.args.handler.now c.loop-rest.out.items c.loop-rest.handler c.loop-rest.self c.loop-rest.rest.now c.loop-rest.invariant.was_open
     c.loop-rest.invariant.holds c.loop-rest.invariant.is_open c.loop-rest.invariant.far
     (empty_rest c.loop-rest.rest.now (eqb-true (length c.loop-rest.rest.now) 0 (sym c.is_empty.ensures ∙ c.loop-rest-test.false)))

@@ -1,6 +1,0 @@
-use Rattle.book_adding.proofs.CreateLemmas.{books_counted}
-use Rattle.book_adding.proofs.creating.books_in.Goals as goal
-
-pub returns-in-Ok-clause-counted : goal.returns-in-Ok-clause-counted
-returns-in-Ok-clause-counted g c rows clean holds sound =
-    books_counted rows c.in-Ok.row c.count_in.result sound (c.in-Ok.ensures.counts rows.books clean holds.schema holds.books) c.count_in.ensures.count

@@ -1,4 +1,0 @@
-pub mod CheckedRows
-pub mod ReadRows
-pub mod StoredRows
-pub mod Opening

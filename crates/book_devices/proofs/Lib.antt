@@ -1,2 +1,0 @@
-pub mod TokenTextLemmas
-pub mod OneTokenLemmas

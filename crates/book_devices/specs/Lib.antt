@@ -1,4 +1,0 @@
-pub mod TokenTexts
-pub mod TokenTextLaws
-pub mod HoldingCodes
-pub mod HoldingTests

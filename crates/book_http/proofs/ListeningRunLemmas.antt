@@ -1,0 +1,153 @@
+-- Connections in turn are one run of the service.
+use Rattle.std.proofs.Common.{◌≡◌, ◌∙◌, ℕ, Bool, false, List, [], ◌∷◌, ◌++◌, Option, Some, None, refl, sym, ap, subst, inl, inr, ◌⊎◌}
+use Rattle.std.proofs.lemmas.List.{append-nil}
+use Rattle.std.specs.Io.KnownBytes.{Appends, Consumes}
+use Rattle.book_http.specs.declared.serve_fault.ServeFault.{ServeFault}
+use Rattle.book_http.specs.declared.service.Service.{Service}
+use Rattle.book_http.specs.OctetPromise.{ServiceStep, StartsAt}
+use Rattle.book_http.specs.OctetRuns.{RunsRequests}
+use Rattle.book_http.specs.ServedConnections.{AbortsConnection, ServesToEnd}
+use Rattle.book_http.proofs.ConnectionLemmas.{handles_read, part_of_fed}
+use Rattle.book_http.proofs.OctetRunLemmas.{all_limits, all_premise, requests_run}
+use Rattle.book_model.specs.Bounds.{Bounds}
+use Rattle.book_model.specs.Books.{Books}
+use Rattle.book_model.specs.declared.denied.Fault.{Fault as FaultKind}
+use Rattle.book_http.specs.Listening.{ServesConnection, ServesInTurn, ServesOne, ServedConnection}
+use Rattle.book_http.specs.ListeningRuns.{ConnectionsAreOneRun, RepliesToAll, RunsInTurn, RunsOverAll, RunsOneConnection}
+use Rattle.book_service.specs.Runs.{TraceStep, MatchesRows, SystemState, Run, end_of}
+use Rattle.book_service.proofs.StepLemmas.{end-append, run_limits, runs_join}
+use Rattle.http_replies.specs.Replies.{head_fault_octets}
+use Rattle.http_requests.specs.SessionFeeding.{FeedsSession, HandlesSomePrefix, RefusesHead}
+
+module _ {S Connection : Type 0} (books : S → Books) (limits : S → Bounds) (premise : S → Type 0) (may_fault : FaultKind → Type 0)
+    (remaining contents : Connection → Option (List ℕ)) where
+  -- ---- the premise
+
+  part_premise : (octets : List ℕ) (old new : Service S) → HandlesSomePrefix (ServiceStep books limits premise may_fault) head_fault_octets octets old new → premise new.store → premise old.store
+  part_premise octets old new part holds = all_premise books limits premise may_fault part.runs.requests old new part.replies part.runs.handles holds
+
+  ended_premise : (end : Option ServeFault) (before connection_after : Connection) (old new : Service S) → ServesConnection (ServiceStep books limits premise may_fault) head_fault_octets remaining contents end before connection_after old new
+      → premise new.store → premise old.store
+  ended_premise None before connection_after old new all holds =
+      part_premise all.serves.octets old new (part_of_fed (ServiceStep books limits premise may_fault) head_fault_octets all.serves.octets all.serves.replies old new all.session all.serves.fed) holds
+  ended_premise (Some fault) before connection_after old new broke holds =
+      let h = handles_read (ServiceStep books limits premise may_fault) head_fault_octets fault (remaining before) (remaining connection_after) (contents before) (contents connection_after) old new broke in
+      part_premise h.octets old new h.part holds
+
+  turns_premise : (turns : List (ServedConnection Connection)) (old new : Service S) → ServesInTurn (ServiceStep books limits premise may_fault) head_fault_octets remaining contents old turns new → premise new.store → premise old.store
+  unfolding ServesInTurn
+  turns_premise [] old new same holds = subst (λ (s : Service S). premise s.store) (sym same) holds
+  turns_premise (turn ∷ turns) old new (middle, one, others) holds =
+      ended_premise turn.end turn.connection one.connection_after old middle one.ended (turns_premise turns middle new others holds)
+
+  -- ---- one connection
+
+  -- the store is where its run ended
+  at_end : (now end : SystemState) (old new : Service S) → MatchesRows now (limits old.store) (books old.store) → limits new.store ≡ limits old.store → MatchesRows end now.model.limits (books new.store) → MatchesRows end (limits new.store) (books new.store)
+  at_end now end old new at same ended = record { limits_are = ended.limits_are ∙ at.limits_are ∙ sym same; histories = ended.histories }
+
+  -- what happened by a connection
+  pub record TurnHappens (now : SystemState) (connection : Connection) (end : Option ServeFault) (new : S) : Type 0 where
+    pub own : List TraceStep
+    pub runs : Run now own
+    pub turn : RunsOneConnection books limits premise may_fault remaining contents connection end own
+    pub at : MatchesRows (end_of now own) (limits new) (books new)
+    pub devices_are : (end_of now own).devices ≡ now.devices
+
+  -- it was served to its end
+  fed_happens : (session : Option (List ℕ)) (now : SystemState) (before connection_after : Connection) (old new : Service S) (octets replies : List ℕ) → StartsAt books limits premise may_fault now old new
+      → Consumes (remaining before) (remaining connection_after) octets → FeedsSession (ServiceStep books limits premise may_fault) head_fault_octets octets old replies new session → Appends (contents before) (contents connection_after) replies
+      → TurnHappens now before None new.store
+  fed_happens (Some rest) now before connection_after old new octets replies starts read fed sent =
+      let a = fed.0 in
+      let ran = requests_run books limits premise may_fault now old new a.requests replies starts a.handles in
+      record {
+        own = ran.run;
+        runs = ran.runs;
+        turn = record {
+          connection_after = connection_after;
+          octets = octets;
+          read = read;
+          requests = a.requests;
+          replies = replies;
+          ended = false;
+          rest = rest;
+          first = a.requests_are.0;
+          are_replies = ran.are_replies;
+          all_replied = λ _. record { requests_are = a.requests_are; last = []; sent = subst (Appends (contents before) (contents connection_after)) (sym (append-nil replies)) sent; last_is = inl refl };
+        };
+        at = at_end now (end_of now ran.run) old new starts.at (all_limits books limits premise may_fault a.requests old new replies a.handles) ran.at;
+        devices_are = ran.devices_are;
+      }
+  fed_happens None now before connection_after old new octets replies starts read stop sent =
+      let a = stop.answered in
+      let ran = requests_run books limits premise may_fault now old new a.requests stop.answers starts a.handles in
+      record {
+        own = ran.run;
+        runs = ran.runs;
+        turn = record {
+          connection_after = connection_after;
+          octets = octets;
+          read = read;
+          requests = a.requests;
+          replies = stop.answers;
+          ended = stop.ended;
+          rest = stop.rest;
+          first = a.requests_are.0;
+          are_replies = ran.are_replies;
+          all_replied = λ _. record { requests_are = a.requests_are; last = stop.last; sent = subst (Appends (contents before) (contents connection_after)) stop.replies_are sent; last_is = last_of stop.why };
+        };
+        at = at_end now (end_of now ran.run) old new starts.at (all_limits books limits premise may_fault a.requests old new stop.answers a.handles) ran.at;
+        devices_are = ran.devices_are;
+      }
+    where
+      last_of : {A B C D : Type 0} → (A × B) ⊎ (C × D) → B ⊎ D
+      last_of (inl why) = inl why.1
+      last_of (inr why) = inr why.1
+
+  end_happens : (end : Option ServeFault) (now : SystemState) (before connection_after : Connection) (old new : Service S) → StartsAt books limits premise may_fault now old new
+      → ServesConnection (ServiceStep books limits premise may_fault) head_fault_octets remaining contents end before connection_after old new → TurnHappens now before end new.store
+  end_happens None now before connection_after old new starts all =
+      let s = all.serves in
+      fed_happens all.session now before connection_after old new s.octets s.replies starts s.read s.fed s.sent
+  end_happens (Some fault) now before connection_after old new starts broke =
+      let h = handles_read (ServiceStep books limits premise may_fault) head_fault_octets fault (remaining before) (remaining connection_after) (contents before) (contents connection_after) old new broke in
+      let p = h.part in
+      let ran = requests_run books limits premise may_fault now old new p.runs.requests p.replies starts p.runs.handles in
+      record {
+        own = ran.run;
+        runs = ran.runs;
+        turn = record {
+          connection_after = connection_after;
+          octets = h.octets;
+          read = h.read;
+          requests = p.runs.requests;
+          replies = p.replies;
+          ended = p.ended;
+          rest = p.rest;
+          first = p.runs.leads;
+          are_replies = ran.are_replies;
+          all_replied = λ (none : Some fault ≡ None). absurd (let no : Some fault ≡ None = none in cc);
+        };
+        at = at_end now (end_of now ran.run) old new starts.at (all_limits books limits premise may_fault p.runs.requests old new p.replies p.runs.handles) ran.at;
+        devices_are = ran.devices_are;
+      }
+
+  -- ---- connections in turn
+
+  pub connections_are_one_run : ConnectionsAreOneRun books limits premise may_fault remaining contents
+  unfolding ServesInTurn RunsInTurn
+  connections_are_one_run now old new [] starts same = record {
+    run = [];
+    runs = tt;
+    in_turn = (refl, record { limits_are = refl; histories = (subst (λ (s : Service S). MatchesRows now (limits s.store) (books s.store)) same (record { limits_are = starts.at.limits_are; histories = starts.at.histories })).histories });
+  }
+  connections_are_one_run now old new (turn ∷ turns) starts (middle, one, others) =
+      let held = turns_premise turns middle new others starts.premise_holds in
+      let h = end_happens turn.end now turn.connection one.connection_after old middle (record { at = starts.at; premise_holds = held }) one.ended in
+      let more = connections_are_one_run (end_of now h.own) middle new turns (record { at = h.at; premise_holds = starts.premise_holds }) others in
+      record {
+        run = h.own ++ more.run;
+        runs = runs_join now h.own more.run h.runs more.runs;
+        in_turn = (h.own, more.run, refl, h.turn, h.devices_are, more.in_turn);
+      }

@@ -1,0 +1,12 @@
+//! The error of serving a listener.
+
+use crate::ServeFault;
+
+/// Why not all connections were served to their ends. Changes that were acknowledged remain.
+#[derive(Clone, Copy, Debug, PartialEq, Eq)]
+pub enum ListenFault {
+    /// The fault of the first connection that was aborted. All others were served.
+    Serve(ServeFault),
+    /// Waiting for a connection failed. No further connection was served.
+    Device,
+}

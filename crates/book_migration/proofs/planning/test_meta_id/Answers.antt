@@ -1,9 +1,0 @@
-use Rattle.std.proofs.Common.{sym, ◌∙◌}
-use Rattle.sqlite.specs.Held.{state}
-use Rattle.book_migration.proofs.PlanLemmas.{has_id}
-use Rattle.book_migration.proofs.planning.test_meta_id.Goals as goal
-
-pub returns-then-has_one_id-clause-numbered : goal.returns-then-has_one_id-clause-numbered
-returns-then-has_one_id-clause-numbered g c clean has first =
-    let it = c.has_one_id.ensures c.if-has_one_id.true in
-    has_id (state g.S.Store c.args.conn.now).now c.in-Ok.rows.items it.0 first (c.in-Ok.ensures.lists clean has) (sym c.as_slice.ensures.value ∙ it.1) it.2

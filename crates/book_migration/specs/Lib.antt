@@ -1,4 +1,0 @@
-pub mod FirstRows
-pub mod Migration
-pub mod Planning
-pub mod Writing

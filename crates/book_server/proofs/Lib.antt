@@ -1,2 +1,0 @@
-pub mod ListeningLemmas
-mod ListeningRunLemmas

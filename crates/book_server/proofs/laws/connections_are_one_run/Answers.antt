@@ -1,5 +1,0 @@
-use Rattle.book_server.proofs.ListeningRunLemmas.{connections_are_one_run}
-use Rattle.book_server.proofs.laws.connections_are_one_run.Goals as goal
-
-pub returns : goal.returns
-returns g c = connections_are_one_run g.S.BookStore.books g.S.BookStore.limits g.S.BookStore.premise g.S.BookStore.may_fault g.C.Connection.remaining g.C.Connection.contents

@@ -1,9 +1,0 @@
-pub mod Tables
-pub mod States
-pub mod Answers
-pub mod Members
-pub mod Books
-pub mod Imports
-pub mod Keeps
-pub mod Meta
-pub mod Laying

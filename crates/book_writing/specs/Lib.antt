@@ -1,3 +1,0 @@
-pub mod StoredBooks
-pub mod Changing
-pub mod Planning

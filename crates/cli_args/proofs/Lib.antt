@@ -1,0 +1,3 @@
+pub mod SubcommandLemmas
+pub mod ValueLemmas
+pub mod MatchLemmas

@@ -1,0 +1,35 @@
+use Rattle.std.proofs.Common.{refl}
+use Rattle.clap.proofs.OnLiterals.{clap_on_literals}
+use Rattle.cli_args.proofs.laws.worked_lines_are_orders.Goals as goal
+
+pub returns-clause-orders : goal.returns-clause-orders
+unfolding clap_on_literals
+returns-clause-orders c = (refl, refl, refl, refl, refl, refl, refl, refl)
+
+pub returns-clause-defaults : goal.returns-clause-defaults
+unfolding clap_on_literals
+returns-clause-defaults c = (refl, refl, refl)
+
+pub returns-clause-ports : goal.returns-clause-ports
+unfolding clap_on_literals
+returns-clause-ports c = (refl, refl, refl)
+
+pub returns-clause-connections : goal.returns-clause-connections
+unfolding clap_on_literals
+returns-clause-connections c = (refl, refl, refl)
+
+pub returns-clause-forms : goal.returns-clause-forms
+unfolding clap_on_literals
+returns-clause-forms c = (refl, refl)
+
+pub returns-clause-numbers : goal.returns-clause-numbers
+unfolding clap_on_literals
+returns-clause-numbers c = (refl, refl)
+
+pub returns-clause-pages : goal.returns-clause-pages
+unfolding clap_on_literals
+returns-clause-pages c = (refl, refl, refl, refl)
+
+pub returns-clause-faults : goal.returns-clause-faults
+unfolding clap_on_literals
+returns-clause-faults c = (refl, refl, refl, refl, refl)

@@ -1,0 +1,3 @@
+pub mod Subcommands
+pub mod ParsedOrders
+pub mod WorkedLines

@@ -1,0 +1,142 @@
+-- The order that a command line gives: the value of its matches, by `clap`'s definitions. This
+-- project's own.
+use Rattle.std.specs.Prelude.{ℕ, ◌≡◌, ◌≢◌, ◌-◌, ◌^◌, ⊤, List, [], Option, Some, None, Result, Ok}
+use Rattle.std.specs.Prelude.{Err, codes, option_map, option_and_then, if◌then◌else◌}
+use Rattle.std.specs.Str.{bytes_eq}
+use Rattle.std.specs.Str.Parse.{digits_value, without_leading_plus}
+use Rattle.clap.specs.Walk.{Row, Text, first_of, is_empty, one_of}
+use Rattle.clap.specs.Simple.{subcommand_of}
+use Rattle.clap.specs.Faults.{fault_of}
+use Rattle.clap.specs.ValueTests.{is_unsigned_in}
+use Rattle.clap.specs.declared.error.kind.ErrorKind.{ErrorKind}
+use Rattle.clap.specs.declared.error.kind.ErrorKind.TheVariants.{OutOfMemory}
+use Rattle.csv_cards.specs.declared.form.Form.{Form}
+use Rattle.csv_cards.specs.declared.form.Form.TheVariants.{Cards, Columns}
+use Rattle.cli_args.specs.Subcommands.{contacts_command}
+use Rattle.cli_args.specs.declared.fault.LineFault.{LineFault}
+use Rattle.cli_args.specs.declared.fault.LineFault.TheVariants.{Bad, Memory}
+use Rattle.cli_args.specs.declared.order.Order.{Order}
+use Rattle.cli_args.specs.declared.order.Order.TheVariants.{Try, Init, Book, Serve, Import, Export}
+use Rattle.cli_args.specs.declared.order.Order.TheVariants.{Tally, Forget, Mirror, Expand, Migrate}
+
+-- ---- the values of arguments and options
+
+-- the decimal number of the text, if it is at most `most`
+abbrev pub number_upto : ℕ → Text → Option ℕ
+number_upto most text = if is_unsigned_in 0 most text
+    then Some (digits_value 10 (without_leading_plus text)) else None
+
+abbrev pub form_of : Text → Option Form
+form_of text = if bytes_eq text (codes "cards") then Some Cards
+    else (if bytes_eq text (codes "columns") then Some Columns else None)
+
+abbrev pub text_arg : Text → List Row → Option Text
+text_arg id rows = first_of id rows
+
+abbrev pub u64_arg : Text → List Row → Option ℕ
+u64_arg id rows = option_and_then (number_upto (2 ^ 64 - 1)) (one_of id rows)
+
+abbrev pub port_arg : List Row → Option ℕ
+port_arg rows = option_and_then (number_upto (2 ^ 16 - 1)) (one_of (codes "P") rows)
+
+abbrev pub form_arg : List Row → Option Form
+form_arg rows = option_and_then form_of (first_of (codes "F") rows)
+
+-- ---- the orders
+
+abbrev pub with_file : (Text → Option Order) → List Row → Option Order
+with_file order rows = option_and_then order (text_arg (codes "FILE") rows)
+
+abbrev pub with_book : (Text → Text → Option Order) → List Row → Option Order
+with_book order rows =
+    with_file (λ file. option_and_then (order file) (text_arg (codes "BOOK") rows)) rows
+
+abbrev pub init_order : List Row → Option Order
+init_order = with_file (λ file. Some (Init file))
+
+abbrev pub book_order : List Row → Option Order
+book_order = with_book (λ file book. Some (Book file book))
+
+abbrev pub serve_order : List Row → Option Order
+serve_order rows = with_file (λ file. option_and_then (λ port. option_map (Serve file port)
+    (u64_arg (codes "N") rows)) (port_arg rows)) rows
+
+abbrev pub import_order : List Row → Option Order
+import_order rows = with_book (λ file book. option_and_then (λ key.
+    option_map (Import file book key) (text_arg (codes "CSV") rows))
+    (text_arg (codes "KEY") rows)) rows
+
+abbrev pub export_order : List Row → Option Order
+export_order rows = with_book (λ file book. option_map (Export file book) (form_arg rows)) rows
+
+abbrev pub tally_order : List Row → Option Order
+tally_order = with_book (λ file book. Some (Tally file book))
+
+abbrev pub forget_order : List Row → Option Order
+forget_order rows = with_book (λ file book.
+    option_map (Forget file book) (u64_arg (codes "UPTO") rows)) rows
+
+abbrev pub mirror_order : List Row → Option Order
+mirror_order rows = with_book (λ file book. option_and_then (λ limit.
+    option_map (Mirror file book limit) (u64_arg (codes "P") rows))
+    (u64_arg (codes "L") rows)) rows
+
+abbrev pub expand_order : List Row → Option Order
+expand_order rows = with_book (λ file book.
+    option_map (Expand file book) (text_arg (codes "UID") rows)) rows
+
+abbrev pub migrate_order : List Row → Option Order
+migrate_order = with_file (λ file. Some (Migrate file))
+
+-- the order of this name and these matches, if it is one that only reads a book
+abbrev pub query_order_of : Text → List Row → Option Order
+query_order_of name rows =
+    if bytes_eq name (codes "export") then export_order rows
+    else (if bytes_eq name (codes "tally") then tally_order rows
+    else (if bytes_eq name (codes "mirror") then mirror_order rows
+    else (if bytes_eq name (codes "expand") then expand_order rows
+    else None)))
+
+-- the order of this name and these matches, if it creates, changes or reads a book
+abbrev pub book_order_of : Text → List Row → Option Order
+book_order_of name rows =
+    if bytes_eq name (codes "book") then book_order rows
+    else (if bytes_eq name (codes "import") then import_order rows
+    else (if bytes_eq name (codes "forget") then forget_order rows
+    else query_order_of name rows))
+
+-- the order of this name and these matches
+abbrev pub order_of : Text → List Row → Option Order
+order_of name rows =
+    if bytes_eq name (codes "try") then Some Try
+    else (if bytes_eq name (codes "init") then init_order rows
+    else (if bytes_eq name (codes "serve") then serve_order rows
+    else (if bytes_eq name (codes "migrate") then migrate_order rows
+    else book_order_of name rows)))
+
+-- without a name it is `Try`
+abbrev pub matched_order : Option (Text × List Row) → Option Order
+matched_order None = Some Try
+matched_order (Some named) = order_of named.0 named.1
+
+-- the order of a command line: that of its matches, if `clap` finds no fault with it
+abbrev pub order_from : List Text → Option Order
+order_from words =
+    if is_empty (fault_of contacts_command words)
+    then matched_order (subcommand_of contacts_command words) else None
+
+-- the result is the expected value, unless an allocation failed
+abbrev pub ParsesTo : {A : Type 0} → Option A → Result A LineFault → Type 0
+ParsesTo expected (Ok value) = expected ≡ Some value
+ParsesTo expected (Err (Bad text)) = expected ≡ None
+ParsesTo expected (Err Memory) = ⊤
+
+-- `clap` finds no fault with the arguments, and these are their matches
+abbrev pub IsMatched : List Text → Option (Text × List Row) → Type 0
+IsMatched words named = (fault_of contacts_command words ≡ [])
+    × (named ≡ subcommand_of contacts_command words)
+
+-- the fault for an error of `clap`; it is `Bad` only if the error isn't out of memory
+abbrev pub IsFaultOfKind : ErrorKind → LineFault → Type 0
+IsFaultOfKind kind (Bad text) = kind ≢ OutOfMemory
+IsFaultOfKind kind Memory = ⊤

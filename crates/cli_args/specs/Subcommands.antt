@@ -1,0 +1,115 @@
+-- The command line, by `clap`'s definitions. This project's own.
+use Rattle.std.specs.Prelude.{ℕ, ◌≡◌, ⊤, true, false, List, [], ◌∷◌, Some, codes}
+use Rattle.clap.specs.Walk.{Rule, Text, rule_of}
+use Rattle.clap.specs.Simple.{App, Shape, app_of, new_rule, new_shape}
+use Rattle.clap.specs.declared.builder.arg.Arg.{Arg}
+use Rattle.clap.specs.declared.builder.command.Command.{Command}
+use Rattle.clap.specs.declared.builder.command.Command.TheViews.{out-Command as fields_of}
+use Rattle.clap.specs.declared.builder.value_parser.ValueParser.TheVariants.{Unsigned}
+
+-- ---- arguments and options
+
+-- a required argument
+abbrev pub argument : Text → Rule
+argument id = record (new_rule id) { required = true }
+
+-- a required number from `least` to `most`
+abbrev pub number_arg : Text → ℕ → ℕ → Rule
+number_arg id least most = record (argument id) { parser = Some (Unsigned least most) }
+
+-- an option with one value, and its default
+abbrev pub option_arg : Text → Text → Text → Rule
+option_arg id name default = record (new_rule id) { long = Some name; defaults = default ∷ [] }
+
+-- an option whose value is a number from `least` to `most`, and its default
+abbrev pub number_option : Text → Text → ℕ → ℕ → Text → Rule
+number_option id name least most default =
+    record (option_arg id name default) { parser = Some (Unsigned least most) }
+
+abbrev pub file_arg : Rule
+file_arg = argument (codes "FILE")
+
+abbrev pub book_arg : Rule
+book_arg = argument (codes "BOOK")
+
+abbrev pub most_number : ℕ
+most_number = 999999999999999
+
+-- ---- the orders
+
+abbrev pub order_command : Text → List Rule → Shape
+order_command name rules = record (new_shape name) { rules = rules }
+
+abbrev pub try_command : Shape
+try_command = order_command (codes "try") []
+
+abbrev pub init_command : Shape
+init_command = order_command (codes "init") (file_arg ∷ [])
+
+abbrev pub book_command : Shape
+book_command = order_command (codes "book") (file_arg ∷ book_arg ∷ [])
+
+abbrev pub serve_command : Shape
+serve_command = order_command (codes "serve")
+    (file_arg ∷ number_option (codes "P") (codes "port") 0 65535 (codes "0")
+    ∷ number_option (codes "N") (codes "connections") 1 1000000 (codes "1") ∷ [])
+
+abbrev pub import_command : Shape
+import_command =
+    order_command (codes "import")
+    (file_arg ∷ book_arg ∷ argument (codes "KEY") ∷ argument (codes "CSV") ∷ [])
+
+abbrev pub export_command : Shape
+export_command = order_command (codes "export")
+    (file_arg ∷ book_arg ∷ option_arg (codes "F") (codes "form") (codes "cards") ∷ [])
+
+abbrev pub tally_command : Shape
+tally_command = order_command (codes "tally") (file_arg ∷ book_arg ∷ [])
+
+abbrev pub forget_command : Shape
+forget_command = order_command (codes "forget")
+    (file_arg ∷ book_arg ∷ number_arg (codes "UPTO") 0 most_number ∷ [])
+
+abbrev pub mirror_command : Shape
+mirror_command = order_command (codes "mirror")
+    (file_arg ∷ book_arg ∷ number_option (codes "L") (codes "limit") 0 most_number (codes "100")
+    ∷ number_option (codes "P") (codes "pages") 1 1000000 (codes "1000") ∷ [])
+
+abbrev pub expand_command : Shape
+expand_command = order_command (codes "expand") (file_arg ∷ book_arg ∷ argument (codes "UID") ∷ [])
+
+abbrev pub migrate_command : Shape
+migrate_command = order_command (codes "migrate") (file_arg ∷ [])
+
+-- all orders, in the sequence of the help text
+abbrev pub order_commands : List Shape
+order_commands = try_command ∷ init_command ∷ book_command ∷ serve_command ∷ import_command
+    ∷ export_command ∷ tally_command
+    ∷ forget_command ∷ mirror_command ∷ expand_command ∷ migrate_command ∷ []
+
+-- the whole command line after the program's name
+abbrev pub contacts_command : App
+contacts_command = record {
+  top = record (new_shape (codes "contacts")) { is_leaf = false; no_binary_name = true };
+  subs = order_commands;
+}
+
+-- ---- the `clap` values that the code builds
+
+abbrev pub IsArgument : Rule → Arg → Type 0
+IsArgument rule arg = (rule_of arg ≡ rule) × (arg.global ≡ false)
+
+abbrev pub AreArguments : List Rule → List Arg → Type 0
+AreArguments [] [] = ⊤
+AreArguments (rule ∷ rules) (arg ∷ args) = IsArgument rule arg × AreArguments rules args
+AreArguments _ _ = ⊥
+
+abbrev pub IsOrderCommand : Shape → Command → Type 0
+IsOrderCommand line command = (app_of command ≡ record { top = line; subs = [] })
+    × ((fields_of command).has_globals ≡ false)
+
+abbrev pub AreOrderCommands : List Shape → List Command → Type 0
+AreOrderCommands [] [] = ⊤
+AreOrderCommands (line ∷ lines) (command ∷ commands) =
+    IsOrderCommand line command × AreOrderCommands lines commands
+AreOrderCommands _ _ = ⊥

@@ -1,0 +1,81 @@
+-- Worked examples: the orders of some command lines.
+use Rattle.std.specs.Prelude.{◌≡◌, List, [], ◌∷◌, Some, None, codes}
+use Rattle.csv_cards.specs.declared.form.Form.TheVariants.{Cards, Columns}
+use Rattle.clap.specs.Walk.{Text}
+use Rattle.cli_args.specs.ParsedOrders.{order_from}
+use Rattle.cli_args.specs.declared.order.Order.TheVariants as order
+
+abbrev pub db : Text
+db = codes "a.db"
+
+abbrev pub staff : Text
+staff = codes "staff"
+
+-- an order's name, the file, and more arguments
+abbrev pub over_file : Text → List Text → List Text
+over_file name more = name ∷ db ∷ more
+
+-- an order's name, the file, the book, and more arguments
+abbrev pub over_book : Text → List Text → List Text
+over_book name more = over_file name (staff ∷ more)
+
+abbrev pub WorkedOrders : Type 0
+WorkedOrders =
+    (order_from [] ≡ Some order.Try)
+    × (order_from (codes "try" ∷ []) ≡ Some order.Try)
+    × (order_from (over_file (codes "init") []) ≡ Some (order.Init db))
+    × (order_from (over_book (codes "book") []) ≡ Some (order.Book db staff))
+    × (order_from (over_book (codes "import") (codes "k" ∷ codes "a.csv" ∷ []))
+    ≡ Some (order.Import db staff (codes "k") (codes "a.csv")))
+    × (order_from (over_book (codes "tally") []) ≡ Some (order.Tally db staff))
+    × (order_from (over_book (codes "expand") (codes "a" ∷ []))
+    ≡ Some (order.Expand db staff (codes "a")))
+    × (order_from (over_file (codes "migrate") []) ≡ Some (order.Migrate db))
+
+abbrev pub WorkedDefaults : Type 0
+WorkedDefaults =
+    (order_from (over_file (codes "serve") []) ≡ Some (order.Serve db 0 1))
+    × (order_from (over_book (codes "export") []) ≡ Some (order.Export db staff Cards))
+    × (order_from (over_book (codes "mirror") []) ≡ Some (order.Mirror db staff 100 1000))
+
+abbrev pub WorkedPorts : Type 0
+WorkedPorts =
+    (order_from (over_file (codes "serve") (codes "--port=8" ∷ [])) ≡ Some (order.Serve db 8 1))
+    × (order_from (over_file (codes "serve") (codes "--port" ∷ codes "65535" ∷ []))
+    ≡ Some (order.Serve db 65535 1))
+    × (order_from (over_file (codes "serve") (codes "--port" ∷ codes "65536" ∷ [])) ≡ None)
+
+abbrev pub WorkedConnections : Type 0
+WorkedConnections =
+    (order_from (over_file (codes "serve") (codes "--connections=1000000" ∷ []))
+    ≡ Some (order.Serve db 0 1000000))
+    × (order_from (over_file (codes "serve") (codes "--connections=1000001" ∷ [])) ≡ None)
+    × (order_from (over_file (codes "serve") (codes "--connections=0" ∷ [])) ≡ None)
+
+abbrev pub WorkedForms : Type 0
+WorkedForms =
+    (order_from (over_book (codes "export") (codes "--form=columns" ∷ []))
+    ≡ Some (order.Export db staff Columns))
+    × (order_from (over_book (codes "export") (codes "--form=rows" ∷ [])) ≡ None)
+
+abbrev pub WorkedNumbers : Type 0
+WorkedNumbers =
+    (order_from (over_book (codes "forget") (codes "999999999999999" ∷ []))
+    ≡ Some (order.Forget db staff 999999999999999))
+    × (order_from (over_book (codes "forget") (codes "1000000000000000" ∷ [])) ≡ None)
+
+abbrev pub WorkedPages : Type 0
+WorkedPages =
+    (order_from (over_book (codes "mirror") (codes "--limit=0" ∷ codes "--pages=1000000" ∷ []))
+    ≡ Some (order.Mirror db staff 0 1000000))
+    × (order_from (over_book (codes "mirror") (codes "--pages=1000001" ∷ [])) ≡ None)
+    × (order_from (over_book (codes "mirror") (codes "--pages=0" ∷ [])) ≡ None)
+    × (order_from (over_book (codes "mirror") (codes "--limit=1000000000000000" ∷ [])) ≡ None)
+
+abbrev pub WorkedFaults : Type 0
+WorkedFaults =
+    (order_from (over_file (codes "tally") []) ≡ None)
+    × (order_from (over_book (codes "tally") (codes "more" ∷ [])) ≡ None)
+    × (order_from (codes "more" ∷ []) ≡ None)
+    × (order_from (codes "help" ∷ []) ≡ None)
+    × (order_from (codes "--help" ∷ []) ≡ None)

@@ -1,0 +1,75 @@
+//! Builders of the arguments and options of an order, with their help.
+ghost use Rattle.cli_args.specs.Subcommands as lines;
+ghost use Rattle.cli_args.specs.Subcommands.{IsArgument};
+
+use clap::Arg;
+use clap::builder::ValueParser;
+use std::alloc::Global;
+
+/// A required argument.
+pub(crate) fn argument<'a>(alloc: Global, id: &'a str, help: &'a str) -> Arg<'a>
+    ensures { IsArgument (lines.argument id.entry.now) result }
+{
+    Arg::new(alloc, id).help(help).required(true)
+}
+
+/// A required number.
+pub(crate) fn number_arg<'a>(
+    alloc: Global,
+    id: &'a str,
+    least: u64,
+    most: u64,
+    help: &'a str,
+) -> Arg<'a>
+    ensures { IsArgument (lines.number_arg id.entry.now least most) result }
+{
+    argument(alloc, id, help).value_parser(ValueParser::Unsigned(least, most))
+}
+
+/// An option with one value.
+pub(crate) fn option_arg<'a>(
+    alloc: Global,
+    id: &'a str,
+    name: &'a str,
+    default: &'a str,
+    help: &'a str,
+) -> Arg<'a>
+    ensures { IsArgument (lines.option_arg id.entry.now name.entry.now default.entry.now) result }
+{
+    Arg::new(alloc, id)
+        .long(name)
+        .default_value(default)
+        .help(help)
+}
+
+/// An option whose value is a number from `least` to `most`.
+pub(crate) fn number_option<'a>(
+    alloc: Global,
+    id: &'a str,
+    name: &'a str,
+    least: u64,
+    most: u64,
+    default: &'a str,
+    help: &'a str,
+) -> Arg<'a>
+    ensures { IsArgument
+        (lines.number_option id.entry.now name.entry.now least most default.entry.now) result }
+{
+    option_arg(alloc, id, name, default, help).value_parser(ValueParser::Unsigned(least, most))
+}
+
+pub(crate) fn file_arg<'a>(alloc: Global) -> Arg<'a>
+    ensures { IsArgument lines.file_arg result }
+{
+    argument(alloc, "FILE", "Path of the store file")
+}
+
+pub(crate) fn book_arg<'a>(alloc: Global) -> Arg<'a>
+    ensures { IsArgument lines.book_arg result }
+{
+    argument(
+        alloc,
+        "BOOK",
+        "Name of the book, 1 to 40 characters of a-z, 0-9 and -",
+    )
+}

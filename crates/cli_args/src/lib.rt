@@ -1,0 +1,15 @@
+//! Parses the program's command line into an `Order`.
+#![tactic(auto)]
+
+mod arguments;
+mod fault;
+pub mod laws;
+mod matched_orders;
+mod order;
+mod parsing;
+mod subcommands;
+mod values;
+
+pub use fault::LineFault;
+pub use order::Order;
+pub use parsing::read_order;

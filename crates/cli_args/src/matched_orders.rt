@@ -1,0 +1,170 @@
+//! From `clap`'s matches to an `Order`.
+ghost use Rattle.clap.specs.Words.{found_of, rows_of, subcommand_rows_of};
+ghost use Rattle.cli_args.specs.ParsedOrders as parsed;
+ghost use Rattle.cli_args.specs.ParsedOrders.{ParsesTo};
+
+use crate::fault::LineFault;
+use crate::order::Order;
+use crate::values::{form_arg, port_arg, refuse, text_arg, u64_arg};
+use clap::ArgMatches;
+use std::alloc::Global;
+
+fn init_order(alloc: Global, matches: &ArgMatches<'_>) -> Result<Order, LineFault>
+    ensures { ParsesTo (parsed.init_order (rows_of (found_of matches.now))) result }
+{
+    let file = text_arg(alloc, matches, "FILE")?;
+    Ok(Order::Init { file })
+}
+
+fn book_order(alloc: Global, matches: &ArgMatches<'_>) -> Result<Order, LineFault>
+    ensures { ParsesTo (parsed.book_order (rows_of (found_of matches.now))) result }
+{
+    let file = text_arg(alloc, matches, "FILE")?;
+    let book = text_arg(alloc, matches, "BOOK")?;
+    Ok(Order::Book { file, book })
+}
+
+fn serve_order(alloc: Global, matches: &ArgMatches<'_>) -> Result<Order, LineFault>
+    ensures { ParsesTo (parsed.serve_order (rows_of (found_of matches.now))) result }
+{
+    let file = text_arg(alloc, matches, "FILE")?;
+    let port = port_arg(alloc, matches)?;
+    let connections = u64_arg(alloc, matches, "N")?;
+    Ok(Order::Serve {
+        file,
+        port,
+        connections,
+    })
+}
+
+fn import_order(alloc: Global, matches: &ArgMatches<'_>) -> Result<Order, LineFault>
+    ensures { ParsesTo (parsed.import_order (rows_of (found_of matches.now))) result }
+{
+    let file = text_arg(alloc, matches, "FILE")?;
+    let book = text_arg(alloc, matches, "BOOK")?;
+    let key = text_arg(alloc, matches, "KEY")?;
+    let csv = text_arg(alloc, matches, "CSV")?;
+    Ok(Order::Import {
+        file,
+        book,
+        key,
+        csv,
+    })
+}
+
+fn export_order(alloc: Global, matches: &ArgMatches<'_>) -> Result<Order, LineFault>
+    ensures { ParsesTo (parsed.export_order (rows_of (found_of matches.now))) result }
+{
+    let file = text_arg(alloc, matches, "FILE")?;
+    let book = text_arg(alloc, matches, "BOOK")?;
+    let form = form_arg(alloc, matches)?;
+    Ok(Order::Export { file, book, form })
+}
+
+fn tally_order(alloc: Global, matches: &ArgMatches<'_>) -> Result<Order, LineFault>
+    ensures { ParsesTo (parsed.tally_order (rows_of (found_of matches.now))) result }
+{
+    let file = text_arg(alloc, matches, "FILE")?;
+    let book = text_arg(alloc, matches, "BOOK")?;
+    Ok(Order::Tally { file, book })
+}
+
+fn forget_order(alloc: Global, matches: &ArgMatches<'_>) -> Result<Order, LineFault>
+    ensures { ParsesTo (parsed.forget_order (rows_of (found_of matches.now))) result }
+{
+    let file = text_arg(alloc, matches, "FILE")?;
+    let book = text_arg(alloc, matches, "BOOK")?;
+    let upto = u64_arg(alloc, matches, "UPTO")?;
+    Ok(Order::Forget { file, book, upto })
+}
+
+fn mirror_order(alloc: Global, matches: &ArgMatches<'_>) -> Result<Order, LineFault>
+    ensures { ParsesTo (parsed.mirror_order (rows_of (found_of matches.now))) result }
+{
+    let file = text_arg(alloc, matches, "FILE")?;
+    let book = text_arg(alloc, matches, "BOOK")?;
+    let limit = u64_arg(alloc, matches, "L")?;
+    let pages = u64_arg(alloc, matches, "P")?;
+    Ok(Order::Mirror {
+        file,
+        book,
+        limit,
+        pages,
+    })
+}
+
+fn expand_order(alloc: Global, matches: &ArgMatches<'_>) -> Result<Order, LineFault>
+    ensures { ParsesTo (parsed.expand_order (rows_of (found_of matches.now))) result }
+{
+    let file = text_arg(alloc, matches, "FILE")?;
+    let book = text_arg(alloc, matches, "BOOK")?;
+    let uid = text_arg(alloc, matches, "UID")?;
+    Ok(Order::Expand { file, book, uid })
+}
+
+fn migrate_order(alloc: Global, matches: &ArgMatches<'_>) -> Result<Order, LineFault>
+    ensures { ParsesTo (parsed.migrate_order (rows_of (found_of matches.now))) result }
+{
+    let file = text_arg(alloc, matches, "FILE")?;
+    Ok(Order::Migrate { file })
+}
+
+/// The order with this name, if it is one that only reads a book.
+fn query_order_of(alloc: Global, name: &str, matches: &ArgMatches<'_>) -> Result<Order, LineFault>
+    ensures { ParsesTo (parsed.query_order_of name.now (rows_of (found_of matches.now))) result }
+{
+    if name == "export" {
+        export_order(alloc, matches)
+    } else if name == "tally" {
+        tally_order(alloc, matches)
+    } else if name == "mirror" {
+        mirror_order(alloc, matches)
+    } else if name == "expand" {
+        expand_order(alloc, matches)
+    } else {
+        refuse(alloc, "ORDER", name)
+    }
+}
+
+/// The order with this name, if it creates, changes or reads a book.
+fn book_order_of(alloc: Global, name: &str, matches: &ArgMatches<'_>) -> Result<Order, LineFault>
+    ensures { ParsesTo (parsed.book_order_of name.now (rows_of (found_of matches.now))) result }
+{
+    if name == "book" {
+        book_order(alloc, matches)
+    } else if name == "import" {
+        import_order(alloc, matches)
+    } else if name == "forget" {
+        forget_order(alloc, matches)
+    } else {
+        query_order_of(alloc, name, matches)
+    }
+}
+
+/// The order with this name. (The names are split over three functions because in one list the
+/// prover would carry all earlier names into each later case.)
+fn order_of(alloc: Global, name: &str, matches: &ArgMatches<'_>) -> Result<Order, LineFault>
+    ensures { ParsesTo (parsed.order_of name.now (rows_of (found_of matches.now))) result }
+{
+    if name == "try" {
+        Ok(Order::Try)
+    } else if name == "init" {
+        init_order(alloc, matches)
+    } else if name == "serve" {
+        serve_order(alloc, matches)
+    } else if name == "migrate" {
+        migrate_order(alloc, matches)
+    } else {
+        book_order_of(alloc, name, matches)
+    }
+}
+
+/// The matched order; without one it is `Try`.
+pub(crate) fn matched_order(alloc: Global, matches: &ArgMatches<'_>) -> Result<Order, LineFault>
+    ensures { ParsesTo (parsed.matched_order (subcommand_rows_of matches.now)) result }
+{
+    match matches.subcommand() {
+        Some((name, words)) => order_of(alloc, name, words),
+        None => Ok(Order::Try),
+    }
+}

@@ -1,0 +1,93 @@
+//! The orders of the program.
+
+use base_types::Text;
+use csv_cards::Form;
+
+/// An order of the command line, with its arguments.
+#[derive(Debug, Drop, PartialEq, Eq)]
+pub enum Order {
+    /// Put one card from standard input into an empty book, and print the initial report.
+    Try,
+    /// Create a store file without books.
+    Init {
+        /// The path of a new or empty file.
+        file: Text,
+    },
+    /// Create an empty book.
+    Book {
+        /// The path of a store file.
+        file: Text,
+        /// The new book's name.
+        book: Text,
+    },
+    /// Serve the books over HTTP.
+    Serve {
+        /// The path of a store file.
+        file: Text,
+        /// The port to listen on; 0 for any free port.
+        port: u16,
+        /// The number of connections to serve, 1 to 1,000,000.
+        connections: u64,
+    },
+    /// Import cards from a CSV file.
+    Import {
+        /// The path of a store file.
+        file: Text,
+        /// The name of the target book.
+        book: Text,
+        /// The import's key, which makes it idempotent.
+        key: Text,
+        /// The path of a CSV file.
+        csv: Text,
+    },
+    /// Print the book's cards as CSV.
+    Export {
+        /// The path of a store file.
+        file: Text,
+        /// The book's name.
+        book: Text,
+        /// The form of the rows.
+        form: Form,
+    },
+    /// Print the book's statistics.
+    Tally {
+        /// The path of a store file.
+        file: Text,
+        /// The book's name.
+        book: Text,
+    },
+    /// Drop tombstones and raise the horizon.
+    Forget {
+        /// The path of a store file.
+        file: Text,
+        /// The book's name.
+        book: Text,
+        /// The new horizon, at most 999,999,999,999,999.
+        upto: u64,
+    },
+    /// Copy the book to a new device and print the copy.
+    Mirror {
+        /// The path of a store file.
+        file: Text,
+        /// The book's name.
+        book: Text,
+        /// The maximum number of entries in a page, at most 999,999,999,999,999.
+        limit: u64,
+        /// The maximum number of pages, 1 to 1,000,000.
+        pages: u64,
+    },
+    /// List the people in a group and its nested groups.
+    Expand {
+        /// The path of a store file.
+        file: Text,
+        /// The book's name.
+        book: Text,
+        /// The group's UID.
+        uid: Text,
+    },
+    /// Migrate a store file from schema 1 to schema 2.
+    Migrate {
+        /// The path of a store file of schema 1.
+        file: Text,
+    },
+}

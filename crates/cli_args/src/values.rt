@@ -1,0 +1,85 @@
+//! The values of matched arguments and options.
+ghost use Rattle.std.specs.Prelude.{◌≡◌, None};
+ghost use Rattle.clap.specs.Words.{found_of, rows_of};
+ghost use Rattle.cli_args.specs.ParsedOrders as parsed;
+ghost use Rattle.cli_args.specs.ParsedOrders.{ParsesTo};
+
+use crate::fault::LineFault;
+use base_types::Text;
+use clap::ArgMatches;
+use csv_cards::Form;
+use std::alloc::{AllocError, Global};
+
+/// The message for an invalid value, in the form of `clap`'s own messages.
+fn value_text(alloc: Global, wanted: &str, value: &str) -> Result<Text, AllocError> {
+    Ok(Text::new(format!(in alloc;
+        "error: invalid value '{value}' for {wanted}\n\nFor more information, try '--help'.\n"
+    )?))
+}
+
+/// The fault for a value that `clap` accepts but that is invalid.
+pub(crate) fn refuse<T>(alloc: Global, wanted: &str, value: &str) -> Result<T, LineFault>
+    ensures { ParsesTo None result }
+{
+    let text = value_text(alloc, wanted, value)?;
+    Err(LineFault::Bad { text })
+}
+
+/// The text of an argument.
+pub(crate) fn text_arg(alloc: Global, matches: &ArgMatches<'_>, id: &str) -> Result<Text, LineFault>
+    ensures { ParsesTo (parsed.text_arg id.now (rows_of (found_of matches.now))) result }
+{
+    match matches.get_str(id) {
+        Some(text) => Ok(Text::copy_of(alloc, text)?),
+        None => refuse(alloc, id, ""),
+    }
+}
+
+/// The number of an argument or option.
+pub(crate) fn u64_arg(alloc: Global, matches: &ArgMatches<'_>, id: &str) -> Result<u64, LineFault>
+    ensures { ParsesTo (parsed.u64_arg id.now (rows_of (found_of matches.now))) result }
+{
+    match matches.get_one::<u64>(id) {
+        Some(number) => Ok(number),
+        None => refuse(alloc, id, ""),
+    }
+}
+
+/// The port to listen on.
+pub(crate) fn port_arg(alloc: Global, matches: &ArgMatches<'_>) -> Result<u16, LineFault>
+    ensures { ParsesTo (parsed.port_arg (rows_of (found_of matches.now))) result }
+{
+    match matches.get_one::<u16>("P") {
+        Some(port) => Ok(port),
+        None => refuse(alloc, "P", ""),
+    }
+}
+
+/// The name and the possible values of `--form`, for messages.
+const FORMS: &str = "'--form <F>'\n  [possible values: cards, columns]";
+
+/// The CSV form with this name.
+fn form_of(text: &str) -> Option<Form>
+    ensures { result ≡ parsed.form_of text.now }
+{
+    if text == "cards" {
+        Some(Form::Cards)
+    } else if text == "columns" {
+        Some(Form::Columns)
+    } else {
+        None
+    }
+}
+
+/// The CSV form to export.
+pub(crate) fn form_arg(alloc: Global, matches: &ArgMatches<'_>) -> Result<Form, LineFault>
+    ensures { ParsesTo (parsed.form_arg (rows_of (found_of matches.now))) result }
+{
+    let Some(text) = matches.get_str("F") else {
+        return refuse(alloc, FORMS, "");
+    };
+    match form_of(text) {
+        Some(form) => Ok(form),
+        None => refuse(alloc, FORMS, text),
+    }
+}

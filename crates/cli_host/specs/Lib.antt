@@ -1,0 +1,5 @@
+pub mod OrderCommands
+pub mod PrintedOutputs
+pub mod Hosts
+pub mod OrdersOnHost
+pub mod Exits

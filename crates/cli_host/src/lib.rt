@@ -1,0 +1,13 @@
+//! Runs the orders of the command line on the files and ports of a host.
+#![tactic(auto)]
+
+mod args;
+mod exit;
+mod host;
+mod order_command;
+mod running;
+
+pub use args::read_args;
+pub use exit::run;
+pub use host::Host;
+pub use running::{run_on_host, run_on_store, run_order};

@@ -1,0 +1,63 @@
+-- A command that was performed, and what is written of its reply.
+use Rattle.std.proofs.Common.{◌≡◌, ℕ, List, Option, Result, Ok, Err, OnOk, IfErr, inl, inr}
+use Rattle.std.specs.Io.KnownBytes.{Appends}
+use Rattle.book_http.specs.StoreCommands.{PerformsOnStore}
+use Rattle.book_model.specs.Bounds.{Bounds}
+use Rattle.book_model.specs.Books.{Books}
+use Rattle.book_model.specs.declared.denied.Fault.{Fault as FaultKind}
+use Rattle.book_commands.specs.declared.command.Command.{Command}
+use Rattle.book_commands.specs.declared.reply.Reply.{Reply}
+use Rattle.book_service.specs.declared.mirrored.Mirrored.{Mirrored}
+use Rattle.book_service.specs.Mirrors.{IsMirrorRun, HasExactPageCount}
+use Rattle.book_service.specs.Runs.{MatchesRows, SystemState}
+use Rattle.cli_orders.specs.OrderOutputs.{mirror_lines}
+use Rattle.cli_orders.specs.declared.stop.Stop.{Stop}
+use Rattle.cli_orders.specs.declared.stop.Stop.TheVariants.{Device}
+use Rattle.cli_orders.specs.CommandRuns.{PrintsCommand, PrintsMirror, StopsCommand}
+use Rattle.cli_orders.specs.Streams.{WritesPrefix}
+use Rattle.cli_orders.specs.ReplyTexts.{IsReplyStop, IsReplyText, KeepsOutput}
+use Rattle.cli_orders.proofs.StopLemmas.{kept_same, stop_leaves}
+
+module _ {S : Type 0} (books : S → Books) (limits : S → Bounds) (premise : S → Type 0) (may_fault : FaultKind → Type 0) where
+  abbrev Did : S → Command → Reply → S → Type 0
+  Did old command r new = PerformsOnStore books limits premise may_fault old command r new
+
+  abbrev Halts : S → Command → Stop → Option (List ℕ) → Option (List ℕ) → S → Type 0
+  Halts old command stop before after new = StopsCommand books limits premise may_fault old command stop before after new
+
+  -- its reply has no text
+  pub command_without_text : (old new : S) (command : Command) (r : Reply) (stop : Stop) (w : Option (List ℕ)) → Did old command r new → IsReplyStop r stop → Halts old command stop w w new
+  command_without_text old new command r stop w did s = record { reply = r; performed = did; stops = inl (s, kept_same w) }
+
+  -- its reply's text was written
+  pub command_printed : (result : Result (Unit {0}) Stop) (old new : S) (command : Command) (r : Reply) (before after : Option (List ℕ)) (text : List ℕ) → Did old command r new → IsReplyText r text
+      → OnOk result (Appends before after text) → OnOk result (PrintsCommand books limits premise may_fault old command before after new)
+  command_printed (Ok done) old new command r before after text did agrees written = record {
+    reply = r;
+    performed = did;
+    printed = record { text = text; agrees = agrees; written = written };
+  }
+  command_printed (Err stop) old new command r before after text did agrees written = tt
+
+  -- or the writer failed
+  pub command_cut_off : (result : Result (Unit {0}) Stop) (old new : S) (command : Command) (r : Reply) (before after : Option (List ℕ)) (text : List ℕ) → Did old command r new → IsReplyText r text
+      → WritesPrefix text before after → IfErr result (λ stop. stop ≡ Device) → IfErr result (λ stop. Halts old command stop before after new)
+  command_cut_off (Ok done) old new command r before after text did agrees front device = tt
+  command_cut_off (Err stop) old new command r before after text did agrees front device = record {
+    reply = r;
+    performed = did;
+    stops = inr (device, record { text = text; agrees = agrees; front = front });
+  }
+
+  pub command_leaves : (result : Result (Unit {0}) Stop) (old new : S) (command : Command) (before after : Option (List ℕ)) → IfErr result (λ stop. Halts old command stop before after new)
+      → IfErr result (λ stop. KeepsOutput stop before after)
+  command_leaves (Ok done) old new command before after s = tt
+  command_leaves (Err stop) old new command before after s = stop_leaves s.reply stop before after s.stops
+
+  -- a mirror's text was written
+  pub mirror_printed : (result : Result (Unit {0}) Stop) (old new : S) (book : List ℕ) (limit pages : ℕ) (before after : Option (List ℕ)) (mirrored : Mirrored)
+      → (premise new → (now : SystemState) → MatchesRows now (limits old) (books old) → IsMirrorRun now book limit pages mirrored)
+      → (premise new → (now : SystemState) → MatchesRows now (limits old) (books old) → HasExactPageCount now book limit pages mirrored) → (premise new → books new ≡ books old) → OnOk result (Appends before after (mirror_lines mirrored))
+      → OnOk result (PrintsMirror books limits premise may_fault old book limit pages before after new)
+  mirror_printed (Ok done) old new book limit pages before after mirrored mirrors few_pages kept written = record { mirrored = mirrored; mirrors = mirrors; few_pages = few_pages; kept = kept; written = written }
+  mirror_printed (Err stop) old new book limit pages before after mirrored mirrors few_pages kept written = tt

@@ -1,0 +1,8 @@
+pub mod PaddingLemmas
+pub mod OctetLemmas
+pub mod StopLemmas
+pub mod CommandLemmas
+pub mod ReplyLemmas
+pub mod FirstPathLemmas
+pub mod InputLemmas
+pub mod LongTextLemmas

@@ -1,0 +1,46 @@
+-- Serving connections after a line that announces the port. This project's own.
+use Rattle.std.specs.Prelude.{◌≡◌, ◌⊎◌, ℕ, List, [], ◌∷◌, ◌++◌, codes, decimal, Option, Result, Err}
+use Rattle.std.specs.Io.KnownBytes.{Appends, Keeps}
+use Rattle.base_types.specs.Octets.{line_feed}
+use Rattle.book_http.specs.declared.listen_fault.ListenFault.{ListenFault}
+use Rattle.book_http.specs.declared.listen_fault.ListenFault.TheVariants.{Serve as Aborted}
+use Rattle.book_http.specs.declared.listen_fault.ListenFault.TheVariants.{Device as ListenerFailed}
+use Rattle.book_http.specs.Listening.{ServesListener}
+use Rattle.http_requests.specs.HandlerRuns.{HandlerRelation, FaultReplies}
+use Rattle.cli_orders.specs.declared.stop.Stop.{Stop}
+use Rattle.cli_orders.specs.declared.stop.Stop.TheVariants.{Refused, Fault, Open, Serve, Device}
+use Rattle.cli_orders.specs.Stops.{out_of_memory}
+use Rattle.cli_orders.specs.Streams.{WritesPrefix}
+
+-- the line that announces the port
+abbrev pub listening_line : ℕ → List ℕ
+listening_line port = codes "listening 127.0.0.1:" ++ (decimal port ++ line_feed ∷ [])
+
+module _ {State Connection : Type 0} (does : HandlerRelation State) (fault_reply : FaultReplies)
+    (remaining contents : Connection → Option (List ℕ)) where
+  -- the whole line was written, and this is the result of serving the connections
+  pub record Announces
+      (port connections : ℕ) (coming : Option (List (Option Connection))) (old : State)
+      (before after : Option (List ℕ)) (end : Result (Unit {0}) ListenFault) (new : State)
+      : Type 0 where
+    pub written : Appends before after (listening_line port)
+    pub listens : ServesListener does fault_reply remaining contents connections coming old end new
+
+  -- the line wasn't written completely, and no connection was accepted
+  pub record FailsToAnnounce (port : ℕ) (old : State) (before after : Option (List ℕ)) (new : State)
+      : Type 0 where
+    pub front : WritesPrefix (listening_line port) before after
+    pub kept : new ≡ old
+
+  -- why not all connections were served to their ends
+  abbrev pub StopsServing : ℕ → ℕ → Option (List (Option Connection)) → State
+      → Option (List ℕ) → Option (List ℕ) → Stop → State → Type 0
+  StopsServing port connections coming old before after (Serve fault) new =
+      Announces port connections coming old before after (Err (Aborted fault)) new
+  StopsServing port connections coming old before after Device new =
+      Announces port connections coming old before after (Err ListenerFailed) new
+      ⊎ FailsToAnnounce port old before after new
+  StopsServing port connections coming old before after (Fault fault) new =
+      (Fault fault ≡ out_of_memory) × Keeps before after × (new ≡ old)
+  StopsServing port connections coming old before after (Refused refusal) new = ⊥
+  StopsServing port connections coming old before after (Open fault) new = ⊥

@@ -1,0 +1,12 @@
+pub mod OutputPadding
+pub mod OrderOutputs
+pub mod Stops
+pub mod Streams
+pub mod ReplyTexts
+pub mod CommandRuns
+pub mod OrderReplies
+pub mod Announcements
+pub mod Inputs
+pub mod TryStops
+pub mod TryResults
+pub mod TryOutputs

@@ -1,0 +1,32 @@
+//! Runs the orders of the command line over any store of books and any listener, and prints their
+//! output.
+#![tactic(auto)]
+
+mod commands;
+mod expansion_output;
+mod input;
+pub mod laws;
+mod mirror_output;
+mod one_line_outputs;
+mod reading;
+mod serving;
+mod stop;
+mod tally_output;
+mod try_order;
+mod try_output;
+mod try_result;
+mod writing;
+
+pub use commands::{run_command, run_mirror};
+pub use expansion_output::expand_text;
+pub use input::read_input;
+pub use mirror_output::mirror_text;
+pub use one_line_outputs::{book_text, forget_text, import_text, made_text, migrate_text};
+pub use reading::{read_at_most, read_rows_of};
+pub use serving::announce_and_serve;
+pub use stop::Stop;
+pub use tally_output::tally_text;
+pub use try_order::run_try;
+pub use try_output::try_octets;
+pub use try_result::{FirstPath, first_path};
+pub use writing::write_out;

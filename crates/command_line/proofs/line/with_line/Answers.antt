@@ -1,5 +1,0 @@
-use Rattle.command_line.proofs.LineLemmas.{one-more}
-use Rattle.command_line.proofs.line.with_line.Goals as goal
-
-pub returns : goal.returns
-returns c shapes shape are is = rw c.in_ok-push.ensures.items (one-more shapes shape c.args.lines.items c.in_ok-line.line are (rw c.in_ok-line.was at is))

@@ -1,0 +1,4 @@
+pub mod ReaderState
+pub mod LineEnds
+pub mod RowCauses
+pub mod WriterState

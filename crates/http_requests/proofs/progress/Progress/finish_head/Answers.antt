@@ -1,0 +1,49 @@
+use Rattle.std.proofs.Common.{sym, refl, [], arith, inl}
+use Rattle.std.proofs.lemmas.List.{append-nil}
+use Rattle.http_requests.specs.declared.head_fault.HeadFault.TheVariants.{BadHead}
+use Rattle.http_requests.proofs.RunLemmas.{run_none, part_none}
+use Rattle.http_requests.proofs.StepLemmas.{on_err_from, waiting, fault_stop, unreadable_stop}
+use Rattle.http_requests.proofs.progress.Progress.finish_head.Goals as goal
+
+pub returns-in_err-head-clause-err : goal.returns-in_err-head-clause-err
+returns-in_err-head-clause-err g c = on_err_from c.from_residual.result
+    (part_none g.H.Handler.does g.H.Handler.fault_reply c.args.self.now.held.items c.args.handler.now c.args.handler.now refl)
+
+pub returns-in_err-refuse-in-Faulty-clause-err : goal.returns-in_err-refuse-in-Faulty-clause-err
+returns-in_err-refuse-in-Faulty-clause-err g c = on_err_from c.from_residual-in_err-refuse-in-Faulty.result
+    (part_none g.H.Handler.does g.H.Handler.fault_reply c.args.self.now.held.items c.args.handler.now c.args.handler.now refl)
+
+pub returns-in_err-refuse-in-Unreadable-clause-err : goal.returns-in_err-refuse-in-Unreadable-clause-err
+returns-in_err-refuse-in-Unreadable-clause-err g c = on_err_from c.from_residual-in_err-refuse-in-Unreadable.result
+    (part_none g.H.Handler.does g.H.Handler.fault_reply c.args.self.now.held.items c.args.handler.now c.args.handler.now refl)
+
+pub returns-else-head-eq0-clause-ok : goal.returns-else-head-eq0-clause-ok
+returns-else-head-eq0-clause-ok g c =
+    let found = rw (c.deref.ensures.value, c.in-Good.is) at c.in_ok-head.ensures in
+    record {
+      holds = waiting c.args.self.now.held.items c.in-Good.head c.len-start.result _ found.0 found.1 found.2 found.3 found.4 (omega (arith, c.len-start.ensures, c.args.self.now.held.ok)) refl c.if-head-eq0.false;
+      is_open = λ h. h;
+      added = [];
+      out_is = sym (append-nil c.args.out.now.items);
+      runs = run_none g.H.Handler.does g.H.Handler.fault_reply c.args.self.now.held.items c.args.handler.now;
+    }
+
+pub returns-in_ok-refuse-in-Faulty-clause-ok : goal.returns-in_ok-refuse-in-Faulty-clause-ok
+returns-in_ok-refuse-in-Faulty-clause-ok g c =
+    let found = rw (c.deref.ensures.value, c.in-Faulty.is) at c.in_ok-head.ensures in
+    record {
+      is_closed = c.requires.closed;
+      added = g.H.Handler.fault_reply c.in-Faulty.fault;
+      out_is = c.in_ok-refuse-in-Faulty.ensures;
+      stopped = fault_stop g.H.Handler.does g.H.Handler.fault_reply c.args.self.now.held.items c.args.handler.now found.0 c.in-Faulty.fault found.1 found.2;
+    }
+
+pub returns-in_ok-refuse-in-Unreadable-clause-ok : goal.returns-in_ok-refuse-in-Unreadable-clause-ok
+returns-in_ok-refuse-in-Unreadable-clause-ok g c =
+    let found = rw (c.deref.ensures.value, c.in-Unreadable.is) at c.in_ok-head.ensures in
+    record {
+      is_closed = c.requires.closed;
+      added = g.H.Handler.fault_reply BadHead;
+      out_is = c.in_ok-refuse-in-Unreadable.ensures;
+      stopped = unreadable_stop g.H.Handler.does g.H.Handler.fault_reply c.args.self.now.held.items c.args.handler.now (inl c.requires.ends.ended) found;
+    }

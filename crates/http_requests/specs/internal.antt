@@ -1,0 +1,2 @@
+pub mod HeadScans
+pub mod Progress

@@ -1,0 +1,94 @@
+-- What a session holds of the request at the front, and what one step does with more octets.
+use Rattle.std.specs.Prelude.{◌≡◌, ◌≢◌, ◌<◌, ◌≤◌, ◌+◌, ℕ, Bool, true, false, List, ◌++◌, length}
+use Rattle.std.specs.Prelude.{Option, Some, None, ⊤}
+use Rattle.httparse.specs.Grammar.{RequestHead, print_request}
+use Rattle.http_requests.specs.Fields.{fault_of_head, longest_body}
+use Rattle.http_requests.specs.ParsedHeads.{head_of}
+use Rattle.http_requests.specs.SessionFeeding.{ClosesSession}
+use Rattle.http_requests.specs.HandlerRuns.{HandlerRelation, FaultReplies, HandlesPrefix}
+use Rattle.http_requests.specs.HeadEnds.{head_state_after}
+use Rattle.http_requests.specs.Requests.{StartsWithHead, longest_head}
+use Rattle.http_requests.specs.declared.head.Head.{Head}
+use Rattle.http_requests.specs.declared.head_state.HeadState.{HeadState}
+use Rattle.http_requests.specs.declared.head_state.HeadState.TheVariants.{Blank, Ended}
+use Rattle.http_requests.specs.declared.progress.Progress.{Progress}
+use Rattle.http_requests.specs.declared.progress.Stage.{Stage}
+use Rattle.http_requests.specs.declared.progress.Stage.TheVariants as stage
+
+-- ---- what is held
+
+-- the start of a head, which hasn't ended
+pub record IsPartialHead (held : List ℕ) (state : HeadState) : Type 0 where
+  pub state_is : state ≡ head_state_after Blank held
+  pub not_ended : state ≢ Ended
+  pub short : length held < longest_head
+
+-- the octets are a good head, which ends at `start`, and the octets after it
+pub record HoldsHead (held : List ℕ) (head : Head) (start : ℕ) (body : List ℕ) : Type 0 where
+  pub whole_head : RequestHead
+  pub begins : StartsWithHead held whole_head body
+  pub good : fault_of_head whole_head ≡ None
+  pub head_is : head ≡ head_of whole_head
+  pub start_is : start ≡ length (print_request whole_head)
+
+-- the octets are a good head and an incomplete body
+pub record IsPartialBody (held : List ℕ) (head : Head) (start end : ℕ) : Type 0 where
+  pub body : List ℕ
+  pub has_head : HoldsHead held head start body
+  pub end_is : end ≡ start + head.length
+  pub small : head.length ≤ longest_body
+  pub not_whole : length held < end
+
+-- the octets are one complete request without a fault
+pub record IsCompleteRequest (held : List ℕ) (head : Head) (start : ℕ) : Type 0 where
+  pub body : List ℕ
+  pub has_head : HoldsHead held head start body
+  pub all : length body ≡ head.length
+
+abbrev pub MatchesStage : List ℕ → Stage → Type 0
+MatchesStage held (stage.Head state) = IsPartialHead held state
+MatchesStage held (stage.Body head start end) = IsPartialBody held head start end
+MatchesStage held stage.Closed = ⊤
+
+abbrev pub IsClosed : Stage → Type 0
+IsClosed (stage.Head state) = ⊥
+IsClosed (stage.Body head start end) = ⊥
+IsClosed stage.Closed = ⊤
+
+abbrev pub IsOpen : Stage → Type 0
+IsOpen at = ¬ (IsClosed at)
+
+-- the value of a session in contracts
+abbrev pub open_octets : List ℕ → Stage → Option (List ℕ)
+open_octets held (stage.Head state) = Some held
+open_octets held (stage.Body head start end) = Some held
+open_octets held stage.Closed = None
+
+-- ---- one step
+
+module _ {State : Type 0} (does : HandlerRelation State) (fault_reply : FaultReplies) where
+  -- the octets were handled up to what is held, and these replies were appended
+  pub record StaysOpen
+      (octets : List ℕ) (old : State) (before out : List ℕ) (new : State)
+      (progress : Progress) : Type 0 where
+    pub holds : MatchesStage progress.held.items progress.stage
+    pub is_open : IsOpen progress.stage
+    pub added : List ℕ
+    pub out_is : out ≡ before ++ added
+    pub runs : HandlesPrefix does fault_reply octets old added new false progress.held.items
+
+  -- the same, and the session is closed
+  pub record BecomesClosed
+      (octets : List ℕ) (old : State) (before out : List ℕ) (new : State)
+      (progress : Progress) : Type 0 where
+    pub is_closed : IsClosed progress.stage
+    pub added : List ℕ
+    pub out_is : out ≡ before ++ added
+    pub stopped : ClosesSession does fault_reply octets old added new
+
+  abbrev pub StepsSession :
+      List ℕ → State → List ℕ → List ℕ → State → Progress → Bool → Type 0
+  StepsSession octets old before out new progress true =
+      StaysOpen octets old before out new progress
+  StepsSession octets old before out new progress false =
+      BecomesClosed octets old before out new progress

@@ -1,0 +1,2 @@
+pub mod RouterRows
+pub mod Results

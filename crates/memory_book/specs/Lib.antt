@@ -1,0 +1,2 @@
+pub mod BookInvariants
+pub mod ImportedRows

@@ -1,7 +1,0 @@
-pub mod OctetLemmas
-pub mod StopLemmas
-pub mod CommandLemmas
-pub mod ReplyLemmas
-pub mod FirstPathLemmas
-pub mod InputLemmas
-pub mod LongTextLemmas

@@ -1,8 +1,0 @@
--- What is read of standard input. This project's own.
-use Rattle.std.specs.Prelude.{ℕ, ◌+◌}
-use Rattle.vcard_text.specs.Bounds.{text_octets_max}
-
--- the most octets that are read: one more than a text may have, so that a longer one is seen to be
--- too long
-abbrev pub read_octets_max : ℕ
-read_octets_max = text_octets_max + 1

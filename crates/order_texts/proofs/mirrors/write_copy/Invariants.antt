@@ -1,9 +1,0 @@
-use Rattle.std.proofs.Common.{◌≡◌, ◌++◌, map, flat_map}
-use Rattle.std.specs.Map.Iter.{deref_pair}
-use Rattle.base_types.proofs.TextMapLemmas.{octet_entry}
-use Rattle.order_texts.specs.OrderTexts.{copy_line}
-use Rattle.order_texts.proofs.mirrors.write_copy.Given as goal
-
--- the cards that the map has given so far are written
-abbrev pub invariant-loop-uid : goal.invariant-loop-uid
-invariant-loop-uid l = l.out.items ≡ l.fn.out.items ++ flat_map (λ card. copy_line card.0 card.1.version) (map octet_entry (map deref_pair l.yielded))

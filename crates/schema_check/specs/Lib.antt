@@ -1,5 +1,0 @@
-pub mod OpenFaults
-pub mod SchemaTests
-pub mod StoredSchema
-pub mod Stated
-pub mod FirstSchema

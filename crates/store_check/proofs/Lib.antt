@@ -1,0 +1,11 @@
+pub mod OpenLemmas
+pub mod ListLemmas
+pub mod GetLemmas
+pub mod WellLemmas
+pub mod CheckedLemmas
+pub mod DistinctLemmas
+pub mod NameLemmas
+pub mod StoredLemmas
+pub mod PermutedLemmas
+pub mod ListedLemmas
+pub mod GreatestLemmas

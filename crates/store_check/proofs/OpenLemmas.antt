@@ -1,0 +1,135 @@
+-- The result of opening stored tables.
+use Rattle.std.proofs.Common.{◌≡◌, inl, inr, List, map, Result, Ok, Err, IsPermutation, sym, ap, subst, ◌∙◌}
+use Rattle.sqlite.specs.Effect.{Database}
+use Rattle.sqlite.specs.Order.{Row}
+use Rattle.sqlite.specs.State.{State, HasCleanDisk, IsUnchanged}
+use Rattle.sqlite.proofs.StateLemmas.{survives_then}
+use Rattle.book_model.specs.Bounds.{Bounds}
+use Rattle.store_tables.specs.Books.{book_listed}
+use Rattle.store_tables.specs.Imports.{import_cells}
+use Rattle.store_tables.specs.Keeps.{keep_listed}
+use Rattle.store_tables.specs.Members.{member_cells}
+use Rattle.store_tables.specs.StatementEffects.{OnlyReads, GivenTables}
+use Rattle.store_tables.specs.Tables.{book_schema}
+use Rattle.store_tables.proofs.SchemaCreationLemmas.{clean_before}
+use Rattle.store_tables.proofs.Lookups.{reads_then}
+use Rattle.store_schema.specs.OpenFaults.{IsErrorFault}
+use Rattle.store_schema.specs.StoredSchema.{ChangesNothing, IsCurrentSchema, ClassifiesSchema}
+use Rattle.store_schema.specs.declared.open_fault.OpenFault.{OpenFault}
+use Rattle.store_schema.specs.declared.open_fault.OpenFault.TheVariants.{Store, NotOurs, OtherSchema, Damaged, NotEmpty, Memory}
+use Rattle.store_check.specs.OpenResults.{IsOpenResult, IsRowCheckResult}
+use Rattle.store_check.specs.ListedRows.{AreListedRows, WellStoredAreHeld}
+
+-- ---- the schema test
+
+-- an error of the schema test is the result for the tables
+pub schema_opens : (limits : Bounds) (db : Database) (fault : OpenFault) → ClassifiesSchema db (Err fault) → IsOpenResult limits db (Err fault)
+schema_opens limits db Store h = h
+schema_opens limits db NotOurs h = h
+schema_opens limits db (OtherSchema has) h = h
+schema_opens limits db Damaged h = absurd h
+schema_opens limits db NotEmpty h = absurd h
+schema_opens limits db Memory h = h
+
+-- ---- the test of the rows
+
+pub rows_opened : (limits : Bounds) (db : Database) (books members imports keeps : List Row) (r : Result (Unit {0}) OpenFault) → WellStoredAreHeld → IsCurrentSchema db → AreListedRows db books members imports keeps
+    → IsRowCheckResult limits books members imports keeps r → IsOpenResult limits db r
+rows_opened limits db books members imports keeps (Ok done) law says listed h = (law limits db books members imports keeps says listed).0 h
+rows_opened limits db books members imports keeps (Err Store) law says listed h = absurd h
+rows_opened limits db books members imports keeps (Err NotOurs) law says listed h = absurd h
+rows_opened limits db books members imports keeps (Err (OtherSchema has)) law says listed h = absurd h
+rows_opened limits db books members imports keeps (Err Damaged) law says listed h = (says, λ held. h ((law limits db books members imports keeps says listed).1 held))
+rows_opened limits db books members imports keeps (Err NotEmpty) law says listed h = absurd h
+rows_opened limits db books members imports keeps (Err Memory) law says listed h = tt
+
+pub error_opens : (limits : Bounds) (db : Database) (fault : OpenFault) → IsErrorFault fault → IsOpenResult limits db (Err fault)
+error_opens limits db fault (inl h) = subst (λ f. IsOpenResult limits db (Err f)) (sym h) tt
+error_opens limits db fault (inr h) = subst (λ f. IsOpenResult limits db (Err f)) (sym h) tt
+
+-- ---- reads
+
+-- one read after another that changed nothing
+pub unchanged_then : (a b c : State) → GivenTables a b (IsUnchanged a b) → GivenTables b c (IsUnchanged b c) → OnlyReads b c → GivenTables a c (IsUnchanged a c)
+unchanged_then a b c first next left clean has =
+    let before = first (clean_before _ b c left.survives clean) has in
+    let after = next clean (ap (λ (d : Database). d.schema) before.0.now_is ∙ has) in (
+      record {
+        was_open = before.0.was_open;
+        is_open = after.0.is_open;
+        now_is = after.0.now_is ∙ before.0.now_is;
+        committed_is = after.0.committed_is ∙ before.0.committed_is;
+        mode = after.0.mode ∙ before.0.mode;
+      },
+      record { changes = after.1.changes ∙ before.1.changes; last_rowid = after.1.last_rowid ∙ before.1.last_rowid },
+      after.2 ∙ before.2,
+    )
+
+-- a property of the database after such a read holds of it before
+pub over_then : (a b c : State) (P : Database → Type 0) → GivenTables a b (IsUnchanged a b) → OnlyReads b c → GivenTables b c (P b.now) → GivenTables a c (P a.now)
+over_then a b c P first left returned clean has =
+    let before = first (clean_before _ b c left.survives clean) has in
+    subst P before.0.now_is (returned clean (ap (λ (d : Database). d.schema) before.0.now_is ∙ has))
+
+-- ---- the four tables, one after another
+
+-- the third, whether it succeeds or fails
+pub reads_third : (a b c d : State) → GivenTables a b (IsUnchanged a b) → GivenTables b c (IsUnchanged b c) → OnlyReads a b → OnlyReads b c → OnlyReads c d → OnlyReads a d
+reads_third a b c d ab bc left_ab left_bc left_cd = reads_then a c d (reads_then a b c left_ab ab left_bc) (unchanged_then a b c ab bc left_bc) left_cd
+
+module _ (a b c d : State) (ab : GivenTables a b (IsUnchanged a b)) (bc : GivenTables b c (IsUnchanged b c)) (cd : GivenTables c d (IsUnchanged c d))
+    (left_ab : OnlyReads a b) (left_bc : OnlyReads b c) (left_cd : OnlyReads c d) where
+  ac : GivenTables a c (IsUnchanged a c)
+  ac = unchanged_then a b c ab bc left_bc
+
+  ad : GivenTables a d (IsUnchanged a d)
+  ad = unchanged_then a c d ac cd left_cd
+
+  reads_three : OnlyReads a d
+  reads_three = reads_third a b c d ab bc left_ab left_bc left_cd
+
+  module _ (e : State) (left_de : OnlyReads d e) where
+    pub reads_four : OnlyReads a e
+    reads_four = reads_then a d e reads_three ad left_de
+
+    pub lists_four : (books members imports keeps : List Row)
+        → GivenTables a b (IsPermutation (map book_listed (a.now.trees 2)) books)
+        → GivenTables b c (IsPermutation (map member_cells (b.now.trees 4)) members)
+        → GivenTables c d (IsPermutation (map import_cells (c.now.trees 7)) imports)
+        → GivenTables d e (IsPermutation (map keep_listed (d.now.trees 9)) keeps)
+        → GivenTables a e (AreListedRows a.now books members imports keeps)
+    lists_four books members imports keeps first second third fourth clean has =
+        let clean_d = clean_before _ d e left_de.survives clean in
+        let clean_c = clean_before _ c d left_cd.survives clean_d in
+        let clean_b = clean_before _ b c left_bc.survives clean_c in
+        record {
+          all_books = first clean_b has;
+          all_members = over_then a b c (λ db. IsPermutation (map member_cells (db.trees 4)) members) ab left_bc second clean_c has;
+          all_imports = over_then a c d (λ db. IsPermutation (map import_cells (db.trees 7)) imports) ac left_cd third clean_d has;
+          all_keeps = over_then a d e (λ db. IsPermutation (map keep_listed (db.trees 9)) keeps) ad left_de fourth clean has;
+        }
+
+-- ---- the schema was tested, and then the rows
+
+module _ (a b c : State) (ours : HasCleanDisk b → IsCurrentSchema a.now) (kept : HasCleanDisk b → IsUnchanged a b) (after : OnlyReads b c) where
+  early : HasCleanDisk c → HasCleanDisk b
+  early = clean_before _ b c after.survives
+
+  still : HasCleanDisk c → b.now.schema ≡ book_schema
+  still clean = ap (λ (d : Database). d.schema) (kept (early clean)).0.now_is ∙ (ours (early clean)).schema
+
+  pub tables_opened : (limits : Bounds) (r : Result (Unit {0}) OpenFault) → (HasCleanDisk c → IsCurrentSchema b.now → IsOpenResult limits b.now r) → HasCleanDisk c → IsOpenResult limits a.now r
+  tables_opened limits r returned clean =
+      let now = (kept (early clean)).0.now_is in
+      subst (λ (db : Database). IsOpenResult limits db r) now (returned clean (subst IsCurrentSchema (sym now) (ours (early clean))))
+
+  pub nothing_then : ChangesNothing a b → ChangesNothing a c
+  nothing_then before = record {
+    mode = λ h. after.mode (before.mode h);
+    was_open = λ clean up. before.was_open (early clean) (after.was_open clean up);
+    survives = survives_then a b c _ _ _ (λ _ db none. none) (λ clean db h. h (still clean)) before.survives after.survives;
+    same = λ clean up settled.
+        let was = kept (early clean) in
+        let later = after.same clean (still clean) up (λ _. was.0.now_is ∙ settled was.0.was_open ∙ sym was.0.committed_is) in
+        record { was_open = was.0.was_open; now_is = later.now_is ∙ was.0.now_is; committed_is = later.committed_is ∙ was.0.committed_is };
+  }

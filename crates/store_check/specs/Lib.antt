@@ -1,0 +1,4 @@
+pub mod BookChecks
+pub mod RowChecks
+pub mod ListedRows
+pub mod OpenResults

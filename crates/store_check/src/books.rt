@@ -1,0 +1,222 @@
+//! Checks the rows of `book` and `keeping`.
+ghost use Rattle.store_check.specs.BookChecks.{
+  AgreesWithMembers,
+  AreCheckedBooks,
+  HasValidNumbers,
+  IsCheckedBook,
+  is_live_in,
+};
+ghost use Rattle.store_check.specs.RowChecks.{IsBookRow, IsKeepRow, decode_book, decode_keep};
+ghost use Rattle.book_model.specs.Counting.{arrived_cards, departed_cards, total_changes};
+ghost use Rattle.store_rows.specs.TableBooks.{row_counts, keep_of_book};
+ghost use Rattle.store_rows.specs.TableRows.{load_member};
+ghost use Rattle.store_tables.specs.Books.{has_id};
+ghost use Rattle.store_tables.specs.Members.{is_removed_above};
+ghost use Rattle.std.specs.Option.{option_map};
+ghost use Rattle.std.specs.List.{AllByRecursion};
+ghost use Rattle.std.specs.Prelude.{◌≡◌, ◌+◌, ◌↔◌, IsTrue, filter, find, length, map};
+
+use crate::cells::{
+    has_natural, has_number, has_text, natural_at, number_at, text_at, text_if_any_at,
+};
+use crate::names::is_name_text;
+use book_model::{Counts, Limits};
+use sqlite::Row;
+
+/// The row of the book `id`.
+pub(crate) fn book_with_id(books: &[Row], id: i64) -> Option<&Row>
+    ensures { option_map (λ row. decode_book row.now) result
+        ≡ find (has_id id) (map decode_book books.now) }
+{
+    for book in books {
+        if number_at(book, 0) == id {
+            return Some(book);
+        }
+    }
+    None
+}
+
+fn counts_at(book: &Row) -> Counts
+    ensures { result ≡ row_counts (decode_book book.now).numbers }
+{
+    Counts {
+        created: natural_at(book, 4),
+        edited: natural_at(book, 5),
+        imported: natural_at(book, 6),
+        import_edited: natural_at(book, 7),
+        moved_in: natural_at(book, 8),
+        deleted: natural_at(book, 9),
+        moved_out: natural_at(book, 10),
+    }
+}
+
+/// The number of cards that were added: created, imported or moved in.
+fn arrivals_of(counts: Counts) -> u128
+    ensures { result ≡ arrived_cards counts }
+{
+    counts.created as u128 + counts.imported as u128 + counts.moved_in as u128
+}
+
+/// The number of cards that left: deleted or moved out.
+fn departures_of(counts: Counts) -> u128
+    ensures { result ≡ departed_cards counts }
+{
+    counts.deleted as u128 + counts.moved_out as u128
+}
+
+fn total_of(counts: Counts) -> u128
+    ensures { result ≡ total_changes counts }
+{
+    let edits = counts.edited as u128 + counts.import_edited as u128;
+    arrivals_of(counts) + edits + departures_of(counts)
+}
+
+/// Whether the counts add up to the book's number, the number is within the limit, and the horizon
+/// is at most the number.
+fn has_valid_numbers(limits: Limits, book: &Row) -> bool
+    ensures { IsTrue result ↔ HasValidNumbers limits (decode_book book.now) }
+{
+    let number = natural_at(book, 2);
+    let is_counted = total_of(counts_at(book)) == number as u128;
+    is_counted && number <= limits.changes_max() && natural_at(book, 3) <= number
+}
+
+/// Whether the row is a live member of the book `id`.
+fn is_live(member: &Row, id: i64) -> bool
+    ensures { result ≡ is_live_in id (load_member member.now) }
+{
+    number_at(member, 1) == id && text_if_any_at(member, 4).is_some()
+}
+
+/// Whether the row is a tombstone of the book `id` above the horizon.
+fn is_removed(member: &Row, id: i64, horizon: i64) -> bool
+    ensures { result ≡ is_removed_above id horizon (load_member member.now) }
+{
+    let is_gone = text_if_any_at(member, 4).is_none();
+    number_at(member, 1) == id && is_gone && horizon < number_at(member, 3)
+}
+
+/// The number of live members of the book `id`.
+fn count_live(members: &[Row], id: i64) -> usize
+    ensures { result ≡ length (filter (is_live_in id) (map load_member members.now)) }
+{
+    let mut count: usize = 0;
+    for member in members {
+        if is_live(member, id) {
+            count += 1;
+        }
+    }
+    count
+}
+
+/// The number of tombstones of the book `id` above the horizon.
+pub fn count_removed(members: &[Row], id: i64, horizon: i64) -> usize
+    ensures { result ≡ length (filter (is_removed_above id horizon) (map load_member members.now)) }
+{
+    let mut count: usize = 0;
+    for member in members {
+        if is_removed(member, id, horizon) {
+            count += 1;
+        }
+    }
+    count
+}
+
+/// The keep of the book `id`: the most tombstones that it keeps. 0 if it has no row.
+fn keep_of(keeps: &[Row], id: i64) -> u64
+    ensures { result ≡ keep_of_book id (map decode_keep keeps.now) }
+{
+    for keep in keeps {
+        if number_at(keep, 0) == id {
+            return natural_at(keep, 1);
+        }
+    }
+    0
+}
+
+/// Whether the keep is at least 1 and no less than the number of tombstones, and the live members
+/// are as many as were added minus those that left.
+fn agrees_with_members(book: &Row, members: &[Row], keeps: &[Row]) -> bool
+    ensures { IsTrue result ↔ AgreesWithMembers (map load_member members.now)
+        (map decode_keep keeps.now) (decode_book book.now) }
+{
+    let id = number_at(book, 0);
+    let counts = counts_at(book);
+    let keep = keep_of(keeps, id);
+    let is_kept = keep >= 1 && count_removed(members, id, number_at(book, 3)) as u64 <= keep;
+    let cards = count_live(members, id) as u128;
+    is_kept && cards + departures_of(counts) == arrivals_of(counts)
+}
+
+/// Whether the book has a legal name, an id from 1 to the number of books, valid numbers, and
+/// agrees with its members and its keep.
+fn is_valid_book(limits: Limits, books: usize, members: &[Row], keeps: &[Row], book: &Row) -> bool
+    ensures { IsTrue result ↔ IsCheckedBook limits books (map load_member members.now)
+        (map decode_keep keeps.now) (decode_book book.now) }
+{
+    let id = natural_at(book, 0);
+    let is_numbered = 1 <= id && id <= books as u64;
+    is_numbered
+        && is_name_text(text_at(book, 1))
+        && has_valid_numbers(limits, book)
+        && agrees_with_members(book, members, keeps)
+}
+
+/// Whether each book has a legal name, an id from 1 to the number of books, valid numbers, and
+/// agrees with its members and its keep.
+///
+/// All members are scanned for each book. A store has at most 100 books.
+pub(crate) fn are_valid_books(limits: Limits, books: &[Row], members: &[Row], keeps: &[Row]) -> bool
+    ensures { IsTrue result ↔ AreCheckedBooks limits (map load_member members.now)
+        (map decode_keep keeps.now) (map decode_book books.now) }
+{
+    for book in books {
+        if !is_valid_book(limits, books.len(), members, keeps, book) {
+            return false;
+        }
+    }
+    true
+}
+
+/// Whether the row has a book's columns: an id, a name and nine numbers, none of them negative.
+fn is_book_row(row: &Row) -> bool
+    ensures { IsTrue result ↔ IsBookRow row.now }
+{
+    let is_keyed = has_natural(row, 0) && has_text(row, 1);
+    let has_numbers = has_natural(row, 2) && has_natural(row, 3);
+    let has_stores = has_natural(row, 4) && has_natural(row, 5) && has_natural(row, 6);
+    let has_more = has_natural(row, 7) && has_natural(row, 8);
+    let has_removals = has_natural(row, 9) && has_natural(row, 10);
+    is_keyed && has_numbers && has_stores && has_more && has_removals
+}
+
+/// Whether the row has a keep's columns: its book's id, and a number that is not negative.
+fn is_keep_row(row: &Row) -> bool
+    ensures { IsTrue result ↔ IsKeepRow row.now }
+{
+    has_number(row, 0) && has_natural(row, 1)
+}
+
+/// Whether each row has a book's columns.
+pub(crate) fn are_book_rows(rows: &[Row]) -> bool
+    ensures { IsTrue result ↔ AllByRecursion IsBookRow rows.now }
+{
+    for row in rows {
+        if !is_book_row(row) {
+            return false;
+        }
+    }
+    true
+}
+
+/// Whether each row has a keep's columns.
+pub(crate) fn are_keep_rows(rows: &[Row]) -> bool
+    ensures { IsTrue result ↔ AllByRecursion IsKeepRow rows.now }
+{
+    for row in rows {
+        if !is_keep_row(row) {
+            return false;
+        }
+    }
+    true
+}

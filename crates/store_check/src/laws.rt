@@ -1,0 +1,14 @@
+//! Laws: what the tests of single rows prove about the books.
+ghost use Rattle.store_check.specs.BookChecks.{CheckedAreWellFormed};
+ghost use Rattle.store_check.specs.ListedRows.{WellStoredAreHeld};
+
+/// Sound, readable rows represent well-formed books exactly if each passes its tests.
+pub fn checked_rows_are_well_formed()
+    ensures { CheckedAreWellFormed }
+{}
+
+/// In tables of this schema, the listed rows are well stored exactly if the tables hold well-formed
+/// books.
+pub fn well_stored_rows_are_held()
+    ensures { WellStoredAreHeld }
+{}

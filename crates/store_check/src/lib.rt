@@ -1,0 +1,13 @@
+//! Tests whether the rows of stored tables represent well-formed books.
+#![tactic(auto)]
+
+pub mod books;
+pub mod cells;
+mod distinct;
+mod imports;
+mod keys;
+pub mod laws;
+mod members;
+mod names;
+pub mod opening;
+pub mod tables;

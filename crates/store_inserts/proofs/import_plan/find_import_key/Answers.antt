@@ -1,0 +1,28 @@
+use Rattle.std.proofs.Common.{rules, ◌≡◌, true}
+use Rattle.sqlite.specs.Held.{state}
+use Rattle.sqlite.specs.State.{HasCleanDisk}
+use Rattle.book_model.specs.Importing.{is_legal_key}
+use Rattle.store_tables.proofs.SchemaCreationLemmas.{clean_before}
+use Rattle.store_tables.proofs.Lookups.{reads_then}
+use Rattle.store_lookups.proofs.ReadLemmas.{over_then}
+use Rattle.store_inserts.proofs.import_plan.find_import_key.Goals as goal
+
+pub returns-in_err-kept-clause-reads_only : goal.returns-in_err-kept-clause-reads_only
+returns-in_err-kept-clause-reads_only g c =
+    reads_then (state g.S.Store c.args.conn.now) (state g.S.Store c.open_header.new.conn) (state g.S.Store c.find_import_tally.new.conn) c.open_header.ensures.reads_only c.in_ok-header.ensures.unchanged c.find_import_tally.ensures.reads_only
+
+pub returns-clause-found : goal.returns-clause-found
+returns-clause-found g c rows clean holds sound =
+    let old = state g.S.Store c.args.conn.now in
+    let mid = state g.S.Store c.open_header.new.conn in
+    let new = state g.S.Store c.find_import_tally.new.conn in
+    let early : HasCleanDisk mid = clean_before _ mid new c.find_import_tally.ensures.reads_only.survives clean in
+    let legal : is_legal_key c.args.key.now ≡ true = search rules in (
+      c.in_ok-header.ensures.finds rows early holds sound,
+      legal,
+      over_then old mid new _ _ c.in_ok-header.ensures.unchanged c.find_import_tally.ensures.reads_only.survives c.in_ok-kept.ensures.tally rows clean holds sound c.args.name.now,
+    )
+
+pub returns-clause-reads_only : goal.returns-clause-reads_only
+returns-clause-reads_only g c =
+    reads_then (state g.S.Store c.args.conn.now) (state g.S.Store c.open_header.new.conn) (state g.S.Store c.find_import_tally.new.conn) c.open_header.ensures.reads_only c.in_ok-header.ensures.unchanged c.find_import_tally.ensures.reads_only

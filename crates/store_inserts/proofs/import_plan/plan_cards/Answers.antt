@@ -1,0 +1,66 @@
+use Rattle.std.proofs.Common.{rules, ◌≡◌, ◌+◌, [], fold, take, length, sym, ap, subst, ◌∙◌}
+use Rattle.std.proofs.lemmas.List.Sums.{fold_more}
+use Rattle.std.proofs.Math.Seq.{take-length}
+use Rattle.sqlite.specs.Effect.{Database}
+use Rattle.sqlite.specs.Held.{state}
+use Rattle.sqlite.specs.State.{HasCleanDisk}
+use Rattle.sqlite.proofs.Callers.{unchanged_then}
+use Rattle.book_model.specs.Importing.{import_with_reason, import_state}
+use Rattle.store_rows.specs.TableBooks.{row_book, line_row}
+use Rattle.store_tables.specs.Tables.{book_schema}
+use Rattle.store_tables.proofs.SchemaCreationLemmas.{clean_before}
+use Rattle.store_tables.proofs.Lookups.{reads_then}
+use Rattle.store_lookups.proofs.ReadLemmas.{over_then}
+use Rattle.store_inserts.specs.internal.Importing.{plan_next_card, model_plan, planned_import, planning}
+use Rattle.store_inserts.proofs.import_plan.plan_cards.Goals as goal
+
+pub loop-card-init : goal.loop-card-init
+loop-card-init g c = record {
+  planned_import = λ rows clean holds sound name. c.empty_plan-plan.ensures.plan;
+  counted = c.empty_plan-plan.ensures.counted;
+  all = c.empty_plan-plan.ensures.no_cards;
+  same = λ clean has. c.in_ok-check_open.ensures.unchanged clean;
+  left = c.check_open.ensures.reads_only;
+}
+
+pub returns-in_err-why-clause-reads_only : goal.returns-in_err-why-clause-reads_only
+returns-in_err-why-clause-reads_only g c =
+    reads_then (state g.S.Store c.args.conn.now) (state g.S.Store c.loop-card.conn) (state g.S.Store c.reason_to_store.new.conn) c.loop-card.invariant.left c.loop-card.invariant.same c.reason_to_store.ensures.reads_only
+
+pub returns-in_err-take-clause-reads_only : goal.returns-in_err-take-clause-reads_only
+returns-in_err-take-clause-reads_only g c =
+    reads_then (state g.S.Store c.args.conn.now) (state g.S.Store c.loop-card.conn) (state g.S.Store c.reason_to_store.new.conn) c.loop-card.invariant.left c.loop-card.invariant.same c.reason_to_store.ensures.reads_only
+
+pub loop-card-preserved : goal.loop-card-preserved
+loop-card-preserved g c =
+    let old = state g.S.Store c.args.conn.now in
+    let mid = state g.S.Store c.loop-card.conn in
+    let new = state g.S.Store c.reason_to_store.new.conn in
+    let first = c.loop-card.invariant in
+    let i = c.loop-card.card-index in
+    let cards = c.args.cards.now in
+    record {
+      planned_import = λ rows clean holds sound name.
+          let book = row_book rows (line_row name c.args.header) in
+          let early : HasCleanDisk mid = clean_before _ mid new c.reason_to_store.ensures.reads_only.survives clean in
+          let so_far : model_plan c.loop-card.plan ≡ planned_import book (take i cards) = first.planned_import rows early holds sound name in
+          let why = over_then old mid new _ _ first.same c.reason_to_store.ensures.reads_only.survives c.in_ok-why.ensures.reason rows clean holds sound name in
+          c.in_ok-take.ensures.plan
+          ∙ ap (import_with_reason planning (model_plan c.loop-card.plan) c.card-item.result) why
+          ∙ ap (λ p. plan_next_card book p c.card-item.result) so_far
+          ∙ ap (plan_next_card book (planned_import book (take i cards))) c.card-item.is
+          ∙ sym (fold_more (plan_next_card book) (import_state [] 0 0 0) cards i c.card-item.result c.loop-card-test.true);
+      counted = c.in_ok-take.ensures.counted first.counted;
+      all = c.in_ok-take.ensures.counts_one_more ∙ ap (λ n. n + 1) first.all;
+      same = λ clean has.
+          let early : HasCleanDisk mid = clean_before _ mid new c.reason_to_store.ensures.reads_only.survives clean in
+          let here = first.same early has in
+          unchanged_then old mid new here (c.in_ok-why.ensures.unchanged clean (subst (λ (d : Database). d.schema ≡ book_schema) (sym here.0.now_is) has));
+      left = reads_then old mid new first.left first.same c.reason_to_store.ensures.reads_only;
+    }
+
+pub returns-clause-planned : goal.returns-clause-planned
+returns-clause-planned g c rows clean holds sound name =
+    let cards = c.args.cards.now in
+    let end : c.loop-card.card-index ≡ length cards = search rules in
+    c.loop-card.invariant.planned_import rows clean holds sound name ∙ ap (planned_import (row_book rows (line_row name c.args.header))) (ap (λ i. take i cards) end ∙ take-length cards)

@@ -1,0 +1,34 @@
+use Rattle.std.proofs.Common.{rules, ◌≡◌, ◌+◌, length, Ok, Err, sym, ap, subst, ◌∙◌, arith}
+use Rattle.std.proofs.lemmas.List.{length-map}
+use Rattle.sqlite.specs.Held.{state}
+use Rattle.sqlite.specs.State.{HasCleanDisk}
+use Rattle.book_model.specs.Importing.{import_cards, book_after_store, book_import_tally}
+use Rattle.book_model.specs.Books.{live_at}
+use Rattle.store_rows.specs.TableBooks.{row_book, line_row}
+use Rattle.store_inserts.specs.internal.Importing.{IsBookImportPlanned, IsImportRefusal, model_plan}
+use Rattle.store_inserts.proofs.ImportLemmas.{planned_book, planned_tally, refused_tally, tally_is_exact}
+use Rattle.store_inserts.proofs.import_plan.plan_new_import.Goals as goal
+
+pub returns-in_err-tally-clause-planned : goal.returns-in_err-tally-clause-planned
+returns-in_err-tally-clause-planned g c rows clean holds sound name =
+    let book = row_book rows (line_row name c.args.header) in
+    let plan = c.in_ok-plan.plan in
+    let is = c.in_ok-plan.ensures.planned rows clean holds sound name in
+    let said : c.from_residual-in_err-tally.result ≡ Err c.in_err-tally.field-0.0 = search rules in
+    subst (λ r. IsBookImportPlanned c.args.limits book c.args.cards.now r) (sym said)
+    (refused_tally _ _ c.in_err-tally.field-0.0 (planned_tally c.args.limits book c.args.cards.now c.requires.distinct (model_plan plan) is) c.in_err-tally.ensures.tally)
+
+pub returns-clause-planned : goal.returns-clause-planned
+returns-clause-planned g c rows clean holds sound name =
+    let book = row_book rows (line_row name c.args.header) in
+    let plan = c.in_ok-plan.plan in
+    let is = c.in_ok-plan.ensures.planned rows clean holds sound name in (
+      planned_book c.args.limits book c.args.cards.now c.requires.distinct (model_plan plan) is,
+      tally_is_exact _ _ c.in_ok-tally.tally (planned_tally c.args.limits book c.args.cards.now c.requires.distinct (model_plan plan) is) c.in_ok-tally.ensures.tally,
+    )
+
+pub returns-clause-numbers_fit : goal.returns-clause-numbers_fit
+returns-clause-numbers_fit g c =
+    let room = c.in_ok-tally.ensures.number_fits in
+    let counted = c.in_ok-plan.ensures.counted in
+    omega (arith, room, counted)

@@ -1,0 +1,57 @@
+use Rattle.std.proofs.Common.{rules, ◌≡◌, ◌+◌, IsTrue, fold, length, map, take, sym, ap, subst, ◌∙◌, arith}
+use Rattle.std.proofs.lemmas.List.Sums.{fold_more}
+use Rattle.std.proofs.Math.Seq.{take-length}
+use Rattle.sqlite.specs.Held.{state}
+use Rattle.sqlite.specs.State.{HasCleanDisk}
+use Rattle.sqlite.proofs.StateLemmas.{survives_then}
+use Rattle.store_tables.proofs.SchemaCreationLemmas.{clean_before}
+use Rattle.store_tables.specs.SchemaCreation.{HoldsInTx}
+use Rattle.store_inserts.specs.internal.Importing.{WritesBook, planned_pair, book_with_pair, book_with_stored}
+use Rattle.store_inserts.proofs.WroteLemmas.{keeps_commit_then}
+use Rattle.store_inserts.proofs.ImportLemmas.{stored_more}
+use Rattle.store_inserts.proofs.importing.write_next_cards.Goals as goal
+
+pub returns-in_err-so_far-clause-keeps_commit : goal.returns-in_err-so_far-clause-keeps_commit
+returns-in_err-so_far-clause-keeps_commit g c rows name book clean inside wrote =
+    let old = state g.S.Store c.args.tx.now.conn.now in
+    let mid = state g.S.Store c.loop-card.tx.conn.now in
+    let new = state g.S.Store c.write_next_card.new.tx.conn.now in
+    let first = c.loop-card.invariant in
+    let early : HasCleanDisk mid = clean_before _ mid new c.write_next_card.ensures.survives clean in
+    let here = first.holds rows name book early inside wrote in
+    keeps_commit_then old mid new (first.kept rows name book early inside wrote) (c.in_err-so_far.ensures.keeps_commit rows name (book_with_stored book (take c.loop-card.card-index c.args.stored.now)) clean here.inside here.holds)
+
+pub loop-card-preserved : goal.loop-card-preserved
+loop-card-preserved g c =
+    let old = state g.S.Store c.args.tx.now.conn.now in
+    let mid = state g.S.Store c.loop-card.tx.conn.now in
+    let new = state g.S.Store c.write_next_card.new.tx.conn.now in
+    let first = c.loop-card.invariant in
+    let i = c.loop-card.card-index in
+    let stored = c.args.stored.now in
+    let next = c.in_ok-so_far.ensures.next_header in
+    record {
+      same_reference = c.write_next_card.ensures.same_reference ∙ first.same_reference;
+      holds = λ rows name book clean inside wrote.
+          let early : HasCleanDisk mid = clean_before _ mid new c.write_next_card.ensures.survives clean in
+          let here = first.holds rows name book early inside wrote in
+          let there = c.in_ok-so_far.ensures.book_after rows name (book_with_stored book (take i stored)) clean here.inside here.holds in
+          subst (λ b. HoldsInTx new (λ db. WritesBook db rows name c.in_ok-so_far.so_far b)) (stored_more book stored i c.card-item.result c.loop-card-test.true c.card-item.is) there;
+      number =
+          let one = ap (λ f. f.number) next in
+          let before = first.number in
+          omega (arith, one, before);
+      same_id = ap (λ f. f.id) next ∙ first.same_id;
+      kept = λ rows name book clean inside wrote.
+          let early : HasCleanDisk mid = clean_before _ mid new c.write_next_card.ensures.survives clean in
+          let here = first.holds rows name book early inside wrote in
+          keeps_commit_then old mid new (first.kept rows name book early inside wrote) (c.in_ok-so_far.ensures.keeps_commit rows name (book_with_stored book (take i stored)) clean here.inside here.holds);
+      survives = survives_then old mid new _ _ (λ _. ⊥) (λ _ db none. none) (λ _ db none. none) first.survives c.write_next_card.ensures.survives;
+    }
+
+pub returns-clause-book_after : goal.returns-clause-book_after
+returns-clause-book_after g c rows name book clean inside wrote =
+    let stored = c.args.stored.now in
+    let end : c.loop-card.card-index ≡ length stored = search rules in
+    let all : take c.loop-card.card-index stored ≡ stored = ap (λ i. take i stored) end ∙ take-length stored in
+    subst (λ l. HoldsInTx (state g.S.Store c.loop-card.tx.conn.now) (λ db. WritesBook db rows name c.loop-card.so_far (book_with_stored book l))) all (c.loop-card.invariant.holds rows name book clean inside wrote)

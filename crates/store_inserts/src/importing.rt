@@ -1,0 +1,242 @@
+//! Imports cards into a book: all of them in one transaction, or none.
+ghost use Rattle.book_model.specs.ImportLaws.{HaveDistinctUids};
+ghost use Rattle.book_model.specs.Importing.{import_step, book_with_kept_import};
+ghost use Rattle.book_model.specs.declared.answers.ImportTally.{ImportTally};
+ghost use Rattle.book_model.specs.declared.change.Change.TheVariants.{Stores};
+ghost use Rattle.store_lookups.specs.Faults.{IsDeniedFault};
+ghost use Rattle.store_rows.specs.ChangeLaws.{header_after};
+ghost use Rattle.store_rows.specs.TableBooks.{row_book, books_of, line_row};
+ghost use Rattle.store_rows.specs.TableRows.{TableRows};
+ghost use Rattle.store_writes.specs.TableChanges.{AppliesStep, CommitsOnce, HasBookRow, HoldsBooks};
+ghost use Rattle.store_writes.specs.TableChanges.{IsAtomic, TreesHold};
+ghost use Rattle.store_inserts.specs.internal.Importing.{InUnwrittenBookTx, InWrittenBookTx};
+ghost use Rattle.store_inserts.specs.internal.Importing.{IsImportKeyFree, WritesBook};
+ghost use Rattle.store_inserts.specs.internal.Importing.{book_with_pair, planned_pair};
+ghost use Rattle.store_inserts.specs.internal.Importing.{book_with_import, book_with_stored};
+ghost use Rattle.store_tables.specs.SchemaCreation.{HoldsInTx};
+ghost use Rattle.sqlite.specs.Held.{state};
+ghost use Rattle.sqlite.specs.State.{HasCleanDisk, KeepsCommit, Survives};
+ghost use Rattle.std.specs.FinMap as finite;
+ghost use Rattle.std.specs.Prelude.{◌≡◌, ◌+◌, ◌<◌, ◌^◌, IfErr, IfOk, List, OnOk, false, length, ℕ};
+ghost use Rattle.std.specs.Prelude.{⊤};
+
+use crate::import_plan::{ImportDecision, PlannedCard, plan_import};
+use book_model::{Denied, ImportTally, Limits};
+use sqlite::{Alter, Connection, Transaction};
+use std::alloc::Global;
+use store_lookups::{BookHeader, column_of, fault_of};
+use store_tables::books::renumber_book;
+use store_tables::imports::insert_import;
+use store_tables::members::put_member;
+use store_writes::columns::{columns_of, text_of_card};
+use vcard_text::Card;
+
+/// Writes the card as the next change of the book and returns the header after it. The book's own
+/// row is written later, by `write_book_row`.
+fn write_next_card<S: Alter>(
+    alloc: Global,
+    tx: &mut Transaction<'_, S>,
+    header: BookHeader,
+    stored: PlannedCard,
+) -> Result<BookHeader, Denied>
+    requires { header.number + 1 < 2 ^ 63 }
+    ensures same_reference { tx.new.conn.ghost_name ≡ tx.old.conn.ghost_name }
+    ensures book_after { InWrittenBookTx (state S.Store tx.old.conn.now)
+        (state S.Store tx.new.conn.now) header
+        (λ rows name book. IfOk result (λ next. HoldsInTx (state S.Store tx.new.conn.now)
+        (λ db. WritesBook db rows name next (book_with_pair book (planned_pair stored.entry))))) }
+    ensures next_header { IfOk result (λ next.
+        next ≡ header_after (Stores stored.entry.card.now stored.entry.why) header) }
+    ensures keeps_commit { InWrittenBookTx (state S.Store tx.old.conn.now)
+        (state S.Store tx.new.conn.now) header
+        (λ rows name book.
+        KeepsCommit (state S.Store tx.old.conn.now) (state S.Store tx.new.conn.now)) }
+    ensures fault { IfErr result IsDeniedFault }
+    ensures survives { Survives (state S.Store tx.old.conn.now) (state S.Store tx.new.conn.now)
+        (λ _. ⊥) }
+{
+    let text = text_of_card(alloc, stored.card)?;
+    let id = column_of(header.id())?;
+    let changed = column_of(header.number() + 1)?;
+    match put_member(tx, id, stored.card.uid(), changed, Some(text.as_str())) {
+        Ok(_) => Ok(header.after_storing(stored.why)),
+        Err(error) => Err(fault_of(error)),
+    }
+}
+
+/// Writes the cards in order, each as the next change of the book, and returns the header after
+/// them. The book's own row is written later, by `write_book_row`.
+fn write_next_cards<S: Alter>(
+    alloc: Global,
+    tx: &mut Transaction<'_, S>,
+    header: BookHeader,
+    stored: &[PlannedCard],
+) -> Result<BookHeader, Denied>
+    requires { header.number + length stored.now < 2 ^ 63 }
+    ensures same_reference { tx.new.conn.ghost_name ≡ tx.old.conn.ghost_name }
+    ensures book_after { InWrittenBookTx (state S.Store tx.old.conn.now)
+        (state S.Store tx.new.conn.now) header
+        (λ rows name book. IfOk result (λ next. HoldsInTx (state S.Store tx.new.conn.now)
+        (λ db. WritesBook db rows name next (book_with_stored book stored.now)))) }
+    ensures same_id { IfOk result (λ next. next.id ≡ header.id) }
+    ensures keeps_commit { InWrittenBookTx (state S.Store tx.old.conn.now)
+        (state S.Store tx.new.conn.now) header
+        (λ rows name book.
+        KeepsCommit (state S.Store tx.old.conn.now) (state S.Store tx.new.conn.now)) }
+    ensures fault { IfErr result IsDeniedFault }
+    ensures survives { Survives (state S.Store tx.old.conn.now) (state S.Store tx.new.conn.now)
+        (λ _. ⊥) }
+{
+    let mut so_far = header;
+    for card in stored {
+        so_far = write_next_card(alloc, tx, so_far, *card)?;
+    }
+    Ok(so_far)
+}
+
+/// Inserts the answer under the key. The book's own row is written later, by `write_book_row`.
+fn insert_kept_import<S: Alter>(
+    tx: &mut Transaction<'_, S>,
+    header: BookHeader,
+    key: &str,
+    tally: ImportTally,
+) -> Result<(), Denied>
+    ensures same_reference { tx.new.conn.ghost_name ≡ tx.old.conn.ghost_name }
+    ensures book_after { InWrittenBookTx (state S.Store tx.old.conn.now)
+        (state S.Store tx.new.conn.now) header
+        (λ rows name book. IsImportKeyFree book key.now →
+        OnOk result (HoldsInTx (state S.Store tx.new.conn.now)
+        (λ db. WritesBook db rows name header (book_with_kept_import book key.now tally)))) }
+    ensures keeps_commit { InWrittenBookTx (state S.Store tx.old.conn.now)
+        (state S.Store tx.new.conn.now) header
+        (λ rows name book.
+        KeepsCommit (state S.Store tx.old.conn.now) (state S.Store tx.new.conn.now)) }
+    ensures fault { IfErr result IsDeniedFault }
+    ensures survives { Survives (state S.Store tx.old.conn.now) (state S.Store tx.new.conn.now)
+        (λ _. ⊥) }
+{
+    let id = column_of(header.id())?;
+    let added = column_of(tally.added)?;
+    let edited = column_of(tally.edited)?;
+    let same = column_of(tally.same)?;
+    let number = column_of(tally.number)?;
+    match insert_import(tx, id, key, added, edited, same, number) {
+        Ok(_) => Ok(()),
+        Err(error) => Err(fault_of(error)),
+    }
+}
+
+/// Writes the header into the book's own row.
+fn write_book_row<S: Alter>(tx: &mut Transaction<'_, S>, header: BookHeader) -> Result<(), Denied>
+    ensures same_reference { tx.new.conn.ghost_name ≡ tx.old.conn.ghost_name }
+    ensures books_after { InWrittenBookTx (state S.Store tx.old.conn.now)
+        (state S.Store tx.new.conn.now) header
+        (λ rows name book. OnOk result (HoldsInTx (state S.Store tx.new.conn.now)
+        (λ db. HoldsBooks db (finite.insert (books_of rows) name book)))) }
+    ensures keeps_commit { InWrittenBookTx (state S.Store tx.old.conn.now)
+        (state S.Store tx.new.conn.now) header
+        (λ rows name book.
+        KeepsCommit (state S.Store tx.old.conn.now) (state S.Store tx.new.conn.now)) }
+    ensures fault { IfErr result IsDeniedFault }
+    ensures survives { Survives (state S.Store tx.old.conn.now) (state S.Store tx.new.conn.now)
+        (λ _. ⊥) }
+{
+    let id = column_of(header.id())?;
+    let numbers = columns_of(header.number(), header.horizon(), header.counts())?;
+    match renumber_book(tx, id, numbers) {
+        Ok(_) => Ok(()),
+        Err(error) => Err(fault_of(error)),
+    }
+}
+
+/// Writes the cards, the kept answer and the book's own row.
+fn import_rows<S: Alter>(
+    alloc: Global,
+    tx: &mut Transaction<'_, S>,
+    header: BookHeader,
+    key: &str,
+    stored: &[PlannedCard],
+    tally: ImportTally,
+) -> Result<(), Denied>
+    requires { header.number + length stored.now < 2 ^ 63 }
+    ensures same_reference { tx.new.conn.ghost_name ≡ tx.old.conn.ghost_name }
+    ensures books_after { InUnwrittenBookTx (state S.Store tx.old.conn.now)
+        (state S.Store tx.new.conn.now) header
+        (λ rows name. IsImportKeyFree (row_book rows (line_row name header)) key.now →
+        OnOk result (HoldsInTx (state S.Store tx.new.conn.now)
+        (λ db. HoldsBooks db (finite.insert (books_of rows) name
+        (book_with_import (row_book rows (line_row name header)) stored.now key.now tally))))) }
+    ensures keeps_commit { InUnwrittenBookTx (state S.Store tx.old.conn.now)
+        (state S.Store tx.new.conn.now) header
+        (λ rows name. IsImportKeyFree (row_book rows (line_row name header)) key.now →
+        KeepsCommit (state S.Store tx.old.conn.now) (state S.Store tx.new.conn.now)) }
+    ensures fault { IfErr result IsDeniedFault }
+    ensures survives { Survives (state S.Store tx.old.conn.now) (state S.Store tx.new.conn.now)
+        (λ _. ⊥) }
+{
+    let after = write_next_cards(alloc, tx, header, stored)?;
+    insert_kept_import(tx, after, key, tally)?;
+    write_book_row(tx, after)
+}
+
+/// Writes the import in one transaction.
+fn commit_import<S: Alter>(
+    alloc: Global,
+    conn: &mut Connection<S>,
+    header: BookHeader,
+    key: &str,
+    stored: &[PlannedCard],
+    tally: ImportTally,
+) -> Result<(), Denied>
+    requires settled { conn.old.in_transaction ≡ false }
+    requires room { header.number + length stored.now < 2 ^ 63 }
+    ensures atomic { (rows : TableRows) (name : List ℕ) → HasCleanDisk (state S.Store conn.new)
+        → HasBookRow (state S.Store conn.old).now rows name header
+        → IsImportKeyFree (row_book rows (line_row name header)) key.now
+        → IsAtomic (state S.Store conn.old) (state S.Store conn.new) result (λ _ db. HoldsBooks db
+        (finite.insert (books_of rows) name
+        (book_with_import (row_book rows (line_row name header)) stored.now key.now tally))) }
+    ensures fault { IfErr result IsDeniedFault }
+    ensures settled { conn.new.in_transaction ≡ false }
+    ensures survives { Survives (state S.Store conn.old) (state S.Store conn.new) (λ _. ⊤) }
+    ensures crash { (rows : TableRows) (name : List ℕ)
+        → HasBookRow (state S.Store conn.old).now rows name header
+        → IsImportKeyFree (row_book rows (line_row name header)) key.now
+        → Survives (state S.Store conn.old) (state S.Store conn.new) (TreesHold
+        (finite.insert (books_of rows) name
+        (book_with_import (row_book rows (line_row name header)) stored.now key.now tally))) }
+{
+    let _settled = conn.is_autocommit();
+    let mut tx = conn.transaction();
+    import_rows(alloc, &mut tx, header, key, stored, tally)?;
+    match tx.commit() {
+        Ok(()) => Ok(()),
+        Err(error) => Err(fault_of(error)),
+    }
+}
+
+/// Imports the cards into the named book. If the key is kept, returns the kept answer.
+pub fn import_in_book<S: Alter>(
+    alloc: Global,
+    conn: &mut Connection<S>,
+    limits: Limits,
+    name: &str,
+    key: &str,
+    cards: &[Card],
+) -> Result<ImportTally, Denied>
+    requires settled { conn.old.in_transaction ≡ false }
+    requires distinct { HaveDistinctUids cards.now }
+    ensures changes { AppliesStep (state S.Store conn.old) (state S.Store conn.new) result
+        (λ books. import_step limits books name.now key.now cards.now) }
+    ensures crash { CommitsOnce (state S.Store conn.old) (state S.Store conn.new)
+        (λ books. import_step limits books name.now key.now cards.now) }
+{
+    let _settled = conn.is_autocommit();
+    let (header, order) = plan_import(alloc, conn, limits, name, key, cards)?;
+    let (plan, tally) = match order {
+        ImportDecision::Kept(tally) => return Ok(tally),
+        ImportDecision::New(plan, tally) => (plan, tally),
+    };
+    commit_import(alloc, conn, header, key, plan.stored.as_slice(), tally)?;
+    Ok(tally)
+}

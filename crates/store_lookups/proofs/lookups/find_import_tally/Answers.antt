@@ -1,0 +1,12 @@
+use Rattle.store_lookups.proofs.FindLemmas.{back_of, kept_found, kept_missing}
+use Rattle.store_lookups.proofs.lookups.find_import_tally.Goals as goal
+
+pub returns-clause-tally : goal.returns-clause-tally
+returns-clause-tally g c rows clean holds sound name =
+    let id = back_of c.in_ok-id.id c.id.result c.args.header.id c.in_ok-id.ensures.ok c.in_ok-id.ensures.fits c.id.ensures in
+    kept_found rows name c.args.header c.args.key.now c.in-Ok.row c.in_ok-tally.tally sound (rw id at (c.in-Ok.ensures.finds rows.imports clean holds.schema holds.imports)) c.in_ok-tally.ensures.tally
+
+pub returns-in-Err-QueryReturnedNoRows-clause-tally : goal.returns-in-Err-QueryReturnedNoRows-clause-tally
+returns-in-Err-QueryReturnedNoRows-clause-tally g c rows clean holds sound name =
+    let id = back_of c.in_ok-id.id c.id.result c.args.header.id c.in_ok-id.ensures.ok c.in_ok-id.ensures.fits c.id.ensures in
+    kept_missing rows name c.args.header c.args.key.now (λ _. (rw id at (c.in-Err-QueryReturnedNoRows.ensures.finds rows.imports clean holds.schema holds.imports)) c.in-Err-QueryReturnedNoRows.field-0-is)

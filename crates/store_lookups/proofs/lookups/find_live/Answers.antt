@@ -1,0 +1,12 @@
+use Rattle.store_lookups.proofs.FindLemmas.{back_of, live_found, live_missing}
+use Rattle.store_lookups.proofs.lookups.find_live.Goals as goal
+
+pub returns-in-Ok-clause-live : goal.returns-in-Ok-clause-live
+returns-in-Ok-clause-live g c rows clean holds sound name =
+    let id = back_of c.in_ok-id.id c.id.result c.args.header.id c.in_ok-id.ensures.ok c.in_ok-id.ensures.fits c.id.ensures in
+    live_found rows name c.args.header c.args.uid.now c.in-Ok.row c.live_in.result sound (rw id at (c.in-Ok.ensures.finds rows.members clean holds.schema holds.members)) c.live_in.ensures.live
+
+pub returns-in-Err-QueryReturnedNoRows-clause-live : goal.returns-in-Err-QueryReturnedNoRows-clause-live
+returns-in-Err-QueryReturnedNoRows-clause-live g c rows clean holds sound name =
+    let id = back_of c.in_ok-id.id c.id.result c.args.header.id c.in_ok-id.ensures.ok c.in_ok-id.ensures.fits c.id.ensures in
+    live_missing rows name c.args.header c.args.uid.now (λ _. (rw id at (c.in-Err-QueryReturnedNoRows.ensures.finds rows.members clean holds.schema holds.members)) c.in-Err-QueryReturnedNoRows.field-0-is)

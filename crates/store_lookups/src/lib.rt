@@ -1,0 +1,15 @@
+//! Look-ups in the tables of a book store, for calls that read and for calls that write. Each row
+//! is tested when it is read; a malformed one is a fault of the store. Nothing here writes.
+#![tactic(auto)]
+
+mod columns;
+mod faults;
+mod header;
+mod lookups;
+mod row_values;
+
+pub use columns::number_in;
+pub use faults::{column_of, fault_of};
+pub use header::BookHeader;
+pub use lookups::{count_removals, fetch_keep, find_header, find_import_tally, find_live};
+pub use row_values::{count_in, line_in, member_in};

@@ -1,0 +1,124 @@
+//! Look-ups by key: the book with a name, and its member with a UID, its import with a key, its
+//! keep and its number of remembered removals. Each reads one row, or counts rows, and leaves the
+//! connection unchanged. A malformed row is `Store`.
+ghost use Rattle.book_model.specs.Books.{live_at};
+ghost use Rattle.book_model.specs.BookQueries.{tombstone_count};
+ghost use Rattle.store_rows.specs.TableBooks.{line_row, row_book};
+ghost use Rattle.store_lookups.specs.CallResults.{FindsHeader, GivenBook, GivenSoundRows};
+ghost use Rattle.store_lookups.specs.Faults.{IsDeniedFault};
+ghost use Rattle.store_tables.specs.StatementEffects.{OnlyReads, GivenTables};
+ghost use Rattle.sqlite.specs.Held.{state};
+ghost use Rattle.sqlite.specs.State.{IsUnchanged};
+ghost use Rattle.std.specs.FinMap as finite;
+ghost use Rattle.std.specs.Prelude.{◌≡◌, IfErr, IfOk, OnOk};
+
+use crate::columns::number_in;
+use crate::faults::{column_of, fault_of};
+use crate::header::{BookHeader, header_in};
+use crate::row_values::{count_in, live_in, tally_in};
+use book_model::{Denied, ImportTally, Refusal, Stored};
+use sqlite::{Alter, Connection, Error};
+use std::alloc::Global;
+use store_tables::books::find_book;
+use store_tables::imports::find_import;
+use store_tables::keeps::find_keep;
+use store_tables::members::{count_removed, find_member};
+
+/// Returns the header of the book with this name. Refused with `NoSuchBook` if there is none; fails
+/// with `Store` if its row is malformed.
+pub fn find_header<S: Alter>(conn: &mut Connection<S>, name: &str) -> Result<BookHeader, Denied>
+    ensures finds { GivenSoundRows (state S.Store conn.old) (state S.Store conn.new)
+        (λ rows. FindsHeader rows name.now result) }
+    ensures unchanged { GivenTables (state S.Store conn.old) (state S.Store conn.new)
+        (OnOk result (IsUnchanged (state S.Store conn.old) (state S.Store conn.new))) }
+    ensures reads_only { OnlyReads (state S.Store conn.old) (state S.Store conn.new) }
+{
+    let row = match find_book(conn, name) {
+        Ok(row) => row,
+        Err(Error::QueryReturnedNoRows) => return Err(Denied::Refused(Refusal::NoSuchBook)),
+        Err(error) => return Err(fault_of(error)),
+    };
+    header_in(&row)
+}
+
+/// Returns the live card of the UID in the book with this header; `None` if it was removed or never
+/// existed. Fails with `Store` if its row is malformed.
+pub fn find_live<S: Alter>(
+    alloc: Global,
+    conn: &mut Connection<S>,
+    header: BookHeader,
+    uid: &str,
+) -> Result<Option<Stored>, Denied>
+    ensures live { GivenBook (state S.Store conn.old) (state S.Store conn.new) header
+        (λ book. IfOk result (λ live. live_at book uid.now ≡ live)) }
+    ensures fault { IfErr result IsDeniedFault }
+    ensures unchanged { GivenTables (state S.Store conn.old) (state S.Store conn.new)
+        (OnOk result (IsUnchanged (state S.Store conn.old) (state S.Store conn.new))) }
+    ensures reads_only { OnlyReads (state S.Store conn.old) (state S.Store conn.new) }
+{
+    let id = column_of(header.id())?;
+    match find_member(conn, id, uid) {
+        Ok(row) => live_in(alloc, &row),
+        Err(Error::QueryReturnedNoRows) => Ok(None),
+        Err(error) => Err(fault_of(error)),
+    }
+}
+
+/// Returns the stored result of the import with this key in the book with this header; `None` if
+/// there is none. Fails with `Store` if its row is malformed.
+pub fn find_import_tally<S: Alter>(
+    conn: &mut Connection<S>,
+    header: BookHeader,
+    key: &str,
+) -> Result<Option<ImportTally>, Denied>
+    ensures tally { GivenBook (state S.Store conn.old) (state S.Store conn.new) header
+        (λ book. IfOk result (λ kept. finite.get book.imports key.now ≡ kept)) }
+    ensures fault { IfErr result IsDeniedFault }
+    ensures unchanged { GivenTables (state S.Store conn.old) (state S.Store conn.new)
+        (OnOk result (IsUnchanged (state S.Store conn.old) (state S.Store conn.new))) }
+    ensures reads_only { OnlyReads (state S.Store conn.old) (state S.Store conn.new) }
+{
+    let id = column_of(header.id())?;
+    let row = match find_import(conn, id, key) {
+        Ok(row) => row,
+        Err(Error::QueryReturnedNoRows) => return Ok(None),
+        Err(error) => return Err(fault_of(error)),
+    };
+    let tally = tally_in(&row)?;
+    Ok(Some(tally))
+}
+
+/// Returns the keep of the book with this header: how many removed members it remembers at most.
+/// Fails with `Store` if its row is missing or malformed.
+pub fn fetch_keep<S: Alter>(conn: &mut Connection<S>, header: BookHeader) -> Result<u64, Denied>
+    ensures keep { GivenBook (state S.Store conn.old) (state S.Store conn.new) header
+        (λ book. IfOk result (λ keep. book.keep ≡ keep)) }
+    ensures fault { IfErr result IsDeniedFault }
+    ensures unchanged { GivenTables (state S.Store conn.old) (state S.Store conn.new)
+        (OnOk result (IsUnchanged (state S.Store conn.old) (state S.Store conn.new))) }
+    ensures reads_only { OnlyReads (state S.Store conn.old) (state S.Store conn.new) }
+{
+    let id = column_of(header.id())?;
+    match find_keep(conn, id) {
+        Ok(row) => number_in(&row, 0),
+        Err(error) => Err(fault_of(error)),
+    }
+}
+
+/// Returns how many removed members the book with this header remembers: those above its horizon,
+/// counted by the query. Fails with `Store` if there are 2^63 - 1 or more.
+pub fn count_removals<S: Alter>(conn: &mut Connection<S>, header: BookHeader) -> Result<u64, Denied>
+    ensures remembered { GivenBook (state S.Store conn.old) (state S.Store conn.new) header
+        (λ book. IfOk result (λ count. tombstone_count book ≡ count)) }
+    ensures fault { IfErr result IsDeniedFault }
+    ensures unchanged { GivenTables (state S.Store conn.old) (state S.Store conn.new)
+        (OnOk result (IsUnchanged (state S.Store conn.old) (state S.Store conn.new))) }
+    ensures reads_only { OnlyReads (state S.Store conn.old) (state S.Store conn.new) }
+{
+    let id = column_of(header.id())?;
+    let horizon = column_of(header.horizon())?;
+    match count_removed(conn, id, horizon) {
+        Ok(row) => count_in(&row),
+        Err(error) => Err(fault_of(error)),
+    }
+}

@@ -1,0 +1,3 @@
+pub mod InitialKeeps
+pub mod Migration
+pub mod internal

@@ -1,0 +1,53 @@
+-- The contract of the migration from the first schema to the second. This project's own.
+use Rattle.std.specs.Prelude.{◌≡◌, ⊤, List, Err}
+use Rattle.sqlite.specs.Effect.{Database}
+use Rattle.sqlite.specs.Tree.{Trees}
+use Rattle.book_model.specs.Bounds.{Bounds}
+use Rattle.store_tables.specs.Keeps.{KeepRow, HoldKeeps}
+use Rattle.store_tables.specs.Meta.{schema_number}
+use Rattle.store_tables.specs.Tables.{book_schema}
+use Rattle.store_rows.specs.SoundTables.{HoldsWellFormed}
+use Rattle.store_rows.specs.TableRows.{rows_in}
+use Rattle.store_migration.specs.InitialKeeps.{initial_keeps}
+use Rattle.store_schema.specs.FirstSchema.{IsFirstSchema, ClassifiesFirstSchema}
+use Rattle.store_schema.specs.StoredSchema.{HasSchemaNumber}
+use Rattle.store_schema.specs.declared.open_fault.OpenFault.{OpenFault}
+use Rattle.store_schema.specs.declared.open_fault.OpenFault.TheVariants.{Store, NotOurs}
+use Rattle.store_schema.specs.declared.open_fault.OpenFault.TheVariants.{OtherSchema, Damaged}
+use Rattle.store_schema.specs.declared.open_fault.OpenFault.TheVariants.{NotEmpty, Memory}
+
+-- ---- the tables after it
+
+-- The tables are of the second schema and have these keeps. All rows of books, members and imports
+-- are unchanged.
+pub record AddsKeeps (keeps : List KeepRow) (old new : Database) : Type 0 where
+  pub schema : new.schema ≡ book_schema
+  pub meta : HasSchemaNumber schema_number new
+  pub books : new.trees 2 ≡ old.trees 2
+  pub members : new.trees 4 ≡ old.trees 4
+  pub imports : new.trees 7 ≡ old.trees 7
+  pub keeps_are : HoldKeeps (new.trees 9) keeps
+
+-- the same, with the computed keep of each book
+abbrev pub IsMigrated : Database → Database → Type 0
+IsMigrated old new = AddsKeeps (initial_keeps (rows_in old.trees)) old new
+
+-- The trees that a crash leaves after the one commit: those of the whole migration, over tables of
+-- the first schema.
+pub record CommitsMigration (limits : Bounds) (old : Database) (trees : Trees) : Type 0 where
+  pub first : IsFirstSchema old
+  pub migrated : IsMigrated old (record { schema = book_schema; trees = trees })
+  pub well_formed : HoldsWellFormed limits (record { schema = book_schema; trees = trees })
+
+-- ---- why tables are not migrated
+
+-- The error is right for the tables: they are not of the first schema; or they are, but no
+-- migration of them holds well-formed books (`Damaged`). A fault of the database can replace each.
+abbrev pub IsMigrationRefusal : Bounds → Database → OpenFault → Type 0
+IsMigrationRefusal limits db Store = ⊤
+IsMigrationRefusal limits db NotOurs = ClassifiesFirstSchema db (Err NotOurs)
+IsMigrationRefusal limits db (OtherSchema has) = ClassifiesFirstSchema db (Err (OtherSchema has))
+IsMigrationRefusal limits db Damaged =
+    IsFirstSchema db × ((new : Database) → IsMigrated db new → ¬ HoldsWellFormed limits new)
+IsMigrationRefusal limits db NotEmpty = ⊥
+IsMigrationRefusal limits db Memory = ⊤

@@ -1,0 +1,3 @@
+pub mod RowListLemmas
+pub mod ResultLemmas
+pub mod ListQueryLemmas

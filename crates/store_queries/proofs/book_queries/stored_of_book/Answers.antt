@@ -1,0 +1,24 @@
+use Rattle.std.proofs.Common.{rules, ◌≡◌, Err, sym, subst}
+use Rattle.sqlite.specs.Held.{state}
+use Rattle.book_model.specs.Books.{Book, live_at, live_or_no_such_card}
+use Rattle.book_model.specs.BookQueries.{get_step}
+use Rattle.store_tables.proofs.Lookups.{reads_then}
+use Rattle.store_rows.specs.TableBooks.{books_of}
+use Rattle.store_lookups.specs.CallResults.{FollowsStep, IsExactly}
+use Rattle.store_lookups.proofs.ReadLemmas.{none_returned, returns_then}
+use Rattle.store_queries.proofs.book_queries.stored_of_book.Goals as goal
+
+pub returns-in_err-header-clause-answers : goal.returns-in_err-header-clause-answers
+returns-in_err-header-clause-answers g c rows clean holds sound =
+    let said : c.from_residual.result ≡ Err c.in_err-header.field-0.0 = search rules in
+    subst (λ r. FollowsStep IsExactly r (get_step (books_of rows) c.args.name.now c.args.uid.now)) (sym said)
+    (none_returned IsExactly (λ (book : Book). live_or_no_such_card (live_at book c.args.uid.now)) c.args.name.now (state g.S.Store c.args.conn.now) (state g.S.Store c.find_header.new.conn) c.in_err-header.field-0.0 c.in_err-header.ensures.finds rows clean holds sound)
+
+pub returns-clause-answers : goal.returns-clause-answers
+returns-clause-answers g c =
+    returns_then IsExactly (λ (book : Book). live_or_no_such_card (live_at book c.args.uid.now)) c.args.name.now (state g.S.Store c.args.conn.now) (state g.S.Store c.find_header.new.conn) (state g.S.Store c.stored_at.new.conn) _ c.in_ok-header.header c.stored_at.result
+    c.in_ok-header.ensures.finds c.in_ok-header.ensures.unchanged c.stored_at.ensures.reads_only.survives c.stored_at.ensures.answers
+
+pub returns-clause-reads_only : goal.returns-clause-reads_only
+returns-clause-reads_only g c =
+    reads_then (state g.S.Store c.args.conn.now) (state g.S.Store c.find_header.new.conn) (state g.S.Store c.stored_at.new.conn) c.find_header.ensures.reads_only c.in_ok-header.ensures.unchanged c.stored_at.ensures.reads_only

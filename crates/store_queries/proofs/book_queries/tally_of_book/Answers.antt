@@ -1,0 +1,24 @@
+use Rattle.std.proofs.Common.{rules, ◌≡◌, Ok, Err, sym, subst}
+use Rattle.sqlite.specs.Held.{state}
+use Rattle.book_model.specs.Books.{Book}
+use Rattle.book_model.specs.BookQueries.{book_tally, tally_step}
+use Rattle.store_tables.proofs.Lookups.{reads_then}
+use Rattle.store_rows.specs.TableBooks.{books_of}
+use Rattle.store_lookups.specs.CallResults.{FollowsStep, IsExactly}
+use Rattle.store_lookups.proofs.ReadLemmas.{none_returned, returns_then}
+use Rattle.store_queries.proofs.book_queries.tally_of_book.Goals as goal
+
+pub returns-in_err-header-clause-answers : goal.returns-in_err-header-clause-answers
+returns-in_err-header-clause-answers g c rows clean holds sound =
+    let said : c.from_residual.result ≡ Err c.in_err-header.field-0.0 = search rules in
+    subst (λ r. FollowsStep IsExactly r (tally_step (books_of rows) c.args.name.now)) (sym said)
+    (none_returned IsExactly (λ (book : Book). Ok (book_tally book)) c.args.name.now (state g.S.Store c.args.conn.now) (state g.S.Store c.find_header.new.conn) c.in_err-header.field-0.0 c.in_err-header.ensures.finds rows clean holds sound)
+
+pub returns-clause-answers : goal.returns-clause-answers
+returns-clause-answers g c =
+    returns_then IsExactly (λ (book : Book). Ok (book_tally book)) c.args.name.now (state g.S.Store c.args.conn.now) (state g.S.Store c.find_header.new.conn) (state g.S.Store c.tally_at.new.conn) _ c.in_ok-header.header c.tally_at.result
+    c.in_ok-header.ensures.finds c.in_ok-header.ensures.unchanged c.tally_at.ensures.reads_only.survives c.tally_at.ensures.answers
+
+pub returns-clause-reads_only : goal.returns-clause-reads_only
+returns-clause-reads_only g c =
+    reads_then (state g.S.Store c.args.conn.now) (state g.S.Store c.find_header.new.conn) (state g.S.Store c.tally_at.new.conn) c.find_header.ensures.reads_only c.in_ok-header.ensures.unchanged c.tally_at.ensures.reads_only

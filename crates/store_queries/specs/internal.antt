@@ -1,0 +1,2 @@
+pub mod RowLists
+pub mod QuerySteps

@@ -1,0 +1,29 @@
+-- The steps of the queries of one book. This project's own.
+use Rattle.std.specs.Prelude.{ℕ, List, Option, Result, Ok}
+use Rattle.std.specs.FinMap as finite
+use Rattle.book_model.specs.declared.answers.ImportTally.{ImportTally}
+use Rattle.book_model.specs.declared.refusal.Refusal.{Refusal}
+use Rattle.book_model.specs.declared.refusal.Refusal.TheVariants.{BadKey}
+use Rattle.book_model.specs.declared.token.Mark.{Mark}
+use Rattle.book_model.specs.declared.token.Token.{Token}
+use Rattle.book_model.specs.Books.{Book}
+use Rattle.book_model.specs.Bounds.{Bounds}
+use Rattle.book_model.specs.Importing.{is_legal_key}
+use Rattle.book_model.specs.CallOutcomes.{◌>>=◌, refuse_unless}
+use Rattle.book_model.specs.Pages.{ReportRequest, requested_mark, page_size}
+
+-- the result of the import with a key
+abbrev pub import_tally_step : List ℕ → Book → Result (Option ImportTally) Refusal
+import_tally_step key book = do
+  legal ← refuse_unless (is_legal_key key) BadKey
+  Ok (finite.get book.imports key)
+
+abbrev pub request_for : Book → Mark → ℕ → ReportRequest
+request_for book mark size = record { book = book; mark = mark; size = size }
+
+-- a page
+abbrev pub page_step : Bounds → Option Token → Option ℕ → Book → Result ReportRequest Refusal
+page_step limits token limit book = do
+  mark ← requested_mark book.id book.number book.horizon token
+  size ← page_size limits.page_max limit
+  Ok (request_for book mark size)

@@ -1,0 +1,41 @@
+use Rattle.std.proofs.Common.{rules, ◌≡◌, Some, IfSome, Ok, Err, sym, ap₂, subst, ◌∙◌}
+use Rattle.book_model.specs.declared.denied.Denied.TheVariants.{Refused}
+use Rattle.book_model.specs.Books.{as_stored}
+use Rattle.book_model.specs.Counting.{live_count}
+use Rattle.book_model.specs.Moving.{move_answer, moving_of}
+use Rattle.book_model.specs.Putting.{FoundMember, found_in_book}
+use Rattle.store_rows.specs.TableBooks.{row_book, line_row}
+use Rattle.store_lookups.specs.CallResults.{FollowsStep}
+use Rattle.store_removals.specs.internal.Moves.{moving_between_books}
+use Rattle.store_removals.proofs.MoveLemmas.{IsMoving, refused_moving, moving_is_exact}
+use Rattle.store_writes.proofs.PlanLemmas.{lookup_is, lookup_of}
+use Rattle.store_removals.proofs.move_call.decide_move.Goals as goal
+
+pub returns-in_err-moved-clause-answers : goal.returns-in_err-moved-clause-answers
+returns-in_err-moved-clause-answers g c rows clean holds sound from to =
+    let book = row_book rows (line_row from c.args.source) in
+    let other = row_book rows (line_row to c.args.target) in
+    let live = c.in_ok-here.ensures.live rows clean holds sound from to in
+    let leaving : c.live.result ≡ live_count c.args.source.counts = search rules in
+    let joining : c.live-2.result ≡ live_count c.args.target.counts = search rules in
+    let same : lookup_of (as_stored c.as_version_and_card.result) c.live.result c.number.result ≡ found_in_book book c.args.uid.now = lookup_is _ _ _ _ _ _ (c.as_version_and_card.ensures ∙ sym live.0) leaving c.number.ensures in
+    let alike : lookup_of (as_stored c.as_version_and_card-2.result) c.live-2.result c.number-2.result ≡ found_in_book other c.args.uid.now = lookup_is _ _ _ _ _ _ (c.as_version_and_card-2.ensures ∙ sym live.1) joining c.number-2.ensures in
+    let is : moving_between_books c.args.limits c.args.uid.now c.args.expect book other ≡ Err c.in_err-moved.field-0.0 = ap₂ (λ (a b : FoundMember). move_answer c.args.limits a b c.args.expect) (sym same) (sym alike) ∙ c.in_err-moved.ensures.refusal in
+    let said : c.from_residual-in_err-moved.result ≡ Err (Refused c.in_err-moved.field-0.0) = search rules in
+    subst (λ r. FollowsStep IsMoving r (moving_between_books c.args.limits c.args.uid.now c.args.expect book other)) (sym said) (refused_moving _ c.in_err-moved.field-0.0 is)
+
+pub returns-in-Some-clause-answers : goal.returns-in-Some-clause-answers
+returns-in-Some-clause-answers g c rows clean holds sound from to =
+    let book = row_book rows (line_row from c.args.source) in
+    let other = row_book rows (line_row to c.args.target) in
+    let live = c.in_ok-here.ensures.live rows clean holds sound from to in
+    let leaving : c.live.result ≡ live_count c.args.source.counts = search rules in
+    let joining : c.live-2.result ≡ live_count c.args.target.counts = search rules in
+    let same : lookup_of (as_stored c.as_version_and_card.result) c.live.result c.number.result ≡ found_in_book book c.args.uid.now = lookup_is _ _ _ _ _ _ (c.as_version_and_card.ensures ∙ sym live.0) leaving c.number.ensures in
+    let alike : lookup_of (as_stored c.as_version_and_card-2.result) c.live-2.result c.number-2.result ≡ found_in_book other c.args.uid.now = lookup_is _ _ _ _ _ _ (c.as_version_and_card-2.ensures ∙ sym live.1) joining c.number-2.ensures in
+    let stored = c.in-Some.stored in
+    let some : as_stored c.as_version_and_card.result ≡ Some stored = c.as_version_and_card.ensures ∙ c.in-Some.is in
+    let asked : move_answer c.args.limits (lookup_of (as_stored c.as_version_and_card.result) c.live.result c.number.result) (lookup_of (as_stored c.as_version_and_card-2.result) c.live-2.result c.number-2.result) c.args.expect ≡ Ok (moving_of stored.card c.in_ok-moved.moved) =
+    subst (λ o. IfSome o (λ s. move_answer c.args.limits (lookup_of (as_stored c.as_version_and_card.result) c.live.result c.number.result) (lookup_of (as_stored c.as_version_and_card-2.result) c.live-2.result c.number-2.result) c.args.expect ≡ Ok (moving_of s.card c.in_ok-moved.moved))) some c.in_ok-moved.ensures.answer in
+    let is : moving_between_books c.args.limits c.args.uid.now c.args.expect book other ≡ Ok (moving_of stored.card c.in_ok-moved.moved) = ap₂ (λ (a b : FoundMember). move_answer c.args.limits a b c.args.expect) (sym same) (sym alike) ∙ asked in
+    moving_is_exact _ (stored.card, c.in_ok-moved.moved) is

@@ -1,0 +1,49 @@
+use Rattle.std.proofs.Common.{rules, ◌≡◌, Ok, Err, sym, subst}
+use Rattle.sqlite.specs.Held.{state}
+use Rattle.sqlite.specs.State.{HasCleanDisk}
+use Rattle.book_model.specs.Books.{Book, book_named}
+use Rattle.book_model.specs.CallOutcomes.{◌>>=◌}
+use Rattle.store_tables.proofs.SchemaCreationLemmas.{clean_before}
+use Rattle.store_tables.proofs.Lookups.{reads_then}
+use Rattle.store_lookups.specs.CallResults.{IsExactly}
+use Rattle.store_lookups.proofs.ReadLemmas.{in_book, in_none, over_then}
+use Rattle.store_rows.specs.TableBooks.{row_book, books_of, line_row}
+use Rattle.store_removals.specs.internal.Moves.{AreBothNamed}
+use Rattle.store_removals.proofs.move_call.find_both_headers.Goals as goal
+
+pub returns-in_err-source-clause-finds : goal.returns-in_err-source-clause-finds
+returns-in_err-source-clause-finds g c rows clean holds sound =
+    let said : c.from_residual.result ≡ Err c.in_err-source.field-0.0 = search rules in
+    subst (λ r. AreBothNamed rows c.args.from.now c.args.to.now r) (sym said)
+    (in_none {T = Book × Book} {A = Book × Book} IsExactly rows c.args.from.now (λ source. book_named (books_of rows) c.args.to.now >>= λ target. Ok (source, target)) c.in_err-source.field-0.0 (c.in_err-source.ensures.finds rows clean holds sound))
+
+pub returns-in_err-target-clause-finds : goal.returns-in_err-target-clause-finds
+returns-in_err-target-clause-finds g c rows clean holds sound =
+    let old = state g.S.Store c.args.conn.now in
+    let mid = state g.S.Store c.open_header.new.conn in
+    let new = state g.S.Store c.find_header.new.conn in
+    let early : HasCleanDisk mid = clean_before _ mid new c.find_header.ensures.reads_only.survives clean in
+    let there = c.in_ok-source.ensures.finds rows early holds sound in
+    let none = over_then old mid new _ _ c.in_ok-source.ensures.unchanged c.find_header.ensures.reads_only.survives c.in_err-target.ensures.finds rows clean holds sound in
+    let book = row_book rows (line_row c.args.from.now c.in_ok-source.source) in
+    let said : c.from_residual-in_err-target.result ≡ Err c.in_err-target.field-0.0 = search rules in
+    subst (λ r. AreBothNamed rows c.args.from.now c.args.to.now r) (sym said)
+    (in_book {T = Book × Book} {A = Book × Book} IsExactly rows c.args.from.now c.in_ok-source.source (λ source. book_named (books_of rows) c.args.to.now >>= λ target. Ok (source, target)) (Err c.in_err-target.field-0.0) there
+    (in_none {T = Book × Book} {A = Book × Book} IsExactly rows c.args.to.now (λ target. Ok (book, target)) c.in_err-target.field-0.0 none))
+
+pub returns-in_err-target-clause-reads_only : goal.returns-in_err-target-clause-reads_only
+returns-in_err-target-clause-reads_only g c =
+    reads_then (state g.S.Store c.args.conn.now) (state g.S.Store c.open_header.new.conn) (state g.S.Store c.find_header.new.conn) c.open_header.ensures.reads_only c.in_ok-source.ensures.unchanged c.find_header.ensures.reads_only
+
+pub returns-clause-finds : goal.returns-clause-finds
+returns-clause-finds g c rows clean holds sound =
+    let old = state g.S.Store c.args.conn.now in
+    let mid = state g.S.Store c.open_header.new.conn in
+    let new = state g.S.Store c.find_header.new.conn in (
+      c.in_ok-source.ensures.finds rows (clean_before _ mid new c.find_header.ensures.reads_only.survives clean) holds sound,
+      over_then old mid new _ _ c.in_ok-source.ensures.unchanged c.find_header.ensures.reads_only.survives c.in_ok-target.ensures.finds rows clean holds sound,
+    )
+
+pub returns-clause-reads_only : goal.returns-clause-reads_only
+returns-clause-reads_only g c =
+    reads_then (state g.S.Store c.args.conn.now) (state g.S.Store c.open_header.new.conn) (state g.S.Store c.find_header.new.conn) c.open_header.ensures.reads_only c.in_ok-source.ensures.unchanged c.find_header.ensures.reads_only

@@ -1,0 +1,24 @@
+use Rattle.sqlite.specs.Held.{state}
+use Rattle.sqlite.specs.State.{HasCleanDisk}
+use Rattle.store_tables.proofs.SchemaCreationLemmas.{clean_before}
+use Rattle.store_tables.proofs.Lookups.{reads_then}
+use Rattle.store_lookups.proofs.ReadLemmas.{over_then}
+use Rattle.store_removals.proofs.move_call.find_both_live.Goals as goal
+
+pub returns-in_err-there-clause-reads_only : goal.returns-in_err-there-clause-reads_only
+returns-in_err-there-clause-reads_only g c =
+    reads_then (state g.S.Store c.args.conn.now) (state g.S.Store c.find_live.new.conn) (state g.S.Store c.find_live-2.new.conn) c.find_live.ensures.reads_only c.in_ok-here.ensures.unchanged c.find_live-2.ensures.reads_only
+
+pub returns-clause-live : goal.returns-clause-live
+returns-clause-live g c rows clean holds sound from to =
+    let old = state g.S.Store c.args.conn.now in
+    let mid = state g.S.Store c.find_live.new.conn in
+    let new = state g.S.Store c.find_live-2.new.conn in
+    let early : HasCleanDisk mid = clean_before _ mid new c.find_live-2.ensures.reads_only.survives clean in (
+      c.in_ok-here.ensures.live rows early holds sound from,
+      over_then old mid new _ _ c.in_ok-here.ensures.unchanged c.find_live-2.ensures.reads_only.survives c.in_ok-there.ensures.live rows clean holds sound to,
+    )
+
+pub returns-clause-reads_only : goal.returns-clause-reads_only
+returns-clause-reads_only g c =
+    reads_then (state g.S.Store c.args.conn.now) (state g.S.Store c.find_live.new.conn) (state g.S.Store c.find_live-2.new.conn) c.find_live.ensures.reads_only c.in_ok-here.ensures.unchanged c.find_live-2.ensures.reads_only

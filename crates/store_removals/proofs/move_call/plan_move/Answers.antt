@@ -1,0 +1,81 @@
+use Rattle.std.proofs.Common.{rules, ◌≡◌, ◌≤◌, ℕ, false, Err, sym, subst, ◌∙◌}
+use Rattle.std.proofs.lemmas.Map.Text.{is_eq-slice_cmp}
+use Rattle.sqlite.specs.Held.{state}
+use Rattle.sqlite.specs.State.{HasCleanDisk}
+use Rattle.book_model.specs.Books.{same_name}
+use Rattle.book_model.specs.Putting.{found_in_book}
+use Rattle.book_model.specs.Moving.{moving_of}
+use Rattle.store_tables.proofs.SchemaCreationLemmas.{clean_before}
+use Rattle.store_tables.proofs.Lookups.{reads_then}
+use Rattle.store_lookups.proofs.ReadLemmas.{over_then}
+use Rattle.store_rows.specs.TableBooks.{row_book, line_row}
+use Rattle.store_removals.specs.internal.Moves.{IsMovePlanned, moving_between_books}
+use Rattle.store_removals.proofs.MoveLemmas.{apart_among, denied_among, move_drops, moving_back, same_among}
+use Rattle.store_removals.proofs.RemoveLemmas.{same_then}
+use Rattle.store_removals.proofs.move_call.plan_move.Goals as goal
+
+pub returns-then-eq-clause-planned : goal.returns-then-eq-clause-planned
+returns-then-eq-clause-planned g c rows clean holds sound =
+    let named = c.in_ok-source.ensures.finds rows clean holds sound in
+    same_among c.args.limits rows c.args.from.now c.args.to.now c.args.uid.now c.args.expect c.in_ok-source.source c.in_ok-source.target named.0 named.1 (is_eq-slice_cmp c.args.from.now c.args.to.now ∙ sym c.eq.ensures ∙ c.if-eq.true)
+
+pub returns-in_err-card-clause-planned : goal.returns-in_err-card-clause-planned
+returns-in_err-card-clause-planned g c rows clean holds sound =
+    let old = state g.S.Store c.args.conn.now in
+    let mid = state g.S.Store c.find_both_headers.new.conn in
+    let new = state g.S.Store c.decide_move.new.conn in
+    let early : HasCleanDisk mid = clean_before _ mid new c.decide_move.ensures.reads_only.survives clean in
+    let named = c.in_ok-source.ensures.finds rows early holds sound in
+    let apart : same_name c.args.from.now c.args.to.now ≡ false = is_eq-slice_cmp c.args.from.now c.args.to.now ∙ sym c.eq.ensures ∙ c.if-eq.false in
+    let returned = over_then old mid new _ _ c.in_ok-source.ensures.unchanged c.decide_move.ensures.reads_only.survives c.in_err-card.ensures.answers rows clean holds sound c.args.from.now c.args.to.now in
+    let said : c.from_residual-in_err-card.result ≡ Err c.in_err-card.field-0.0 = search rules in
+    subst (λ r. IsMovePlanned c.args.limits rows c.args.from.now c.args.to.now c.args.uid.now c.args.expect r) (sym said)
+    (denied_among _ _ c.in_err-card.field-0.0 (apart_among c.args.limits rows c.args.from.now c.args.to.now c.args.uid.now c.args.expect c.in_ok-source.source c.in_ok-source.target named.0 named.1 apart) returned)
+
+pub returns-in_err-card-clause-reads_only : goal.returns-in_err-card-clause-reads_only
+returns-in_err-card-clause-reads_only g c =
+    reads_then (state g.S.Store c.args.conn.now) (state g.S.Store c.find_both_headers.new.conn) (state g.S.Store c.decide_move.new.conn) c.find_both_headers.ensures.reads_only c.in_ok-source.ensures.unchanged c.decide_move.ensures.reads_only
+
+pub returns-in_err-drop-clause-reads_only : goal.returns-in_err-drop-clause-reads_only
+returns-in_err-drop-clause-reads_only g c =
+    let old = state g.S.Store c.args.conn.now in
+    let a = state g.S.Store c.find_both_headers.new.conn in
+    let b = state g.S.Store c.decide_move.new.conn in
+    let read = reads_then old a b c.find_both_headers.ensures.reads_only c.in_ok-source.ensures.unchanged c.decide_move.ensures.reads_only in
+    let same = same_then old a b _ c.in_ok-source.ensures.unchanged c.decide_move.ensures.reads_only.survives c.in_ok-card.ensures.unchanged in
+    reads_then old b (state g.S.Store c.plan_drop.new.conn) read same c.plan_drop.ensures.reads_only
+
+pub returns-clause-planned : goal.returns-clause-planned
+returns-clause-planned g c rows clean holds sound =
+    let old = state g.S.Store c.args.conn.now in
+    let a = state g.S.Store c.find_both_headers.new.conn in
+    let b = state g.S.Store c.decide_move.new.conn in
+    let new = state g.S.Store c.plan_drop.new.conn in
+    let later : HasCleanDisk b = clean_before _ b new c.plan_drop.ensures.reads_only.survives clean in
+    let early : HasCleanDisk a = clean_before _ a b c.decide_move.ensures.reads_only.survives later in
+    let from = c.args.from.now in
+    let to = c.args.to.now in
+    let source = c.in_ok-source.source in
+    let target = c.in_ok-source.target in
+    let named = c.in_ok-source.ensures.finds rows early holds sound in
+    let same = same_then old a b _ c.in_ok-source.ensures.unchanged c.decide_move.ensures.reads_only.survives c.in_ok-card.ensures.unchanged in
+    let moving = moving_back (moving_between_books c.args.limits c.args.uid.now c.args.expect (row_book rows (line_row from source)) (row_book rows (line_row to target))) (c.in_ok-card.card, c.in_ok-card.moved)
+    (over_then old a b _ _ c.in_ok-source.ensures.unchanged c.decide_move.ensures.reads_only.survives c.in_ok-card.ensures.answers rows later holds sound from to) in
+    let drop = over_then old b new _ _ same c.plan_drop.ensures.reads_only.survives c.in_ok-drop.ensures.drop rows clean holds sound from in
+    record {
+      source = named.0;
+      target = named.1;
+      apart = is_eq-slice_cmp c.args.from.now c.args.to.now ∙ sym c.eq.ensures ∙ c.if-eq.false;
+      moving = moving;
+      drop = move_drops rows from source c.args.uid.now c.args.limits (found_in_book (row_book rows (line_row to target)) c.args.uid.now) c.args.expect (moving_of c.in_ok-card.card c.in_ok-card.moved) c.in_ok-drop.drop sound
+          (subst (λ (n : ℕ). n ≤ source.number) c.horizon-low.ensures.value c.horizon-low.ensures.most) moving drop;
+    }
+
+pub returns-clause-reads_only : goal.returns-clause-reads_only
+returns-clause-reads_only g c =
+    let old = state g.S.Store c.args.conn.now in
+    let a = state g.S.Store c.find_both_headers.new.conn in
+    let b = state g.S.Store c.decide_move.new.conn in
+    let read = reads_then old a b c.find_both_headers.ensures.reads_only c.in_ok-source.ensures.unchanged c.decide_move.ensures.reads_only in
+    let same = same_then old a b _ c.in_ok-source.ensures.unchanged c.decide_move.ensures.reads_only.survives c.in_ok-card.ensures.unchanged in
+    reads_then old b (state g.S.Store c.plan_drop.new.conn) read same c.plan_drop.ensures.reads_only

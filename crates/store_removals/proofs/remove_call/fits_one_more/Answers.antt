@@ -1,0 +1,25 @@
+use Rattle.std.proofs.Common.{◌≡◌, ◌+◌, ℕ, nat_le, sym, ap₂, ◌∙◌}
+use Rattle.sqlite.specs.Held.{state}
+use Rattle.sqlite.specs.State.{HasCleanDisk}
+use Rattle.store_tables.proofs.SchemaCreationLemmas.{clean_before}
+use Rattle.store_tables.proofs.Lookups.{reads_then}
+use Rattle.store_lookups.proofs.ReadLemmas.{over_then}
+use Rattle.store_removals.proofs.RemoveLemmas.{one_more_fits}
+use Rattle.store_removals.proofs.remove_call.fits_one_more.Goals as goal
+
+pub returns-in_err-remembered-clause-reads_only : goal.returns-in_err-remembered-clause-reads_only
+returns-in_err-remembered-clause-reads_only g c =
+    reads_then (state g.S.Store c.args.conn.now) (state g.S.Store c.fetch_keep.new.conn) (state g.S.Store c.count_removals.new.conn) c.fetch_keep.ensures.reads_only c.in_ok-keep.ensures.unchanged c.count_removals.ensures.reads_only
+
+pub returns-clause-has_room : goal.returns-clause-has_room
+returns-clause-has_room g c rows clean holds sound name =
+    let mid = state g.S.Store c.fetch_keep.new.conn in
+    let new = state g.S.Store c.count_removals.new.conn in
+    let early : HasCleanDisk mid = clean_before _ mid new c.count_removals.ensures.reads_only.survives clean in
+    let keep = c.in_ok-keep.ensures.keep rows early holds sound name in
+    let remembered = over_then (state g.S.Store c.args.conn.now) mid new _ _ c.in_ok-keep.ensures.unchanged c.count_removals.ensures.reads_only.survives c.in_ok-remembered.ensures.remembered rows clean holds sound name in
+    ap₂ (λ (n k : ℕ). nat_le (n + 1) k) remembered keep ∙ sym (one_more_fits c.in_ok-remembered.remembered c.in_ok-keep.keep)
+
+pub returns-clause-reads_only : goal.returns-clause-reads_only
+returns-clause-reads_only g c =
+    reads_then (state g.S.Store c.args.conn.now) (state g.S.Store c.fetch_keep.new.conn) (state g.S.Store c.count_removals.new.conn) c.fetch_keep.ensures.reads_only c.in_ok-keep.ensures.unchanged c.count_removals.ensures.reads_only

@@ -1,0 +1,88 @@
+use Rattle.std.proofs.Common.{rules, ◌≡◌, ◌≤◌, ℕ, Err, sym, subst}
+use Rattle.sqlite.specs.Held.{state}
+use Rattle.sqlite.specs.State.{HasCleanDisk}
+use Rattle.store_tables.proofs.SchemaCreationLemmas.{clean_before}
+use Rattle.store_tables.proofs.Lookups.{reads_then}
+use Rattle.store_lookups.specs.CallResults.{IsExactly}
+use Rattle.store_lookups.proofs.ReadLemmas.{none_returned, over_then, returns_then}
+use Rattle.store_rows.specs.TableBooks.{row_book, line_row}
+use Rattle.store_removals.specs.internal.Removals.{IsRemovalPlanned, removal_number_in}
+use Rattle.store_writes.proofs.PlanLemmas.{answer_is_exact}
+use Rattle.store_removals.proofs.RemoveLemmas.{drop_is, fault_removes, same_then}
+use Rattle.store_removals.proofs.remove_call.plan_remove.Goals as goal
+
+pub returns-in_err-header-clause-planned : goal.returns-in_err-header-clause-planned
+returns-in_err-header-clause-planned g c rows clean holds sound =
+    let said : c.from_residual.result ≡ Err c.in_err-header.field-0.0 = search rules in
+    subst (λ r. IsRemovalPlanned c.args.limits rows c.args.name.now c.args.uid.now c.args.expect r) (sym said)
+    (none_returned IsExactly (removal_number_in c.args.limits c.args.uid.now c.args.expect) c.args.name.now (state g.S.Store c.args.conn.now) (state g.S.Store c.open_header.new.conn) c.in_err-header.field-0.0 c.in_err-header.ensures.finds rows clean holds sound)
+
+pub returns-in_err-number-clause-planned : goal.returns-in_err-number-clause-planned
+returns-in_err-number-clause-planned g c rows clean holds sound =
+    let said : c.from_residual-in_err-number.result ≡ Err c.in_err-number.field-0.0 = search rules in
+    subst (λ r. IsRemovalPlanned c.args.limits rows c.args.name.now c.args.uid.now c.args.expect r) (sym said)
+    (returns_then IsExactly (removal_number_in c.args.limits c.args.uid.now c.args.expect) c.args.name.now (state g.S.Store c.args.conn.now) (state g.S.Store c.open_header.new.conn) (state g.S.Store c.decide_removal.new.conn) _ c.in_ok-header.header (Err c.in_err-number.field-0.0)
+    c.in_ok-header.ensures.finds c.in_ok-header.ensures.unchanged c.decide_removal.ensures.reads_only.survives c.in_err-number.ensures.answers rows clean holds sound)
+
+pub returns-in_err-number-clause-reads_only : goal.returns-in_err-number-clause-reads_only
+returns-in_err-number-clause-reads_only g c =
+    reads_then (state g.S.Store c.args.conn.now) (state g.S.Store c.open_header.new.conn) (state g.S.Store c.decide_removal.new.conn) c.open_header.ensures.reads_only c.in_ok-header.ensures.unchanged c.decide_removal.ensures.reads_only
+
+pub returns-in_err-drop-clause-planned : goal.returns-in_err-drop-clause-planned
+returns-in_err-drop-clause-planned g c rows clean holds sound =
+    let said : c.from_residual-in_err-drop.result ≡ Err c.in_err-drop.field-0.0 = search rules in
+    subst (λ r. IsRemovalPlanned c.args.limits rows c.args.name.now c.args.uid.now c.args.expect r) (sym said)
+    (fault_removes c.args.limits rows c.args.name.now c.args.uid.now c.args.expect c.in_err-drop.field-0.0 c.in_err-drop.ensures.fault)
+
+pub returns-in_err-drop-clause-reads_only : goal.returns-in_err-drop-clause-reads_only
+returns-in_err-drop-clause-reads_only g c =
+    let old = state g.S.Store c.args.conn.now in
+    let a = state g.S.Store c.open_header.new.conn in
+    let b = state g.S.Store c.decide_removal.new.conn in
+    let read = reads_then old a b c.open_header.ensures.reads_only c.in_ok-header.ensures.unchanged c.decide_removal.ensures.reads_only in
+    let same = same_then old a b _ c.in_ok-header.ensures.unchanged c.decide_removal.ensures.reads_only.survives c.in_ok-number.ensures.unchanged in
+    reads_then old b (state g.S.Store c.plan_drop.new.conn) read same c.plan_drop.ensures.reads_only
+
+pub returns-clause-planned : goal.returns-clause-planned
+returns-clause-planned g c rows clean holds sound =
+    let old = state g.S.Store c.args.conn.now in
+    let a = state g.S.Store c.open_header.new.conn in
+    let b = state g.S.Store c.decide_removal.new.conn in
+    let new = state g.S.Store c.plan_drop.new.conn in
+    let later : HasCleanDisk b = clean_before _ b new c.plan_drop.ensures.reads_only.survives clean in
+    let early : HasCleanDisk a = clean_before _ a b c.decide_removal.ensures.reads_only.survives later in
+    let name = c.args.name.now in
+    let header = c.in_ok-header.header in
+    let same = same_then old a b _ c.in_ok-header.ensures.unchanged c.decide_removal.ensures.reads_only.survives c.in_ok-number.ensures.unchanged in
+    let number = answer_is_exact (removal_number_in c.args.limits c.args.uid.now c.args.expect (row_book rows (line_row name header))) c.in_ok-number.number
+    (over_then old a b _ _ c.in_ok-header.ensures.unchanged c.decide_removal.ensures.reads_only.survives c.in_ok-number.ensures.answers rows later holds sound name) in
+    let drop = over_then old b new _ _ same c.plan_drop.ensures.reads_only.survives c.in_ok-drop.ensures.drop rows clean holds sound name in
+    record {
+      named = c.in_ok-header.ensures.finds rows early holds sound;
+      number = number;
+      drop = drop_is rows name header c.args.uid.now c.args.limits c.args.expect c.in_ok-number.number c.in_ok-drop.drop sound (subst (λ (n : ℕ). n ≤ header.number) c.horizon-low.ensures.value c.horizon-low.ensures.most) number drop;
+    }
+
+pub returns-clause-unchanged : goal.returns-clause-unchanged
+returns-clause-unchanged g c =
+    let old = state g.S.Store c.args.conn.now in
+    let a = state g.S.Store c.open_header.new.conn in
+    let b = state g.S.Store c.decide_removal.new.conn in
+    let same = same_then old a b _ c.in_ok-header.ensures.unchanged c.decide_removal.ensures.reads_only.survives c.in_ok-number.ensures.unchanged in
+    same_then old b (state g.S.Store c.plan_drop.new.conn) _ same c.plan_drop.ensures.reads_only.survives c.in_ok-drop.ensures.unchanged
+
+pub returns-clause-reads_only : goal.returns-clause-reads_only
+returns-clause-reads_only g c =
+    let old = state g.S.Store c.args.conn.now in
+    let a = state g.S.Store c.open_header.new.conn in
+    let b = state g.S.Store c.decide_removal.new.conn in
+    let read = reads_then old a b c.open_header.ensures.reads_only c.in_ok-header.ensures.unchanged c.decide_removal.ensures.reads_only in
+    let same = same_then old a b _ c.in_ok-header.ensures.unchanged c.decide_removal.ensures.reads_only.survives c.in_ok-number.ensures.unchanged in
+    reads_then old b (state g.S.Store c.plan_drop.new.conn) read same c.plan_drop.ensures.reads_only
+
+pub returns-clause-was_open : goal.returns-clause-was_open
+returns-clause-was_open g c clean =
+    let a = state g.S.Store c.open_header.new.conn in
+    let b = state g.S.Store c.decide_removal.new.conn in
+    let later : HasCleanDisk b = clean_before _ b (state g.S.Store c.plan_drop.new.conn) c.plan_drop.ensures.reads_only.survives clean in
+    c.in_ok-header.ensures.was_open (clean_before _ a b c.decide_removal.ensures.reads_only.survives later)

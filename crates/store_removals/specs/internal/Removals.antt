@@ -1,0 +1,55 @@
+-- The plan of a removal, computed from the tables before anything is written. This project's own.
+use Rattle.std.specs.Prelude.{◌≡◌, ◌+◌, ℕ, nat_le, if◌then◌else◌, List, Option, Some, None, Result}
+use Rattle.std.specs.Prelude.{Ok, Err}
+use Rattle.book_model.specs.declared.change.Change.TheVariants.{TakesAway}
+use Rattle.book_model.specs.declared.change.RemovalReason.{RemovalReason}
+use Rattle.book_model.specs.declared.change.RemovalReason.TheVariants.{Deletion}
+use Rattle.book_model.specs.declared.denied.Denied.{Denied}
+use Rattle.book_model.specs.declared.refusal.Refusal.{Refusal}
+use Rattle.book_model.specs.Bounds.{Bounds}
+use Rattle.book_model.specs.Books.{Book, book_named}
+use Rattle.book_model.specs.BookChanges.{forced_horizon, book_with_row}
+use Rattle.book_model.specs.CallOutcomes.{◌>>=◌}
+use Rattle.book_model.specs.Putting.{found_in_book}
+use Rattle.book_model.specs.BookQueries.{tombstone_count}
+use Rattle.book_model.specs.Removing.{remove_number}
+use Rattle.store_rows.specs.ChangeLaws.{header_after}
+use Rattle.store_rows.specs.ForgetLaws.{first_with_next}
+use Rattle.store_rows.specs.LookupLaws.{IsBookNamed}
+use Rattle.store_rows.specs.TableBooks.{HeaderRow, row_book, books_of, line_row}
+use Rattle.store_rows.specs.TableRows.{TableRows}
+use Rattle.store_lookups.specs.CallResults.{FollowsStep, IsExactly}
+use Rattle.store_removals.specs.declared.remove_call.Removal.{Removal}
+
+-- the number of a removal in a book
+abbrev pub removal_number_in : Bounds → List ℕ → Option ℕ → Book → Result ℕ Refusal
+removal_number_in limits uid expect book = remove_number limits (found_in_book book uid) expect
+
+-- how far the book forgets tombstones if its next change removes one more member
+abbrev pub drop_by_next_removal : Book → Option ℕ
+drop_by_next_removal book =
+    if nat_le (tombstone_count book + 1) book.keep then None else Some (first_with_next book)
+
+-- a valid plan for the named book: its header, the removal's number, and how far it forgets
+pub record IsRemovalOf (limits : Bounds) (rows : TableRows) (name uid : List ℕ)
+    (expect : Option ℕ) (plan : Removal) : Type 0 where
+  pub named : IsBookNamed rows name plan.header
+  pub number : removal_number_in limits uid expect (row_book rows (line_row name plan.header))
+      ≡ Ok plan.number
+  pub drop : forced_horizon (TakesAway Deletion)
+      (book_with_row (row_book rows (line_row name plan.header)) uid (TakesAway Deletion))
+      ≡ plan.drop
+
+-- the plan is valid for the named book, or the error is the model's refusal or a fault
+abbrev pub IsRemovalPlanned : Bounds → TableRows → List ℕ → List ℕ → Option ℕ
+    → Result Removal Denied → Type 0
+IsRemovalPlanned limits rows name uid expect (Ok plan) =
+    IsRemovalOf limits rows name uid expect plan
+IsRemovalPlanned limits rows name uid expect (Err denied) =
+    FollowsStep {T = ℕ} {A = ℕ} IsExactly (Err denied)
+    (book_named (books_of rows) name >>= removal_number_in limits uid expect)
+
+-- the header of a book after a removal that forgets tombstones up to the number
+abbrev pub header_after_drop : RemovalReason → ℕ → HeaderRow → HeaderRow
+header_after_drop why upto header =
+    record (header_after (TakesAway why) header) { horizon = upto }

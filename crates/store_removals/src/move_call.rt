@@ -1,0 +1,183 @@
+//! The move: taking a card from one book to another.
+ghost use Rattle.book_model.specs.Books.{live_at};
+ghost use Rattle.book_model.specs.Moving.{move_step, moving_of};
+ghost use Rattle.store_lookups.specs.CallResults.{FollowsStep, GivenSoundRows};
+ghost use Rattle.store_lookups.specs.Faults.{IsDeniedFault};
+ghost use Rattle.store_rows.specs.TableBooks.{row_book, line_row};
+ghost use Rattle.store_writes.specs.TableChanges.{AppliesStep, CommitsOnce};
+ghost use Rattle.store_removals.specs.internal.Moves.{AreBothNamed, IsMovePlanned};
+ghost use Rattle.store_removals.specs.internal.Moves.{moving_between_books};
+ghost use Rattle.store_tables.specs.StatementEffects.{OnlyReads, GivenTables};
+ghost use Rattle.sqlite.specs.Held.{state};
+ghost use Rattle.sqlite.specs.State.{HasCleanDisk, IsUnchanged};
+ghost use Rattle.std.specs.Prelude.{◌≡◌, ◌<◌, ◌^◌, IfErr, IfOk, IsTrue, List, OnOk, false, ℕ};
+
+use crate::moving::write_move;
+use crate::remove_call::plan_drop;
+use book_model::decisions::{MemberLookup, answer_to_move};
+use book_model::{Denied, Limits, Moved, Refusal, Stored};
+use sqlite::{Alter, Connection};
+use std::alloc::Global;
+use store_lookups::{BookHeader, find_header, find_live};
+use store_writes::lookups::{as_version_and_card, open_header};
+use vcard_text::Card;
+
+/// A planned move: the headers of both books before it, the card, its new numbers, and the number
+/// up to which the source book forgets tombstones, `None` if it forgets nothing.
+#[derive(Drop)]
+pub(crate) struct Transfer {
+    pub(crate) source: BookHeader,
+    pub(crate) target: BookHeader,
+    pub(crate) card: Card,
+    pub(crate) moved: Moved,
+    pub(crate) drop: Option<u64>,
+}
+
+/// Checks the connection and finds the headers of both books. Refused with `NoSuchBook`.
+fn find_both_headers<S: Alter>(
+    conn: &mut Connection<S>,
+    from: &str,
+    to: &str,
+) -> Result<(BookHeader, BookHeader), Denied>
+    ensures finds { GivenSoundRows (state S.Store conn.old) (state S.Store conn.new)
+        (λ rows. AreBothNamed rows from.now to.now result) }
+    ensures unchanged { GivenTables (state S.Store conn.old) (state S.Store conn.new)
+        (OnOk result (IsUnchanged (state S.Store conn.old) (state S.Store conn.new))) }
+    ensures was_open { HasCleanDisk (state S.Store conn.new)
+        → OnOk result (IsTrue (state S.Store conn.old).is_open) }
+    ensures reads_only { OnlyReads (state S.Store conn.old) (state S.Store conn.new) }
+{
+    let source = open_header(conn, from)?;
+    let target = find_header(conn, to)?;
+    Ok((source, target))
+}
+
+/// The live cards of the UID in the two books.
+fn find_both_live<S: Alter>(
+    alloc: Global,
+    conn: &mut Connection<S>,
+    source: BookHeader,
+    target: BookHeader,
+    uid: &str,
+) -> Result<(Option<Stored>, Option<Stored>), Denied>
+    ensures live { GivenSoundRows (state S.Store conn.old) (state S.Store conn.new)
+        (λ rows. (from to : List ℕ) → IfOk result (λ live.
+        (live_at (row_book rows (line_row from source)) uid.now ≡ live.0)
+        × (live_at (row_book rows (line_row to target)) uid.now ≡ live.1))) }
+    ensures fault { IfErr result IsDeniedFault }
+    ensures unchanged { GivenTables (state S.Store conn.old) (state S.Store conn.new)
+        (OnOk result (IsUnchanged (state S.Store conn.old) (state S.Store conn.new))) }
+    ensures reads_only { OnlyReads (state S.Store conn.old) (state S.Store conn.new) }
+{
+    let here = find_live(alloc, conn, source, uid)?;
+    let there = find_live(alloc, conn, target, uid)?;
+    Ok((here, there))
+}
+
+/// The card that moves between the two books, and its new numbers.
+fn decide_move<S: Alter>(
+    alloc: Global,
+    conn: &mut Connection<S>,
+    limits: Limits,
+    source: BookHeader,
+    target: BookHeader,
+    uid: &str,
+    expect: Option<u64>,
+) -> Result<(Card, Moved), Denied>
+    ensures answers { GivenSoundRows (state S.Store conn.old) (state S.Store conn.new)
+        (λ rows. (from to : List ℕ) → FollowsStep (λ asked moving.
+        moving_of moving.0 moving.1 ≡ asked) result (moving_between_books limits uid.now expect
+        (row_book rows (line_row from source)) (row_book rows (line_row to target)))) }
+    ensures source_number_fits { OnOk result (source.number < 2 ^ 63) }
+    ensures target_number_fits { OnOk result (target.number < 2 ^ 63) }
+    ensures unchanged { GivenTables (state S.Store conn.old) (state S.Store conn.new)
+        (OnOk result (IsUnchanged (state S.Store conn.old) (state S.Store conn.new))) }
+    ensures reads_only { OnlyReads (state S.Store conn.old) (state S.Store conn.new) }
+{
+    let (here, there) = find_both_live(alloc, conn, source, target, uid)?;
+    let leaving = source.counts();
+    let joining = target.counts();
+    let found = MemberLookup {
+        live: as_version_and_card(&here),
+        cards: leaving.live(),
+        number: source.number(),
+    };
+    let other = MemberLookup {
+        live: as_version_and_card(&there),
+        cards: joining.live(),
+        number: target.number(),
+    };
+    let moved = answer_to_move(limits, found, other, expect)?;
+    match here {
+        Some(stored) => Ok((stored.card, moved)),
+        None => Err(Denied::Refused(Refusal::NoSuchCard)),
+    }
+}
+
+/// Plans the move of the card from one book to the other.
+fn plan_move<S: Alter>(
+    alloc: Global,
+    conn: &mut Connection<S>,
+    limits: Limits,
+    from: &str,
+    to: &str,
+    uid: &str,
+    expect: Option<u64>,
+) -> Result<Transfer, Denied>
+    ensures planned { GivenSoundRows (state S.Store conn.old) (state S.Store conn.new)
+        (λ rows. IsMovePlanned limits rows from.now to.now uid.now expect result) }
+    ensures source_number_fits { IfOk result (λ plan. plan.source.number < 2 ^ 63) }
+    ensures target_number_fits { IfOk result (λ plan. plan.target.number < 2 ^ 63) }
+    ensures unchanged { GivenTables (state S.Store conn.old) (state S.Store conn.new)
+        (OnOk result (IsUnchanged (state S.Store conn.old) (state S.Store conn.new))) }
+    ensures was_open { HasCleanDisk (state S.Store conn.new)
+        → OnOk result (IsTrue (state S.Store conn.old).is_open) }
+    ensures reads_only { OnlyReads (state S.Store conn.old) (state S.Store conn.new) }
+{
+    let (source, target) = find_both_headers(conn, from, to)?;
+    if from == to {
+        return Err(Denied::Refused(Refusal::SameBook));
+    }
+
+    // `plan_drop` needs that the horizon is at most the number.
+    let _low = source.horizon();
+    let (card, moved) = decide_move(alloc, conn, limits, source, target, uid, expect)?;
+    let drop = plan_drop(conn, source)?;
+    Ok(Transfer {
+        source,
+        target,
+        card,
+        moved,
+        drop,
+    })
+}
+
+/// Moves the card that has the UID from one book to the other.
+pub fn move_in_tables<S: Alter>(
+    alloc: Global,
+    conn: &mut Connection<S>,
+    limits: Limits,
+    from: &str,
+    to: &str,
+    uid: &str,
+    expect: Option<u64>,
+) -> Result<Moved, Denied>
+    requires { conn.old.in_transaction ≡ false }
+    ensures changes { AppliesStep (state S.Store conn.old) (state S.Store conn.new) result
+        (λ books. move_step limits books from.now to.now uid.now expect) }
+    ensures crash { CommitsOnce (state S.Store conn.old) (state S.Store conn.new)
+        (λ books. move_step limits books from.now to.now uid.now expect) }
+{
+    let _settled = conn.is_autocommit();
+    let plan = plan_move(alloc, conn, limits, from, to, uid, expect)?;
+    write_move(
+        alloc,
+        conn,
+        plan.source,
+        plan.target,
+        uid,
+        &plan.card,
+        plan.drop,
+    )?;
+    Ok(plan.moved)
+}

@@ -1,0 +1,186 @@
+//! The removal: deleting a card from a book.
+ghost use Rattle.book_model.specs.BookChanges.{oldest_tombstone};
+ghost use Rattle.book_model.specs.BookQueries.{tombstone_count};
+ghost use Rattle.book_model.specs.Removing.{remove_step};
+ghost use Rattle.store_lookups.specs.CallResults.{FollowsStep, IsExactly, GivenBook};
+ghost use Rattle.store_lookups.specs.CallResults.{GivenSoundRows};
+ghost use Rattle.store_lookups.specs.Faults.{IsDeniedFault};
+ghost use Rattle.store_writes.specs.TableChanges.{AppliesStep, CommitsOnce};
+ghost use Rattle.store_removals.specs.internal.Removals.{IsRemovalPlanned, drop_by_next_removal};
+ghost use Rattle.store_removals.specs.internal.Removals.{removal_number_in};
+ghost use Rattle.store_tables.specs.StatementEffects.{OnlyReads, GivenTables};
+ghost use Rattle.sqlite.specs.Held.{state};
+ghost use Rattle.sqlite.specs.State.{HasCleanDisk, IsUnchanged};
+ghost use Rattle.std.specs.Option.{option_map_or};
+ghost use Rattle.std.specs.Prelude.{◌≡◌, ◌+◌, ◌<◌, ◌^◌, IfErr, IfOk, IsTrue, OnOk, false, min};
+ghost use Rattle.std.specs.Prelude.{nat_le};
+
+use crate::removing::write_remove;
+use book_model::decisions::{MemberLookup, number_of_removal};
+use book_model::{Denied, Limits};
+use sqlite::{Alter, Connection, Error};
+use std::alloc::Global;
+use store_lookups::{
+    BookHeader, column_of, count_removals, fault_of, fetch_keep, find_live, number_in,
+};
+use store_tables::members::first_removed;
+use store_writes::lookups::{as_version_and_card, open_header};
+
+/// A planned removal: the header of the book before it, its number, and the number up to which the
+/// book forgets tombstones, `None` if it forgets nothing.
+#[derive(Clone, Copy)]
+pub(crate) struct Removal {
+    pub(crate) header: BookHeader,
+    pub(crate) number: u64,
+    pub(crate) drop: Option<u64>,
+}
+
+/// The number that the removal gets in the book with this header.
+fn decide_removal<S: Alter>(
+    alloc: Global,
+    conn: &mut Connection<S>,
+    limits: Limits,
+    header: BookHeader,
+    uid: &str,
+    expect: Option<u64>,
+) -> Result<u64, Denied>
+    ensures answers { GivenBook (state S.Store conn.old) (state S.Store conn.new) header
+        (λ book. FollowsStep IsExactly result (removal_number_in limits uid.now expect book)) }
+    ensures number_fits { OnOk result (header.number < 2 ^ 63) }
+    ensures unchanged { GivenTables (state S.Store conn.old) (state S.Store conn.new)
+        (OnOk result (IsUnchanged (state S.Store conn.old) (state S.Store conn.new))) }
+    ensures reads_only { OnlyReads (state S.Store conn.old) (state S.Store conn.new) }
+{
+    let live = find_live(alloc, conn, header, uid)?;
+    let counts = header.counts();
+    let found = MemberLookup {
+        live: as_version_and_card(&live),
+        cards: counts.live(),
+        number: header.number(),
+    };
+    let number = number_of_removal(limits, found, expect)?;
+    Ok(number)
+}
+
+/// Whether the book can keep one more tombstone. Counts the tombstones above the horizon, which
+/// reads all members of the book that changed after it.
+fn fits_one_more<S: Alter>(conn: &mut Connection<S>, header: BookHeader) -> Result<bool, Denied>
+    ensures has_room { GivenBook (state S.Store conn.old) (state S.Store conn.new) header
+        (λ book. IfOk result (λ room. nat_le (tombstone_count book + 1) book.keep ≡ room)) }
+    ensures fault { IfErr result IsDeniedFault }
+    ensures unchanged { GivenTables (state S.Store conn.old) (state S.Store conn.new)
+        (OnOk result (IsUnchanged (state S.Store conn.old) (state S.Store conn.new))) }
+    ensures reads_only { OnlyReads (state S.Store conn.old) (state S.Store conn.new) }
+{
+    let keep = fetch_keep(conn, header)?;
+    let remembered = count_removals(conn, header)?;
+    Ok(remembered < keep)
+}
+
+/// The number of the oldest tombstone that the book keeps. Fails with `Store` if its row can't be
+/// read. The statement reads the members that changed between the horizon and that removal.
+fn oldest_removal_of<S: Alter>(
+    conn: &mut Connection<S>,
+    header: BookHeader,
+) -> Result<Option<u64>, Denied>
+    ensures first { GivenBook (state S.Store conn.old) (state S.Store conn.new) header
+        (λ book. IfOk result (λ first. oldest_tombstone book ≡ first)) }
+    ensures fault { IfErr result IsDeniedFault }
+    ensures unchanged { GivenTables (state S.Store conn.old) (state S.Store conn.new)
+        (OnOk result (IsUnchanged (state S.Store conn.old) (state S.Store conn.new))) }
+    ensures reads_only { OnlyReads (state S.Store conn.old) (state S.Store conn.new) }
+{
+    let id = column_of(header.id())?;
+    let horizon = column_of(header.horizon())?;
+    let row = match first_removed(conn, id, horizon) {
+        Ok(row) => row,
+        Err(Error::QueryReturnedNoRows) => return Ok(None),
+        Err(error) => return Err(fault_of(error)),
+    };
+    let number = number_in(&row, 0)?;
+    Ok(Some(number))
+}
+
+/// The smaller of the two numbers, or the second if there is no first.
+fn min_with_first(first: Option<u64>, number: u64) -> u64
+    ensures { result ≡ option_map_or (min number) first number }
+{
+    match first {
+        Some(first) => number.min(first),
+        None => number,
+    }
+}
+
+/// The number up to which the book forgets tombstones if its next change removes one more member.
+/// `None` if it forgets nothing.
+pub(crate) fn plan_drop<S: Alter>(
+    conn: &mut Connection<S>,
+    header: BookHeader,
+) -> Result<Option<u64>, Denied>
+    requires { header.number < 2 ^ 63 }
+    ensures drop { GivenBook (state S.Store conn.old) (state S.Store conn.new) header
+        (λ book. IfOk result (λ drop. drop_by_next_removal book ≡ drop)) }
+    ensures fault { IfErr result IsDeniedFault }
+    ensures unchanged { GivenTables (state S.Store conn.old) (state S.Store conn.new)
+        (OnOk result (IsUnchanged (state S.Store conn.old) (state S.Store conn.new))) }
+    ensures reads_only { OnlyReads (state S.Store conn.old) (state S.Store conn.new) }
+{
+    let room = fits_one_more(conn, header)?;
+    if room {
+        return Ok(None);
+    }
+    let first = oldest_removal_of(conn, header)?;
+    Ok(Some(min_with_first(first, header.number() + 1)))
+}
+
+/// Plans the removal of the card from the named book.
+fn plan_remove<S: Alter>(
+    alloc: Global,
+    conn: &mut Connection<S>,
+    limits: Limits,
+    name: &str,
+    uid: &str,
+    expect: Option<u64>,
+) -> Result<Removal, Denied>
+    ensures planned { GivenSoundRows (state S.Store conn.old) (state S.Store conn.new)
+        (λ rows. IsRemovalPlanned limits rows name.now uid.now expect result) }
+    ensures number_fits { IfOk result (λ plan. plan.header.number < 2 ^ 63) }
+    ensures unchanged { GivenTables (state S.Store conn.old) (state S.Store conn.new)
+        (OnOk result (IsUnchanged (state S.Store conn.old) (state S.Store conn.new))) }
+    ensures was_open { HasCleanDisk (state S.Store conn.new)
+        → OnOk result (IsTrue (state S.Store conn.old).is_open) }
+    ensures reads_only { OnlyReads (state S.Store conn.old) (state S.Store conn.new) }
+{
+    let header = open_header(conn, name)?;
+
+    // `plan_drop` needs that the horizon is at most the number.
+    let _low = header.horizon();
+    let number = decide_removal(alloc, conn, limits, header, uid, expect)?;
+    let drop = plan_drop(conn, header)?;
+    Ok(Removal {
+        header,
+        number,
+        drop,
+    })
+}
+
+/// Removes the card that has the UID from the named book.
+pub fn remove_in_book<S: Alter>(
+    alloc: Global,
+    conn: &mut Connection<S>,
+    limits: Limits,
+    name: &str,
+    uid: &str,
+    expect: Option<u64>,
+) -> Result<u64, Denied>
+    requires { conn.old.in_transaction ≡ false }
+    ensures changes { AppliesStep (state S.Store conn.old) (state S.Store conn.new) result
+        (λ books. remove_step limits books name.now uid.now expect) }
+    ensures crash { CommitsOnce (state S.Store conn.old) (state S.Store conn.new)
+        (λ books. remove_step limits books name.now uid.now expect) }
+{
+    let _settled = conn.is_autocommit();
+    let plan = plan_remove(alloc, conn, limits, name, uid, expect)?;
+    write_remove(conn, plan.header, uid, plan.drop)?;
+    Ok(plan.number)
+}

@@ -1,0 +1,88 @@
+-- Sound rows, and rows of well-formed books. This project's own.
+use Rattle.std.specs.Prelude.{◌≡◌, ℤ, true, List, IfSome}
+use Rattle.std.specs.List.{AllByRecursion, list_any}
+use Rattle.sqlite.specs.Effect.{Database}
+use Rattle.book_model.specs.Bounds.{Bounds}
+use Rattle.book_model.specs.WellFormed.{IsWellFormed}
+use Rattle.store_tables.specs.Books.{BookRow, Numbers, AreBooks, has_id}
+use Rattle.store_tables.specs.Members.{MemberRow, AreMembers}
+use Rattle.store_tables.specs.Imports.{ImportRow, AreImports}
+use Rattle.store_tables.specs.Keeps.{KeepRow, AreKeeps}
+use Rattle.store_rows.specs.Values.{IsNatural, IsCanonical}
+use Rattle.store_rows.specs.TableRows.{TableRows, HoldsRows}
+use Rattle.store_rows.specs.TableBooks.{books_of}
+
+-- ---- sound rows: the constraints of the tables' keys
+
+-- a book has the id
+abbrev pub HasBookId : List BookRow → ℤ → Type 0
+HasBookId bs id = list_any (has_id id) bs ≡ true
+
+-- Ids and names of books are unique, and so are UIDs and import keys in one book. A book has at
+-- most one keep. Each member, import and keep belongs to a book of the table. Numbers and texts are
+-- not constrained: they are tested when they are read.
+pub record AreSoundRows (rows : TableRows) : Type 0 where
+  pub books : AreBooks rows.books
+  pub members : AreMembers rows.members
+  pub imports : AreImports rows.imports
+  pub keeps : AreKeeps rows.keeps
+  pub listed_members : AllByRecursion (λ m. HasBookId rows.books m.book) rows.members
+  pub listed_imports : AllByRecursion (λ i. HasBookId rows.books i.book) rows.imports
+  pub listed_keeps : AllByRecursion (λ k. HasBookId rows.books k.book) rows.keeps
+
+-- the database holds sound rows
+pub record HoldsSoundRows (db : Database) : Type 0 where
+  pub rows : TableRows
+  pub holds : HoldsRows db rows
+  pub sound : AreSoundRows rows
+
+-- ---- readable rows
+
+pub record AreNaturalNumbers (n : Numbers) : Type 0 where
+  pub number : IsNatural n.number
+  pub horizon : IsNatural n.horizon
+  pub created : IsNatural n.created
+  pub edited : IsNatural n.edited
+  pub imported : IsNatural n.imported
+  pub import_edited : IsNatural n.import_edited
+  pub moved_in : IsNatural n.moved_in
+  pub deleted : IsNatural n.deleted
+  pub moved_out : IsNatural n.moved_out
+
+pub record IsReadableBook (b : BookRow) : Type 0 where
+  pub id : IsNatural b.id
+  pub numbers : AreNaturalNumbers b.numbers
+
+-- the text of a card is canonical
+pub record IsReadableMember (m : MemberRow) : Type 0 where
+  pub changed : IsNatural m.changed
+  pub card : IfSome m.card IsCanonical
+
+pub record IsReadableImport (i : ImportRow) : Type 0 where
+  pub added : IsNatural i.added
+  pub edited : IsNatural i.edited
+  pub same : IsNatural i.same
+  pub number : IsNatural i.number
+
+abbrev pub IsReadableKeep : KeepRow → Type 0
+IsReadableKeep k = IsNatural k.keep
+
+-- no number is negative, and the text of each card is canonical: no value is read by a default
+pub record AreReadable (rows : TableRows) : Type 0 where
+  pub books : AllByRecursion IsReadableBook rows.books
+  pub members : AllByRecursion IsReadableMember rows.members
+  pub imports : AllByRecursion IsReadableImport rows.imports
+  pub keeps : AllByRecursion IsReadableKeep rows.keeps
+
+-- The rows are sound and readable, and their books are well formed. A book without a keep would
+-- remember 0 members, so each book has one.
+pub record AreWellFormed (limits : Bounds) (rows : TableRows) : Type 0 where
+  pub sound : AreSoundRows rows
+  pub readable : AreReadable rows
+  pub books : IsWellFormed limits (books_of rows)
+
+-- the database holds the rows of well-formed books
+pub record HoldsWellFormed (limits : Bounds) (db : Database) : Type 0 where
+  pub rows : TableRows
+  pub holds : HoldsRows db rows
+  pub well_formed : AreWellFormed limits rows

@@ -1,0 +1,11 @@
+//! Laws that relate the rows of the tables to the books of the model. Each law is a public function
+//! with an empty body: its clause is the law, and a caller gets it by calling the function.
+#![tactic(auto)]
+
+pub mod adding;
+pub mod changes;
+pub mod forgetting;
+pub mod lookups;
+pub mod opening;
+pub mod reading;
+pub mod tables;

@@ -1,0 +1,4 @@
+pub mod OpenFaults
+pub mod StoredSchema
+pub mod FirstSchema
+pub mod internal

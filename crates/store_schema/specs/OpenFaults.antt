@@ -1,0 +1,41 @@
+-- The reasons why a store cannot be opened or created. This project's own.
+use Rattle.std.specs.Prelude.{◌≡◌, ◌⊎◌, ⊤, ℕ}
+use Rattle.sqlite.specs.declared.error.Error.{Error}
+use Rattle.sqlite.specs.declared.error.Error.TheVariants.{SqliteFailure}
+use Rattle.sqlite.specs.declared.error.ErrorCode.TheVariants.{NotADatabase, OutOfMemory}
+use Rattle.store_schema.specs.declared.open_fault.OpenFault.{OpenFault}
+use Rattle.store_schema.specs.declared.open_fault.OpenFault.TheVariants.{Store, NotOurs}
+use Rattle.store_schema.specs.declared.open_fault.OpenFault.TheVariants.{OtherSchema, Damaged}
+use Rattle.store_schema.specs.declared.open_fault.OpenFault.TheVariants.{NotEmpty, Memory}
+
+-- the number of the fault
+abbrev pub open_fault_number : OpenFault → ℕ
+open_fault_number Store = 1
+open_fault_number NotOurs = 2
+open_fault_number (OtherSchema has) = 3
+open_fault_number Damaged = 4
+open_fault_number NotEmpty = 5
+open_fault_number Memory = 6
+
+-- an error of the database is out of memory, or a fault of the store
+abbrev pub open_fault_of_error : Error → OpenFault
+open_fault_of_error (SqliteFailure OutOfMemory) = Memory
+open_fault_of_error error = Store
+
+-- the fault is one of these two
+abbrev pub IsErrorFault : OpenFault → Type 0
+IsErrorFault fault = (fault ≡ Store) ⊎ (fault ≡ Memory)
+
+-- opening a file can also fail because the file is not a database
+abbrev pub open_fault_of_file_error : Error → OpenFault
+open_fault_of_file_error (SqliteFailure NotADatabase) = NotOurs
+open_fault_of_file_error error = open_fault_of_error error
+
+-- the faults of creating a store
+abbrev pub IsCreationFault : OpenFault → Type 0
+IsCreationFault Store = ⊤
+IsCreationFault NotOurs = ⊤
+IsCreationFault (OtherSchema has) = ⊥
+IsCreationFault Damaged = ⊥
+IsCreationFault NotEmpty = ⊤
+IsCreationFault Memory = ⊤

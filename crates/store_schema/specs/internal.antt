@@ -1,0 +1,2 @@
+pub mod SchemaTests
+pub mod StatedNumber

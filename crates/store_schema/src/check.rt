@@ -1,0 +1,69 @@
+//! Tests whether a connection has the tables of schema 2, or of schema 1.
+ghost use Rattle.store_schema.specs.FirstSchema.{ClassifiesFirstSchema};
+ghost use Rattle.store_schema.specs.StoredSchema.{ChangesNothing, ClassifiesSchema};
+ghost use Rattle.sqlite.specs.Held.{state};
+ghost use Rattle.sqlite.specs.State.{HasCleanDisk, IsUnchanged};
+ghost use Rattle.std.specs.Prelude.{OnOk};
+
+use crate::meta::{list_meta, stated_schema, verify};
+use crate::open_fault::{OpenFault, open_fault_of};
+use crate::schema::{is_book_schema, is_first_schema};
+use sqlite::{Alter, Connection};
+use store_tables::meta::SCHEMA_NUMBER;
+
+/// The number of the first schema, which has no table `keeping`.
+const FIRST_SCHEMA_NUMBER: i64 = 1;
+
+/// Tests whether the connection has the tables of schema 2, and the schema number 2.
+///
+/// Returns `NotOurs` if the tables are those of neither schema, if `meta` has anything but one
+/// schema number, or if the number is 2 and `keeping` is missing. Returns `OtherSchema` if the
+/// number is not 2. Any call may instead return `Memory` when out of memory, or `Store` on another
+/// error of the database.
+pub fn test_schema<S: Alter>(conn: &mut Connection<S>) -> Result<(), OpenFault>
+    ensures answers { HasCleanDisk (state S.Store conn.new)
+        → ClassifiesSchema (state S.Store conn.old).now result }
+    ensures unchanged { HasCleanDisk (state S.Store conn.new)
+        → OnOk result (IsUnchanged (state S.Store conn.old) (state S.Store conn.new)) }
+
+    // On success and on error nothing changes, and nothing is committed.
+    ensures reads_only { ChangesNothing (state S.Store conn.old) (state S.Store conn.new) }
+{
+    let keeps = is_book_schema(conn.schema());
+    if !keeps && !is_first_schema(conn.schema()) {
+        return Err(OpenFault::NotOurs);
+    }
+    match list_meta(conn) {
+        Ok(rows) => verify(SCHEMA_NUMBER, keeps, stated_schema(rows.as_slice())),
+        Err(error) => Err(open_fault_of(error)),
+    }
+}
+
+/// Tests whether the connection has the tables of schema 1, and the schema number 1.
+///
+/// Returns `NotOurs` if the tables are those of neither schema, if `meta` has anything but one
+/// schema number, or if the number is 1 and `keeping` is declared. Returns `OtherSchema` if the
+/// number is not 1. Any call may instead return `Memory` when out of memory, or `Store` on another
+/// error of the database.
+pub fn test_first_schema<S: Alter>(conn: &mut Connection<S>) -> Result<(), OpenFault>
+    ensures answers { HasCleanDisk (state S.Store conn.new)
+        → ClassifiesFirstSchema (state S.Store conn.old).now result }
+    ensures unchanged { HasCleanDisk (state S.Store conn.new)
+        → OnOk result (IsUnchanged (state S.Store conn.old) (state S.Store conn.new)) }
+
+    // On success and on error nothing changes, and nothing is committed.
+    ensures reads_only { ChangesNothing (state S.Store conn.old) (state S.Store conn.new) }
+{
+    let is_first = is_first_schema(conn.schema());
+    if !is_first && !is_book_schema(conn.schema()) {
+        return Err(OpenFault::NotOurs);
+    }
+    match list_meta(conn) {
+        Ok(rows) => verify(
+            FIRST_SCHEMA_NUMBER,
+            is_first,
+            stated_schema(rows.as_slice()),
+        ),
+        Err(error) => Err(open_fault_of(error)),
+    }
+}

@@ -1,0 +1,93 @@
+//! Reads the schema number from the table `meta`, for tables of either schema.
+ghost use Rattle.store_tables.specs.Meta.{meta_listed};
+ghost use Rattle.store_schema.specs.internal.StatedNumber.{IsVerified, IsSchemaRow, IsNumberStated};
+ghost use Rattle.store_schema.specs.internal.StatedNumber.{RowStates};
+ghost use Rattle.store_schema.specs.StoredSchema.{ChangesNothing, IsStoreSchema, GivenStoreSchema};
+ghost use Rattle.sqlite.specs.Held.{state};
+ghost use Rattle.sqlite.specs.Order.{column};
+ghost use Rattle.sqlite.specs.State.{IsUnchanged};
+ghost use Rattle.sqlite_value.specs.Value.{owned};
+ghost use Rattle.std.specs.List.Sorted.{IsPermutation};
+ghost use Rattle.std.specs.Prelude.{◌≡◌, ◌↔◌, ℤ, IfOk, IsTrue, MatchOption, OnOk, map};
+
+use crate::open_fault::OpenFault;
+use sqlite::types::ValueRef;
+use sqlite::{Alter, Connection, Error, Row, params};
+
+/// Returns the name and the value of every row of the table, whatever its columns hold.
+pub(crate) fn list_meta<S: Alter>(conn: &mut Connection<S>) -> Result<Vec<Row>, Error>
+    ensures lists { GivenStoreSchema (state S.Store conn.old) (state S.Store conn.new)
+        (IfOk result (λ rows.
+        IsPermutation (map meta_listed ((state S.Store conn.old).now.trees 0)) rows.items)) }
+    ensures unchanged { GivenStoreSchema (state S.Store conn.old) (state S.Store conn.new)
+        (OnOk result (IsUnchanged (state S.Store conn.old) (state S.Store conn.new))) }
+    ensures reads_only { IsStoreSchema (state S.Store conn.old).now.schema
+        → ChangesNothing (state S.Store conn.old) (state S.Store conn.new) }
+{
+    conn.query_all("SELECT name, val FROM meta", params![])
+}
+
+/// Returns the value of the column; null if the row has no such column.
+fn column_at(row: &Row, at: usize) -> ValueRef<'_>
+    ensures { owned result ≡ column row.now at }
+{
+    match row.get_ref(at) {
+        Ok(value) => value,
+        Err(_) => ValueRef::Null,
+    }
+}
+
+/// Whether the row has the name `schema`.
+fn is_schema_row(row: &Row) -> bool
+    ensures { IsTrue result ↔ IsSchemaRow row.now }
+{
+    match column_at(row, 0) {
+        ValueRef::Text(name) => name == "schema".as_bytes(),
+        _ => false,
+    }
+}
+
+/// Returns the number of the row if its name is `schema`.
+fn stated_number(row: &Row) -> Option<i64>
+    ensures { MatchOption result ((number : ℤ) → ¬ RowStates row.now number) (RowStates row.now) }
+{
+    if !is_schema_row(row) {
+        return None;
+    }
+    match column_at(row, 1) {
+        ValueRef::Int(number) => Some(number),
+        _ => None,
+    }
+}
+
+/// Returns the schema number if it is the only row.
+pub(crate) fn stated_schema(rows: &[Row]) -> Option<i64>
+    ensures { IsNumberStated rows.now result }
+{
+    let Some((row, others)) = rows.split_first() else {
+        return None;
+    };
+    if others.is_empty() {
+        stated_number(row)
+    } else {
+        None
+    }
+}
+
+/// Checks the schema number against the wanted one. `is_declared` is whether the tables of the
+/// wanted schema are declared.
+pub(crate) fn verify(wanted: i64, is_declared: bool, stated: Option<i64>) -> Result<(), OpenFault>
+    ensures { IsVerified wanted is_declared stated result }
+{
+    let Some(number) = stated else {
+        return Err(OpenFault::NotOurs);
+    };
+    if number != wanted {
+        return Err(OpenFault::OtherSchema { has: number });
+    }
+    if is_declared {
+        Ok(())
+    } else {
+        Err(OpenFault::NotOurs)
+    }
+}

@@ -1,0 +1,9 @@
+pub mod Tables
+pub mod StatementEffects
+pub mod QueryResults
+pub mod Members
+pub mod Books
+pub mod Imports
+pub mod Keeps
+pub mod Meta
+pub mod SchemaCreation

@@ -1,0 +1,55 @@
+-- What a query returns, for rows of any table. This project's own.
+use Rattle.std.specs.Prelude.{ℕ, ℤ, pos, min, ◌≡◌, Bool, false, List, [], ◌∷◌, map, filter, take}
+use Rattle.std.specs.Prelude.{Result, Ok, Err}
+use Rattle.std.specs.declared.cmp.Ordering.{Ordering}
+use Rattle.std.specs.Ordering.{int_eq}
+use Rattle.std.specs.List.{AllByRecursion}
+use Rattle.std.specs.List.Sorted.{IsPermutation, IsSorted}
+use Rattle.sqlite.specs.Order.{Row}
+use Rattle.sqlite.specs.declared.types.Value.{Value}
+use Rattle.sqlite.specs.declared.types.Value.TheVariants.{Int}
+use Rattle.sqlite.specs.declared.error.Error.{Error}
+use Rattle.sqlite.specs.declared.error.Error.TheVariants.{QueryReturnedNoRows}
+use Rattle.sqlite_rules.specs.Lists.{Has}
+
+-- the result is the row of an item that passes the test, or no item passes
+abbrev pub FindsRow : {X : Type 0} → (X → Bool) → (X → Row) → List X → Result Row Error → Type 0
+FindsRow {X} test show xs (Ok row) = (x : X) × Has (filter test xs) x × (row ≡ show x)
+FindsRow test show xs (Err e) = e ≡ QueryReturnedNoRows → filter test xs ≡ []
+
+-- the query returned a row, or found none; after any other error nothing is required
+abbrev pub IfAnswered : Result Row Error → Type 0 → Type 0
+IfAnswered (Ok row) Then = Then
+IfAnswered (Err e) Then = e ≡ QueryReturnedNoRows → Then
+
+-- a count as a column value, which is at most 2^63 - 1
+abbrev pub count_value : ℕ → Value
+count_value n = Int (pos (min n 9223372036854775807))
+
+-- the rows are those of all the items, sorted by the comparison
+pub record AreRowsInOrder {X : Type 0} (compare : X → X → Ordering) (show : X → Row) (xs : List X)
+    (rows : List Row) : Type 0 where
+  pub ordered : List X
+  pub same : IsPermutation xs ordered
+  pub rises : IsSorted compare ordered
+  pub shown : rows ≡ map show ordered
+
+-- the same, but only the first `most` rows
+pub record AreFirstRowsInOrder {X : Type 0} (compare : X → X → Ordering) (show : X → Row) (most : ℕ)
+    (xs : List X) (rows : List Row) : Type 0 where
+  pub ordered : List X
+  pub same : IsPermutation xs ordered
+  pub rises : IsSorted compare ordered
+  pub first : rows ≡ take most (map show ordered)
+
+-- the result is the row of a least item, or there is no item
+abbrev pub FindsFirstRow : {X : Type 0} → (X → X → Ordering) → (X → Row) → List X → Result Row Error
+    → Type 0
+FindsFirstRow compare show xs (Ok row) = AreFirstRowsInOrder compare show 1 xs (row ∷ [])
+FindsFirstRow compare show xs (Err e) = e ≡ QueryReturnedNoRows → xs ≡ []
+
+-- the rows are the old ones and the new one, whose id was unused
+pub record AddsRow {X : Type 0} (Hold : List Row → List X → Type 0) (id_of : X → ℤ) (new : X)
+    (before : List X) (rows : List Row) : Type 0 where
+  pub hold : Hold rows (new ∷ before)
+  pub free : AllByRecursion (λ x. int_eq (id_of x) (id_of new) ≡ false) before

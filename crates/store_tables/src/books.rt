@@ -1,0 +1,220 @@
+//! Statements over the table `book`.
+ghost use Rattle.store_tables.specs.QueryResults.{AreRowsInOrder, FindsRow, IfAnswered};
+ghost use Rattle.store_tables.specs.QueryResults.{count_value};
+ghost use Rattle.store_tables.specs.Books.{
+  AddsBook,
+  BookRow,
+  GivenBooksTx,
+  book_listed,
+  book_shown,
+  by_name,
+  HasBooks,
+  GivenBooks,
+  has_name,
+  numbers,
+  numbers_of,
+  numbers_shown,
+  renumbered,
+};
+ghost use Rattle.store_tables.specs.StatementEffects.{
+  InsideTx,
+  IsUndone,
+  OnlyReads,
+  GivenTables,
+  NoCommit,
+  WritesOnly,
+};
+ghost use Rattle.sqlite.specs.Held.{state};
+ghost use Rattle.sqlite.specs.State.{IsUnchanged};
+ghost use Rattle.sqlite_rules.specs.Lists.{Has};
+ghost use Rattle.std.specs.List.Sorted.{IsPermutation};
+ghost use Rattle.std.specs.Prelude.{
+  [],
+  ◌∷◌,
+  ◌≡◌,
+  IfOk,
+  OnErr,
+  OnOk,
+  length,
+  map,
+};
+
+use sqlite::{Alter, Connection, Error, Row, Transaction, params};
+
+/// The nine number columns of a book: its last change, its horizon and its counts.
+#[derive(Clone, Copy, Debug, PartialEq, Eq)]
+pub struct BookNumbers {
+    /// The number of the last change; 0 before the first change.
+    pub number: i64,
+    /// Removals up to this number are forgotten; 0 at first.
+    pub horizon: i64,
+    /// Puts of a card whose UID was not live.
+    pub created: i64,
+    /// Puts that replaced a live card of the same UID.
+    pub edited: i64,
+    /// Imported cards whose UID was not live.
+    pub imported: i64,
+    /// Imported cards that replaced a live card of the same UID.
+    pub import_edited: i64,
+    /// Cards moved in from another book.
+    pub moved_in: i64,
+    /// Cards removed.
+    pub deleted: i64,
+    /// Cards moved out to another book.
+    pub moved_out: i64,
+}
+
+/// Returns the id and the nine numbers of the book with this name, in the order of [`BookNumbers`].
+///
+/// Fails with `QueryReturnedNoRows` if no book has the name.
+pub fn find_book<S: Alter>(conn: &mut Connection<S>, name: &str) -> Result<Row, Error>
+    ensures finds { GivenBooks (state S.Store conn.old) (state S.Store conn.new)
+        (λ bs. FindsRow (has_name name.now) numbers_shown bs result) }
+    ensures unchanged { GivenTables (state S.Store conn.old) (state S.Store conn.new)
+        (IfAnswered result (IsUnchanged (state S.Store conn.old) (state S.Store conn.new))) }
+    ensures reads_only { OnlyReads (state S.Store conn.old) (state S.Store conn.new) }
+{
+    conn.query_row(
+        "SELECT id, number, horizon, created, edited, imported, import_edited, moved_in, deleted, \
+         moved_out FROM book WHERE name = ?1",
+        params![name],
+    )
+}
+
+/// Counts the books.
+pub fn count_books<S: Alter>(conn: &mut Connection<S>) -> Result<Row, Error>
+    ensures counts { GivenBooks (state S.Store conn.old) (state S.Store conn.new)
+        (λ bs. IfOk result (λ row. row ≡ count_value (length bs) ∷ [])) }
+    ensures unchanged { GivenTables (state S.Store conn.old) (state S.Store conn.new)
+        (IfAnswered result (IsUnchanged (state S.Store conn.old) (state S.Store conn.new))) }
+    ensures reads_only { OnlyReads (state S.Store conn.old) (state S.Store conn.new) }
+{
+    conn.query_row("SELECT COUNT(*) FROM book", params![])
+}
+
+/// Inserts an empty book with this id and name; its nine numbers are 0.
+///
+/// Fails with a constraint error if a book has the id or the name.
+pub fn insert_book<S: Alter>(
+    tx: &mut Transaction<'_, S>,
+    id: i64,
+    name: &str,
+) -> Result<usize, Error>
+    ensures same_reference { tx.new.conn.ghost_name ≡ tx.old.conn.ghost_name }
+    ensures adds { GivenBooksTx (state S.Store tx.old.conn.now) (state S.Store tx.new.conn.now)
+        (λ bs. OnOk result (AddsBook (state S.Store tx.new.conn.now) id name.now bs)) }
+    ensures writes { GivenBooksTx (state S.Store tx.old.conn.now) (state S.Store tx.new.conn.now)
+        (λ _. OnOk result
+        (WritesOnly 2 (state S.Store tx.old.conn.now) (state S.Store tx.new.conn.now))) }
+    ensures no_commit { NoCommit (state S.Store tx.old.conn.now) (state S.Store tx.new.conn.now) }
+    ensures rolled_back { InsideTx (state S.Store tx.old.conn.now) (state S.Store tx.new.conn.now)
+        (OnErr result
+        (IsUndone (state S.Store tx.old.conn.now) (state S.Store tx.new.conn.now))) }
+{
+    tx.execute(
+        "INSERT INTO book (id, name, number, horizon, created, edited, imported, import_edited, \
+         moved_in, deleted, moved_out) VALUES (?1, ?2, 0, 0, 0, 0, 0, 0, 0, 0, 0)",
+        params![id, name],
+    )
+}
+
+fn renumber<S: Alter>(
+    tx: &mut Transaction<'_, S>,
+    id: i64,
+    number: i64,
+    horizon: i64,
+    created: i64,
+    edited: i64,
+    imported: i64,
+    import_edited: i64,
+    moved_in: i64,
+    deleted: i64,
+    moved_out: i64,
+) -> Result<Vec<Row>, Error>
+    ensures same_reference { tx.new.conn.ghost_name ≡ tx.old.conn.ghost_name }
+    ensures renumbers { GivenBooksTx (state S.Store tx.old.conn.now) (state S.Store tx.new.conn.now)
+        (λ bs. (b : BookRow) → Has bs b → id ≡ b.id
+        → OnOk result (HasBooks (state S.Store tx.new.conn.now) (renumbered id
+        (numbers number horizon created edited imported import_edited moved_in deleted
+        moved_out) bs))) }
+    ensures writes { GivenBooksTx (state S.Store tx.old.conn.now) (state S.Store tx.new.conn.now)
+        (λ bs. (b : BookRow) → Has bs b → id ≡ b.id → OnOk result
+        (WritesOnly 2 (state S.Store tx.old.conn.now) (state S.Store tx.new.conn.now))) }
+    ensures no_commit { NoCommit (state S.Store tx.old.conn.now) (state S.Store tx.new.conn.now) }
+    ensures rolled_back { InsideTx (state S.Store tx.old.conn.now) (state S.Store tx.new.conn.now)
+        (OnErr result
+        (IsUndone (state S.Store tx.old.conn.now) (state S.Store tx.new.conn.now))) }
+{
+    tx.query_all(
+        "UPDATE book SET number = ?2, horizon = ?3, created = ?4, edited = ?5, imported = ?6, \
+         import_edited = ?7, moved_in = ?8, deleted = ?9, moved_out = ?10 WHERE id = ?1 \
+         RETURNING number, horizon, created, edited, imported, import_edited, moved_in, deleted, \
+         moved_out",
+        params![
+            id,
+            number,
+            horizon,
+            created,
+            edited,
+            imported,
+            import_edited,
+            moved_in,
+            deleted,
+            moved_out
+        ],
+    )
+}
+
+/// Sets the nine numbers of the book with this id; its name stays. Returns the row of the new
+/// numbers.
+pub fn renumber_book<S: Alter>(
+    tx: &mut Transaction<'_, S>,
+    id: i64,
+    numbers: BookNumbers,
+) -> Result<Vec<Row>, Error>
+    ensures same_reference { tx.new.conn.ghost_name ≡ tx.old.conn.ghost_name }
+    ensures renumbers { GivenBooksTx (state S.Store tx.old.conn.now) (state S.Store tx.new.conn.now)
+        (λ bs. (b : BookRow) → Has bs b → id ≡ b.id
+        → OnOk result (HasBooks (state S.Store tx.new.conn.now)
+        (renumbered id (numbers_of numbers) bs))) }
+    ensures writes { GivenBooksTx (state S.Store tx.old.conn.now) (state S.Store tx.new.conn.now)
+        (λ bs. (b : BookRow) → Has bs b → id ≡ b.id → OnOk result
+        (WritesOnly 2 (state S.Store tx.old.conn.now) (state S.Store tx.new.conn.now))) }
+    ensures no_commit { NoCommit (state S.Store tx.old.conn.now) (state S.Store tx.new.conn.now) }
+    ensures rolled_back { InsideTx (state S.Store tx.old.conn.now) (state S.Store tx.new.conn.now)
+        (OnErr result
+        (IsUndone (state S.Store tx.old.conn.now) (state S.Store tx.new.conn.now))) }
+{
+    renumber(
+        tx,
+        id,
+        numbers.number,
+        numbers.horizon,
+        numbers.created,
+        numbers.edited,
+        numbers.imported,
+        numbers.import_edited,
+        numbers.moved_in,
+        numbers.deleted,
+        numbers.moved_out,
+    )
+}
+
+/// Returns the id, the name and the nine numbers of every book, sorted by name in byte order. No
+/// row is left out, whatever its columns hold.
+pub fn all_books<S: Alter>(conn: &mut Connection<S>) -> Result<Vec<Row>, Error>
+    ensures ordered { GivenBooks (state S.Store conn.old) (state S.Store conn.new)
+        (λ bs. IfOk result (λ rows. AreRowsInOrder by_name book_shown bs rows.items)) }
+    ensures lists { GivenTables (state S.Store conn.old) (state S.Store conn.new)
+        (IfOk result (λ rows.
+        IsPermutation (map book_listed ((state S.Store conn.old).now.trees 2)) rows.items)) }
+    ensures unchanged { GivenTables (state S.Store conn.old) (state S.Store conn.new)
+        (OnOk result (IsUnchanged (state S.Store conn.old) (state S.Store conn.new))) }
+    ensures reads_only { OnlyReads (state S.Store conn.old) (state S.Store conn.new) }
+{
+    conn.query_all(
+        "SELECT id, name, number, horizon, created, edited, imported, import_edited, moved_in, \
+         deleted, moved_out FROM book ORDER BY name",
+        params![],
+    )
+}

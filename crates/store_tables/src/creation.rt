@@ -1,0 +1,190 @@
+//! The statements that create the tables, each inside a transaction.
+ghost use Rattle.store_tables.specs.SchemaCreation.{
+  HasFirstTables,
+  IsTableCreated,
+  HoldsInTx,
+  StaysUncommitted,
+  empty_schema,
+  with_books,
+  first_schema,
+  with_members,
+  with_meta,
+};
+ghost use Rattle.store_tables.specs.Meta.{IsEmptyStore, schema_number};
+ghost use Rattle.store_tables.specs.StatementEffects.{InsideTx, IsUndone};
+ghost use Rattle.store_tables.specs.Tables.{book_schema};
+ghost use Rattle.sqlite.specs.Held.{state};
+ghost use Rattle.sqlite.specs.State.{KeepsCommit, Survives};
+ghost use Rattle.std.specs.Prelude.{◌≡◌, IsTrue, OnErr, OnOk};
+
+use crate::meta::{SCHEMA_NUMBER, insert_schema};
+use sqlite::{Alter, Error, Transaction, params};
+
+/// Creates the table `meta` in a database without tables.
+pub fn create_meta<S: Alter>(tx: &mut Transaction<'_, S>) -> Result<usize, Error>
+    ensures same_reference { tx.new.conn.ghost_name ≡ tx.old.conn.ghost_name }
+    ensures creates { InsideTx (state S.Store tx.old.conn.now) (state S.Store tx.new.conn.now)
+        ((state S.Store tx.old.conn.now).now.schema ≡ empty_schema → OnOk result
+        (IsTableCreated empty_schema with_meta 0 (state S.Store tx.old.conn.now).now
+        (state S.Store tx.new.conn.now).now)) }
+    ensures stays_in_tx { InsideTx (state S.Store tx.old.conn.now) (state S.Store tx.new.conn.now)
+        (OnOk result (IsTrue (state S.Store tx.new.conn.now).in_transaction)) }
+    ensures keeps_commit { InsideTx (state S.Store tx.old.conn.now) (state S.Store tx.new.conn.now)
+        (KeepsCommit (state S.Store tx.old.conn.now) (state S.Store tx.new.conn.now)) }
+    ensures survives { Survives (state S.Store tx.old.conn.now) (state S.Store tx.new.conn.now)
+        (λ _. ⊥) }
+    ensures rolled_back { InsideTx (state S.Store tx.old.conn.now) (state S.Store tx.new.conn.now)
+        (OnErr result
+        (IsUndone (state S.Store tx.old.conn.now) (state S.Store tx.new.conn.now))) }
+{
+    tx.execute(
+        "CREATE TABLE meta (name TEXT NOT NULL PRIMARY KEY, val INTEGER NOT NULL) STRICT",
+        params![],
+    )
+}
+
+/// Creates the table `book`; only `meta` exists.
+pub fn create_books<S: Alter>(tx: &mut Transaction<'_, S>) -> Result<usize, Error>
+    ensures same_reference { tx.new.conn.ghost_name ≡ tx.old.conn.ghost_name }
+    ensures creates { InsideTx (state S.Store tx.old.conn.now) (state S.Store tx.new.conn.now)
+        ((state S.Store tx.old.conn.now).now.schema ≡ with_meta → OnOk result
+        (IsTableCreated with_meta with_books 2 (state S.Store tx.old.conn.now).now
+        (state S.Store tx.new.conn.now).now)) }
+    ensures stays_in_tx { InsideTx (state S.Store tx.old.conn.now) (state S.Store tx.new.conn.now)
+        (OnOk result (IsTrue (state S.Store tx.new.conn.now).in_transaction)) }
+    ensures keeps_commit { InsideTx (state S.Store tx.old.conn.now) (state S.Store tx.new.conn.now)
+        (KeepsCommit (state S.Store tx.old.conn.now) (state S.Store tx.new.conn.now)) }
+    ensures survives { Survives (state S.Store tx.old.conn.now) (state S.Store tx.new.conn.now)
+        (λ _. ⊥) }
+    ensures rolled_back { InsideTx (state S.Store tx.old.conn.now) (state S.Store tx.new.conn.now)
+        (OnErr result
+        (IsUndone (state S.Store tx.old.conn.now) (state S.Store tx.new.conn.now))) }
+{
+    tx.execute(
+        "CREATE TABLE book (id INTEGER PRIMARY KEY, name TEXT NOT NULL UNIQUE, number INTEGER \
+         NOT NULL, horizon INTEGER NOT NULL, created INTEGER NOT NULL, edited INTEGER NOT \
+         NULL, imported INTEGER NOT NULL, import_edited INTEGER NOT NULL, moved_in INTEGER \
+         NOT NULL, deleted INTEGER NOT NULL, moved_out INTEGER NOT NULL) STRICT",
+        params![],
+    )
+}
+
+/// Creates the table `member`; `meta` and `book` exist.
+pub fn create_members<S: Alter>(tx: &mut Transaction<'_, S>) -> Result<usize, Error>
+    ensures same_reference { tx.new.conn.ghost_name ≡ tx.old.conn.ghost_name }
+    ensures creates { InsideTx (state S.Store tx.old.conn.now) (state S.Store tx.new.conn.now)
+        ((state S.Store tx.old.conn.now).now.schema ≡ with_books → OnOk result
+        (IsTableCreated with_books with_members 4 (state S.Store tx.old.conn.now).now
+        (state S.Store tx.new.conn.now).now)) }
+    ensures stays_in_tx { InsideTx (state S.Store tx.old.conn.now) (state S.Store tx.new.conn.now)
+        (OnOk result (IsTrue (state S.Store tx.new.conn.now).in_transaction)) }
+    ensures keeps_commit { InsideTx (state S.Store tx.old.conn.now) (state S.Store tx.new.conn.now)
+        (KeepsCommit (state S.Store tx.old.conn.now) (state S.Store tx.new.conn.now)) }
+    ensures survives { Survives (state S.Store tx.old.conn.now) (state S.Store tx.new.conn.now)
+        (λ _. ⊥) }
+    ensures rolled_back { InsideTx (state S.Store tx.old.conn.now) (state S.Store tx.new.conn.now)
+        (OnErr result
+        (IsUndone (state S.Store tx.old.conn.now) (state S.Store tx.new.conn.now))) }
+{
+    tx.execute(
+        "CREATE TABLE member (book INTEGER NOT NULL REFERENCES book(id), uid TEXT NOT NULL, \
+         changed INTEGER NOT NULL, card TEXT, PRIMARY KEY (book, uid), UNIQUE (book, \
+         changed)) STRICT",
+        params![],
+    )
+}
+
+/// Creates the table `import_key`; `meta`, `book` and `member` exist.
+pub fn create_imports<S: Alter>(tx: &mut Transaction<'_, S>) -> Result<usize, Error>
+    ensures same_reference { tx.new.conn.ghost_name ≡ tx.old.conn.ghost_name }
+    ensures creates { InsideTx (state S.Store tx.old.conn.now) (state S.Store tx.new.conn.now)
+        ((state S.Store tx.old.conn.now).now.schema ≡ with_members → OnOk result
+        (IsTableCreated with_members first_schema 7 (state S.Store tx.old.conn.now).now
+        (state S.Store tx.new.conn.now).now)) }
+    ensures stays_in_tx { InsideTx (state S.Store tx.old.conn.now) (state S.Store tx.new.conn.now)
+        (OnOk result (IsTrue (state S.Store tx.new.conn.now).in_transaction)) }
+    ensures keeps_commit { InsideTx (state S.Store tx.old.conn.now) (state S.Store tx.new.conn.now)
+        (KeepsCommit (state S.Store tx.old.conn.now) (state S.Store tx.new.conn.now)) }
+    ensures survives { Survives (state S.Store tx.old.conn.now) (state S.Store tx.new.conn.now)
+        (λ _. ⊥) }
+    ensures rolled_back { InsideTx (state S.Store tx.old.conn.now) (state S.Store tx.new.conn.now)
+        (OnErr result
+        (IsUndone (state S.Store tx.old.conn.now) (state S.Store tx.new.conn.now))) }
+{
+    tx.execute(
+        "CREATE TABLE import_key (book INTEGER NOT NULL REFERENCES book(id), ikey TEXT NOT \
+         NULL, added INTEGER NOT NULL, edited INTEGER NOT NULL, same INTEGER NOT NULL, number \
+         INTEGER NOT NULL, PRIMARY KEY (book, ikey)) STRICT",
+        params![],
+    )
+}
+
+/// Creates the table `keeping`; the four other tables exist. It turns the tables of schema 1 into
+/// those of schema 2.
+pub fn create_keeps<S: Alter>(tx: &mut Transaction<'_, S>) -> Result<usize, Error>
+    ensures same_reference { tx.new.conn.ghost_name ≡ tx.old.conn.ghost_name }
+    ensures creates { InsideTx (state S.Store tx.old.conn.now) (state S.Store tx.new.conn.now)
+        ((state S.Store tx.old.conn.now).now.schema ≡ first_schema → OnOk result
+        (IsTableCreated first_schema book_schema 9 (state S.Store tx.old.conn.now).now
+        (state S.Store tx.new.conn.now).now)) }
+    ensures stays_in_tx { InsideTx (state S.Store tx.old.conn.now) (state S.Store tx.new.conn.now)
+        (OnOk result (IsTrue (state S.Store tx.new.conn.now).in_transaction)) }
+    ensures keeps_commit { InsideTx (state S.Store tx.old.conn.now) (state S.Store tx.new.conn.now)
+        (KeepsCommit (state S.Store tx.old.conn.now) (state S.Store tx.new.conn.now)) }
+    ensures survives { Survives (state S.Store tx.old.conn.now) (state S.Store tx.new.conn.now)
+        (λ _. ⊥) }
+    ensures rolled_back { InsideTx (state S.Store tx.old.conn.now) (state S.Store tx.new.conn.now)
+        (OnErr result
+        (IsUndone (state S.Store tx.old.conn.now) (state S.Store tx.new.conn.now))) }
+{
+    tx.execute(
+        "CREATE TABLE keeping (book INTEGER PRIMARY KEY REFERENCES book(id), keep INTEGER NOT \
+         NULL) STRICT",
+        params![],
+    )
+}
+
+fn create_first_tables<S: Alter>(tx: &mut Transaction<'_, S>) -> Result<usize, Error>
+    ensures same_reference { tx.new.conn.ghost_name ≡ tx.old.conn.ghost_name }
+    ensures creates { InsideTx (state S.Store tx.old.conn.now) (state S.Store tx.new.conn.now)
+        ((state S.Store tx.old.conn.now).now.schema ≡ empty_schema → OnOk result
+        (HoldsInTx (state S.Store tx.new.conn.now) HasFirstTables)) }
+    ensures stays_in_tx { InsideTx (state S.Store tx.old.conn.now) (state S.Store tx.new.conn.now)
+        (OnOk result (IsTrue (state S.Store tx.new.conn.now).in_transaction)) }
+    ensures no_commit { StaysUncommitted (state S.Store tx.old.conn.now)
+        (state S.Store tx.new.conn.now) }
+{
+    create_meta(tx)?;
+    create_books(tx)?;
+    create_members(tx)
+}
+
+fn create_remaining_tables<S: Alter>(tx: &mut Transaction<'_, S>) -> Result<usize, Error>
+    ensures same_reference { tx.new.conn.ghost_name ≡ tx.old.conn.ghost_name }
+    ensures creates { InsideTx (state S.Store tx.old.conn.now) (state S.Store tx.new.conn.now)
+        (HasFirstTables (state S.Store tx.old.conn.now).now → OnOk result
+        (HoldsInTx (state S.Store tx.new.conn.now) (IsEmptyStore schema_number))) }
+    ensures no_commit { StaysUncommitted (state S.Store tx.old.conn.now)
+        (state S.Store tx.new.conn.now) }
+{
+    create_imports(tx)?;
+    create_keeps(tx)?;
+    insert_schema(tx, SCHEMA_NUMBER)
+}
+
+/// Creates the five tables of schema 2 in a database without tables, and writes the schema number.
+/// They hold no other row.
+///
+/// On an error some of the tables may exist inside the transaction; nothing is committed.
+pub fn create_tables<S: Alter>(tx: &mut Transaction<'_, S>) -> Result<(), Error>
+    ensures same_reference { tx.new.conn.ghost_name ≡ tx.old.conn.ghost_name }
+    ensures creates { InsideTx (state S.Store tx.old.conn.now) (state S.Store tx.new.conn.now)
+        ((state S.Store tx.old.conn.now).now.schema ≡ empty_schema → OnOk result
+        (HoldsInTx (state S.Store tx.new.conn.now) (IsEmptyStore schema_number))) }
+    ensures no_commit { StaysUncommitted (state S.Store tx.old.conn.now)
+        (state S.Store tx.new.conn.now) }
+{
+    create_first_tables(tx)?;
+    create_remaining_tables(tx)?;
+    Ok(())
+}

@@ -1,0 +1,198 @@
+//! Statements over the table `member`. A removed member that the book still remembers has a null
+//! card.
+ghost use Rattle.store_tables.specs.QueryResults.{AreRowsInOrder, FindsRow, FindsFirstRow};
+ghost use Rattle.store_tables.specs.QueryResults.{IfAnswered, count_value};
+ghost use Rattle.store_tables.specs.Members.{
+  GivenMembersTx,
+  HasMembers,
+  PutsRow,
+  GivenMembers,
+  by_changed,
+  number_card_shown,
+  number_shown,
+  member_shown,
+  has_uid,
+  is_in_book,
+  is_removed_above,
+  is_removed_up_to,
+  member_cells,
+  without_removed,
+};
+ghost use Rattle.store_tables.specs.StatementEffects.{
+  InsideTx,
+  IsUndone,
+  OnlyReads,
+  GivenTables,
+  NoCommit,
+  WritesOnly,
+};
+ghost use Rattle.sqlite.specs.Held.{state};
+ghost use Rattle.sqlite.specs.State.{IsUnchanged};
+ghost use Rattle.std.specs.List.Sorted.{IsPermutation};
+ghost use Rattle.std.specs.Prelude.{
+  [],
+  ◌∷◌,
+  ◌≡◌,
+  IfOk,
+  OnErr,
+  OnOk,
+  filter,
+  length,
+  map,
+  option_copied,
+};
+
+use sqlite::{Alter, Connection, Error, Row, Transaction, params};
+
+/// Returns the member with this UID in the book with this id: the number of its last change and its
+/// card, null if it is removed.
+///
+/// Fails with `QueryReturnedNoRows` if the book has no such member.
+pub fn find_member<S: Alter>(conn: &mut Connection<S>, book: i64, uid: &str) -> Result<Row, Error>
+    ensures finds { GivenMembers (state S.Store conn.old) (state S.Store conn.new)
+        (λ ms. FindsRow (has_uid book uid.now) number_card_shown ms result) }
+    ensures unchanged { GivenTables (state S.Store conn.old) (state S.Store conn.new)
+        (IfAnswered result (IsUnchanged (state S.Store conn.old) (state S.Store conn.new))) }
+    ensures reads_only { OnlyReads (state S.Store conn.old) (state S.Store conn.new) }
+{
+    conn.query_row(
+        "SELECT changed, card FROM member WHERE book = ?1 AND uid = ?2",
+        params![book, uid],
+    )
+}
+
+/// Counts the members of the book with this id that were removed by a change above `horizon`.
+///
+/// The cost grows with all members that changed above `horizon`, live ones included.
+pub fn count_removed<S: Alter>(
+    conn: &mut Connection<S>,
+    book: i64,
+    horizon: i64,
+) -> Result<Row, Error>
+    ensures counts { GivenMembers (state S.Store conn.old) (state S.Store conn.new)
+        (λ ms. IfOk result (λ row.
+        row ≡ count_value (length (filter (is_removed_above book horizon) ms)) ∷ [])) }
+    ensures unchanged { GivenTables (state S.Store conn.old) (state S.Store conn.new)
+        (IfAnswered result (IsUnchanged (state S.Store conn.old) (state S.Store conn.new))) }
+    ensures reads_only { OnlyReads (state S.Store conn.old) (state S.Store conn.new) }
+{
+    conn.query_row(
+        "SELECT COUNT(*) FROM member WHERE book = ?1 AND card IS NULL AND changed > ?2",
+        params![book, horizon],
+    )
+}
+
+/// Returns the least number above `horizon` of a removed member of the book with this id.
+///
+/// Fails with `QueryReturnedNoRows` if there is none. The index of the key `(book, changed)` gives
+/// the order: rows are read from `horizon` up to the first removed one, so the cost is the number
+/// of live members between the two.
+pub fn first_removed<S: Alter>(
+    conn: &mut Connection<S>,
+    book: i64,
+    horizon: i64,
+) -> Result<Row, Error>
+    ensures first { GivenMembers (state S.Store conn.old) (state S.Store conn.new)
+        (λ ms. FindsFirstRow by_changed number_shown (filter (is_removed_above book horizon) ms)
+        result) }
+    ensures unchanged { GivenTables (state S.Store conn.old) (state S.Store conn.new)
+        (IfAnswered result (IsUnchanged (state S.Store conn.old) (state S.Store conn.new))) }
+    ensures reads_only { OnlyReads (state S.Store conn.old) (state S.Store conn.new) }
+{
+    conn.query_row(
+        "SELECT changed FROM member WHERE book = ?1 AND card IS NULL AND changed > ?2 \
+         ORDER BY changed",
+        params![book, horizon],
+    )
+}
+
+/// Returns the UID, the number and the card of every member of the book with this id, in the order
+/// of the numbers. The card is null for a removed member.
+pub fn members_of<S: Alter>(conn: &mut Connection<S>, book: i64) -> Result<Vec<Row>, Error>
+    ensures lists { GivenMembers (state S.Store conn.old) (state S.Store conn.new)
+        (λ ms. IfOk result (λ rows.
+        AreRowsInOrder by_changed member_shown (filter (is_in_book book) ms) rows.items)) }
+    ensures unchanged { GivenTables (state S.Store conn.old) (state S.Store conn.new)
+        (OnOk result (IsUnchanged (state S.Store conn.old) (state S.Store conn.new))) }
+    ensures reads_only { OnlyReads (state S.Store conn.old) (state S.Store conn.new) }
+{
+    conn.query_all(
+        "SELECT uid, changed, card FROM member WHERE book = ?1 ORDER BY changed",
+        params![book],
+    )
+}
+
+/// Inserts or updates the member with this UID in the book with this id: it gets the number
+/// `changed` and the card. Returns the row of the new number and card.
+///
+/// Fails with a constraint error if another member of the book has the number, or if no book has
+/// the id.
+pub fn put_member<S: Alter>(
+    tx: &mut Transaction<'_, S>,
+    book: i64,
+    uid: &str,
+    changed: i64,
+    card: Option<&str>,
+) -> Result<Vec<Row>, Error>
+    ensures same_reference { tx.new.conn.ghost_name ≡ tx.old.conn.ghost_name }
+    ensures puts { GivenMembersTx (state S.Store tx.old.conn.now) (state S.Store tx.new.conn.now)
+        (λ ms. OnOk result (PutsRow (state S.Store tx.new.conn.now).now.trees book uid.now changed
+        (option_copied card.entry) ms)) }
+    ensures writes { GivenMembersTx (state S.Store tx.old.conn.now) (state S.Store tx.new.conn.now)
+        (λ _. OnOk result
+        (WritesOnly 4 (state S.Store tx.old.conn.now) (state S.Store tx.new.conn.now))) }
+    ensures no_commit { NoCommit (state S.Store tx.old.conn.now) (state S.Store tx.new.conn.now) }
+    ensures rolled_back { InsideTx (state S.Store tx.old.conn.now) (state S.Store tx.new.conn.now)
+        (OnErr result
+        (IsUndone (state S.Store tx.old.conn.now) (state S.Store tx.new.conn.now))) }
+{
+    tx.query_all(
+        "INSERT INTO member (book, uid, changed, card) VALUES (?1, ?2, ?3, ?4) \
+         ON CONFLICT (book, uid) DO UPDATE SET changed = excluded.changed, card = excluded.card \
+         RETURNING changed, card",
+        params![book, uid, changed, card],
+    )
+}
+
+/// Deletes the removed members of the book with this id whose number is at most `upto`. Returns how
+/// many rows were deleted.
+pub fn forget_members<S: Alter>(
+    tx: &mut Transaction<'_, S>,
+    book: i64,
+    upto: i64,
+) -> Result<usize, Error>
+    ensures same_reference { tx.new.conn.ghost_name ≡ tx.old.conn.ghost_name }
+    ensures forgets { GivenMembersTx (state S.Store tx.old.conn.now) (state S.Store tx.new.conn.now)
+        (λ ms. OnOk result
+        (HasMembers (state S.Store tx.new.conn.now) (without_removed book upto ms))) }
+    ensures dropped { GivenMembersTx (state S.Store tx.old.conn.now) (state S.Store tx.new.conn.now)
+        (λ ms. IfOk result (λ count. count ≡ length (filter (is_removed_up_to book upto) ms))) }
+    ensures writes { GivenMembersTx (state S.Store tx.old.conn.now) (state S.Store tx.new.conn.now)
+        (λ _. OnOk result
+        (WritesOnly 4 (state S.Store tx.old.conn.now) (state S.Store tx.new.conn.now))) }
+    ensures no_commit { NoCommit (state S.Store tx.old.conn.now) (state S.Store tx.new.conn.now) }
+    ensures rolled_back { InsideTx (state S.Store tx.old.conn.now) (state S.Store tx.new.conn.now)
+        (OnErr result
+        (IsUndone (state S.Store tx.old.conn.now) (state S.Store tx.new.conn.now))) }
+{
+    tx.execute(
+        "DELETE FROM member WHERE book = ?1 AND card IS NULL AND changed <= ?2",
+        params![book, upto],
+    )
+}
+
+/// Returns every row of the table, whatever its columns hold: the row id, the book, the UID, the
+/// number and the card.
+pub fn all_members<S: Alter>(conn: &mut Connection<S>) -> Result<Vec<Row>, Error>
+    ensures lists { GivenTables (state S.Store conn.old) (state S.Store conn.new)
+        (IfOk result (λ rows.
+        IsPermutation (map member_cells ((state S.Store conn.old).now.trees 4)) rows.items)) }
+    ensures unchanged { GivenTables (state S.Store conn.old) (state S.Store conn.new)
+        (OnOk result (IsUnchanged (state S.Store conn.old) (state S.Store conn.new))) }
+    ensures reads_only { OnlyReads (state S.Store conn.old) (state S.Store conn.new) }
+{
+    conn.query_all(
+        "SELECT rowid, book, uid, changed, card FROM member",
+        params![],
+    )
+}

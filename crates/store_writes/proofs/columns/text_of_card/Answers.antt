@@ -1,0 +1,9 @@
+use Rattle.std.proofs.Common.{rules, ◌≡◌, Ok, string_bytes, sym, ap, subst}
+use Rattle.vcard_text.specs.CardOfText.{card_of_text}
+use Rattle.store_rows.specs.Values.{lines_or_none}
+use Rattle.store_writes.proofs.columns.text_of_card.Goals as goal
+
+pub returns-in-Ok-clause-reads_back : goal.returns-in-Ok-clause-reads_back
+returns-in-Ok-clause-reads_back c =
+    let octets : string_bytes c.in-Ok.text ≡ c.in_ok-write_card.field-0.items = search rules in
+    ap lines_or_none (subst (λ text. card_of_text text ≡ Ok c.args.card.now) (sym octets) ((c.card_is_computed.ensures _ _).0 c.in_ok-write_card.ensures.read_back))

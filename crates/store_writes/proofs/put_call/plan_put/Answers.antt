@@ -1,0 +1,34 @@
+use Rattle.std.proofs.Common.{rules, ◌≡◌, Err, sym, subst}
+use Rattle.sqlite.specs.Held.{state}
+use Rattle.sqlite.specs.State.{HasCleanDisk}
+use Rattle.store_tables.proofs.SchemaCreationLemmas.{clean_before}
+use Rattle.store_tables.proofs.Lookups.{reads_then}
+use Rattle.store_lookups.specs.CallResults.{IsExactly}
+use Rattle.store_lookups.proofs.ReadLemmas.{over_then, returns_then}
+use Rattle.store_writes.specs.internal.PutPlans.{IsPutPlanned, put_answer_in}
+use Rattle.store_writes.proofs.PlanLemmas.{answer_is_exact}
+use Rattle.store_writes.proofs.put_call.plan_put.Goals as goal
+
+pub returns-in_err-answer-clause-planned : goal.returns-in_err-answer-clause-planned
+returns-in_err-answer-clause-planned g c rows clean holds sound =
+    let said : c.from_residual-in_err-answer.result ≡ Err c.in_err-answer.field-0.0 = search rules in
+    subst (λ r. IsPutPlanned c.args.limits rows c.args.name.now c.args.card.now c.args.expect r) (sym said)
+    (returns_then IsExactly (put_answer_in c.args.limits c.args.card.now c.args.expect) c.args.name.now (state g.S.Store c.args.conn.now) (state g.S.Store c.open_header.new.conn) (state g.S.Store c.decide_put.new.conn) _ c.in_ok-header.header (Err c.in_err-answer.field-0.0)
+    c.in_ok-header.ensures.finds c.in_ok-header.ensures.unchanged c.decide_put.ensures.reads_only.survives c.in_err-answer.ensures.answers rows clean holds sound)
+
+pub returns-in_err-answer-clause-reads_only : goal.returns-in_err-answer-clause-reads_only
+returns-in_err-answer-clause-reads_only g c =
+    reads_then (state g.S.Store c.args.conn.now) (state g.S.Store c.open_header.new.conn) (state g.S.Store c.decide_put.new.conn) c.open_header.ensures.reads_only c.in_ok-header.ensures.unchanged c.decide_put.ensures.reads_only
+
+pub returns-clause-planned : goal.returns-clause-planned
+returns-clause-planned g c rows clean holds sound =
+    let mid = state g.S.Store c.open_header.new.conn in
+    let new = state g.S.Store c.decide_put.new.conn in
+    let early : HasCleanDisk mid = clean_before _ mid new c.decide_put.ensures.reads_only.survives clean in (
+      c.in_ok-header.ensures.finds rows early holds sound,
+      answer_is_exact _ c.in_ok-answer.answer (over_then (state g.S.Store c.args.conn.now) mid new _ _ c.in_ok-header.ensures.unchanged c.decide_put.ensures.reads_only.survives c.in_ok-answer.ensures.answers rows clean holds sound c.args.name.now),
+    )
+
+pub returns-clause-reads_only : goal.returns-clause-reads_only
+returns-clause-reads_only g c =
+    reads_then (state g.S.Store c.args.conn.now) (state g.S.Store c.open_header.new.conn) (state g.S.Store c.decide_put.new.conn) c.open_header.ensures.reads_only c.in_ok-header.ensures.unchanged c.decide_put.ensures.reads_only

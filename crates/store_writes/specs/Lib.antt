@@ -1,0 +1,3 @@
+pub mod StoredBooks
+pub mod TableChanges
+pub mod internal

@@ -1,0 +1,754 @@
+"""The worked rows, each a title and scripts, which are run one after another over new stores.
+
+A line of a script is a line of the list and, if it was worked out by hand, the expected reply after
+` => `. rows.py tests that the model gives the same reply. In them `.../` is the prefix of a token,
+`COLUMNS` the header of rows in columns, `BOM` a byte order mark, and `[UID NAME]` the text of a
+card that has these and nothing else. Between two scripts the stores over tables are opened again."""
+
+# The greatest number of entries of a page, of live cards and of changes of a book, of books, and of
+# tombstones of a book.
+STANDARD = 100, 10_000, 1_000_000_000_000, 100, 10_000
+
+# Three cards are put into the new book `staff`, one is edited, and one removed; then another one is
+# removed and the first one put again; one is put and removed; and one is moved.
+FOUR_PUTS = """
+create staff => book 1
+card staff a FN:Ann => created 1
+card staff b FN:Bob => created 2
+card staff c FN:Cy => created 3
+card staff a FN:Anna => edited 4
+"""
+FIVE_CHANGES = FOUR_PUTS + """
+remove staff b => gone 5
+"""
+TWO_MORE = """
+remove staff c => gone 6
+card staff b FN:Bob => created 7
+"""
+DEE = """
+card staff d FN:Dee => created 8
+remove staff d => gone 9
+"""
+A_MOVE = """
+create clients => book 2
+move staff a clients => moved 10 1
+"""
+
+COMMAND_ROWS = [
+    ("An empty book is reported",
+     """
+create staff => book 1
+report staff - => page 1/0/0
+"""),
+    ("Cards come, are edited and go",
+     FIVE_CHANGES),
+    ("A book is counted, and its cards are told",
+     FIVE_CHANGES, """
+tally staff => number 5 horizon 0 cards 2 created 3 edited 1 imported 0 import-edited 0 moved-in 0 deleted 1 moved-out 0 remembered 1
+books => books | staff 1 5 0
+get staff a => card a 4 [a Anna]
+get staff b => refused 4
+"""),
+    ("A put of what is live changes nothing, and one that expects another version is refused",
+     FIVE_CHANGES, """
+card staff a FN:Anna => unchanged 4
+put staff b 5 [b Bob] => refused 7 has 0
+remove staff b => refused 4
+"""),
+    ("Reports come in pages. A page that is just full is the last",
+     FIVE_CHANGES, """
+report staff - 1 => page 1/3/5 and more | c 3 [c Cy]
+report staff .../1/3/5 1 => page 1/5/5 | a 4 [a Anna]
+report staff - => page 1/5/5 | c 3 [c Cy] | a 4 [a Anna]
+report staff .../1/2/2 => page 1/5/5 | c 3 [c Cy] | a 4 [a Anna] | b gone
+report staff .../1/4/4 => page 1/5/5 | b gone
+report staff .../1/5/6 => refused 10 cause 3
+"""),
+    ("An initial report has the live cards in the order of their changes",
+     FOUR_PUTS, """
+report staff - => page 1/4/4 | b 2 [b Bob] | c 3 [c Cy] | a 4 [a Anna]
+report staff .../1/2/2 => page 1/4/4 | c 3 [c Cy] | a 4 [a Anna]
+report staff .../1/4/4 => page 1/4/4
+"""),
+    ("The token of a truncated page stands for the part that it has",
+     FOUR_PUTS, """
+report staff - 1 => page 1/2/4 and more | b 2 [b Bob]
+report staff .../1/2/4 1 => page 1/3/4 and more | c 3 [c Cy]
+report staff .../1/3/4 1 => page 1/4/4 | a 4 [a Anna]
+"""),
+    ("A page tells of members as they are now",
+     FOUR_PUTS, """
+card staff c FN:Cyd => edited 5
+report staff .../1/2/4 1 => page 1/4/4 and more | a 4 [a Anna]
+report staff .../1/4/4 1 => page 1/5/5 | c 5 [c Cyd]
+"""),
+    ("Changes between pages are reported",
+     FIVE_CHANGES, """
+remove staff c => gone 6
+card staff b FN:Bob => created 7
+report staff .../1/3/5 1 => page 1/4/5 and more | a 4 [a Anna]
+report staff .../1/4/5 2 => page 1/7/7 | c gone | b 7 [b Bob]
+report staff .../1/4/5 1 => page 1/6/6 and more | c gone
+report staff .../1/6/6 1 => page 1/7/7 | b 7 [b Bob]
+"""),
+    ("A card that came and went is reported",
+     FIVE_CHANGES, TWO_MORE, """
+card staff d FN:Dee => created 8
+remove staff d => gone 9
+report staff .../1/7/7 => page 1/9/9 | d gone
+"""),
+    ("A card moves",
+     FIVE_CHANGES, TWO_MORE, DEE, A_MOVE),
+    ("Both books of a move are counted, and the card is in the one alone",
+     FIVE_CHANGES, TWO_MORE, DEE, A_MOVE, """
+tally staff => number 10 horizon 0 cards 1 created 5 edited 1 imported 0 import-edited 0 moved-in 0 deleted 3 moved-out 1 remembered 3
+tally clients => number 1 horizon 0 cards 1 created 0 edited 0 imported 0 import-edited 0 moved-in 1 deleted 0 moved-out 0 remembered 0
+get staff a => refused 4
+get clients a => card a 1 [a Anna]
+get staff b => card b 7 [b Bob]
+report staff .../1/9/9 => page 1/10/10 | a gone
+"""),
+    ("Moves are refused, and take no number",
+     FIVE_CHANGES, TWO_MORE, DEE, A_MOVE, """
+move staff a clients => refused 4
+card clients b FN:Bob => created 2
+move staff b clients => refused 8
+move staff b staff => refused 9
+move nobody b staff => refused 1
+move staff b nobody => refused 1
+move staff z staff => refused 9
+books => books | clients 2 2 0 | staff 1 10 0
+"""),
+    ("Of several reasons to refuse a move the first is told",
+     FIVE_CHANGES, TWO_MORE, DEE, """
+create clients => book 2
+card clients b FN:Bob => created 1
+move nobody b nobody => refused 1
+move staff c clients 1 => refused 4
+move staff b clients 1 => refused 8
+move staff a clients 1 => refused 7 has 4
+move clients b staff => refused 8
+books => books | clients 2 1 0 | staff 1 9 0
+"""),
+    ("The same card changes nothing",
+     FIVE_CHANGES, TWO_MORE, DEE, A_MOVE, """
+card staff b FN:Bob => unchanged 7
+report staff .../1/10/10 => page 1/10/10
+put staff b 6 [b Rob] => refused 7 has 7
+"""),
+    ("Reports are refused in order, and an old token is taken",
+     FIVE_CHANGES, TWO_MORE, DEE, A_MOVE, """
+report staff - 0 => refused 11
+report staff .../2/1/1 => refused 10 cause 2
+report staff .../1/99/99 => refused 10 cause 3
+report staff .../1/07/7 => refused 10 cause 1
+report staff .../1/5/4 => refused 10 cause 1
+report staff .../1/07/7 0 => refused 10 cause 1
+report nobody .../1/07/7 0 => refused 1
+report staff .../2/1/1 0 => refused 10 cause 2
+report staff .../1/3/5 => page 1/10/10 | c gone | b 7 [b Bob] | d gone | a gone
+"""),
+    ("Of several reasons to refuse a report the first is told",
+     FOUR_PUTS, """
+report nobody .../1/99/99 0 => refused 1
+report staff .../2/99/99 0 => refused 10 cause 2
+report staff .../1/99/99 0 => refused 10 cause 3
+report staff .../1/4/5 0 => refused 10 cause 3
+report staff .../1/4/4 0 => refused 11
+"""),
+    ("Puts and removals are refused in order. A text that ends behind its first line has no VERSION",
+     FIVE_CHANGES, r"""
+put nobody a 7 BEGIN:VCARD\n => refused 1
+put nobody a 7 [z Other] => refused 1
+put staff a 7 BEGIN:VCARD\n => refused 5 fault 6
+put staff a 7 [z Other] => refused 6
+put staff a 7 [a Ann] => refused 7 has 4
+put staff b 5 [b Bob] => refused 7 has 0
+remove staff b => refused 4
+put staff z 7 [z Zoe] => refused 7 has 0
+put staff z 0 [z Zoe] => created 6
+get nobody a => refused 1
+tally nobody => refused 1
+remove nobody a => refused 1
+remove staff a 7 => refused 7 has 4
+report nobody - => refused 1
+"""),
+    ("A put meets the version that it expects",
+     FOUR_PUTS, """
+card staff b FN:Bob => unchanged 2
+put staff b 6 [b Rob] => refused 7 has 2
+put staff b 0 [b Rob] => refused 7 has 2
+put staff b 2 [b Rob] => edited 5
+card clients b FN:Rob => refused 1
+"""),
+    ("A removal meets the version that it expects",
+     FIVE_CHANGES, """
+remove nobody b 1 => refused 1
+remove staff b 5 => refused 4
+remove staff z => refused 4
+remove staff a 1 => refused 7 has 4
+remove staff a 4 => gone 6
+"""),
+    ("A store has no books at first",
+     """
+books => books
+"""),
+    ("The books are told by the octets of their names, and have ids in the order in which they were made",
+     FIVE_CHANGES, """
+create clients => book 2
+create z => book 3
+create - => book 4
+create staff-2 => book 5
+create z => refused 2
+books => books | - 4 0 0 | clients 2 0 0 | staff 1 5 0 | staff-2 5 0 0 | z 3 0 0
+"""),
+    ("A name is 1 to 40 small letters, digits and hyphens",
+     """
+create => refused 3
+create Staff => refused 3
+create staff.1 => refused 3
+create büro => refused 3
+create aaaaaaaaaabbbbbbbbbbccccccccccddddddddddx => refused 3
+create aaaaaaaaaabbbbbbbbbbccccccccccdddddddddd => book 1
+create a-0 => book 2
+"""),
+]
+
+FORGET_ROWS = [
+    ("A book forgets what went up to its number. A page's token is taken on for its base, whatever its other number is",
+     FIVE_CHANGES, """
+report staff - 1
+""", """
+forget staff 5 => forgot 1 horizon 5
+report staff .../1/3/5 1 => page 1/5/5 | a 4 [a Anna]
+report staff .../1/4/4 => refused 10 cause 4
+forget staff 4 => refused 16
+books => books | staff 1 5 5
+"""),
+    ("It has nothing more to forget there, and can't forget what is still to come",
+     FIVE_CHANGES, """
+forget staff 5
+""", """
+forget staff 5 => forgot 0 horizon 5
+forget staff 6 => refused 16
+tally staff => number 5 horizon 5 cards 2 created 3 edited 1 imported 0 import-edited 0 moved-in 0 deleted 1 moved-out 0 remembered 0
+forget clients 0 => refused 1
+"""),
+    ("An initial report that begins after that is paged to its end, however long ago its members changed",
+     FIVE_CHANGES, """
+forget staff 5
+""", """
+report staff - 1 => page 1/3/5 and more | c 3 [c Cy]
+report staff .../1/3/5 => page 1/5/5 | a 4 [a Anna]
+"""),
+    ("What went after the horizon is remembered, and a token at the horizon is told of it",
+     FIVE_CHANGES, """
+remove staff c => gone 6
+forget staff 5 => forgot 1 horizon 5
+tally staff => number 6 horizon 5 cards 1 created 3 edited 1 imported 0 import-edited 0 moved-in 0 deleted 2 moved-out 0 remembered 1
+report staff .../1/5/5 => page 1/6/6 | c gone
+report staff .../1/4/5 => page 1/6/6 | c gone
+report staff .../1/2/4 => refused 10 cause 4
+forget staff 6 => forgot 1 horizon 6
+report staff .../1/5/5 => refused 10 cause 4
+report staff .../1/6/6 => page 1/6/6
+"""),
+]
+
+# A book with a card of its own and one that was moved in, so that its number is 2.
+CLIENTS = """
+create staff
+create clients
+card staff m FN:Mo
+card clients o FN:Ola
+move staff m clients
+"""
+IMPORT_ROWS = [
+    ("The third row has no name: nothing is kept. Then three cards come. The key again answers the same, whatever the body is, and another key acts anew",
+     CLIENTS, r"""
+import clients k1 COLUMNS\np,Pat Lee,Lee,Pat,pat@example.test,,,\nq,Quin,,,,,,\nr,,,,,,,\n => refused 14 row 3 cause 4
+import clients k1 COLUMNS\np,Pat Lee,Lee,Pat,pat@example.test,,,\nq,Quin,,,,,,\nr,Rae,,,,,,\n => added 3 edited 0 same 0 number 5
+import clients k1 COLUMNS\nz,Zoe,,,,,,\n => added 3 edited 0 same 0 number 5
+import clients k1 nonsense\n => added 3 edited 0 same 0 number 5
+import clients k1 => added 3 edited 0 same 0 number 5
+tally clients => number 5 horizon 0 cards 5 created 1 edited 0 imported 3 import-edited 0 moved-in 1 deleted 0 moved-out 0 remembered 0
+import clients k2 COLUMNS\np,Pat Lee,Lee,Pat,pat@example.test,,,\nq,Quinn,,,,,,\ns,Sy,,,,,,\n => added 1 edited 1 same 1 number 7
+tally clients => number 7 horizon 0 cards 6 created 1 edited 0 imported 4 import-edited 1 moved-in 1 deleted 0 moved-out 0 remembered 0
+import clients k1 => added 3 edited 0 same 0 number 5
+get clients p => card p 3 BEGIN:VCARD\r\nVERSION:4.0\r\nUID:p\r\nFN:Pat Lee\r\nN:Lee;Pat;;;\r\nEMAIL:pat@example.test\r\nEND:VCARD\r\n
+"""),
+    ("A book that isn't there is refused first, then a key with a slash, then an empty body",
+     """
+create staff
+""", r"""
+import clients k/3 => refused 1
+import staff k/3 => refused 15
+import staff k3 => refused 14 row 0 cause 1
+import staff k3 COLUMNS\n => added 0 edited 0 same 0 number 0
+import staff k3 COLUMNS\na,Ann,,,,,,\n => added 0 edited 0 same 0 number 0
+books => books | staff 1 0 0
+"""),
+    ("A card's text as one field, in quotes",
+     """
+create staff
+""", r"""
+import staff k uid,vcard\na,"BEGIN:VCARD\nVERSION:4.0\nUID:a\nFN:Ann\nEND:VCARD\n"\n => added 1 edited 0 same 0 number 1
+get staff a => card a 1 [a Ann]
+card staff a FN:Ann => unchanged 1
+"""),
+    ("Two rows of one UID are refused, and the second is told",
+     """
+create staff
+""", r"""
+import staff k COLUMNS\na,Ann,,,,,,\na,Anna,,,,,,\n => refused 14 row 2 cause 41
+books => books | staff 1 0 0
+"""),
+    ("A row's parts are the card's lines, and are told again as they came",
+     """
+create staff
+""", r"""
+import staff k COLUMNS\np,Pat Lee,Lee,Pat,pat@example.test,,,\n => added 1 edited 0 same 0 number 1
+export staff cards => rows uid,vcard\np,"BEGIN:VCARD\r\nVERSION:4.0\r\nUID:p\r\nFN:Pat Lee\r\nN:Lee;Pat;;;\r\nEMAIL:pat@example.test\r\nEND:VCARD\r\n"\n
+export staff columns => rows COLUMNS\np,Pat Lee,Lee,Pat,pat@example.test,,,\n
+"""),
+]
+
+# A group of a group, of a card behind `urn:uuid:`, and of nobody; a group of the first and of a
+# card; and the two cards.
+GROUPS = r"""
+create staff
+card staff g FN:Staff-g2-urn:uuid:x-nobody\nKIND:group\nMEMBER:g2\nMEMBER:urn:uuid:x\nMEMBER:nobody
+card staff g2 FN:Others-g-y\nKIND:group\nMEMBER:g\nMEMBER:y
+card staff x FN:Xen
+card staff y FN:Yul
+"""
+WHOLE_BOOK_ROWS = [
+    ("A book of one card in both forms",
+     """
+create staff
+card staff a FN:Ann
+""", r"""
+export staff cards => rows uid,vcard\na,"BEGIN:VCARD\r\nVERSION:4.0\r\nUID:a\r\nFN:Ann\r\nEND:VCARD\r\n"\n
+export staff columns => rows COLUMNS\na,Ann,,,,,,\n
+"""),
+    ("An empty book is a header alone, and a book that isn't there is refused",
+     """
+create staff
+""", r"""
+export staff cards => rows uid,vcard\n
+export staff columns => rows COLUMNS\n
+export clients cards => refused 1
+"""),
+    ("Cards stand in the order of their UIDs, whatever the order of their changes",
+     """
+create staff
+card staff b FN:Bob
+card staff c FN:Cy
+card staff a FN:Ann
+card staff b FN:Rob
+remove staff c
+""", r"""
+export staff columns => rows COLUMNS\na,Ann,,,,,,\nb,Rob,,,,,,\n
+"""),
+    ("A group reaches the people of all groups that it leads to, itself among them",
+     GROUPS, """
+people staff g => people x y | missing nobody
+people staff g2 => people x y | missing nobody
+"""),
+    ("A card of another kind has no people, and what isn't live is no card",
+     GROUPS, """
+people staff x => refused 17
+people staff nobody => refused 4
+people clients g => refused 1
+people clients x => refused 1
+"""),
+    ("Who was taken away is missing, and a group that was taken away leads to nobody",
+     GROUPS, """
+remove staff y => gone 5
+people staff g => people x | missing nobody y
+remove staff g2 => gone 6
+people staff g => people x | missing g2 nobody
+people staff g2 => refused 4
+"""),
+    ("A member that moved to another book is missing from its first, and not reached there",
+     GROUPS, """
+create clients => book 2
+move staff y clients => moved 5 1
+people staff g2 => people x | missing nobody y
+people clients y => refused 17
+"""),
+    ("A group's row in form cards has its members, and its row of columns hasn't",
+     r"""
+create staff
+card staff g FN:All-a\nKIND:group\nMEMBER:a
+""", r"""
+export staff cards => rows uid,vcard\ng,"BEGIN:VCARD\r\nVERSION:4.0\r\nUID:g\r\nFN:All-a\r\nKIND:group\r\nMEMBER:a\r\nEND:VCARD\r\n"\n
+export staff columns => rows COLUMNS\ng,All-a,,,,,,\n
+"""),
+    ("Reading all cards changes nothing",
+     GROUPS, """
+export staff cards
+people staff g
+""", """
+books => books | staff 1 4 0
+"""),
+]
+
+# With limits of their own.
+LIMIT_ROWS = [
+    ("A store of one book, with two cards and three changes",
+     (1, 2, 3, 1, 10_000), """
+create Staff => refused 3
+create staff => book 1
+create staff => refused 2
+create clients => refused 18
+card staff a FN:Ann => created 1
+card staff b FN:Bob => created 2
+card staff c FN:Cy => refused 12
+put staff c 7 [c Cy] => refused 7 has 0
+remove staff a => gone 3
+card staff c FN:Cy => refused 13
+remove staff b => refused 13
+report staff - 5 => page 1/3/3 | b 2 [b Bob]
+"""),
+    ("A book of three changes",
+     (100, 10, 3, 1, 10_000), """
+create staff => book 1
+card staff a FN:Ann => created 1
+card staff b FN:Bob => created 2
+card staff a FN:Anna => edited 3
+card staff c FN:Cy => refused 13
+card staff b FN:Bob => unchanged 2
+"""),
+    ("A book of two cards",
+     (100, 2, 300, 1, 10_000), """
+create staff => book 1
+card staff a FN:Ann => created 1
+card staff b FN:Bob => created 2
+card staff c FN:Cy => refused 12
+put staff c 1 [c Cy] => refused 7 has 0
+card staff a FN:Anna => edited 3
+"""),
+    ("A store of one book",
+     (100, 2, 300, 1, 10_000), """
+create staff => book 1
+create staff => refused 2
+create clients => refused 18
+"""),
+    ("A removal takes a number too",
+     (100, 10, 2, 1, 10_000), """
+create staff => book 1
+card staff a FN:Ann => created 1
+card staff b FN:Ann => created 2
+remove staff a 2 => refused 7 has 1
+remove staff a => refused 13
+get staff a => card a 1 [a Ann]
+"""),
+    ("A move needs room in the other book, and a number in both",
+     (100, 1, 3, 2, 10_000), """
+create staff => book 1
+create clients => book 2
+card staff a FN:Ann => created 1
+card clients b FN:Bob => created 1
+move staff a clients => refused 12
+remove clients b => gone 2
+move staff a clients 1 => moved 2 3
+move clients a staff 3 => refused 13
+get clients a => card a 3 [a Ann]
+"""),
+    ("An import needs room for the cards that it adds, and one without room isn't kept",
+     (100, 2, 300, 1, 10_000), r"""
+create staff => book 1
+card staff a FN:Ann => created 1
+import staff k COLUMNS\nb,Bob,,,,,,\nc,Cy,,,,,,\n => refused 12
+import staff k COLUMNS\na,Anna,,,,,,\nb,Bob,,,,,,\n => added 1 edited 1 same 0 number 3
+import staff k2 COLUMNS\na,Anna,,,,,,\nb,Rob,,,,,,\n => added 0 edited 1 same 1 number 4
+import staff k3 COLUMNS\nc,Cy,,,,,,\n => refused 12
+books => books | staff 1 4 0
+"""),
+    ("It needs a number for each card that it adds or edits",
+     (100, 10, 3, 1, 10_000), r"""
+create staff => book 1
+card staff a FN:Ann => created 1
+import staff k COLUMNS\nb,Bob,,,,,,\nc,Cy,,,,,,\nd,Dee,,,,,,\n => refused 13
+import staff k COLUMNS\na,Ann,,,,,,\nb,Bob,,,,,,\nc,Cy,,,,,,\n => added 2 edited 0 same 1 number 3
+import staff k2 COLUMNS\na,Ann,,,,,,\n => added 0 edited 0 same 1 number 3
+import staff k3 COLUMNS\na,Anna,,,,,,\n => refused 13
+import staff k3 COLUMNS\na,Anna,,,,,,\nb,,,,,,,\n => refused 14 row 2 cause 4
+import staff k3 => refused 14 row 0 cause 1
+books => books | staff 1 3 0
+"""),
+    ("Where there is neither, the room for cards is told",
+     (100, 1, 1, 1, 10_000), r"""
+create staff => book 1
+import staff k COLUMNS\na,Ann,,,,,,\nb,Bob,,,,,,\n => refused 12
+import staff k COLUMNS\na,Ann,,,,,,\n => added 1 edited 0 same 0 number 1
+import staff k2 COLUMNS\nb,Bob,,,,,,\n => refused 12
+import staff k2 COLUMNS\na,Anna,,,,,,\n => refused 13
+import staff k/2 COLUMNS\nb,Bob,,,,,,\n => refused 15
+"""),
+    ("A book that remembers one removed member drops those before it, and its horizon rises to the last that it dropped",
+     (100, 10, 300, 1, 1), """
+create desk => book 1
+card desk a FN:Ann => created 1
+card desk b FN:Bob => created 2
+card desk c FN:Cy => created 3
+report desk - 1 => page 1/1/3 and more | a 1 [a Ann]
+remove desk a => gone 4
+tally desk => number 4 horizon 0 cards 2 created 3 edited 0 imported 0 import-edited 0 moved-in 0 deleted 1 moved-out 0 remembered 1
+remove desk b => gone 5
+tally desk => number 5 horizon 4 cards 1 created 3 edited 0 imported 0 import-edited 0 moved-in 0 deleted 2 moved-out 0 remembered 1
+report desk .../1/1/3 => refused 10 cause 4
+report desk .../1/3/3 => refused 10 cause 4
+report desk .../1/4/4 => page 1/5/5 | b gone
+remove desk c => gone 6
+tally desk => number 6 horizon 5 cards 0 created 3 edited 0 imported 0 import-edited 0 moved-in 0 deleted 3 moved-out 0 remembered 1
+"""),
+    ("What moves away is removed there too. A card that comes again isn't remembered, so that nothing is dropped for it",
+     (100, 10, 300, 2, 1), """
+create staff => book 1
+create clients => book 2
+card staff a FN:Ann => created 1
+card staff b FN:Bob => created 2
+move staff a clients => moved 3 1
+card staff a FN:Ann => created 4
+remove staff b => gone 5
+books => books | clients 2 1 0 | staff 1 5 0
+remove clients a => gone 2
+move staff a clients => moved 6 3
+books => books | clients 2 3 0 | staff 1 6 5
+tally staff => number 6 horizon 5 cards 0 created 3 edited 0 imported 0 import-edited 0 moved-in 0 deleted 1 moved-out 2 remembered 1
+"""),
+]
+
+# The first device hears a page of one entry, then two more, and then of Dee.
+FIVE_HEARD = FIVE_CHANGES + """
+ask 0 1 => page 1/3/5 and more | c 3 [c Cy]
+"""
+TWO_HEARD = TWO_MORE + """
+ask 0 1 => page 1/4/5 and more | a 4 [a Anna]
+ask 0 2 => page 1/7/7 | c gone | b 7 [b Bob]
+"""
+DEE_HEARD = DEE + """
+ask 0 => page 1/9/9 | d gone
+"""
+
+# With so many removed members remembered, and with two devices of `staff` and one of `clients`.
+DEVICE_ROWS = [
+    ("A truncated page is applied",
+     10_000, FIVE_HEARD, """
+copy 0 => copy 1/3/5 | c 3 [c Cy]
+"""),
+    ("A device that goes on has the book",
+     10_000, FIVE_HEARD, """
+ask 0 1 => page 1/5/5 | a 4 [a Anna]
+copy 0 => copy 1/5/5 | a 4 [a Anna] | c 3 [c Cy]
+"""),
+    ("A page tells of a card as it is now",
+     10_000, """
+create staff => book 1
+card staff a FN:Ann => created 1
+card staff b FN:Bob => created 2
+card staff c FN:Cy => created 3
+card staff a FN:Anna => edited 4
+ask 0 2 => page 1/3/4 and more | b 2 [b Bob] | c 3 [c Cy]
+card staff b FN:Rob => edited 5
+ask 0 2 => page 1/5/5 | a 4 [a Anna] | b 5 [b Rob]
+ask 0 2 => page 1/5/5
+copy 0 => copy 1/5/5 | a 4 [a Anna] | b 5 [b Rob] | c 3 [c Cy]
+"""),
+    ("A device of an empty book has nothing but a token",
+     10_000, """
+create staff => book 1
+ask 0 => page 1/0/0
+copy 0 => copy 1/0/0
+"""),
+    ("Changes between pages are heard",
+     10_000, FIVE_HEARD, TWO_HEARD, """
+copy 0 => copy 1/7/7 | a 4 [a Anna] | b 7 [b Bob]
+"""),
+    ("Pages of one entry lead to the same",
+     10_000, FIVE_HEARD, """
+remove staff c => gone 6
+card staff b FN:Bob => created 7
+ask 0 1 => page 1/4/5 and more | a 4 [a Anna]
+ask 0 1 => page 1/6/6 and more | c gone
+ask 0 1 => page 1/7/7 | b 7 [b Bob]
+copy 0 => copy 1/7/7 | a 4 [a Anna] | b 7 [b Bob]
+"""),
+    ("A card that came and went leaves no copy",
+     10_000, FIVE_HEARD, TWO_HEARD, DEE_HEARD, """
+copy 0 => copy 1/9/9 | a 4 [a Anna] | b 7 [b Bob]
+"""),
+    ("A moved card leaves the copy",
+     10_000, FIVE_HEARD, TWO_HEARD, DEE_HEARD, A_MOVE, """
+ask 1 => page 2/1/1 | a 1 [a Anna]
+ask 0 => page 1/10/10 | a gone
+ask 1 => page 2/1/1
+copy 0 => copy 1/10/10 | b 7 [b Bob]
+"""),
+    ("A moved card comes to the other copy. Nothing is heard of what is refused or changes nothing",
+     10_000, FIVE_HEARD, TWO_HEARD, DEE_HEARD, A_MOVE, """
+ask 1 => page 2/1/1 | a 1 [a Anna]
+card clients b FN:Bob => created 2
+move staff b clients => refused 8
+card staff b FN:Bob => unchanged 7
+ask 1 1 => page 2/2/2 | b 2 [b Bob]
+ask 0 => page 1/10/10 | a gone
+copy 1 => copy 2/2/2 | a 1 [a Anna] | b 2 [b Bob]
+"""),
+    ("A new device hears of both cards at once",
+     10_000, FIVE_HEARD, TWO_HEARD, DEE_HEARD, A_MOVE, """
+card clients b FN:Bob => created 2
+ask 1 => page 2/2/2 | a 1 [a Anna] | b 2 [b Bob]
+ask 0 => page 1/10/10 | a gone
+copy 1 => copy 2/2/2 | a 1 [a Anna] | b 2 [b Bob]
+"""),
+    ("A device that was long away hears all at once",
+     10_000, FIVE_CHANGES, """
+ask 2 1
+""", TWO_MORE, DEE, A_MOVE, """
+ask 2 => page 1/10/10 | c gone | b 7 [b Bob] | d gone | a gone
+copy 2 => copy 1/10/10 | b 7 [b Bob]
+"""),
+    ("Asks that are refused change nothing",
+     10_000, FIVE_HEARD, """
+ask 0 0 => refused 11
+ask 1 => refused 1
+card staff z FN:Zoe => created 6
+copy 0 => copy 1/3/5 | c 3 [c Cy]
+"""),
+    ("No events have no replies",
+     10_000, """
+copy 0 => copy none
+"""),
+    ("A token whose base is forgotten is given up, and the next ask is for an initial report",
+     10_000, FIVE_HEARD, """
+remove staff c => gone 6
+forget staff 6 => forgot 2 horizon 6
+ask 0 => refused 10 cause 4
+ask 0 => page 1/6/6 | a 4 [a Anna]
+copy 0 => copy 1/6/6 | a 4 [a Anna]
+"""),
+    ("A token at the horizon isn't, and is told of what went after it",
+     10_000, FIVE_HEARD, """
+remove staff c => gone 6
+forget staff 5 => forgot 1 horizon 5
+ask 0 => page 1/6/6 | a 4 [a Anna] | c gone
+copy 0 => copy 1/6/6 | a 4 [a Anna]
+"""),
+    ("One card more than the book remembers went since the device's page: its token is given up, and it hears of the whole book again",
+     1, FIVE_HEARD, """
+remove staff c => gone 6
+remove staff a => gone 7
+card staff d FN:Dee => created 8
+ask 0 => refused 10 cause 4
+ask 0 => page 1/8/8 | d 8 [d Dee]
+copy 0 => copy 1/8/8 | d 8 [d Dee]
+"""),
+    ("Only as many went as the book remembers, and the device hears of it",
+     1, FIVE_HEARD, """
+remove staff c => gone 6
+ask 0 => page 1/6/6 | a 4 [a Anna] | c gone
+copy 0 => copy 1/6/6 | a 4 [a Anna]
+"""),
+]
+
+DESK = """
+create desk => book 1
+create shelf => book 2
+card desk a FN:Ann => created 1
+card desk b FN:Bob => created 2
+card desk c FN:Cy => created 3
+"""
+KEEPING_ROWS = [
+    ("A removal drops the member that went longest ago, and the tokens that need it", 1, DESK, """
+report desk - 1 => page 1/1/3 and more | a 1 [a Ann]
+remove desk a => gone 4
+tally desk => number 4 horizon 0 cards 2 created 3 edited 0 imported 0 import-edited 0 moved-in 0 deleted 1 moved-out 0 remembered 1
+""", """
+remove desk b => gone 5
+tally desk => number 5 horizon 4 cards 1 created 3 edited 0 imported 0 import-edited 0 moved-in 0 deleted 2 moved-out 0 remembered 1
+""", """
+report desk .../1/1/3 => refused 10 cause 4
+report desk .../1/3/3 => refused 10 cause 4
+report desk .../1/4/4 => page 1/5/5 | b gone
+remove desk c => gone 6
+tally desk => number 6 horizon 5 cards 0 created 3 edited 0 imported 0 import-edited 0 moved-in 0 deleted 3 moved-out 0 remembered 1
+"""),
+    ("A move drops in the book that the card leaves, and nothing in the other", 1, DESK, """
+move desk a shelf => moved 4 1
+move desk b shelf => moved 5 2
+""", """
+tally desk => number 5 horizon 4 cards 1 created 3 edited 0 imported 0 import-edited 0 moved-in 0 deleted 0 moved-out 2 remembered 1
+report desk .../1/1/3 => refused 10 cause 4
+report desk .../1/3/3 => refused 10 cause 4
+report desk .../1/4/4 => page 1/5/5 | b gone
+tally shelf => number 2 horizon 0 cards 2 created 0 edited 0 imported 0 import-edited 0 moved-in 2 deleted 0 moved-out 0 remembered 0
+"""),
+    ("A member that came back isn't remembered", 1, DESK, """
+remove desk a => gone 4
+card desk a FN:Ann => created 5
+tally desk => number 5 horizon 0 cards 3 created 4 edited 0 imported 0 import-edited 0 moved-in 0 deleted 1 moved-out 0 remembered 0
+""", """
+remove desk b => gone 6
+tally desk => number 6 horizon 0 cards 2 created 4 edited 0 imported 0 import-edited 0 moved-in 0 deleted 2 moved-out 0 remembered 1
+"""),
+]
+
+# A book of 250 cards, as a mirror by pages of 100 has it.
+LONG_BOOK = [f"u{place:03}" for place in range(250)]
+LONG_BODY = "".join(f"{uid},Name,,,,,,\\n" for uid in LONG_BOOK)
+LONG_COPY = "".join(f" | {uid} {number} [{uid} Name]" for number, uid in enumerate(LONG_BOOK, 1))
+
+MORE_ROWS = [
+    ("A book of 250 cards is copied in three pages of at most 100", f"""
+create staff => book 1
+import staff k COLUMNS\\n{LONG_BODY} => added 250 edited 0 same 0 number 250
+mirror staff 100 10 => pages 3 done 1/250/250{LONG_COPY}
+"""),
+    ("A book is copied whole, page by page, or until there were so many pages", FIVE_CHANGES, """
+mirror staff 1 10 => pages 2 done 1/5/5 | a 4 [a Anna] | c 3 [c Cy]
+mirror staff 2 1 => pages 1 done 1/5/5 | a 4 [a Anna] | c 3 [c Cy]
+mirror staff 1 1 => pages 1 more 1/3/5 | c 3 [c Cy]
+mirror staff 1 0 => pages 0 more none
+mirror nobody 0 0 => pages 0 more none
+mirror staff 0 1 => refused 11
+mirror nobody 1 1 => refused 1
+"""),
+    ("A book that forgot is copied too", FIVE_CHANGES, """
+forget staff 5 => forgot 1 horizon 5
+mirror staff 1 10 => pages 2 done 1/5/5 | a 4 [a Anna] | c 3 [c Cy]
+"""),
+    ("What nobody should send is refused", FIVE_CHANGES, r"""
+report staff .../1/3/99999999999999 => refused 10 cause 1
+create aaaaaaaaaabbbbbbbbbbccccccccccddddddddddx => refused 3
+tally aaaaaaaaaabbbbbbbbbbccccccccccddddddddddx => refused 1
+import staff k COLUMNS\nx,Xen,,,,,,\ny,Yul,,,,,\n => refused 14 row 2 cause 2
+import staff k BOMBOMuid,vcard\n => refused 14 row 0 cause 1
+import staff k BOMuid,vcard\n => added 0 edited 0 same 0 number 5
+books => books | staff 1 5 0
+"""),
+]
+
+DEVICES = """
+device staff
+device clients
+device staff
+"""
+
+
+def with_keep(keep):
+    return STANDARD[:4] + (keep,)
+
+
+def sections():
+    """Each row's title, limits and scripts."""
+    plain = COMMAND_ROWS + FORGET_ROWS + IMPORT_ROWS + WHOLE_BOOK_ROWS + MORE_ROWS
+    for title, *scripts in plain:
+        yield title, STANDARD, scripts
+    yield from ((title, limits, scripts) for title, limits, *scripts in LIMIT_ROWS)
+    for title, keep, *scripts in KEEPING_ROWS:
+        yield title, with_keep(keep), scripts
+    for title, keep, first, *scripts in DEVICE_ROWS:
+        yield title, with_keep(keep), [DEVICES + first, *scripts]

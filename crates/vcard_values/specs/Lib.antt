@@ -1,0 +1,2 @@
+pub mod TextValues
+pub mod internal
