@@ -1,6 +1,6 @@
 """`contacts try`: one card of standard input, put into an empty book in memory.
 
-The texts and what they spell are in `test_cards`, written by hand. What is printed is the put, the
+The texts and what they spell are in `card_rows`, written by hand. What is printed is the put, the
 card in its canonical text, and the token of the book's initial report. The cause for which a text
 is refused isn't printed: a server says it, to which the same text is put.
 """
@@ -39,7 +39,7 @@ def printed(uid, card):
 
 
 class Texts(unittest.TestCase):
-    """Each text of `test_cards`."""
+    """Each text of `card_rows`."""
 
     def test_accepted(self):
         for name, text, uid, card in accepted():
