@@ -1,4 +1,5 @@
 //! Laws of the octets of every connection to the service. Each law is a function that does nothing.
+//! Each law is stated in `specs/OctetPromise.antt`.
 ghost use Rattle.book_http.specs.OctetPromise.{ConnectionsRun, CutsRunAlike, FaultsLeaveRuns};
 ghost use Rattle.book_http.specs.OctetPromise.{LostPiecesRun, ReadersAreDevices, RequestsRun};
 ghost use Rattle.book_http.specs.OctetPromise.{SessionsRun};
@@ -10,33 +11,30 @@ use sync_core::BookStore;
 use sync_core::token_laws::token_texts_are_unique;
 use vcard_text::laws::{card_is_unique, first_fault_without_card};
 
-/// The guarantee of the service in terms of octets, over every store of books: the requests in the
-/// octets received are a run of the service, to which `runs_keep_the_promise` applies.
+/// The guarantee of the service in terms of octets, over every store of books. The store matches
+/// the state before, and its premise holds afterwards.
+/// - `requests`: requests that are handled in turn are a run, and the octets are its replies. The
+///   run changes no device.
+/// - `sessions`: all requests of the octets fed ran, and the octets returned are their replies. If
+///   the session is closed, the list of requests has ended, or one more reply is to octets that
+///   never become a head.
+/// - `cuts`: however the octets are cut, a new session has the same value afterwards, and the same
+///   requests ran. If no reply of either run is a fault, the runs, their replies and the rows are
+///   the same. Both times, or neither, one reply follows to octets that never become a head.
+/// - `out_of_memory`: if memory runs out during a feed, some requests, from the first on, ran.
+/// - `connections`: on a connection served to its end, all requests of the octets read ran. The
+///   octets written are the replies and at most one more, to octets that never become a head.
+/// - `faults`: after a fault some requests of the octets read, from the first on, ran.
+/// - `devices`: if a report with a device's token gets a page whose reply body is a text of the
+///   page, and a client reads a page from this body and applies it, then that is a step of the
+///   device.
 pub fn octets_keep_the_promise<S: BookStore>()
-    // Requests that are handled in turn are performed as the commands that they ask for, and get
-    // the replies; nothing else acts.
     ensures requests { RequestsRun S.books S.limits S.premise S.may_fault }
-
-    // A session returns the replies to all requests of the octets received, in order, and at most
-    // one more, to octets that never become a head.
     ensures sessions { SessionsRun S.books S.limits S.premise S.may_fault }
-
-    // The requests don't depend on how the octets are cut. If no reply is a fault, the replies
-    // don't either.
     ensures cuts { CutsRunAlike S.books S.limits S.premise S.may_fault }
-
-    // If memory runs out, some requests, from the first on, were performed.
     ensures out_of_memory { LostPiecesRun S.books S.limits S.premise S.may_fault }
-
-    // On a connection that is served to its end, the octets written are the replies to all requests
-    // of the octets read.
     ensures connections { ConnectionsRun S.books S.limits S.premise S.may_fault }
-
-    // After a fault some requests of the octets read, from the first on, were performed.
     ensures faults { FaultsLeaveRuns S.books S.limits S.premise S.may_fault }
-
-    // A client that asks with a device's token and applies the page read from the reply is a device
-    // of the guarantee.
     ensures devices { ReadersAreDevices }
 {
     // These are laws and do nothing: a text is that of one token, one page, one card or one list of

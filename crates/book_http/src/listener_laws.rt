@@ -4,8 +4,10 @@ ghost use Rattle.book_http.specs.ListeningRuns.{ConnectionsAreOneRun};
 use crate::connection::Connection;
 use sync_core::BookStore;
 
-/// The connections of a listener, one after another, are one run of the service, over every store
-/// of books.
+/// Connections served in turn are one run, each from the state after the one before it: some
+/// requests of the octets read, from the first on, ran; all of them, with their replies written,
+/// where the connection was served to its end. No device is changed. The store matches the state
+/// before, and its premise holds afterwards (`specs/ListeningRuns.antt`).
 pub fn connections_are_one_run<S: BookStore, C: Connection>()
     ensures { ConnectionsAreOneRun S.books S.limits S.premise S.may_fault C.remaining C.contents }
 {}

@@ -18,51 +18,61 @@ ghost use Rattle.book_laws.specs.PagingLaws.{TruncatedPagesLeaveFewer, LastPages
 ghost use Rattle.book_laws.specs.PagingLaws.{TruncatedPagesAreBounded, QuietBooksSyncFully};
 ghost use Rattle.book_laws.specs.PagingLaws.{QuietDevicesCatchUp};
 
-/// An empty copy is consistent for an initial report, and that report lists exactly the live
-/// members.
+/// The mark of an initial report (`specs/DeviceLaws.antt`).
+/// - `copies`: an empty copy agrees with the log at this mark.
+/// - `due`: exactly the live members are due at this mark.
 pub fn initial_reports_start_consistent()
     ensures copies { EmptyCopyAgrees }
     ensures due { InitialReportsListLiveMembers }
 {}
 
-/// A device without a token is consistent: a new one, or one that was restarted.
+/// A device without a token is consistent (`specs/DeviceLaws.antt`).
 pub fn devices_start_consistent()
     ensures { DevicesStartConsistent }
 {}
 
-/// A consistent copy stays consistent after any further event, possible or not.
+/// A copy that agrees with a log at a mark still does after any event, possible or not
+/// (`specs/DeviceLaws.antt`).
 pub fn copies_stay_consistent()
     ensures { CopiesStayConsistent }
 {}
 
-/// A consistent copy stays consistent at the old mark after the first entries of a report, any
-/// number of them.
+/// A copy that agrees at a mark still does after any number of the first entries of a report from
+/// that mark (`specs/DeviceLaws.antt`).
 pub fn partial_pages_keep_copies_consistent()
     ensures { PartialPagesKeepCopiesConsistent }
 {}
 
-/// A consistent copy is consistent at the report's mark after the whole report.
+/// A copy that agrees at a mark agrees at the report's mark after all its entries, where the page
+/// size is above 0 (`specs/DeviceLaws.antt`).
 pub fn whole_pages_keep_copies_consistent()
     ensures { WholePagesKeepCopiesConsistent }
 {}
 
-/// After a report that isn't truncated a consistent copy, and that of a consistent device, equals
-/// the live cards, each with its version.
+/// Complete copies (`specs/DeviceLaws.antt`).
+/// - `copies`: after a report that isn't truncated, a copy that agreed at its mark equals the live
+///   cards, with their versions.
+/// - `devices`: a consistent device is up to date after a page of its book that isn't truncated.
+/// - `due`: a copy that agrees at a mark equals the live cards where no member is due.
 pub fn last_pages_complete_copies()
     ensures copies { LastPagesCompleteCopies }
     ensures devices { LastPagesCompleteDevices }
     ensures due { CopiesWithNoneDueAreComplete }
 {}
 
-/// The token of a consistent device is refused only where its base is below the horizon, and then
-/// as too old.
+/// The test of a consistent device's token by its book (`specs/DeviceLaws.antt`).
+/// - `known`: the token is accepted with its mark where its base is not below the horizon.
+/// - `old`: it is refused as `TooOld` where its base is below the horizon.
 pub fn consistent_tokens_are_accepted()
     ensures known { ConsistentTokensAreAccepted }
     ensures old { ConsistentTokensExpireBelowHorizon }
 {}
 
-/// Events in any book, new books, and pages of its own book, applied in part or whole, keep each
-/// consistent device consistent.
+/// A consistent device stays consistent (`specs/DeviceLaws.antt`).
+/// - `events`: after an event in any book, possible or not.
+/// - `books`: after a book is created under a free name.
+/// - `parts`: after a page of its book of which it applied nothing or only the first entries.
+/// - `pages`: after a whole page of its book, where `page_max` is above 0.
 pub fn devices_stay_consistent_among_books()
     ensures events { EventsKeepDevicesConsistent }
     ensures books { NewBooksKeepDevicesConsistent }
@@ -70,15 +80,22 @@ pub fn devices_stay_consistent_among_books()
     ensures pages { WholePagesKeepDevicesConsistent }
 {}
 
-/// A report lists the first k due members in the order of their last events, each as it is now.
+/// The entries of a report of size k (`specs/DeviceLaws.antt`).
+/// - `order`: the numbers of the due members' last events rise strictly.
+/// - `entries`: the entries are those of the first k due members, each as it is now.
+/// - `size`: their number is the smaller of k and the number of due members.
 pub fn reports_list_the_first_due()
     ensures order { DueMembersAreInOrder }
     ensures entries { EntriesAreFirstDue }
     ensures size { PageSizesAreExact }
 {}
 
-/// An event makes at most one more member due; a truncated page leaves exactly k fewer, and any
-/// other page leaves none.
+/// The due members after an event and after a page of size k (`specs/PagingLaws.antt`).
+/// - `event`: an event makes at most one more member due.
+/// - `rest`: after a truncated page, the members due are those after the first k, where k is above
+///   0.
+/// - `fewer`: they are then exactly k fewer.
+/// - `none`: after a page that isn't truncated no member is due.
 pub fn due_members_are_counted()
     ensures event { EventsAddAtMostOneDue }
     ensures rest { TruncatedPagesLeaveRest }
@@ -86,20 +103,24 @@ pub fn due_members_are_counted()
     ensures none { LastPagesLeaveNoneDue }
 {}
 
-/// The entries of all truncated pages together are fewer than the members due at first plus the
-/// events added meanwhile.
+/// Where at least one page is truncated and the page size k is above 0: the number of truncated
+/// pages, times k, is less than the members due at the first request plus the events added after
+/// it, up to the last truncated page (`specs/PagingLaws.antt`).
 pub fn truncated_pages_are_bounded()
     ensures { TruncatedPagesAreBounded }
 {}
 
-/// Without events in between, as many pages as hold the due members bring the copy of a consistent
-/// device to the live cards.
+/// Without events in between, where k is above 0 and at most n * k members are due
+/// (`specs/PagingLaws.antt`).
+/// - `places`: after n pages of size k no member is due.
+/// - `devices`: the copy of a consistent device then equals the live cards, where n is above 0.
 pub fn quiet_books_sync_fully()
     ensures places { QuietBooksSyncFully }
     ensures devices { QuietDevicesCatchUp }
 {}
 
-/// A consistent device stays consistent after any calls, on its own book and on others.
+/// A consistent device stays consistent after any calls, on its own book and on others
+/// (`specs/RunLaws.antt`).
 pub fn devices_stay_consistent_over_calls()
     ensures { CallsKeepDevicesConsistent }
 {}

@@ -12,33 +12,38 @@ ghost use Rattle.book_laws.specs.ReportLaws.{DueMembersHaveEvents};
 
 use vcard_text::laws::equal_texts;
 
-/// A card is live exactly where the last change of its UID stored it, and its version is the number
-/// of that change.
+/// A card is live with a version exactly where the last change of its UID stored it and has this
+/// number (`specs/LiveLaws.antt`).
 pub fn live_cards_are_stored_last()
     ensures { LiveCardsAreStoredLast }
 {}
 
-/// Each count of a log is the number of its events with that reason. The counts add up to the
-/// number of events, and determine how many cards are live.
+/// The counts of a log (`specs/CountLaws.antt`).
+/// - `reasons`: each count is the number of the events with its reason.
+/// - `events`: the counts add up to the number of events.
+/// - `live`: in a valid log, live cards plus departures are the arrivals.
 pub fn changes_are_counted()
     ensures reasons { ReasonsAreCounted }
     ensures events { EventsAreCounted }
     ensures live { LiveCardsAreCounted }
 {}
 
-/// The version of a live card is the number of its UID's last event.
+/// A live card's version is the number of its UID's last event (`specs/VersionLaws.antt`).
 pub fn versions_are_last()
     ensures { VersionsAreLastNumbers }
 {}
 
-/// An import of cards with distinct UIDs counts them by the cards that were live before it. Each
-/// added or edited card is one event, and each added card is one more live card.
+/// An import into a history (`specs/ImportLaws.antt`).
+/// - `counts`: cards with distinct UIDs count as added, edited or the same by what was live under
+///   their UIDs before the import.
+/// - `events`: each added or edited card is one event, and each added card is one more live card.
 pub fn imports_count_live_cards()
     ensures counts { ImportsCountLiveCards }
     ensures events { ImportsAddEvents }
 {}
 
-/// A report lists the members that have events since the mark.
+/// A member is due at a mark exactly if it has an event above `at`, and is live or has an event
+/// above `base` (`specs/ReportLaws.antt`).
 pub fn due_members_have_events()
     ensures { DueMembersHaveEvents }
 {}

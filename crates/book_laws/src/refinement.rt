@@ -8,70 +8,90 @@ ghost use Rattle.book_laws.specs.QueryRefinement.{BooksRefine, BookLinesRefine, 
 ghost use Rattle.book_laws.specs.QueryRefinement.{CardsRefine, KeptImportsRefine, TalliesRefine};
 ghost use Rattle.book_laws.specs.QueryRefinement.{ReportsRefine};
 
-/// The rows under a name are those of the history under that name.
+/// The rows under a name are those of the history under that name, and there are none where it has
+/// no history (`specs/RowLaws.antt`).
 pub fn rows_are_per_book()
     ensures { RowsArePerBook }
 {}
 
-/// A store without books has no histories.
+/// No histories are sound, and their rows are no books (`specs/ChangeRefinement.antt`).
 pub fn empty_stores_have_no_histories()
     ensures { EmptyStoresHaveNoHistories }
 {}
 
-/// Creating a book in the rows creates it in the histories.
+/// From sound histories and limits in range, creating a book returns on their rows what it returns
+/// on the histories, or the same refusal. The rows afterwards are those of the histories
+/// afterwards, which are sound (`specs/ChangeRefinement.antt`).
 pub fn create_refines_histories()
     ensures { CreateRefines }
 {}
 
-/// Storing a card in the rows stores it in the histories.
+/// From sound histories, a put of a card returns on their rows what it returns on the histories, or
+/// the same refusal. The rows afterwards are those of the histories afterwards, which are sound
+/// (`specs/ChangeRefinement.antt`).
 pub fn put_refines_histories()
     ensures { PutRefines }
 {}
 
-/// Removing a card from the rows removes it from the histories.
+/// From sound histories, a removal of a card returns on their rows what it returns on the
+/// histories, or the same refusal. The rows afterwards are those of the histories afterwards, which
+/// are sound (`specs/ChangeRefinement.antt`).
 pub fn remove_refines_histories()
     ensures { RemoveRefines }
 {}
 
-/// Moving a card in the rows moves it in the histories: one event in each of the two books.
+/// From sound histories, a move of a card returns on their rows what it returns on the histories,
+/// or the same refusal. The rows afterwards are those of the histories afterwards, which are sound
+/// (`specs/ChangeRefinement.antt`).
 pub fn move_refines_histories()
     ensures { MoveRefines }
 {}
 
-/// Importing cards into the rows imports them into the histories, one after another; a repeated
-/// key changes neither.
+/// From sound histories, an import returns on their rows what it returns on the histories, or the
+/// same refusal. The rows afterwards are those of the histories afterwards, which are sound
+/// (`specs/ChangeRefinement.antt`).
 pub fn import_refines_histories()
     ensures { ImportRefines }
 {}
 
-/// Forgetting in the rows forgets in the histories, and drops equally many tombstones.
+/// From sound histories, a forget returns on their rows what it returns on the histories, or the
+/// same refusal. The rows afterwards are those of the histories afterwards, which are sound
+/// (`specs/ChangeRefinement.antt`).
 pub fn forget_refines_histories()
     ensures { ForgetRefines }
 {}
 
-/// The page of the rows is the report of the history.
+/// From sound histories, every page that their rows allow is the page of the history, or both are
+/// refused alike (`specs/QueryRefinement.antt`).
 pub fn reports_refine_histories()
     ensures { ReportsRefine }
 {}
 
-/// The lines of books by the rows are those of their histories.
+/// The rows of histories return the same as the histories (`specs/QueryRefinement.antt`).
+/// - `all`: for the lines of all books.
+/// - `one`: for the line of one book, or the same refusal.
 pub fn book_lines_refine_histories()
     ensures all { BooksRefine }
     ensures one { BookLinesRefine }
 {}
 
-/// The card under a UID, and all cards, by the rows are the live ones of the history.
+/// The rows of histories return the same as the histories, or the same refusal
+/// (`specs/QueryRefinement.antt`).
+/// - `one`: for the card under a UID.
+/// - `all`: for all cards of a book.
 pub fn cards_refine_histories()
     ensures one { GetRefines }
     ensures all { CardsRefine }
 {}
 
-/// The kept imports of the rows are those of the histories.
+/// The rows of histories return the same kept import under a key as the histories, or the same
+/// refusal (`specs/QueryRefinement.antt`).
 pub fn kept_imports_refine_histories()
     ensures { KeptImportsRefine }
 {}
 
-/// The tally of a book by its rows is that of its history.
+/// The rows of sound histories return the same tally of a book as the histories, or the same
+/// refusal (`specs/QueryRefinement.antt`).
 pub fn tallies_refine_histories()
     ensures { TalliesRefine }
 {}

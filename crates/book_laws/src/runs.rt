@@ -5,50 +5,53 @@ ghost use Rattle.book_laws.specs.RunLaws.{ImportCallsAreIdempotent};
 ghost use Rattle.book_laws.specs.TokenLaws.{FreshTokensAreAccepted, TokensStayValid};
 ghost use Rattle.book_laws.specs.MoveLaws.{MoveCallsTransferOneCard};
 
-/// Histories stay sound over every list of calls: cards are added where their UIDs aren't live, and
-/// edited and removed where they are. No book has more tombstones than its limit.
+/// Sound histories stay sound after every list of calls, where the limits are in range: logs are
+/// valid, no horizon is above its log, and no book has more tombstones than its keep, which is at
+/// least 1 (`specs/RunLaws.antt`).
 pub fn histories_stay_sound()
     ensures { CallsKeepHistoriesSound }
 {}
 
-/// The rows after a list of calls are the rows of the histories after the same calls.
+/// From sound histories and limits in range, the rows after a list of calls on the rows are those
+/// of the histories after the same calls (`specs/RunLaws.antt`).
 pub fn rows_match_histories_after_calls()
     ensures { RowsMatchHistoriesAfterCalls }
 {}
 
-/// Two stores with the same limits and rows answer every list of calls alike and have the same rows
-/// afterwards, whatever their histories: the rows hold everything that a later call needs.
+/// Two stores with sound histories, and the same rows and the same limits in range, give the same
+/// answers to every list of calls, and have the same rows afterwards (`specs/RunLaws.antt`).
 pub fn rows_determine_answers()
     ensures { RowsDetermineAnswers }
 {}
 
-/// No call deletes a book or undoes an event: the book keeps its id, its events, its tombstone
-/// limit and its kept imports, and its horizon doesn't fall.
+/// After every list of calls each book is there, with its id, its events below any later ones, its
+/// keep, its kept imports and a horizon that is no lower (`specs/RunLaws.antt`).
 pub fn calls_extend_histories()
     ensures { CallsExtendHistories }
 {}
 
-/// Imports are idempotent: after an accepted import and any calls, another import with the same key
-/// returns the same tally and changes nothing.
+/// After an accepted import and any calls, an import of any cards with the same key into the same
+/// book returns the same tally and changes nothing (`specs/RunLaws.antt`).
 pub fn imports_are_idempotent()
     ensures { ImportCallsAreIdempotent }
 {}
 
-/// The book of a page refuses the page's token only as too old, and only where a forget above the
-/// token's base was accepted since, or where the book had more removals after that base than it
-/// keeps tombstones.
+/// From sound histories: if after a page and any calls the same book refuses the page's token, the
+/// cause is `TooOld`. Then one of the calls was an accepted forget of the book above the token's
+/// base, or the book had more removals after that base than its keep (`specs/TokenLaws.antt`).
 pub fn tokens_stay_valid()
     ensures { TokensStayValid }
 {}
 
-/// The book of a page accepts the page's token as long as it has no further event.
+/// On the sound histories that returned a page, a report after the page's token isn't refused for
+/// its token (`specs/TokenLaws.antt`).
 pub fn fresh_tokens_are_accepted()
     ensures { FreshTokensAreAccepted }
 {}
 
-/// A move transfers one card between two books and changes nothing else: one event in each of the
-/// two histories, with the same card. Every other book and card is unchanged, and so is the number
-/// of cards of all books together.
+/// An accepted move is one event in each of the two books: it removes the card from one and stores
+/// it in the other, where its UID was not live. All other books and the number of live cards of all
+/// books are unchanged (`specs/MoveLaws.antt`).
 pub fn moves_transfer_one_card()
     ensures { MoveCallsTransferOneCard }
 {}

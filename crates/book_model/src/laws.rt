@@ -2,9 +2,11 @@
 //! books.
 ghost use Rattle.book_model.specs.ImportLaws.{ImportsCountCards, ImportsTakeNumbers};
 
-/// An import of cards with distinct UIDs counts them by the cards that were live before it, and
-/// takes one number for each that it adds or edits. So its answer is known before it changes
-/// anything.
+/// An import into the rows of a book (`specs/ImportLaws.antt`).
+/// - `counts`: cards with distinct UIDs count as added, edited or the same by what was live under
+///   their UIDs before the import.
+/// - `numbers`: each added or edited card takes one number, each added card is one more arrival,
+///   and the departures are unchanged.
 pub fn imports_count_cards()
     ensures counts { ImportsCountCards }
     ensures numbers { ImportsTakeNumbers }

@@ -25,7 +25,10 @@ use std::alloc::Global;
 use sync_core::{BookStore, Denied, Page, PutAnswer, Stored};
 use vcard_text::{Items, Text};
 
-/// The results of a store on its rows are those of the model on the books' histories.
+/// The steps on rows refine the calls on histories: the same answer or refusal, and the rows of the
+/// histories afterwards. The first five are stated in `book_laws/specs/ChangeRefinement.antt`, the
+/// others in `book_laws/specs/QueryRefinement.antt`; all but `books`, `lines` and `getting` need
+/// sound histories, and `creating` limits in range.
 fn calls_follow_histories()
     ensures creating { CreateRefines }
     ensures putting { PutRefines }

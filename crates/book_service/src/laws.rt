@@ -1,4 +1,6 @@
-//! The laws that hold over every run. Each law is a function without run-time effect.
+//! The laws that hold over every run. Each law is a function without run-time effect. Each law is
+//! stated in `specs/Promise.antt`; `DevicesStartConsistent` is in
+//! `book_laws/specs/DeviceLaws.antt`.
 ghost use Rattle.book_laws.specs.DeviceLaws.{DevicesStartConsistent};
 ghost use Rattle.book_service.specs.Promise.{Always, NextStateIsSound, InEachBook};
 ghost use Rattle.book_service.specs.Promise.{LiveCardsAreLastStored, CountsBalance};
@@ -22,36 +24,37 @@ use book_laws::well_formed::calls_keep_books_well_formed;
 use sync_core::token_laws::token_texts_are_unique;
 
 /// The promise of the server, over every run of commands and device requests from every sound
-/// state, and so from every state of a run.
+/// state. (`starts` and `imports` need no sound state.)
+/// - `sound`: every next state is sound: its limits are in range, and each history is sound.
+/// - `live`: in a sound state a card is live with a version exactly if its UID's last change stored
+///   it and has this number.
+/// - `sums`: in a sound state each log is valid, its counts add up to its number of changes, and
+///   live cards plus departures are the arrivals.
+/// - `counts`: in a sound state each count is the number of changes with its reason.
+/// - `books`: each step keeps every book, with its id, events, keep and kept imports, and a horizon
+///   that is no lower.
+/// - `moves`: a successful move transfers one card between two books, with the returned numbers.
+///   All other books and the number of live cards of all books are unchanged.
+/// - `starts`: a device without a token is consistent.
+/// - `devices`: a device that is consistent before a step is consistent after it.
+/// - `last_pages`: after a page that isn't truncated, a consistent device's copy is exactly its
+///   book's live cards in the next state, with their versions.
+/// - `tokens`: if a book returned a page and later refuses the page's token, the cause is `TooOld`;
+///   and a successful `Forget` between was above the token's base, or the book had more removals
+///   after that base than its keep.
+/// - `imports`: after a successful import, every later successful import into the book with the
+///   same key gets the same reply, whatever its body, and changes no book.
 pub fn runs_keep_the_promise()
-    // Every state is sound. In it the live cards of a book are exactly the cards that were added
-    // and not removed since, and its counts are those of its changes.
     ensures sound { Always NextStateIsSound }
     ensures live { InEachBook LiveCardsAreLastStored }
     ensures sums { InEachBook CountsBalance }
     ensures counts { InEachBook CountsMatchChanges }
-
-    // No book is lost, and no past change of a book is altered or undone.
     ensures books { Always HistoriesExtend }
-
-    // A move transfers one card between two books and changes nothing else.
     ensures moves { Always MovesTransferOneCard }
-
-    // A device without a token is consistent, and a consistent device stays consistent, whatever
-    // the others are.
     ensures starts { DevicesStartConsistent }
     ensures devices { Always DevicesStayConsistent }
-
-    // When a consistent device receives a page that isn't truncated, its copy is exactly the live
-    // cards of the book at that point.
     ensures last_pages { Always LastPagesComplete }
-
-    // A book refuses the token of one of its own pages only as too old, and only if a `Forget`
-    // since raised the horizon above it, or more cards were removed since than the book keeps.
     ensures tokens { TokensExpire }
-
-    // Imports are idempotent: an import with the key of an earlier successful one gets the same
-    // reply, whatever its body, and changes nothing.
     ensures imports { ImportsAreIdempotent }
 {
     histories_stay_sound();
@@ -68,7 +71,7 @@ pub fn runs_keep_the_promise()
     token_texts_are_unique();
 }
 
-/// If the rows of a state are well formed, as a new store's are, so are those of every later state.
+/// If the rows of a sound state are well formed, so are those of every later state of a run.
 pub fn runs_stay_well_formed()
     ensures { RowsStayWellFormed }
 {
@@ -82,8 +85,9 @@ pub fn runs_append()
     ensures { RunsAppend }
 {}
 
-/// A device's truncated pages have fewer entries in total than the members due at first plus the
-/// changes of the book since.
+/// Where every request of a device in a run got a page of at most k entries, with k above 0, and at
+/// least one of the pages is truncated: the number of truncated pages, times k, is less than the
+/// members due at first plus the changes of the book in the run.
 pub fn truncated_pages_are_few()
     ensures { TruncatedPagesAreFew }
 {
@@ -92,7 +96,7 @@ pub fn truncated_pages_are_few()
     rows_are_per_book();
 }
 
-/// A store without books matches every system state without books.
+/// A store without books matches every state without books, with the limits of that state.
 pub fn new_stores_start()
     ensures { NewStoresStart }
 {

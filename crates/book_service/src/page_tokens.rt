@@ -3,8 +3,8 @@ ghost use Rattle.book_service.specs.PageTokenLaws.{PageTokensHaveTexts};
 
 use book_laws::well_formed::pages_fit_well_formed_books;
 
-/// The token of every page of well-formed books is written as a valid token text, which is read
-/// back as the same token.
+/// Where the limits are in range, the text written for the token of a page of well-formed books is
+/// a valid text of this token (`specs/PageTokenLaws.antt`).
 pub fn page_tokens_have_texts()
     ensures { PageTokensHaveTexts }
 {

@@ -1,10 +1,20 @@
-//! Worked examples: the orders of some command lines, computed from the definitions.
+//! Worked examples: the orders of some command lines, computed from the definitions. They are
+//! stated in `specs/WorkedLines.antt`.
 ghost use Rattle.cli_args.specs.WorkedLines.{WorkedConnections, WorkedDefaults, WorkedFaults};
 ghost use Rattle.cli_args.specs.WorkedLines.{WorkedForms, WorkedNumbers, WorkedOrders};
 ghost use Rattle.cli_args.specs.WorkedLines.{WorkedPages, WorkedPorts};
 
-/// Each order with its options' defaults, the bounds of each range and the values just outside, and
-/// invalid command lines.
+/// Some command lines and their orders, or none.
+/// - `orders`: no argument, `try`, `init`, `book`, `import`, `tally`, `expand` and `migrate`.
+/// - `defaults`: `serve`, `export` and `mirror` without options.
+/// - `ports`: 8 and 65535 are ports; 65536 is none.
+/// - `connections`: 1000000 is accepted; 1000001 and 0 are not.
+/// - `forms`: `columns` is a form; `rows` is none.
+/// - `numbers`: `forget` accepts 999999999999999, and not one more.
+/// - `pages`: `mirror` accepts a limit of 0 with 1000000 pages; not 1000001 or 0 pages, nor a limit
+///   of 1000000000000000.
+/// - `faults`: `tally` without a book or with a further argument, `more`, `help` and `--help` have
+///   no order.
 pub fn worked_lines_are_orders()
     ensures orders { WorkedOrders }
     ensures defaults { WorkedDefaults }

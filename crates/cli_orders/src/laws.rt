@@ -1,7 +1,8 @@
 //! The replies to the commands of orders. Each law is a function that does nothing.
 ghost use Rattle.cli_orders.specs.OrderReplies.{OrdersAreReplied};
 
-/// The reply to each command of an order has a text, or it is a refusal or a fault.
+/// In each state the reply to a command of an order has a text, or it is a refusal or a fault
+/// (`specs/OrderReplies.antt`).
 pub fn orders_are_replied()
     ensures { OrdersAreReplied }
 {}

@@ -6,7 +6,12 @@ ghost use Rattle.http_requests.specs.RequestLaws.{EndedListIsFinal, LeadingReque
 
 use crate::handler::Handler;
 
-/// A stream has exactly one list of requests, and the stream can be cut anywhere.
+/// The requests of a stream (`specs/RequestLaws.antt`).
+/// - `determined`: octets have at most one list of all requests, with one rest.
+/// - `concatenated`: if the list of a first piece hasn't ended, the requests of two pieces are
+///   those of the first, then those of its rest and the second piece.
+/// - `ended`: if the list of the first piece has ended, they are those of the first piece.
+/// - `prefix`: requests at the front of the octets are a prefix of the list of all requests.
 pub fn streams_can_be_cut()
     ensures determined { RequestsAreDetermined }
     ensures concatenated { RequestsConcatenate }
@@ -14,13 +19,14 @@ pub fn streams_can_be_cut()
     ensures prefix { LeadingRequestsArePrefix }
 {}
 
-/// All octets received determine whether a session is open and what it holds, however they were
-/// cut.
+/// Two feeds of the same octets from the same state leave the same session: closed, or open with
+/// the same octets held (`specs/SessionFeeding.antt`).
 pub fn cuts_make_no_difference<H: Handler>()
     ensures { CutsMakeNoDifference H.does H.fault_reply }
 {}
 
-/// A new session replies to pieces as it replies to all of them joined.
+/// Feeding pieces to a new session is feeding all of them joined, with all replies joined
+/// (`specs/SessionFeeding.antt`).
 pub fn pieces_are_fed_as_one<H: Handler>()
     ensures { PiecesAreFedAsOne H.does H.fault_reply }
 {}

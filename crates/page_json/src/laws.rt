@@ -1,5 +1,5 @@
-//! Laws of pages and their JSON. Each is a function without effect at run time, whose clause
-//! holds of all pages, values and texts.
+//! Laws of pages and their JSON. Each is a function without effect at run time, whose clause holds
+//! of all pages, values and texts. Each law is stated in `specs/ReportLaws.antt`.
 ghost use Rattle.page_json.specs.ReportLaws.{FirstFaultsAreUnique, PagesHaveNoFault};
 ghost use Rattle.page_json.specs.ReportLaws.{ReportPagesAreWellFormed, TextsDeterminePages};
 ghost use Rattle.page_json.specs.ReportLaws.{ValuesDeterminePages};
@@ -40,7 +40,8 @@ pub fn first_faults_are_unique()
     card_is_unique();
 }
 
-/// Every page that a report of well-formed books returns is read back from its written text.
+/// Where the limits are in range, every page of a report of well-formed books is well formed: each
+/// entry is, and the text written for its token is a valid text of this token.
 pub fn report_pages_are_well_formed()
     ensures { ReportPagesAreWellFormed }
 {

@@ -1,12 +1,14 @@
-//! Laws of whole tables, as they are read when a store is opened or created.
+//! Laws of whole tables, as they are read when a store is opened or created. Each law is stated in
+//! `specs/OpenLaws.antt`.
 ghost use Rattle.store_rows.specs.OpenLaws.{ListedRowsAreHeld, NewTablesAreEmpty};
 
-/// The rows that the queries over whole tables return are those that the tables hold.
+/// If the tables are declared, and the queries over whole tables return the schema number and the
+/// result rows of these rows, in any order, then the tables hold these rows.
 pub fn listed_rows_are_table_rows()
     ensures { ListedRowsAreHeld }
 {}
 
-/// Newly created tables hold no rows.
+/// Declared tables that have the schema number and are otherwise empty hold no rows.
 pub fn new_tables_are_empty()
     ensures { NewTablesAreEmpty }
 {}

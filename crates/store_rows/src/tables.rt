@@ -1,14 +1,16 @@
-//! Laws of sound tables and their books.
+//! Laws of sound tables and their books. Each law is stated in `specs/TableLaws.antt`.
 ghost use Rattle.store_rows.specs.TableLaws.{BooksAreHeld, OrderIsIrrelevant};
 ghost use Rattle.store_rows.specs.TableLaws.{EmptyTablesHoldNoBooks};
 
-/// The books of the tables are those of their rows. They do not depend on the order of the rows.
+/// The books of tables that hold sound rows.
+/// - `books`: they are the books of the rows.
+/// - `order`: they are the same in two databases that hold the same rows.
 pub fn books_ignore_row_order()
     ensures books { BooksAreHeld }
     ensures order { OrderIsIrrelevant }
 {}
 
-/// Tables without rows have no books.
+/// No rows are sound, and tables that hold no rows have no books.
 pub fn empty_tables_hold_no_books()
     ensures { EmptyTablesHoldNoBooks }
 {}

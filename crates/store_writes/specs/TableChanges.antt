@@ -71,8 +71,8 @@ pub record HoldsChange (db : Database) (rows : TableRows) (id : ℤ) (books : Bo
 
 -- It was committed and this holds; or nothing changed, unless the connection was closed.
 abbrev pub IsAtomic : {A E : Type 0} → State → State → Result A E → (A → Database → Type 0) → Type 0
-IsAtomic old new (Ok answer) HoldsRows = HoldsRows answer new.now × (new.now ≡ new.committed)
-IsAtomic old new (Err e) HoldsRows =
+IsAtomic old new (Ok answer) Then = Then answer new.now × (new.now ≡ new.committed)
+IsAtomic old new (Err e) Then =
     IsTrue new.is_open → (new.now ≡ old.now) × (new.now ≡ new.committed)
 
 -- After a crash, the tables hold the books of the whole step, which is one commit.
