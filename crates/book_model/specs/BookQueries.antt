@@ -1,6 +1,7 @@
 -- The calls that only read, defined on rows. This project's own.
 use Rattle.std.specs.Prelude.{ℕ, Bool, not, ◌&&◌, nat_lt, List, [], ◌∷◌, map, flat_map, filter}
-use Rattle.std.specs.Prelude.{length, is_some, Result, Ok}
+use Rattle.std.specs.Prelude.{length, is_some, Result, Ok, codes}
+use Rattle.std.specs.Borrow.{Bor}
 use Rattle.std.specs.Option.{option_map_or}
 use Rattle.std.specs.FinMap as finite
 use Rattle.base_types.specs.TextMaps.{text_cmp}
@@ -75,6 +76,26 @@ tally_with number horizon cards counts remembered = record {
   moved_out = counts.moved_out;
   remembered = remembered;
 }
+
+-- the eleven numbers of a tally under their names, in byte order of name
+abbrev pub tally_numbers : Tally → List (List ℕ × ℕ)
+tally_numbers tally =
+    (codes "cards", tally.cards)
+    ∷ (codes "created", tally.created)
+    ∷ (codes "deleted", tally.deleted)
+    ∷ (codes "edited", tally.edited)
+    ∷ (codes "horizon", tally.horizon)
+    ∷ (codes "import_edited", tally.import_edited)
+    ∷ (codes "imported", tally.imported)
+    ∷ (codes "moved_in", tally.moved_in)
+    ∷ (codes "moved_out", tally.moved_out)
+    ∷ (codes "number", tally.number)
+    ∷ (codes "remembered", tally.remembered)
+    ∷ []
+
+-- a row of a name and a number, with the name read from its reference
+abbrev pub named_number : Bor (List ℕ) × ℕ → List ℕ × ℕ
+named_number row = (row.0.now, row.1)
 
 -- a tombstone: the row of a member that was removed after the horizon
 abbrev pub is_tombstone_after : ℕ → Row → Bool

@@ -252,28 +252,7 @@ impl PlainBook {
         ensures { result ≡ book_tally self.now }
     {
         let remembered = count_removed(self.members.as_map(), self.horizon);
-        let Counts {
-            created,
-            edited,
-            imported,
-            import_edited,
-            moved_in,
-            deleted,
-            moved_out,
-        } = self.counts;
-        Tally {
-            number: self.number,
-            horizon: self.horizon,
-            cards: self.cards(),
-            created,
-            edited,
-            imported,
-            import_edited,
-            moved_in,
-            deleted,
-            moved_out,
-            remembered,
-        }
+        Tally::of(self.number, self.horizon, self.counts, remembered)
     }
 
     /// Copies of all live cards, by UID. Reads all rows.

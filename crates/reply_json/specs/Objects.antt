@@ -1,6 +1,5 @@
 -- JSON objects built from their members (RFC 8259, section 4).
 use Rattle.std.specs.Prelude.{ℕ, List, [], ◌∷◌}
-use Rattle.std.specs.Borrow.{Bor}
 use Rattle.serde_json.specs.Data.{Data, number, unsigned, object, Members, member, no_members, put}
 
 -- these members, each a name and its value, in this order
@@ -17,5 +16,5 @@ abbrev pub json_number : ℕ → Data
 json_number n = number (unsigned n)
 
 -- the members with one more number, in byte order of name
-abbrev pub with_number : Members → Bor (List ℕ) × ℕ → Members
-with_number members row = put row.0.now (json_number row.1) members
+abbrev pub with_number : Members → List ℕ × ℕ → Members
+with_number members row = put row.0 (json_number row.1) members

@@ -5,6 +5,7 @@ use Rattle.serde_json.specs.View.{items_of}
 use Rattle.vcard_lines.specs.declared.line.Line.{Line}
 use Rattle.vcard_text.specs.Cards.{canonical_text}
 use Rattle.vcard_lines.specs.FaultNumbers.{card_fault_number}
+use Rattle.book_model.specs.BookQueries.{tally_numbers}
 use Rattle.book_model.specs.RefusalNumbers.{refusal_number, refusal_text, token_cause_number}
 use Rattle.book_model.specs.declared.answers.BookLine.{BookLine}
 use Rattle.book_model.specs.declared.answers.ImportTally.{ImportTally}
@@ -75,21 +76,9 @@ card_value uid version card = object_of (
     ∷ []
     )
 
+-- a member for each number of a tally
 abbrev pub tally_value : Tally → Data
-tally_value tally = object_of (
-    (codes "cards", json_number tally.cards)
-    ∷ (codes "created", json_number tally.created)
-    ∷ (codes "deleted", json_number tally.deleted)
-    ∷ (codes "edited", json_number tally.edited)
-    ∷ (codes "horizon", json_number tally.horizon)
-    ∷ (codes "import_edited", json_number tally.import_edited)
-    ∷ (codes "imported", json_number tally.imported)
-    ∷ (codes "moved_in", json_number tally.moved_in)
-    ∷ (codes "moved_out", json_number tally.moved_out)
-    ∷ (codes "number", json_number tally.number)
-    ∷ (codes "remembered", json_number tally.remembered)
-    ∷ []
-    )
+tally_value tally = object_of (map (λ row. (row.0, json_number row.1)) (tally_numbers tally))
 
 abbrev pub texts_value : List (List ℕ) → Data
 texts_value texts = array (items_of (map string texts))

@@ -2,6 +2,7 @@
 ghost use Rattle.std.specs.Prelude.{◌≡◌, IfOk, OnOk, fold, map};
 ghost use Rattle.serde_json.specs.Data.{no_members, object, put, string};
 ghost use Rattle.serde_json.specs.View.{members_view, view};
+ghost use Rattle.book_model.specs.BookQueries.{named_number};
 ghost use Rattle.reply_json.specs.Objects.{json_number, with_number};
 ghost use Rattle.reply_json.specs.ReplyValues.{book_value};
 
@@ -60,7 +61,8 @@ fn put_number(
 
 /// An object with the numbers under their names.
 pub(crate) fn numbers_value(alloc: Global, rows: &[(&str, u64)]) -> Result<Value, NoMemory>
-    ensures { IfOk result (λ value. view value ≡ object (fold with_number no_members rows.now)) }
+    ensures { IfOk result (λ value. view value
+        ≡ object (fold with_number no_members (map named_number rows.now))) }
 {
     let mut members = Map::new(alloc);
     for (name, number) in rows {

@@ -103,33 +103,7 @@ pub fn card_value(alloc: Global, uid: Text, version: u64, card: &Card) -> Result
 pub fn tally_value(alloc: Global, tally: Tally) -> Result<Value, NoMemory>
     ensures { IfOk result (λ value. view value ≡ tally_value tally) }
 {
-    let Tally {
-        number,
-        horizon,
-        cards,
-        created,
-        edited,
-        imported,
-        import_edited,
-        moved_in,
-        deleted,
-        moved_out,
-        remembered,
-    } = tally;
-    let rows = [
-        ("cards", cards),
-        ("created", created),
-        ("deleted", deleted),
-        ("edited", edited),
-        ("horizon", horizon),
-        ("import_edited", import_edited),
-        ("imported", imported),
-        ("moved_in", moved_in),
-        ("moved_out", moved_out),
-        ("number", number),
-        ("remembered", remembered),
-    ];
-    numbers_value(alloc, &rows)
+    numbers_value(alloc, &tally.named())
 }
 
 /// `{"missing":[..],"people":[..]}`: the member values that name no card, and the people reached.
