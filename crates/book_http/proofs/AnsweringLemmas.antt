@@ -1,8 +1,5 @@
 -- The reply to a request, by its command.
 use Rattle.std.proofs.Common.{◌≡◌, ℕ, List, OnErr, Result, Ok, Err, subst, sym}
-use Rattle.book_model.specs.Bounds.{Bounds}
-use Rattle.book_model.specs.Books.{Books}
-use Rattle.book_model.specs.declared.denied.Fault.{Fault as FaultKind}
 use Rattle.book_commands.specs.declared.command.Command.{Command}
 use Rattle.book_commands.specs.declared.reply.Reply.{Reply}
 use Rattle.http_replies.specs.Replies.{reply_octets}
@@ -10,13 +7,13 @@ use Rattle.http_requests.specs.declared.head.Head.{Head}
 use Rattle.http_routes.specs.Commands.{requested_command}
 use Rattle.book_http.specs.RequestAnswers.{AnswersRequest, AnswersCommand}
 use Rattle.book_http.specs.StoreCommands.{PerformsOnStore}
+use Rattle.sync_core.specs.StoreModels.{StoreModel}
 
-module _ {S : Type 0} (books : S → Books) (limits : S → Bounds) (premise : S → Type 0)
-    (may_fault : FaultKind → Type 0) where
+module _ {S : Type 0} (model : StoreModel S) where
   -- a command was performed, and this is its reply
-  pub performed : (old new : S) (head : Head) (body octets : List ℕ) (command : Command) (r : Reply) → requested_command head.method head.target body ≡ Ok command → PerformsOnStore books limits premise may_fault old command r new → octets ≡ reply_octets r head.close → AnswersRequest books limits premise may_fault old head body octets new
+  pub performed : (old new : S) (head : Head) (body octets : List ℕ) (command : Command) (r : Reply) → requested_command head.method head.target body ≡ Ok command → PerformsOnStore model old command r new → octets ≡ reply_octets r head.close → AnswersRequest model old head body octets new
   performed old new head body octets command r is did run_replies =
-      subst (λ wanted. AnswersCommand books limits premise may_fault old wanted head.close octets new) (sym is) (r, did, run_replies)
+      subst (λ wanted. AnswersCommand model old wanted head.close octets new) (sym is) (r, did, run_replies)
 
 -- what holds holds where memory ran out
 pub on_err : {A E : Type 0} {P : Type 0} (result : Result A E) → P → OnErr result P

@@ -2,9 +2,6 @@
 use Rattle.std.proofs.Common.{ℕ, List, ◌++◌, false, Option, Some, None}
 use Rattle.std.proofs.KnownBytes.{Consumes-trans}
 use Rattle.std.specs.Io.KnownBytes.{Consumes}
-use Rattle.book_model.specs.declared.denied.Fault.{Fault as FaultKind}
-use Rattle.book_model.specs.Bounds.{Bounds}
-use Rattle.book_model.specs.Books.{Books}
 use Rattle.http_replies.specs.Replies.{head_fault_octets}
 use Rattle.http_requests.specs.SessionFeeding.{FeedsSession, HandlesSomePrefix}
 use Rattle.http_requests.specs.HandlerRuns.{HandlerRelation, FaultReplies}
@@ -14,6 +11,7 @@ use Rattle.book_http.specs.declared.serve_fault.ServeFault.TheVariants.{Read, Wr
 use Rattle.book_http.specs.OctetPromise.{ConnectionsRun, FaultsLeaveRuns, ServiceStep}
 use Rattle.book_http.specs.ServedConnections.{AbortsConnection}
 use Rattle.book_http.proofs.OctetRunLemmas.{lost_pieces_run, sessions_run}
+use Rattle.sync_core.specs.StoreModels.{StoreModel}
 
 module _ {State : Type 0} (does : HandlerRelation State) (fault_reply : FaultReplies) where
   -- what a session was fed was handled from the front
@@ -45,8 +43,8 @@ module _ {State : Type 0} (does : HandlerRelation State) (fault_reply : FaultRep
             (answered_run does fault_reply s.octets old s.replies broke.middle false broke.held s.fed.0) broke.part;
       }
 
-module _ {S : Type 0} (books : S → Books) (limits : S → Bounds) (premise : S → Type 0) (may_fault : FaultKind → Type 0) where
-  pub connections_run : ConnectionsRun books limits premise may_fault
+module _ {S : Type 0} (model : StoreModel S) where
+  pub connections_run : ConnectionsRun model
   connections_run now old new input left output written starts all =
       let s = all.serves in
       record {
@@ -54,12 +52,12 @@ module _ {S : Type 0} (books : S → Books) (limits : S → Bounds) (premise : S
         replies = s.replies;
         session = all.session;
         read = s.read;
-        ran = sessions_run books limits premise may_fault now old new s.octets s.replies all.session starts s.fed;
+        ran = sessions_run model now old new s.octets s.replies all.session starts s.fed;
         sent = s.sent;
         at_end = all.at_end;
       }
 
-  pub faults_leave_runs : FaultsLeaveRuns books limits premise may_fault
+  pub faults_leave_runs : FaultsLeaveRuns model
   faults_leave_runs now old new input left output written why starts broke =
-      let handled = handles_read (ServiceStep books limits premise may_fault) head_fault_octets why input left output written old new broke in
-      (handled.octets, handled.read, lost_pieces_run books limits premise may_fault now old new handled.octets starts handled.part)
+      let handled = handles_read (ServiceStep model) head_fault_octets why input left output written old new broke in
+      (handled.octets, handled.read, lost_pieces_run model now old new handled.octets starts handled.part)

@@ -2,9 +2,6 @@
 use Rattle.std.proofs.Common.{◌≡◌, ◌⊎◌, ℕ, Bool, true, false, List, [], ◌++◌, refl, sym, subst, inl, inr, Option, Some, None}
 use Rattle.std.specs.List.{flat_map}
 use Rattle.std.proofs.lemmas.List.{append-nil}
-use Rattle.book_model.specs.declared.denied.Fault.{Fault as FaultKind}
-use Rattle.book_model.specs.Bounds.{Bounds}
-use Rattle.book_model.specs.Books.{Books}
 use Rattle.book_service.specs.Runs.{SystemState}
 use Rattle.http_replies.specs.Replies.{head_fault_octets}
 use Rattle.http_requests.specs.SessionFeeding.{FeedsSession, HandlesAllRequests, RefusesHead}
@@ -16,10 +13,11 @@ use Rattle.book_http.specs.OctetRuns.{RunsRequests}
 use Rattle.book_http.specs.OctetPromise.{CutsRunAlike, RanAlike, ServiceStep, StartsAt}
 use Rattle.book_http.proofs.OctetRunLemmas.{requests_run}
 use Rattle.book_http.proofs.OneRunLemmas.{AreReadInOneWay, ran_once}
+use Rattle.sync_core.specs.StoreModels.{StoreModel}
 
-module _ {S : Type 0} (books : S → Books) (limits : S → Bounds) (premise : S → Type 0) (may_fault : FaultKind → Type 0) (law : AreReadInOneWay) where
+module _ {S : Type 0} (model : StoreModel S) (law : AreReadInOneWay) where
   abbrev Refused : List ℕ → List ℕ → Type 0
-  Refused rest last = RefusesHead (ServiceStep books limits premise may_fault) head_fault_octets rest last
+  Refused rest last = RefusesHead (ServiceStep model) head_fault_octets rest last
 
   -- the octets after the replies to all requests
   abbrev Ends : Bool → List ℕ → List ℕ → Type 0
@@ -36,20 +34,20 @@ module _ {S : Type 0} (books : S → Books) (limits : S → Bounds) (premise : S
 
   module _ (now : SystemState) (octets replies others : List ℕ) (old new other : Service S) where
     abbrev All : Service S → List ℕ → Bool → List ℕ → Type 0
-    All end run_replies ended rest = HandlesAllRequests (ServiceStep books limits premise may_fault) head_fault_octets octets old run_replies end ended rest
+    All end run_replies ended rest = HandlesAllRequests (ServiceStep model) head_fault_octets octets old run_replies end ended rest
 
-    ran_alike : StartsAt books limits premise may_fault now old new → StartsAt books limits premise may_fault now old other
+    ran_alike : StartsAt model now old new → StartsAt model now old other
         → (run_replies run_replies_too last last_too : List ℕ) (ended ended_too : Bool) (rest rest_too : List ℕ)
         → All new run_replies ended rest → All other run_replies_too ended_too rest_too
         → replies ≡ run_replies ++ last → others ≡ run_replies_too ++ last_too
         → (ended_too ≡ ended → rest_too ≡ rest → EndAlike rest last last_too)
-        → RanAlike books limits premise may_fault now octets replies others (books new.store) (books other.store)
+        → RanAlike model now octets replies others (model.books new.store) (model.books other.store)
     ran_alike starts starts_too run_replies run_replies_too last last_too ended ended_too rest rest_too one two is is_too ends =
         let same = determined octets two.requests one.requests ended_too ended rest_too rest two.requests_are one.requests_are in
-        let ran : RunsRequests now one.requests run_replies (books new.store) = requests_run books limits premise may_fault now old new one.requests run_replies starts one.handles in
-        let ran_too : RunsRequests now one.requests run_replies_too (books other.store) =
-        subst (λ (rs : List Request). RunsRequests now rs run_replies_too (books other.store)) same.0
-        (requests_run books limits premise may_fault now old other two.requests run_replies_too starts_too two.handles) in
+        let ran : RunsRequests now one.requests run_replies (model.books new.store) = requests_run model now old new one.requests run_replies starts one.handles in
+        let ran_too : RunsRequests now one.requests run_replies_too (model.books other.store) =
+        subst (λ (rs : List Request). RunsRequests now rs run_replies_too (model.books other.store)) same.0
+        (requests_run model now old other two.requests run_replies_too starts_too two.handles) in
         record {
           requests = one.requests;
           ended = ended;
@@ -59,7 +57,7 @@ module _ {S : Type 0} (books : S → Books) (limits : S → Bounds) (premise : S
           ran = ran;
           other_run_replies = run_replies_too;
           other_ran = ran_too;
-          alike = ran_once law now one.requests run_replies run_replies_too (books new.store) (books other.store) ran ran_too;
+          alike = ran_once law now one.requests run_replies run_replies_too (model.books new.store) (model.books other.store) ran ran_too;
           last = last;
           replies_are = is;
           other_last = last_too;
@@ -67,11 +65,11 @@ module _ {S : Type 0} (books : S → Books) (limits : S → Bounds) (premise : S
           lasts = ends same.1 same.2;
         }
 
-    fed_alike : StartsAt books limits premise may_fault now old new → StartsAt books limits premise may_fault now old other
+    fed_alike : StartsAt model now old new → StartsAt model now old other
         → (session left : Option (List ℕ)) → session ≡ left
-        → FeedsSession (ServiceStep books limits premise may_fault) head_fault_octets octets old replies new session
-        → FeedsSession (ServiceStep books limits premise may_fault) head_fault_octets octets old others other left
-        → RanAlike books limits premise may_fault now octets replies others (books new.store) (books other.store)
+        → FeedsSession (ServiceStep model) head_fault_octets octets old replies new session
+        → FeedsSession (ServiceStep model) head_fault_octets octets old others other left
+        → RanAlike model now octets replies others (model.books new.store) (model.books other.store)
     fed_alike starts starts_too (Some rest) (Some left) same fed fed_too =
         ran_alike starts starts_too replies others [] [] false false rest left fed.0 fed_too.0 (sym (append-nil replies)) (sym (append-nil others))
         (λ _ _. inl (refl, refl))
@@ -90,12 +88,12 @@ module _ {S : Type 0} (books : S → Books) (limits : S → Bounds) (premise : S
   abbrev answers : List (List ℕ × List ℕ) → List ℕ
   answers turns = flat_map (λ (turn : List ℕ × List ℕ). turn.1) turns
 
-  pub cuts_run_alike : CutsRunAlike books limits premise may_fault
+  pub cuts_run_alike : CutsRunAlike model
   cuts_run_alike now old new other turns others session left starts starts_too takes takes_too same =
-      let fed : FeedsSession (ServiceStep books limits premise may_fault) head_fault_octets (pieces turns) old (answers turns) new session =
-      pieces_are_fed (ServiceStep books limits premise may_fault) head_fault_octets turns old new session takes in
-      let fed_too : FeedsSession (ServiceStep books limits premise may_fault) head_fault_octets (pieces turns) old (answers others) other left =
-      subst (λ t. FeedsSession (ServiceStep books limits premise may_fault) head_fault_octets t old (answers others) other left) (sym same)
-      (pieces_are_fed (ServiceStep books limits premise may_fault) head_fault_octets others old other left takes_too) in
-      let held : session ≡ left = cuts_agree (ServiceStep books limits premise may_fault) head_fault_octets (pieces turns) old new other (answers turns) (answers others) session left fed fed_too in
+      let fed : FeedsSession (ServiceStep model) head_fault_octets (pieces turns) old (answers turns) new session =
+      pieces_are_fed (ServiceStep model) head_fault_octets turns old new session takes in
+      let fed_too : FeedsSession (ServiceStep model) head_fault_octets (pieces turns) old (answers others) other left =
+      subst (λ t. FeedsSession (ServiceStep model) head_fault_octets t old (answers others) other left) (sym same)
+      (pieces_are_fed (ServiceStep model) head_fault_octets others old other left takes_too) in
+      let held : session ≡ left = cuts_agree (ServiceStep model) head_fault_octets (pieces turns) old new other (answers turns) (answers others) session left fed fed_too in
       (held, fed_alike now (pieces turns) (answers turns) (answers others) old new other starts starts_too session left held fed fed_too)

@@ -5,6 +5,7 @@ use Rattle.std.specs.Option.{option_or}
 use Rattle.http_requests.specs.HandlerRuns.{HandlerRelation, FaultReplies}
 use Rattle.book_http.specs.declared.serve_fault.ServeFault.{ServeFault}
 use Rattle.book_http.specs.Listening.{NextArrival, FailsToWait, AbortsSome, ServesArrivals, ServesEach, ServesInTurn, ServesNext, ServesOne, ServedConnection, arrivals_of, first_serve_fault}
+use Rattle.book_http.specs.ConnectionModels.{ConnectionModel}
 
 or_none : (end : Option ServeFault) → option_or end None ≡ end
 or_none None = refl
@@ -37,19 +38,19 @@ module _ {Connection : Type 0} where
       first ∙ ap (λ others. arrival_is ++ others) then ∙ sym (append_assoc arrival_is more rest)
 
 module _ {State Connection : Type 0} (does : HandlerRelation State) (fault_reply : FaultReplies)
-    (remaining contents : Connection → Option (List ℕ)) where
+    (stream : ConnectionModel Connection) where
   served_on : (turns : List (ServedConnection Connection)) (turn : ServedConnection Connection) (old middle new : State) →
-      ServesInTurn does fault_reply remaining contents old turns middle →
-      ServesOne does fault_reply remaining contents middle turn new →
-      ServesInTurn does fault_reply remaining contents old (turns ++ turn ∷ []) new
+      ServesInTurn does fault_reply stream old turns middle →
+      ServesOne does fault_reply stream middle turn new →
+      ServesInTurn does fault_reply stream old (turns ++ turn ∷ []) new
   unfolding ServesInTurn
-  served_on [] turn old middle new is one = (new, subst (λ s. ServesOne does fault_reply remaining contents s turn new) (sym is) one, refl)
+  served_on [] turn old middle new is one = (new, subst (λ s. ServesOne does fault_reply stream s turn new) (sym is) one, refl)
   served_on (t ∷ turns) turn old middle new served one = (served.0, served.1, served_on turns turn served.0 middle new served.2 one)
 
   -- `count` connections were served, and this was the first fault
   pub record SoFar (count : ℕ) (first : Option ServeFault) (coming coming_after : Option (List (Option Connection))) (old new : State) : Type 0 where
     pub turns : List (ServedConnection Connection)
-    pub arrivals : ServesArrivals does fault_reply remaining contents coming coming_after old turns new
+    pub arrivals : ServesArrivals does fault_reply stream coming coming_after old turns new
     pub count_is : length turns ≡ count
     pub first_is : first_serve_fault turns ≡ first
 
@@ -58,7 +59,7 @@ module _ {State Connection : Type 0} (does : HandlerRelation State) (fault_reply
   so_far_none coming old = record { turns = []; arrivals = record { served = refl; arrival_is = arrivals_none coming }; count_is = refl; first_is = refl }
 
   pub so_far_on : (count : ℕ) (first end : Option ServeFault) (coming between coming_after : Option (List (Option Connection))) (old middle new : State)
-      → SoFar count first coming between old middle → ServesNext does fault_reply remaining contents between coming_after middle end new → SoFar (count + 1) (option_or first end) coming coming_after old new
+      → SoFar count first coming between old middle → ServesNext does fault_reply stream between coming_after middle end new → SoFar (count + 1) (option_or first end) coming coming_after old new
   so_far_on count first end coming between coming_after old middle new far next = record {
     turns = far.turns ++ next.turn ∷ [];
     arrivals = record {
@@ -72,7 +73,7 @@ module _ {State Connection : Type 0} (does : HandlerRelation State) (fault_reply
 
   -- a wait failed
   pub stopped_early : (count connections : ℕ) (first : Option ServeFault) (coming between coming_after : Option (List (Option Connection))) (old new : State) → SoFar count first coming between old new
-      → count < connections → NextArrival between (None ∷ []) coming_after → FailsToWait does fault_reply remaining contents connections coming old new
+      → count < connections → NextArrival between (None ∷ []) coming_after → FailsToWait does fault_reply stream connections coming old new
   stopped_early count connections first coming between coming_after old new far fewer failed = record {
     turns = far.turns;
     between = between;
@@ -84,11 +85,11 @@ module _ {State Connection : Type 0} (does : HandlerRelation State) (fault_reply
 
   -- all were served
   pub served_all : (count connections : ℕ) (first : Option ServeFault) (coming coming_after : Option (List (Option Connection))) (old new : State) → SoFar count first coming coming_after old new
-      → count ≡ connections → first ≡ None → ServesEach does fault_reply remaining contents connections coming old new
+      → count ≡ connections → first ≡ None → ServesEach does fault_reply stream connections coming old new
   served_all count connections first coming coming_after old new far all is =
       record { turns = far.turns; coming_after = coming_after; arrivals = far.arrivals; count = far.count_is ∙ all; ended = far.first_is ∙ is }
 
   pub served_others : (count connections : ℕ) (first : Option ServeFault) (fault : ServeFault) (coming coming_after : Option (List (Option Connection))) (old new : State) → SoFar count first coming coming_after old new
-      → count ≡ connections → first ≡ Some fault → AbortsSome does fault_reply remaining contents fault connections coming old new
+      → count ≡ connections → first ≡ Some fault → AbortsSome does fault_reply stream fault connections coming old new
   served_others count connections first fault coming coming_after old new far all is =
       record { turns = far.turns; coming_after = coming_after; arrivals = far.arrivals; count = far.count_is ∙ all; aborted = far.first_is ∙ is }

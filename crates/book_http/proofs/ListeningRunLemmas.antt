@@ -9,58 +9,57 @@ use Rattle.book_http.specs.OctetRuns.{RunsRequests}
 use Rattle.book_http.specs.ServedConnections.{AbortsConnection, ServesToEnd}
 use Rattle.book_http.proofs.ConnectionLemmas.{handles_read, part_of_fed}
 use Rattle.book_http.proofs.OctetRunLemmas.{all_limits, all_premise, requests_run}
-use Rattle.book_model.specs.Bounds.{Bounds}
-use Rattle.book_model.specs.Books.{Books}
-use Rattle.book_model.specs.declared.denied.Fault.{Fault as FaultKind}
 use Rattle.book_http.specs.Listening.{ServesConnection, ServesInTurn, ServesOne, ServedConnection}
 use Rattle.book_http.specs.ListeningRuns.{ConnectionsAreOneRun, RepliesToAll, RunsInTurn, RunsOverAll, RunsOneConnection}
+use Rattle.book_http.specs.ConnectionModels.{ConnectionModel}
 use Rattle.book_service.specs.Runs.{TraceStep, MatchesRows, SystemState, Run, end_of}
 use Rattle.book_service.proofs.StepLemmas.{end-append, run_limits, runs_join}
 use Rattle.http_replies.specs.Replies.{head_fault_octets}
 use Rattle.http_requests.specs.SessionFeeding.{FeedsSession, HandlesSomePrefix, RefusesHead}
+use Rattle.sync_core.specs.StoreModels.{StoreModel}
 
-module _ {S Connection : Type 0} (books : S → Books) (limits : S → Bounds) (premise : S → Type 0) (may_fault : FaultKind → Type 0)
-    (remaining contents : Connection → Option (List ℕ)) where
+module _ {S Connection : Type 0} (model : StoreModel S)
+    (stream : ConnectionModel Connection) where
   -- ---- the premise
 
-  part_premise : (octets : List ℕ) (old new : Service S) → HandlesSomePrefix (ServiceStep books limits premise may_fault) head_fault_octets octets old new → premise new.store → premise old.store
-  part_premise octets old new part holds = all_premise books limits premise may_fault part.runs.requests old new part.replies part.runs.handles holds
+  part_premise : (octets : List ℕ) (old new : Service S) → HandlesSomePrefix (ServiceStep model) head_fault_octets octets old new → model.premise new.store → model.premise old.store
+  part_premise octets old new part holds = all_premise model part.runs.requests old new part.replies part.runs.handles holds
 
-  ended_premise : (end : Option ServeFault) (before connection_after : Connection) (old new : Service S) → ServesConnection (ServiceStep books limits premise may_fault) head_fault_octets remaining contents end before connection_after old new
-      → premise new.store → premise old.store
+  ended_premise : (end : Option ServeFault) (before connection_after : Connection) (old new : Service S) → ServesConnection (ServiceStep model) head_fault_octets stream end before connection_after old new
+      → model.premise new.store → model.premise old.store
   ended_premise None before connection_after old new all holds =
-      part_premise all.serves.octets old new (part_of_fed (ServiceStep books limits premise may_fault) head_fault_octets all.serves.octets all.serves.replies old new all.session all.serves.fed) holds
+      part_premise all.serves.octets old new (part_of_fed (ServiceStep model) head_fault_octets all.serves.octets all.serves.replies old new all.session all.serves.fed) holds
   ended_premise (Some fault) before connection_after old new broke holds =
-      let h = handles_read (ServiceStep books limits premise may_fault) head_fault_octets fault (remaining before) (remaining connection_after) (contents before) (contents connection_after) old new broke in
+      let h = handles_read (ServiceStep model) head_fault_octets fault (stream.remaining before) (stream.remaining connection_after) (stream.contents before) (stream.contents connection_after) old new broke in
       part_premise h.octets old new h.part holds
 
-  turns_premise : (turns : List (ServedConnection Connection)) (old new : Service S) → ServesInTurn (ServiceStep books limits premise may_fault) head_fault_octets remaining contents old turns new → premise new.store → premise old.store
+  turns_premise : (turns : List (ServedConnection Connection)) (old new : Service S) → ServesInTurn (ServiceStep model) head_fault_octets stream old turns new → model.premise new.store → model.premise old.store
   unfolding ServesInTurn
-  turns_premise [] old new same holds = subst (λ (s : Service S). premise s.store) (sym same) holds
+  turns_premise [] old new same holds = subst (λ (s : Service S). model.premise s.store) (sym same) holds
   turns_premise (turn ∷ turns) old new (middle, one, others) holds =
       ended_premise turn.end turn.connection one.connection_after old middle one.ended (turns_premise turns middle new others holds)
 
   -- ---- one connection
 
   -- the store is where its run ended
-  at_end : (now end : SystemState) (old new : Service S) → MatchesRows now (limits old.store) (books old.store) → limits new.store ≡ limits old.store → MatchesRows end now.model.limits (books new.store) → MatchesRows end (limits new.store) (books new.store)
+  at_end : (now end : SystemState) (old new : Service S) → MatchesRows now (model.limits old.store) (model.books old.store) → model.limits new.store ≡ model.limits old.store → MatchesRows end now.model.limits (model.books new.store) → MatchesRows end (model.limits new.store) (model.books new.store)
   at_end now end old new at same ended = record { limits_are = ended.limits_are ∙ at.limits_are ∙ sym same; histories = ended.histories }
 
   -- what happened by a connection
   pub record TurnHappens (now : SystemState) (connection : Connection) (end : Option ServeFault) (new : S) : Type 0 where
     pub own : List TraceStep
     pub runs : Run now own
-    pub turn : RunsOneConnection books limits premise may_fault remaining contents connection end own
-    pub at : MatchesRows (end_of now own) (limits new) (books new)
+    pub turn : RunsOneConnection model stream connection end own
+    pub at : MatchesRows (end_of now own) (model.limits new) (model.books new)
     pub devices_are : (end_of now own).devices ≡ now.devices
 
   -- it was served to its end
-  fed_happens : (session : Option (List ℕ)) (now : SystemState) (before connection_after : Connection) (old new : Service S) (octets replies : List ℕ) → StartsAt books limits premise may_fault now old new
-      → Consumes (remaining before) (remaining connection_after) octets → FeedsSession (ServiceStep books limits premise may_fault) head_fault_octets octets old replies new session → Appends (contents before) (contents connection_after) replies
+  fed_happens : (session : Option (List ℕ)) (now : SystemState) (before connection_after : Connection) (old new : Service S) (octets replies : List ℕ) → StartsAt model now old new
+      → Consumes (stream.remaining before) (stream.remaining connection_after) octets → FeedsSession (ServiceStep model) head_fault_octets octets old replies new session → Appends (stream.contents before) (stream.contents connection_after) replies
       → TurnHappens now before None new.store
   fed_happens (Some rest) now before connection_after old new octets replies starts read fed sent =
       let a = fed.0 in
-      let ran = requests_run books limits premise may_fault now old new a.requests replies starts a.handles in
+      let ran = requests_run model now old new a.requests replies starts a.handles in
       record {
         own = ran.run;
         runs = ran.runs;
@@ -74,14 +73,14 @@ module _ {S Connection : Type 0} (books : S → Books) (limits : S → Bounds) (
           rest = rest;
           first = a.requests_are.0;
           are_replies = ran.are_replies;
-          all_replied = λ _. record { requests_are = a.requests_are; last = []; sent = subst (Appends (contents before) (contents connection_after)) (sym (append-nil replies)) sent; last_is = inl refl };
+          all_replied = λ _. record { requests_are = a.requests_are; last = []; sent = subst (Appends (stream.contents before) (stream.contents connection_after)) (sym (append-nil replies)) sent; last_is = inl refl };
         };
-        at = at_end now (end_of now ran.run) old new starts.at (all_limits books limits premise may_fault a.requests old new replies a.handles) ran.at;
+        at = at_end now (end_of now ran.run) old new starts.at (all_limits model a.requests old new replies a.handles) ran.at;
         devices_are = ran.devices_are;
       }
   fed_happens None now before connection_after old new octets replies starts read stop sent =
       let a = stop.answered in
-      let ran = requests_run books limits premise may_fault now old new a.requests stop.answers starts a.handles in
+      let ran = requests_run model now old new a.requests stop.answers starts a.handles in
       record {
         own = ran.run;
         runs = ran.runs;
@@ -95,9 +94,9 @@ module _ {S Connection : Type 0} (books : S → Books) (limits : S → Bounds) (
           rest = stop.rest;
           first = a.requests_are.0;
           are_replies = ran.are_replies;
-          all_replied = λ _. record { requests_are = a.requests_are; last = stop.last; sent = subst (Appends (contents before) (contents connection_after)) stop.replies_are sent; last_is = last_of stop.why };
+          all_replied = λ _. record { requests_are = a.requests_are; last = stop.last; sent = subst (Appends (stream.contents before) (stream.contents connection_after)) stop.replies_are sent; last_is = last_of stop.why };
         };
-        at = at_end now (end_of now ran.run) old new starts.at (all_limits books limits premise may_fault a.requests old new stop.answers a.handles) ran.at;
+        at = at_end now (end_of now ran.run) old new starts.at (all_limits model a.requests old new stop.answers a.handles) ran.at;
         devices_are = ran.devices_are;
       }
     where
@@ -105,15 +104,15 @@ module _ {S Connection : Type 0} (books : S → Books) (limits : S → Bounds) (
       last_of (inl why) = inl why.1
       last_of (inr why) = inr why.1
 
-  end_happens : (end : Option ServeFault) (now : SystemState) (before connection_after : Connection) (old new : Service S) → StartsAt books limits premise may_fault now old new
-      → ServesConnection (ServiceStep books limits premise may_fault) head_fault_octets remaining contents end before connection_after old new → TurnHappens now before end new.store
+  end_happens : (end : Option ServeFault) (now : SystemState) (before connection_after : Connection) (old new : Service S) → StartsAt model now old new
+      → ServesConnection (ServiceStep model) head_fault_octets stream end before connection_after old new → TurnHappens now before end new.store
   end_happens None now before connection_after old new starts all =
       let s = all.serves in
       fed_happens all.session now before connection_after old new s.octets s.replies starts s.read s.fed s.sent
   end_happens (Some fault) now before connection_after old new starts broke =
-      let h = handles_read (ServiceStep books limits premise may_fault) head_fault_octets fault (remaining before) (remaining connection_after) (contents before) (contents connection_after) old new broke in
+      let h = handles_read (ServiceStep model) head_fault_octets fault (stream.remaining before) (stream.remaining connection_after) (stream.contents before) (stream.contents connection_after) old new broke in
       let p = h.part in
-      let ran = requests_run books limits premise may_fault now old new p.runs.requests p.replies starts p.runs.handles in
+      let ran = requests_run model now old new p.runs.requests p.replies starts p.runs.handles in
       record {
         own = ran.run;
         runs = ran.runs;
@@ -129,18 +128,18 @@ module _ {S Connection : Type 0} (books : S → Books) (limits : S → Bounds) (
           are_replies = ran.are_replies;
           all_replied = λ (none : Some fault ≡ None). absurd (let no : Some fault ≡ None = none in cc);
         };
-        at = at_end now (end_of now ran.run) old new starts.at (all_limits books limits premise may_fault p.runs.requests old new p.replies p.runs.handles) ran.at;
+        at = at_end now (end_of now ran.run) old new starts.at (all_limits model p.runs.requests old new p.replies p.runs.handles) ran.at;
         devices_are = ran.devices_are;
       }
 
   -- ---- connections in turn
 
-  pub connections_are_one_run : ConnectionsAreOneRun books limits premise may_fault remaining contents
+  pub connections_are_one_run : ConnectionsAreOneRun model stream
   unfolding ServesInTurn RunsInTurn
   connections_are_one_run now old new [] starts same = record {
     run = [];
     runs = tt;
-    in_turn = (refl, record { limits_are = refl; histories = (subst (λ (s : Service S). MatchesRows now (limits s.store) (books s.store)) same (record { limits_are = starts.at.limits_are; histories = starts.at.histories })).histories });
+    in_turn = (refl, record { limits_are = refl; histories = (subst (λ (s : Service S). MatchesRows now (model.limits s.store) (model.books s.store)) same (record { limits_are = starts.at.limits_are; histories = starts.at.histories })).histories });
   }
   connections_are_one_run now old new (turn ∷ turns) starts (middle, one, others) =
       let held = turns_premise turns middle new others starts.premise_holds in

@@ -1,8 +1,5 @@
 -- Requests that the service handles are a run of it.
 use Rattle.std.proofs.Common.{◌≡◌, ◌∙◌, ℕ, Bool, false, List, [], ◌∷◌, ◌++◌, refl, sym, ap, subst, Option, Some, None, Result, Ok, Err}
-use Rattle.book_model.specs.declared.denied.Fault.{Fault as FaultKind}
-use Rattle.book_model.specs.Bounds.{Bounds}
-use Rattle.book_model.specs.Books.{Books}
 use Rattle.book_commands.specs.declared.command.Command.{Command}
 use Rattle.book_service.specs.declared.event.Event.TheVariants.{Do}
 use Rattle.book_service.specs.Runs.{SystemState, TraceStep, Run, end_of, MatchesRows}
@@ -20,42 +17,43 @@ use Rattle.book_http.specs.declared.service.Service.{Service}
 use Rattle.book_http.specs.RequestAnswers.{AnswersCommand}
 use Rattle.book_http.specs.OctetRuns.{RunsRequests, RunsAllRequests, AreReplies, IsReplyToCommand, IsReplyGivenFault, IsReplyToRequest}
 use Rattle.book_http.specs.OctetPromise.{LostPiecesRun, RequestsRun, ServiceStep, SessionsRun, StartsAt}
+use Rattle.sync_core.specs.StoreModels.{StoreModel}
 
-module _ {S : Type 0} (books : S → Books) (limits : S → Bounds) (premise : S → Type 0) (may_fault : FaultKind → Type 0) where
+module _ {S : Type 0} (model : StoreModel S) where
   -- ---- the premise
 
-  asked_premise : (old new : S) (wanted : Result Command RouteFault) (close : Bool) (octets : List ℕ) → AnswersCommand books limits premise may_fault old wanted close octets new → premise new → premise old
-  asked_premise old new (Ok command) close octets answers holds = answers.1.premises holds
-  asked_premise old new (Err found) close octets answers holds = subst premise (sym answers.1) holds
+  asked_premise : (old new : S) (wanted : Result Command RouteFault) (close : Bool) (octets : List ℕ) → AnswersCommand model old wanted close octets new → model.premise new → model.premise old
+  asked_premise old new (Ok command) close octets answers holds = answers.1.terms.premise holds
+  asked_premise old new (Err found) close octets answers holds = subst model.premise (sym answers.1) holds
 
   found_premise : (old new : Service S) (request : Request) (found : Option HeadFault) (octets : List ℕ)
-      → RepliesGivenFault (ServiceStep books limits premise may_fault) head_fault_octets old request octets new found → premise new.store → premise old.store
+      → RepliesGivenFault (ServiceStep model) head_fault_octets old request octets new found → model.premise new.store → model.premise old.store
   found_premise old new request None octets replied holds =
       asked_premise old.store new.store (requested_command request.head.method request.head.target request.body) (head_of request.head).close octets replied holds
-  found_premise old new request (Some found) octets replied holds = subst (λ (s : Service S). premise s.store) (sym replied.1) holds
+  found_premise old new request (Some found) octets replied holds = subst (λ (s : Service S). model.premise s.store) (sym replied.1) holds
 
-  pub all_premise : (requests : List Request) (old new : Service S) (octets : List ℕ) → HandlesRequests (ServiceStep books limits premise may_fault) head_fault_octets old requests octets new → premise new.store → premise old.store
+  pub all_premise : (requests : List Request) (old new : Service S) (octets : List ℕ) → HandlesRequests (ServiceStep model) head_fault_octets old requests octets new → model.premise new.store → model.premise old.store
   unfolding HandlesRequests
-  all_premise [] old new octets handles holds = subst (λ (s : Service S). premise s.store) (sym handles.1) holds
+  all_premise [] old new octets handles holds = subst (λ (s : Service S). model.premise s.store) (sym handles.1) holds
   all_premise (request ∷ requests) old new octets handles holds =
       found_premise old handles.2 request (fault_of_head request.head) handles.0 handles.3 (all_premise requests handles.2 new handles.1 handles.4 holds)
 
   -- ---- the limits
 
-  asked_limits : (old new : S) (wanted : Result Command RouteFault) (close : Bool) (octets : List ℕ) → AnswersCommand books limits premise may_fault old wanted close octets new → limits new ≡ limits old
-  asked_limits old new (Ok command) close octets answers = answers.1.limits_are
-  asked_limits old new (Err found) close octets answers = ap limits (sym answers.1)
+  asked_limits : (old new : S) (wanted : Result Command RouteFault) (close : Bool) (octets : List ℕ) → AnswersCommand model old wanted close octets new → model.limits new ≡ model.limits old
+  asked_limits old new (Ok command) close octets answers = answers.1.terms.limits
+  asked_limits old new (Err found) close octets answers = ap model.limits (sym answers.1)
 
   found_limits : (old new : Service S) (request : Request) (found : Option HeadFault) (octets : List ℕ)
-      → RepliesGivenFault (ServiceStep books limits premise may_fault) head_fault_octets old request octets new found → limits new.store ≡ limits old.store
+      → RepliesGivenFault (ServiceStep model) head_fault_octets old request octets new found → model.limits new.store ≡ model.limits old.store
   found_limits old new request None octets replied =
       asked_limits old.store new.store (requested_command request.head.method request.head.target request.body) (head_of request.head).close octets replied
-  found_limits old new request (Some found) octets replied = ap (λ (s : Service S). limits s.store) (sym replied.1)
+  found_limits old new request (Some found) octets replied = ap (λ (s : Service S). model.limits s.store) (sym replied.1)
 
   -- requests change no limits
-  pub all_limits : (requests : List Request) (old new : Service S) (octets : List ℕ) → HandlesRequests (ServiceStep books limits premise may_fault) head_fault_octets old requests octets new → limits new.store ≡ limits old.store
+  pub all_limits : (requests : List Request) (old new : Service S) (octets : List ℕ) → HandlesRequests (ServiceStep model) head_fault_octets old requests octets new → model.limits new.store ≡ model.limits old.store
   unfolding HandlesRequests
-  all_limits [] old new octets handles = ap (λ (s : Service S). limits s.store) (sym handles.1)
+  all_limits [] old new octets handles = ap (λ (s : Service S). model.limits s.store) (sym handles.1)
   all_limits (request ∷ requests) old new octets handles =
       all_limits requests handles.2 new handles.1 handles.4 ∙ found_limits old handles.2 request (fault_of_head request.head) handles.0 handles.3
 
@@ -66,14 +64,14 @@ module _ {S : Type 0} (books : S → Books) (limits : S → Bounds) (premise : S
     pub own : List TraceStep
     pub runs : Run now own
     pub replies_own : are_replies own
-    pub at : MatchesRows (end_of now own) (limits new) (books new)
+    pub at : MatchesRows (end_of now own) (model.limits new) (model.books new)
     pub devices_are : (end_of now own).devices ≡ now.devices
 
-  nothing_happens : (now : SystemState) (are_replies : List TraceStep → Type 0) (old new : S) → are_replies [] → old ≡ new → MatchesRows now (limits old) (books old) → Happens now are_replies new
-  nothing_happens now are_replies old new run_replies same at = record { own = []; runs = tt; replies_own = run_replies; at = subst (λ (s : S). MatchesRows now (limits s) (books s)) same at; devices_are = refl }
+  nothing_happens : (now : SystemState) (are_replies : List TraceStep → Type 0) (old new : S) → are_replies [] → old ≡ new → MatchesRows now (model.limits old) (model.books old) → Happens now are_replies new
+  nothing_happens now are_replies old new run_replies same at = record { own = []; runs = tt; replies_own = run_replies; at = subst (λ (s : S). MatchesRows now (model.limits s) (model.books s)) same at; devices_are = refl }
 
-  asked_happens : (now : SystemState) (old new : S) (wanted : Result Command RouteFault) (close : Bool) (octets : List ℕ) → AnswersCommand books limits premise may_fault old wanted close octets new
-      → premise new → MatchesRows now (limits old) (books old) → Happens now (λ own. IsReplyToCommand wanted close own octets) new
+  asked_happens : (now : SystemState) (old new : S) (wanted : Result Command RouteFault) (close : Bool) (octets : List ℕ) → AnswersCommand model old wanted close octets new
+      → model.premise new → MatchesRows now (model.limits old) (model.books old) → Happens now (λ own. IsReplyToCommand wanted close own octets) new
   asked_happens now old new (Ok command) close octets answers holds at =
       let led = answers.1.step holds now at in
       let h : TraceStep = record { event = Do command; reply = answers.0; after = led.next } in
@@ -81,15 +79,15 @@ module _ {S : Type 0} (books : S → Books) (limits : S → Bounds) (premise : S
         own = h ∷ [];
         runs = (led.step, tt);
         replies_own = (h, refl, refl, answers.2);
-        at = record { limits_are = led.at.limits_are ∙ at.limits_are ∙ sym answers.1.limits_are; histories = led.at.histories };
+        at = record { limits_are = led.at.limits_are ∙ at.limits_are ∙ sym answers.1.terms.limits; histories = led.at.histories };
         devices_are = led.devices_are;
       }
   asked_happens now old new (Err found) close octets answers holds at =
       nothing_happens now (λ own. IsReplyToCommand (Err found) close own octets) old new (refl, answers.0) answers.1 at
 
   found_happens : (now : SystemState) (old new : Service S) (request : Request) (found : Option HeadFault) (octets : List ℕ)
-      → RepliesGivenFault (ServiceStep books limits premise may_fault) head_fault_octets old request octets new found
-      → premise new.store → MatchesRows now (limits old.store) (books old.store) → Happens now (λ own. IsReplyGivenFault found request own octets) new.store
+      → RepliesGivenFault (ServiceStep model) head_fault_octets old request octets new found
+      → model.premise new.store → MatchesRows now (model.limits old.store) (model.books old.store) → Happens now (λ own. IsReplyGivenFault found request own octets) new.store
   found_happens now old new request None octets replied holds at =
       asked_happens now old.store new.store (requested_command request.head.method request.head.target request.body) (head_of request.head).close octets replied holds at
   found_happens now old new request (Some found) octets replied holds at =
@@ -97,18 +95,18 @@ module _ {S : Type 0} (books : S → Books) (limits : S → Bounds) (premise : S
 
   -- ---- requests in turn
 
-  runs_none : (now : SystemState) (old new : Service S) (octets : List ℕ) → octets ≡ [] → old ≡ new → MatchesRows now (limits old.store) (books old.store) → RunsRequests now [] octets (books new.store)
+  runs_none : (now : SystemState) (old new : Service S) (octets : List ℕ) → octets ≡ [] → old ≡ new → MatchesRows now (model.limits old.store) (model.books old.store) → RunsRequests now [] octets (model.books new.store)
   unfolding AreReplies
   runs_none now old new octets none same at = record {
     run = [];
     runs = tt;
     are_replies = (refl, none);
-    at = record { limits_are = refl; histories = (subst (λ (s : Service S). MatchesRows now (limits s.store) (books s.store)) same at).histories };
+    at = record { limits_are = refl; histories = (subst (λ (s : Service S). MatchesRows now (model.limits s.store) (model.books s.store)) same at).histories };
     devices_are = refl;
   }
 
   runs_on : (now : SystemState) (middle new : S) (request : Request) (requests : List Request) (run_replies rest octets : List ℕ) (h : Happens now (λ own. IsReplyToRequest request own run_replies) middle)
-      → RunsRequests (end_of now h.own) requests rest (books new) → octets ≡ run_replies ++ rest → RunsRequests now (request ∷ requests) octets (books new)
+      → RunsRequests (end_of now h.own) requests rest (model.books new) → octets ≡ run_replies ++ rest → RunsRequests now (request ∷ requests) octets (model.books new)
   unfolding AreReplies
   runs_on now middle new request requests run_replies rest octets h more is =
       let end : end_of now (h.own ++ more.run) ≡ end_of (end_of now h.own) more.run = end-append now h.own more.run in
@@ -117,12 +115,12 @@ module _ {S : Type 0} (books : S → Books) (limits : S → Bounds) (premise : S
         run = h.own ++ more.run;
         runs = runs_join now h.own more.run h.runs more.runs;
         are_replies = (h.own, more.run, run_replies, rest, h.replies_own, more.are_replies, refl, is);
-        at = subst (λ (m : SystemState). MatchesRows m now.model.limits (books new)) (sym end) (record { limits_are = more.at.limits_are ∙ same; histories = more.at.histories });
+        at = subst (λ (m : SystemState). MatchesRows m now.model.limits (model.books new)) (sym end) (record { limits_are = more.at.limits_are ∙ same; histories = more.at.histories });
         devices_are = ap (λ (m : SystemState). m.devices) end ∙ more.devices_are ∙ h.devices_are;
       }
 
-  handled_run : (requests : List Request) (now : SystemState) (old new : Service S) (octets : List ℕ) → premise new.store → MatchesRows now (limits old.store) (books old.store)
-      → HandlesRequests (ServiceStep books limits premise may_fault) head_fault_octets old requests octets new → RunsRequests now requests octets (books new.store)
+  handled_run : (requests : List Request) (now : SystemState) (old new : Service S) (octets : List ℕ) → model.premise new.store → MatchesRows now (model.limits old.store) (model.books old.store)
+      → HandlesRequests (ServiceStep model) head_fault_octets old requests octets new → RunsRequests now requests octets (model.books new.store)
   unfolding HandlesRequests
   handled_run [] now old new octets holds at handles = runs_none now old new octets handles.0 handles.1 at
   handled_run (request ∷ requests) now old new octets holds at handles =
@@ -131,20 +129,20 @@ module _ {S : Type 0} (books : S → Books) (limits : S → Bounds) (premise : S
       let h = found_happens now old middle request (fault_of_head request.head) handles.0 handles.3 held at in
       runs_on now middle.store new.store request requests handles.0 handles.1 octets h (handled_run requests (end_of now h.own) middle new handles.1 holds h.at handles.4) handles.5
 
-  pub requests_run : RequestsRun books limits premise may_fault
+  pub requests_run : RequestsRun model
   requests_run now old new requests octets starts handles = handled_run requests now old new octets starts.premise_holds starts.at handles
 
   -- ---- sessions
 
-  pub all_run : (now : SystemState) (old new : Service S) (octets replies : List ℕ) (ended : Bool) (rest : List ℕ) → StartsAt books limits premise may_fault now old new
-      → HandlesAllRequests (ServiceStep books limits premise may_fault) head_fault_octets octets old replies new ended rest → RunsAllRequests now octets replies (books new.store) ended rest
+  pub all_run : (now : SystemState) (old new : Service S) (octets replies : List ℕ) (ended : Bool) (rest : List ℕ) → StartsAt model now old new
+      → HandlesAllRequests (ServiceStep model) head_fault_octets octets old replies new ended rest → RunsAllRequests now octets replies (model.books new.store) ended rest
   all_run now old new octets replies ended rest starts all = record {
     requests = all.requests;
     requests_are = all.requests_are;
     ran = requests_run now old new all.requests replies starts all.handles;
   }
 
-  pub sessions_run : SessionsRun books limits premise may_fault
+  pub sessions_run : SessionsRun model
   sessions_run now old new octets replies (Some rest) starts fed = (all_run now old new octets replies false rest starts fed.0, fed.1)
   sessions_run now old new octets replies None starts stop = record {
     answers = stop.answers;
@@ -156,7 +154,7 @@ module _ {S : Type 0} (books : S → Books) (limits : S → Bounds) (premise : S
     why = stop.why;
   }
 
-  pub lost_pieces_run : LostPiecesRun books limits premise may_fault
+  pub lost_pieces_run : LostPiecesRun model
   lost_pieces_run now old new octets starts part = record {
     requests = part.runs.requests;
     replies = part.replies;

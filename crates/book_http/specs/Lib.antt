@@ -1,3 +1,4 @@
+pub mod ConnectionModels
 pub mod Listening
 pub mod ListeningRuns
 pub mod StoreCommands

@@ -1,12 +1,12 @@
 -- Serving the connections of a listener, one after another. This project's own.
 use Rattle.std.specs.Prelude.{◌≡◌, ◌<◌, ⊤, ℕ, List, [], ◌∷◌, ◌++◌, length, map, Option, Some, None}
-use Rattle.std.specs.Prelude.{Result, Ok, Err}
 use Rattle.std.specs.Option.{option_or}
 use Rattle.http_requests.specs.HandlerRuns.{HandlerRelation, FaultReplies}
 use Rattle.book_http.specs.ServedConnections.{AbortsConnection, ServesToEnd}
 use Rattle.book_http.specs.declared.serve_fault.ServeFault.{ServeFault}
 use Rattle.book_http.specs.declared.listen_fault.ListenFault.{ListenFault}
 use Rattle.book_http.specs.declared.listen_fault.ListenFault.TheVariants.{Serve, Device}
+use Rattle.book_http.specs.ConnectionModels.{ConnectionModel}
 
 -- ---- arrivals
 
@@ -36,18 +36,31 @@ abbrev pub arrivals_of :
     {Connection : Type 0} → List (ServedConnection Connection) → List (Option Connection)
 arrivals_of turns = map (λ turn. Some turn.connection) turns
 
+-- ---- why not all connections were served to their ends
+
+-- a condition on the fault of an aborted connection
+abbrev pub IfAborted : (ServeFault → Type 0) → ListenFault → Type 0
+IfAborted Then (Serve fault) = Then fault
+IfAborted Then Device = ⊤
+
+-- a condition where a wait failed
+abbrev pub IfWaitFailed : Type 0 → ListenFault → Type 0
+IfWaitFailed Then (Serve fault) = ⊤
+IfWaitFailed Then Device = Then
+
 -- A connection is represented by the octets that are still to be read and by those that were
 -- written to it, if known.
 module _ {State Connection : Type 0} (does : HandlerRelation State) (fault_reply : FaultReplies)
-    (remaining contents : Connection → Option (List ℕ)) where
+    (stream : ConnectionModel Connection) where
   -- it was served to its end, or aborted with a fault
   abbrev pub ServesConnection : Option ServeFault → Connection → Connection → State → State → Type 0
   ServesConnection None before connection_after old new =
-      ServesToEnd does fault_reply (remaining before) (remaining connection_after)
-      (contents before) (contents connection_after) old new
+      ServesToEnd does fault_reply (stream.remaining before) (stream.remaining connection_after)
+      (stream.contents before) (stream.contents connection_after) old new
   ServesConnection (Some fault) before connection_after old new =
-      AbortsConnection does fault_reply fault (remaining before) (remaining connection_after)
-      (contents before) (contents connection_after) old new
+      AbortsConnection does fault_reply fault
+      (stream.remaining before) (stream.remaining connection_after)
+      (stream.contents before) (stream.contents connection_after) old new
 
   -- it was served with a new session, with this result
   pub record ServesOne (old : State) (turn : ServedConnection Connection) (new : State)
@@ -98,14 +111,6 @@ module _ {State Connection : Type 0} (does : HandlerRelation State) (fault_reply
     pub arrivals : ServesArrivals coming between old turns new
     pub fewer : length turns < connections
     pub failed : NextArrival between (None ∷ []) coming_after
-
-  -- the result of serving the requested number of connections
-  abbrev pub ServesListener : ℕ → Option (List (Option Connection)) → State
-      → Result (Unit {0}) ListenFault → State → Type 0
-  ServesListener connections coming old (Ok _) new = ServesEach connections coming old new
-  ServesListener connections coming old (Err (Serve fault)) new =
-      AbortsSome fault connections coming old new
-  ServesListener connections coming old (Err Device) new = FailsToWait connections coming old new
 
   -- ---- one connection
 

@@ -5,18 +5,16 @@ use Rattle.book_http.specs.declared.serve_fault.ServeFault.{ServeFault}
 use Rattle.book_http.specs.declared.service.Service.{Service}
 use Rattle.book_http.specs.OctetPromise.{ServiceStep, StartsAt}
 use Rattle.book_http.specs.OctetRuns.{AreReplies}
-use Rattle.book_model.specs.Bounds.{Bounds}
 use Rattle.book_model.specs.Books.{Books}
-use Rattle.book_model.specs.declared.denied.Fault.{Fault as FaultKind}
+use Rattle.sync_core.specs.StoreModels.{StoreModel}
 use Rattle.book_http.specs.Listening.{ServesInTurn, ServedConnection}
+use Rattle.book_http.specs.ConnectionModels.{ConnectionModel}
 use Rattle.book_service.specs.Runs.{TraceStep, MatchesRows, SystemState, Run, end_of}
 use Rattle.http_replies.specs.Replies.{head_fault_octets}
 use Rattle.http_requests.specs.SessionFeeding.{RefusesHead}
 use Rattle.http_requests.specs.Requests.{AreAllRequests, StartsWithRequests, Request}
 
-module _ {S Connection : Type 0} (books : S → Books) (limits : S → Bounds)
-    (premise : S → Type 0) (may_fault : FaultKind → Type 0)
-    (remaining contents : Connection → Option (List ℕ)) where
+module _ {S Connection : Type 0} (model : StoreModel S) (stream : ConnectionModel Connection) where
   -- These are all requests of the octets, and the octets written are their replies and at most one
   -- more, to octets that never become a head.
   pub record RepliesToAll (output written : Option (List ℕ)) (octets : List ℕ)
@@ -25,7 +23,7 @@ module _ {S Connection : Type 0} (books : S → Books) (limits : S → Bounds)
     pub last : List ℕ
     pub sent : Appends output written (replies ++ last)
     pub last_is : (last ≡ [])
-        ⊎ RefusesHead (ServiceStep books limits premise may_fault) head_fault_octets rest last
+        ⊎ RefusesHead (ServiceStep model) head_fault_octets rest last
 
   -- The trace steps of a connection are those of some requests of the octets read, from the first
   -- on. If it was served to its end these are all requests, and were replied to.
@@ -34,14 +32,15 @@ module _ {S Connection : Type 0} (books : S → Books) (limits : S → Bounds)
       : Type 0 where
     pub connection_after : Connection
     pub octets : List ℕ
-    pub read : Consumes (remaining connection) (remaining connection_after) octets
+    pub read : Consumes (stream.remaining connection) (stream.remaining connection_after) octets
     pub requests : List Request
     pub replies : List ℕ
     pub ended : Bool
     pub rest : List ℕ
     pub first : StartsWithRequests octets requests ended rest
     pub are_replies : AreReplies requests own replies
-    pub all_replied : end ≡ None → RepliesToAll (contents connection) (contents connection_after)
+    pub all_replied : end ≡ None →
+        RepliesToAll (stream.contents connection) (stream.contents connection_after)
         octets requests replies ended rest
 
   -- The trace is that of the connections in turn, each from the state after the one before it. No
@@ -66,7 +65,6 @@ module _ {S Connection : Type 0} (books : S → Books) (limits : S → Bounds)
   abbrev pub ConnectionsAreOneRun : Type 0
   ConnectionsAreOneRun =
       (now : SystemState) (old new : Service S) (turns : List (ServedConnection Connection)) →
-      StartsAt books limits premise may_fault now old new →
-      ServesInTurn (ServiceStep books limits premise may_fault) head_fault_octets remaining contents
-      old turns new →
-      RunsOverAll now turns (books new.store)
+      StartsAt model now old new →
+      ServesInTurn (ServiceStep model) head_fault_octets stream old turns new →
+      RunsOverAll now turns (model.books new.store)

@@ -3,11 +3,10 @@ use Rattle.std.specs.Prelude.{◌≡◌, ◌⊎◌, ℕ, Bool, true, false, List
 use Rattle.std.specs.Prelude.{Ok, slice_get, slice_set}
 use Rattle.std.specs.List.{flat_map}
 use Rattle.std.specs.Io.KnownBytes.{Appends, Consumes, IsAtEnd}
-use Rattle.book_model.specs.declared.denied.Fault.{Fault as FaultKind}
 use Rattle.book_model.specs.declared.page.Page.{Page}
-use Rattle.book_model.specs.Bounds.{Bounds}
 use Rattle.book_model.specs.Books.{Books}
 use Rattle.book_model.specs.Devices.{DeviceState, device_after_page}
+use Rattle.sync_core.specs.StoreModels.{StoreModel}
 use Rattle.book_commands.specs.declared.command.Command.TheVariants.{Report}
 use Rattle.book_service.specs.declared.event.Event.TheVariants.{Do, Ask}
 use Rattle.book_commands.specs.declared.reply.Reply.TheVariants as reply
@@ -27,17 +26,16 @@ use Rattle.book_http.specs.ServedConnections.{AbortsConnection, ServesToEnd}
 
 -- ---- over any store
 
-module _ {S : Type 0} (books : S → Books) (limits : S → Bounds) (premise : S → Type 0)
-    (may_fault : FaultKind → Type 0) where
+module _ {S : Type 0} (model : StoreModel S) where
   -- one step of the service by a request
   abbrev pub ServiceStep : HandlerRelation (Service S)
   ServiceStep old head body octets new =
-      AnswersRequest books limits premise may_fault old.store head body octets new.store
+      AnswersRequest model old.store head body octets new.store
 
   -- The store was in this state, and its premise holds now, so that it held before.
   pub record StartsAt (now : SystemState) (old new : Service S) : Type 0 where
-    pub at : MatchesRows now (limits old.store) (books old.store)
-    pub premise_holds : premise new.store
+    pub at : MatchesRows now (model.limits old.store) (model.books old.store)
+    pub premise_holds : model.premise new.store
 
   -- ---- requests
 
@@ -46,7 +44,7 @@ module _ {S : Type 0} (books : S → Books) (limits : S → Bounds) (premise : S
   RequestsRun =
       (now : SystemState) (old new : Service S) (requests : List Request) (octets : List ℕ) →
       StartsAt now old new → HandlesRequests ServiceStep head_fault_octets old requests octets new →
-      RunsRequests now requests octets (books new.store)
+      RunsRequests now requests octets (model.books new.store)
 
   -- ---- sessions
 
@@ -75,14 +73,14 @@ module _ {S : Type 0} (books : S → Books) (limits : S → Bounds) (premise : S
       (now : SystemState) (old new : Service S) (octets replies : List ℕ) →
       (session : Option (List ℕ)) → StartsAt now old new →
       FeedsSession ServiceStep head_fault_octets octets old replies new session →
-      RunsAsFed now octets replies (books new.store) session
+      RunsAsFed now octets replies (model.books new.store) session
 
   -- if memory runs out, some requests, from the first on, ran
   abbrev pub LostPiecesRun : Type 0
   LostPiecesRun =
       (now : SystemState) (old new : Service S) (octets : List ℕ) → StartsAt now old new →
       HandlesSomePrefix ServiceStep head_fault_octets octets old new →
-      RunsFirstRequests now octets (books new.store)
+      RunsFirstRequests now octets (model.books new.store)
 
   -- ---- cuts
 
@@ -120,7 +118,7 @@ module _ {S : Type 0} (books : S → Books) (limits : S → Bounds) (premise : S
       flat_map (λ turn. turn.0) turns ≡ flat_map (λ turn. turn.0) others →
       (session ≡ left)
       × RanAlike now (flat_map (λ turn. turn.0) turns) (flat_map (λ turn. turn.1) turns)
-      (flat_map (λ turn. turn.1) others) (books new.store) (books other.store)
+      (flat_map (λ turn. turn.1) others) (model.books new.store) (model.books other.store)
 
   -- ---- connections
 
@@ -141,7 +139,7 @@ module _ {S : Type 0} (books : S → Books) (limits : S → Bounds) (premise : S
       (now : SystemState) (old new : Service S) (input left output written : Option (List ℕ)) →
       StartsAt now old new →
       ServesToEnd ServiceStep head_fault_octets input left output written old new →
-      RunsConnection now input left output written (books new.store)
+      RunsConnection now input left output written (model.books new.store)
 
   -- after a fault, some requests of the octets read, from the first on, ran
   abbrev pub FaultsLeaveRuns : Type 0
@@ -150,7 +148,7 @@ module _ {S : Type 0} (books : S → Books) (limits : S → Bounds) (premise : S
       (why : ServeFault) → StartsAt now old new →
       AbortsConnection ServiceStep head_fault_octets why input left output written old new →
       (octets : List ℕ) × Consumes input left octets
-      × RunsFirstRequests now octets (books new.store)
+      × RunsFirstRequests now octets (model.books new.store)
 
 -- ---- devices
 

@@ -1,8 +1,5 @@
 -- What a complete request does, and the octets of its reply. This project's own.
 use Rattle.std.specs.Prelude.{◌≡◌, ℕ, Bool, List, Result, Ok, Err}
-use Rattle.book_model.specs.Bounds.{Bounds}
-use Rattle.book_model.specs.Books.{Books}
-use Rattle.book_model.specs.declared.denied.Fault.{Fault as FaultKind}
 use Rattle.book_commands.specs.declared.command.Command.{Command}
 use Rattle.book_commands.specs.declared.reply.Reply.{Reply}
 use Rattle.http_replies.specs.Replies.{reply_octets, route_fault_octets}
@@ -10,13 +7,13 @@ use Rattle.http_requests.specs.declared.head.Head.{Head}
 use Rattle.http_routes.specs.Commands.{requested_command}
 use Rattle.http_routes.specs.declared.fault.RouteFault.{RouteFault}
 use Rattle.book_http.specs.StoreCommands.{PerformsOnStore}
+use Rattle.sync_core.specs.StoreModels.{StoreModel}
 
-module _ {S : Type 0} (books : S → Books) (limits : S → Bounds) (premise : S → Type 0)
-    (may_fault : FaultKind → Type 0) where
+module _ {S : Type 0} (model : StoreModel S) where
   -- the command was performed and this is its reply; or this is the fault, and nothing changed
   abbrev pub AnswersCommand : S → Result Command RouteFault → Bool → List ℕ → S → Type 0
   AnswersCommand old (Ok command) close octets new =
-      (r : Reply) × PerformsOnStore books limits premise may_fault old command r new
+      (r : Reply) × PerformsOnStore model old command r new
       × (octets ≡ reply_octets r close)
   AnswersCommand old (Err fault) close octets new =
       (octets ≡ route_fault_octets fault close) × (old ≡ new)

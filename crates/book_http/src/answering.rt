@@ -21,11 +21,10 @@ pub fn answer<S: BookStore>(
     body: &[u8],
 ) -> Result<Vec<u8>, NoMemory>
     ensures done { IfOk result (λ reply.
-        AnswersRequest S.books S.limits S.premise S.may_fault
-        store.old head.now body.now reply.items store.new) }
+        AnswersRequest S.model store.old head.now body.now reply.items store.new) }
     ensures no_memory { OnErr result ((store.old ≡ store.new)
-        ⊎ ((reply : List ℕ) × AnswersRequest S.books S.limits S.premise S.may_fault
-        store.old head.now body.now reply store.new)) }
+        ⊎ ((reply : List ℕ) ×
+        AnswersRequest S.model store.old head.now body.now reply store.new)) }
 {
     match read_request(alloc, head.method.as_str(), head.target.as_str(), body) {
         Ok(command) => {

@@ -11,8 +11,9 @@ use sync_core::BookStore;
 use sync_core::token_laws::token_texts_are_unique;
 use vcard_text::laws::{card_is_unique, first_fault_without_card};
 
-/// The guarantee of the service in terms of octets, over every store of books. The store matches
-/// the state before, and its premise holds afterwards.
+/// The guarantee of the service in terms of octets, over every store of books. Each clause but
+/// `devices` assumes that the store matches the state before, and that its premise holds
+/// afterwards.
 /// - `requests`: requests that are handled in turn are a run, and the octets are its replies. The
 ///   run changes no device.
 /// - `sessions`: all requests of the octets fed ran, and the octets returned are their replies. If
@@ -29,12 +30,12 @@ use vcard_text::laws::{card_is_unique, first_fault_without_card};
 ///   page, and a client reads a page from this body and applies it, then that is a step of the
 ///   device.
 pub fn octets_keep_the_promise<S: BookStore>()
-    ensures requests { RequestsRun S.books S.limits S.premise S.may_fault }
-    ensures sessions { SessionsRun S.books S.limits S.premise S.may_fault }
-    ensures cuts { CutsRunAlike S.books S.limits S.premise S.may_fault }
-    ensures out_of_memory { LostPiecesRun S.books S.limits S.premise S.may_fault }
-    ensures connections { ConnectionsRun S.books S.limits S.premise S.may_fault }
-    ensures faults { FaultsLeaveRuns S.books S.limits S.premise S.may_fault }
+    ensures requests { RequestsRun S.model }
+    ensures sessions { SessionsRun S.model }
+    ensures cuts { CutsRunAlike S.model }
+    ensures out_of_memory { LostPiecesRun S.model }
+    ensures connections { ConnectionsRun S.model }
+    ensures faults { FaultsLeaveRuns S.model }
     ensures devices { ReadersAreDevices }
 {
     // These are laws and do nothing: a text is that of one token, one page, one card or one list of

@@ -1,6 +1,7 @@
 //! Accepts connections and serves them in turn.
-ghost use Rattle.std.specs.Prelude.{◌≡◌, [], ◌∷◌, IfErr, IfOk, None};
-ghost use Rattle.book_http.specs.Listening.{NextArrival, ServesListener, ServesNext};
+ghost use Rattle.std.specs.Prelude.{◌≡◌, [], ◌∷◌, IfErr, IfOk, None, OnOk};
+ghost use Rattle.book_http.specs.Listening.{AbortsSome, FailsToWait, IfAborted, IfWaitFailed};
+ghost use Rattle.book_http.specs.Listening.{NextArrival, ServesEach, ServesNext};
 ghost use Rattle.book_http.specs.declared.listen_fault.ListenFault.{ListenFault as TheFault};
 
 use crate::ServeFault;
@@ -16,9 +17,8 @@ fn serve_next<H: Handler, L: Listener>(
     handler: &mut H,
     listener: &mut L,
 ) -> Result<Option<ServeFault>, ListenFault>
-    ensures served { IfOk result (λ end. ServesNext H.does H.fault_reply
-        L.Stream.remaining L.Stream.contents (L.coming listener.old) (L.coming listener.new)
-        handler.old end handler.new) }
+    ensures served { IfOk result (λ end. ServesNext H.does H.fault_reply L.Stream.model
+        (L.coming listener.old) (L.coming listener.new) handler.old end handler.new) }
     ensures device { IfErr result (λ fault. (fault ≡ TheFault.Device)
         × (handler.new ≡ handler.old)) }
     ensures failed { IfErr result (λ fault.
@@ -44,8 +44,17 @@ pub fn serve_listener<H: Handler, L: Listener + Drop>(
     listener: L,
     connections: u64,
 ) -> Result<(), ListenFault>
-    ensures { ServesListener H.does H.fault_reply L.Stream.remaining L.Stream.contents
-        connections (L.coming listener) handler.old result handler.new }
+    // The requested number were served, each to its end.
+    ensures served { OnOk result (ServesEach H.does H.fault_reply
+        L.Stream.model connections (L.coming listener) handler.old handler.new) }
+
+    // The requested number were served, and the fault is that of the first that was aborted.
+    ensures aborted { IfErr result (IfAborted (λ fault. AbortsSome H.does H.fault_reply
+        L.Stream.model fault connections (L.coming listener) handler.old handler.new)) }
+
+    // Fewer were served, and then a wait failed.
+    ensures failed_to_wait { IfErr result (IfWaitFailed (FailsToWait H.does H.fault_reply
+        L.Stream.model connections (L.coming listener) handler.old handler.new)) }
 {
     let mut listener = listener;
     let mut first = None;

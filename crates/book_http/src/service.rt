@@ -20,7 +20,7 @@ impl<S: BookStore> Handler for Service<S> {
     ghost use Rattle.http_replies.specs.Replies.{head_fault_octets};
 
     ghost does = { λ old head body reply new.
-        AnswersRequest S.books S.limits S.premise S.may_fault old.store head body reply new.store };
+        AnswersRequest S.model old.store head body reply new.store };
 
     ghost fault_reply = { head_fault_octets };
 

@@ -39,46 +39,46 @@ use Rattle.book_service.specs.internal.RowSteps.{CommandOnRows, first_denial, Is
 use Rattle.book_service.specs.Replies.{denied_reply, reply_to}
 use Rattle.book_service.specs.Texts.{ReadsCard, ReadsToken}
 use Rattle.book_service.specs.internal.TextParsers.{ParserReturns}
-use Rattle.book_service.proofs.PerformLemmas.{of_world, same_rows, keeps_same, fault_performs, did, received, ReadFollows, returns_expected, denied_read}
+use Rattle.book_service.proofs.PerformLemmas.{from_history, same_rows, keeps_same, fault_performs, did, received, ReadFollows, returns_expected, denied_read}
 
 module _ (limits : Bounds) (old new : Books) where
   pub creates : CreateRefines → IsInRange limits → (book : List ℕ) (call_result : Result ℕ Denied) → MatchesStep call_result (create_step limits old book) old new → CommandOnRows limits old (CreateBook book) (reply_to reply.Created call_result) new
   creates law range book call_result d =
       did reply.Created ReturnedId (CreateBook book) (λ id. refl) limits old new call_result (create_step limits old book) (λ model. create_on_histories model.limits model.books book) (λ id. tt)
-      (λ model same w. of_world (λ l b. RefinesHistories (create_step l b book) (create_on_histories model.limits model.books book)) model same w (law model book (subst IsInRange (sym same) range) w.sound))
+      (λ model same w. from_history (λ l b. RefinesHistories (create_step l b book) (create_on_histories model.limits model.books book)) model same w (law model book (subst IsInRange (sym same) range) w.sound))
       (λ model. refl) d
 
   pub removes : RemoveRefines → (book uid : List ℕ) (expect : Option ℕ) (call_result : Result ℕ Denied) → MatchesStep call_result (remove_step limits old book uid expect) old new → CommandOnRows limits old (Remove book uid expect) (reply_to reply.Gone call_result) new
   removes law book uid expect call_result d =
       did reply.Gone ReturnedRemoval (Remove book uid expect) (λ number. refl) limits old new call_result (remove_step limits old book uid expect) (λ model. remove_on_histories model.limits model.books book uid expect) (λ number. tt)
-      (λ model same w. of_world (λ l b. RefinesHistories (remove_step l b book uid expect) (remove_on_histories model.limits model.books book uid expect)) model same w (law model book uid expect w.sound))
+      (λ model same w. from_history (λ l b. RefinesHistories (remove_step l b book uid expect) (remove_on_histories model.limits model.books book uid expect)) model same w (law model book uid expect w.sound))
       (λ model. refl) d
 
   pub moves : MoveRefines → (book to uid : List ℕ) (expect : Option ℕ) (call_result : Result Moved Denied) → MatchesStep call_result (move_step limits old book to uid expect) old new → CommandOnRows limits old (MoveCard book uid to expect) (reply_to reply.Moved call_result) new
   moves law book to uid expect call_result d =
       did reply.Moved ReturnedMove (MoveCard book uid to expect) (λ numbers. refl) limits old new call_result (move_step limits old book to uid expect) (λ model. move_on_histories model.limits model.books book to uid expect) (λ numbers. tt)
-      (λ model same w. of_world (λ l b. RefinesHistories (move_step l b book to uid expect) (move_on_histories model.limits model.books book to uid expect)) model same w (law model book to uid expect w.sound))
+      (λ model same w. from_history (λ l b. RefinesHistories (move_step l b book to uid expect) (move_on_histories model.limits model.books book to uid expect)) model same w (law model book to uid expect w.sound))
       (λ model. refl) d
 
   pub forgets : ForgetRefines → (book : List ℕ) (upto : ℕ) (call_result : Result ℕ Denied) → MatchesStep call_result (forget_step old book upto) old new
       → CommandOnRows limits old (Forget book upto) (reply_to (λ dropped. reply.Forgot dropped upto) call_result) new
   forgets law book upto call_result d =
       did (λ dropped. reply.Forgot dropped upto) ReturnedDropped (Forget book upto) (λ dropped. refl) limits old new call_result (forget_step old book upto) (λ model. forget_on_histories model.books book upto) (λ dropped. tt)
-      (λ model same w. of_world (λ l b. RefinesHistories (forget_step b book upto) (forget_on_histories model.books book upto)) model same w (law model.books book upto w.sound))
+      (λ model same w. from_history (λ l b. RefinesHistories (forget_step b book upto) (forget_on_histories model.books book upto)) model same w (law model.books book upto w.sound))
       (λ model. refl) d
 
   pub puts : PutRefines → (book uid : List ℕ) (card : List Line) (expect : Option ℕ) (text : List ℕ) (call_result : Result PutAnswer Denied) → ReadsCard uid text (Ok card) → MatchesStep call_result (put_step limits old book card expect) old new
       → CommandOnRows limits old (Put book uid expect text) (reply_to reply.Put call_result) new
   puts law book uid card expect text call_result reads d =
       did reply.Put ReturnedPut (Put book uid expect text) (λ answer. refl) limits old new call_result (put_step limits old book card expect) (λ model. put_on_histories model.limits model.books book card expect) (λ answer. tt)
-      (λ model same w. of_world (λ l b. RefinesHistories (put_step l b book card expect) (put_on_histories model.limits model.books book card expect)) model same w (law model book card expect w.sound))
+      (λ model same w. from_history (λ l b. RefinesHistories (put_step l b book card expect) (put_on_histories model.limits model.books book card expect)) model same w (law model book card expect w.sound))
       (λ model. record { read = Ok card; read_is = reads; outcome_is = refl }) d
 
   pub gets : GetRefines → (book uid : List ℕ) (call_result : Result Stored Denied) → ReturnsExactly call_result (get_step old book uid) old new
       → CommandOnRows limits old (Get book uid) (reply_to (λ (stored : Stored). reply.Card uid stored.version stored.card) call_result) new
   gets law book uid call_result d =
       received (λ (stored : Stored). reply.Card uid stored.version stored.card) ReturnedCard (λ (t a : Stored). a ≡ t) (Get book uid) (λ stored. refl) limits old new call_result (get_step old book uid) (λ model. get_on_histories model.books book uid)
-      (λ model same w. returns_expected (get_step old book uid) (get_on_histories model.books book uid) (of_world (λ l b. get_step b book uid ≡ get_on_histories model.books book uid) model same w (law model.books book uid)))
+      (λ model same w. returns_expected (get_step old book uid) (get_on_histories model.books book uid) (from_history (λ l b. get_step b book uid ≡ get_on_histories model.books book uid) model same w (law model.books book uid)))
       (λ model. refl) d
 
   -- memory ran out after the store's call
@@ -95,7 +95,7 @@ module _ (limits : Bounds) (old new : Books) where
   pub tallies : TalliesRefine → (book : List ℕ) (call_result : Result Tally Denied) → ReturnsExactly call_result (tally_step old book) old new → CommandOnRows limits old (TallyOf book) (reply_to reply.Tally call_result) new
   tallies law book call_result d =
       received reply.Tally ReturnedTally (λ (t a : Tally). a ≡ t) (TallyOf book) (λ tally. refl) limits old new call_result (tally_step old book) (λ model. tally_on_histories model.books book)
-      (λ model same w. returns_expected (tally_step old book) (tally_on_histories model.books book) (of_world (λ l b. tally_step b book ≡ tally_on_histories model.books book) model same w (law model.books book w.sound)))
+      (λ model same w. returns_expected (tally_step old book) (tally_on_histories model.books book) (from_history (λ l b. tally_step b book ≡ tally_on_histories model.books book) model same w (law model.books book w.sound)))
       (λ model. refl) d
 
   pub lists : BooksRefine → (lines : List BookLine) → (lines ≡ book_lines old) × (new ≡ old) → CommandOnRows limits old ListBooks (reply.Books lines) new
@@ -106,7 +106,7 @@ module _ (limits : Bounds) (old new : Books) where
       performs = inl (record {
         outcome = Ok (ReturnedBooks (books_on_histories model.books), model.books);
         has_outcome = refl;
-        delivers = (ap (λ (ls : List BookLine). reply.Books ls) (d.0 ∙ of_world (λ l b. book_lines b ≡ books_on_histories model.books) model same w (law model.books)), refl);
+        delivers = (ap (λ (ls : List BookLine). reply.Books ls) (d.0 ∙ from_history (λ l b. book_lines b ≡ books_on_histories model.books) model same w (law model.books)), refl);
       });
       histories = same_rows model old new d.1 w;
     };
@@ -137,14 +137,14 @@ module _ (limits : Bounds) (old new : Books) where
       → CommandOnRows limits old (Report book text limit) (reply_to reply.Page call_result) new
   reports law book token text limit call_result reads d =
       received reply.Page ReturnedPage IsReport (Report book text limit) (λ page. refl) limits old new call_result (report_step limits old book token limit) (λ model. report_on_histories model.limits model.books book token limit)
-      (λ model same w. page_follows (report_step limits old book token limit) (report_on_histories model.limits model.books book token limit) (of_world (λ l b. PagesRefineHistories (report_step l b book token limit) (report_on_histories model.limits model.books book token limit)) model same w (law model book token limit w.sound)))
+      (λ model same w. page_follows (report_step limits old book token limit) (report_on_histories model.limits model.books book token limit) (from_history (λ l b. PagesRefineHistories (report_step l b book token limit) (report_on_histories model.limits model.books book token limit)) model same w (law model book token limit w.sound)))
       (λ model. record { read = Ok token; read_is = reads; outcome_is = refl }) d
 
   -- a command whose text was denied
   denial : BookLinesRefine → (model : StoreHistory) → model.limits ≡ limits → AreHistoriesOf old model.books → (book : List ℕ) (error : Denied) (r : Reply) → IsFirstDenial old book error r
       → (r ≡ first_denial (book_line_on_histories model.books book) error) ⊎ IsFaultReply r
   denial law model same w book error r d =
-      subst (λ (line : Result BookLine Refusal). (r ≡ first_denial line error) ⊎ IsFaultReply r) (of_world (λ l b. book_line_step b book ≡ book_line_on_histories model.books book) model same w (law model.books book)) d
+      subst (λ (line : Result BookLine Refusal). (r ≡ first_denial line error) ⊎ IsFaultReply r) (from_history (λ l b. book_line_step b book ≡ book_line_on_histories model.books book) model same w (law model.books book)) d
 
   pub puts_not : BookLinesRefine → (book uid : List ℕ) (expect : Option ℕ) (text : List ℕ) (error : Denied) (r : Reply) → ParserReturns {A = List Line} (ReadsCard uid text) (Err error) → IsFirstDenial old book error r → new ≡ old
       → CommandOnRows limits old (Put book uid expect text) r new

@@ -19,7 +19,7 @@ use Rattle.book_commands.specs.declared.reply.Reply.TheVariants as reply
 use Rattle.book_service.specs.DeviceReplies.{HandlesReply, device_after_refusal}
 use Rattle.book_service.specs.Mirrors.{report_at}
 use Rattle.book_service.specs.Runs.{SystemState, MatchesRows}
-use Rattle.book_service.proofs.PerformLemmas.{of_world}
+use Rattle.book_service.proofs.PerformLemmas.{from_history}
 
 -- ---- the report is the expected one
 
@@ -35,28 +35,28 @@ refusal_expected (Err wanted) (Err other) refusal old new follows reads = ap (λ
 
 -- ---- a device without a token is consistent
 
-restarted_right : (histories : BookHistories) (holding : DeviceState) → IsConsistentDevice histories (record holding { token = None })
-restarted_right histories holding token is = absurd (none-some token is)
+restarted_devices_are_consistent : (histories : BookHistories) (holding : DeviceState) → IsConsistentDevice histories (record holding { token = None })
+restarted_devices_are_consistent histories holding token is = absurd (none-some token is)
 
-pub refused_right : (histories : BookHistories) (holding : DeviceState) (refusal : Refusal) → IsConsistentDevice histories holding → IsConsistentDevice histories (device_after_refusal holding refusal)
-refused_right histories holding (BadToken cause) right = restarted_right histories holding
-refused_right histories holding NoSuchBook right = right
-refused_right histories holding BookExists right = right
-refused_right histories holding BadBookName right = right
-refused_right histories holding NoSuchCard right = right
-refused_right histories holding (BadCard fault) right = right
-refused_right histories holding UidMismatch right = right
-refused_right histories holding (VersionMismatch has) right = right
-refused_right histories holding UidTaken right = right
-refused_right histories holding SameBook right = right
-refused_right histories holding BadLimit right = right
-refused_right histories holding BookFull right = right
-refused_right histories holding ChangesSpent right = right
-refused_right histories holding (BadImport row cause) right = right
-refused_right histories holding BadKey right = right
-refused_right histories holding BadForget right = right
-refused_right histories holding NotGroup right = right
-refused_right histories holding TooManyBooks right = right
+pub refusals_keep_devices_consistent : (histories : BookHistories) (holding : DeviceState) (refusal : Refusal) → IsConsistentDevice histories holding → IsConsistentDevice histories (device_after_refusal holding refusal)
+refusals_keep_devices_consistent histories holding (BadToken cause) right = restarted_devices_are_consistent histories holding
+refusals_keep_devices_consistent histories holding NoSuchBook right = right
+refusals_keep_devices_consistent histories holding BookExists right = right
+refusals_keep_devices_consistent histories holding BadBookName right = right
+refusals_keep_devices_consistent histories holding NoSuchCard right = right
+refusals_keep_devices_consistent histories holding (BadCard fault) right = right
+refusals_keep_devices_consistent histories holding UidMismatch right = right
+refusals_keep_devices_consistent histories holding (VersionMismatch has) right = right
+refusals_keep_devices_consistent histories holding UidTaken right = right
+refusals_keep_devices_consistent histories holding SameBook right = right
+refusals_keep_devices_consistent histories holding BadLimit right = right
+refusals_keep_devices_consistent histories holding BookFull right = right
+refusals_keep_devices_consistent histories holding ChangesSpent right = right
+refusals_keep_devices_consistent histories holding (BadImport row cause) right = right
+refusals_keep_devices_consistent histories holding BadKey right = right
+refusals_keep_devices_consistent histories holding BadForget right = right
+refusals_keep_devices_consistent histories holding NotGroup right = right
+refusals_keep_devices_consistent histories holding TooManyBooks right = right
 
 -- ---- a request
 
@@ -69,7 +69,7 @@ module _ (limits : Bounds) (books after : Books) (law : ReportsRefine) (old new 
 
   follows : (now : SystemState) → MatchesRows now limits books → PagesRefineHistories step (outcome now)
   follows now at =
-      of_world (λ l b. PagesRefineHistories (report_step l b old.book old.token limit) (outcome now)) now.model at.limits_are at.histories
+      from_history (λ l b. PagesRefineHistories (report_step l b old.book old.token limit) (outcome now)) now.model at.limits_are at.histories
       (law now.model old.book old.token limit at.histories.sound)
 
   -- the page was applied whole

@@ -63,8 +63,8 @@ same_answer a b left right same =
     let pair : ◌≡◌ {A = CallAnswer × BookHistories} (ReturnedImport a, left) (ReturnedImport b, right) = cc in
     (same_tally a b (ap (λ (p : CallAnswer × BookHistories). p.0) pair), ap (λ (p : CallAnswer × BookHistories). p.1) pair)
 
-pub keys_act_once : ImportCallsAreIdempotent → ImportsAreIdempotent
-keys_act_once law now received again between name key body other_body tally other steps is_import is_received is_again is_answer =
+pub imports_are_idempotent : ImportCallsAreIdempotent → ImportsAreIdempotent
+imports_are_idempotent law now received again between name key body other_body tally other steps is_import is_received is_again is_answer =
     let parts = runs_split received.after between (again ∷ []) steps.1 in
     let later = end_of received.after between in
     let limits = now.model.limits in

@@ -28,7 +28,7 @@ use Rattle.book_service.specs.Commands.{Outcome, ImportsTo, DeliversOutcome}
 use Rattle.book_service.specs.internal.RowSteps.{CommandOnRows}
 use Rattle.book_service.specs.Replies.{denied_reply, reply_to}
 use Rattle.book_service.specs.internal.TextParsers.{DeniesBody}
-use Rattle.book_service.proofs.PerformLemmas.{of_world, same_rows, keeps_same, did_keep, did_perform}
+use Rattle.book_service.proofs.PerformLemmas.{from_history, same_rows, keeps_same, did_keep, did_perform}
 use Rattle.book_service.proofs.WholeBookLemmas.{fails}
 
 -- the cards of a body have distinct UIDs
@@ -50,7 +50,7 @@ module _ (limits : Bounds) (old new : Books) (book key body : List ℕ) where
 
   module _ (law : KeptImportsRefine) where
     kept_is : (kept : Result (Option ImportTally) Refusal) → kept_import_step old book key ≡ kept → (model : StoreHistory) → model.limits ≡ limits → AreHistoriesOf old model.books → kept_import_on_histories model.books book key ≡ kept
-    kept_is kept is model same w = sym (of_world (λ l b. kept_import_step b book key ≡ kept_import_on_histories model.books book key) model same w (law model.books book key)) ∙ is
+    kept_is kept is model same w = sym (from_history (λ l b. kept_import_step b book key ≡ kept_import_on_histories model.books book key) model same w (law model.books book key)) ∙ is
 
     -- if a result is stored, it is expected and returned
     said : (kept : Result (Option ImportTally) Refusal) → kept_import_step old book key ≡ kept → new ≡ old → (r : Reply) (answer : BookHistories → Outcome)
@@ -98,7 +98,7 @@ module _ (limits : Bounds) (old new : Books) (book key body : List ℕ) where
           (subst (λ (k : Result (Option ImportTally) Refusal). ImportsTo model book key body k (map_answer ReturnedImport (import_on_histories model.limits model.books book key cards))) (sym (kept_is (Ok None) none model same w))
           (record { read = Ok cards; read_is = are; outcome_is = refl }))
           w
-          (of_world (λ l b. RefinesHistories (import_step l b book key cards) (import_on_histories model.limits model.books book key cards)) model same w (follows model book key cards w.sound)) d;
+          (from_history (λ l b. RefinesHistories (import_step l b book key cards) (import_on_histories model.limits model.books book key cards)) model same w (follows model book key cards w.sound)) d;
     }
 
 -- the store had no result under the key, and then imported the cards

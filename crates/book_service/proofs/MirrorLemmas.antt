@@ -8,6 +8,7 @@ use Rattle.std.proofs.lemmas.Bool.{ltb-true}
 use Rattle.std.proofs.lemmas.Bool.Decides.{nat_tests}
 use Rattle.std.proofs.lemmas.Grind.{div_ceil_times}
 use Rattle.std.proofs.Math.Nat.{lt_of_mul-lt-mul_right}
+use Rattle.vcard_text.proofs.RuleLemmas.{not_false}
 use Rattle.book_model.specs.declared.denied.Denied.{Denied}
 use Rattle.book_model.specs.declared.denied.Denied.TheVariants.{Refused, Fault}
 use Rattle.book_model.specs.declared.page.Page.{Page}
@@ -38,7 +39,7 @@ use Rattle.book_service.specs.PageCounts.{due_count_for}
 use Rattle.book_service.specs.Runs.{SystemState, MatchesRows, Step, TraceStep, Run, end_of}
 use Rattle.book_service.specs.Replies.{denied_reply}
 use Rattle.book_service.proofs.PageCountLemmas.{received_is, left_due}
-use Rattle.book_service.proofs.PromiseLemmas.{answers_right}
+use Rattle.book_service.proofs.PromiseLemmas.{replies_keep_devices_consistent}
 use Rattle.book_service.proofs.StepLemmas.{runs_join, end-append}
 
 -- ---- the number of pages
@@ -180,10 +181,6 @@ module _ (now : SystemState) (book : List ℕ) (limit pages : ℕ) (device next 
   page_is history k found size =
       received_is now.model.limits now.model.books device history (Some limit) k page (ap (λ (n : List ℕ). finite.get now.model.books n) so_far.name ∙ found) size answered.0
 
-  cut_one : (truncated : Bool) → not truncated ≡ false → truncated ≡ true
-  cut_one true is = refl
-  cut_one false is = sym is
-
   last_one : (truncated : Bool) → not truncated ≡ true → truncated ≡ false
   last_one true is = sym is
   last_one false is = refl
@@ -195,7 +192,7 @@ module _ (now : SystemState) (book : List ℕ) (limit pages : ℕ) (device next 
       let some = size_some limit now.model.limits.page_max k size room in
       let is = page_is history k found size in
       let next_is : next ≡ device_after_page device (page_for_device history device k) = answered.1 ∙ ap (device_after_page device) is in
-      let cut : (page_for_device history device k).truncated ≡ true = ap (λ (p : Page). p.truncated) (sym is) ∙ cut_one page.truncated more in
+      let cut : (page_for_device history device k).truncated ≡ true = ap (λ (p : Page). p.truncated) (sym is) ∙ not_false page.truncated more in
       let same : due_count_for history next ≡ due_count_for history (device_after_page device (page_for_device history device k)) = ap (due_count_for history) next_is in
       let left : due_count_for history (device_after_page device (page_for_device history device k)) + k ≡ due_count_for history device = fewer history.log (mark_of_token history.log device.token) k some cut in
       let some_left = left_due fewer nobody history device k some cut in
@@ -210,7 +207,7 @@ module _ (now : SystemState) (book : List ℕ) (limit pages : ℕ) (device next 
     end = on.end;
     asks = on.asks;
     count = on.count;
-    right = answers_right parts whole now.model.limits now.model.books room (Some limit) (reply.Page page) device next answered so_far.right;
+    right = replies_keep_devices_consistent parts whole now.model.limits now.model.books room (Some limit) (reply.Page page) device next answered so_far.right;
     name = next_name;
     heard = inr (record {
       token = device.token;
@@ -296,7 +293,7 @@ received_at history mark size = mark >>= λ m. size >>= λ k. Ok (page_of histor
 -- if a report succeeded, one with another token can only be refused for its token
 refused_for_token : (limits : Bounds) (histories : BookHistories) (name : List ℕ) (first : Option Token) (second : Token) (limit : Option ℕ) (page : Page) (refusal : Refusal)
     → report_on_histories limits histories name first limit ≡ Ok page → report_on_histories limits histories name (Some second) limit ≡ Err refusal → (cause : TokenCause) × (refusal ≡ BadToken cause)
-refused_for_token limits histories name first second limit page refusal received refused = by_story (finite.get histories name) received refused
+refused_for_token limits histories name first second limit page refusal received refused = by_history (finite.get histories name) received refused
   where
     by_mark : (history : BookHistory) (a b : Result Mark Refusal) (size : Result ℕ Refusal) → requested_mark history.id (length history.log) history.horizon (Some second) ≡ b → received_at history a size ≡ Ok page → received_at history b size ≡ Err refusal
         → (cause : TokenCause) × (refusal ≡ BadToken cause)
@@ -308,11 +305,11 @@ refused_for_token limits histories name first second limit page refusal received
         token_refused (second.book == history.id) (nat_le second.mark.at number && nat_le second.mark.base number) (nat_le history.horizon second.mark.base) second.mark refusal (is ∙ (let e : other ≡ refusal = cc in ap (λ r. Err r) e))
     by_mark history (Err other) b size is received refused = absurd (let no : Err other ≡ Ok page = received in cc)
 
-    by_story : (o : Option BookHistory) → (option_map_or Ok o (Err NoSuchBook) >>= λ history. received_at history (requested_mark history.id (length history.log) history.horizon first) (page_size limits.page_max limit)) ≡ Ok page
+    by_history : (o : Option BookHistory) → (option_map_or Ok o (Err NoSuchBook) >>= λ history. received_at history (requested_mark history.id (length history.log) history.horizon first) (page_size limits.page_max limit)) ≡ Ok page
         → (option_map_or Ok o (Err NoSuchBook) >>= λ history. received_at history (requested_mark history.id (length history.log) history.horizon (Some second)) (page_size limits.page_max limit)) ≡ Err refusal
         → (cause : TokenCause) × (refusal ≡ BadToken cause)
-    by_story None received refused = absurd (let no : Err NoSuchBook ≡ Ok page = received in cc)
-    by_story (Some history) received refused =
+    by_history None received refused = absurd (let no : Err NoSuchBook ≡ Ok page = received in cc)
+    by_history (Some history) received refused =
         by_mark history (requested_mark history.id (length history.log) history.horizon first) (requested_mark history.id (length history.log) history.horizon (Some second)) (page_size limits.page_max limit) refl received refused
 
 -- and the token of a page is accepted while no book changed

@@ -23,8 +23,8 @@ use Rattle.book_service.specs.Replies.{UnchangedIfReadOnly, RepliesReturned, rep
 -- ---- store histories and their rows
 
 -- what holds of a store history holds of its limits and its rows
-pub of_world : (P : Bounds → Books → Type 0) (model : StoreHistory) {limits : Bounds} {books : Books} → model.limits ≡ limits → AreHistoriesOf books model.books → P model.limits (rows_of model.books) → P limits books
-of_world P model {limits = limits} same w p = subst (P limits) w.rows_are (subst (λ (l : Bounds). P l (rows_of model.books)) same p)
+pub from_history : (P : Bounds → Books → Type 0) (model : StoreHistory) {limits : Bounds} {books : Books} → model.limits ≡ limits → AreHistoriesOf books model.books → P model.limits (rows_of model.books) → P limits books
+from_history P model {limits = limits} same w p = subst (P limits) w.rows_are (subst (λ (l : Bounds). P l (rows_of model.books)) same p)
 
 pub same_rows : (model : StoreHistory) (old new : Books) → new ≡ old → AreHistoriesOf old model.books → AreHistoriesOf new model.books
 same_rows model old new same w = record { sound = w.sound; rows_are = w.rows_are ∙ sym same }
@@ -169,21 +169,21 @@ module _ {A : Type 0} (model : StoreHistory) (command : Command) (book : List �
   none_there (Ok x) refusal none = unnamed x refusal none
   none_there (Err other) refusal none = ap (λ (named : Result BookHistory Refusal). ◌>>=◌ {B = CallAnswer × BookHistories} named (λ history. Err other)) none
 
-  by_story : (error : Denied) (r : Reply) (named : Result BookHistory Refusal) → history_named model.books book ≡ named → ParserReturns {A = A} reads (Err error) → r ≡ denial named error → PerformsCommand model command r model.books
-  by_story (Refused refusal) r (Ok history) there is same =
+  by_history : (error : Denied) (r : Reply) (named : Result BookHistory Refusal) → history_named model.books book ≡ named → ParserReturns {A = A} reads (Err error) → r ≡ denial named error → PerformsCommand model command r model.books
+  by_history (Refused refusal) r (Ok history) there is same =
       refused_as r (outcome_with model book call (Err refusal)) refusal (has_outcome (outcome_with model book call (Err refusal)) (record { read = Err refusal; read_is = is; outcome_is = refl }))
       (ap (λ (named : Result BookHistory Refusal). ◌>>=◌ {B = CallAnswer × BookHistories} named (λ s. Err refusal)) there) same
-  by_story (Refused refusal) r (Err other) there is same =
+  by_history (Refused refusal) r (Err other) there is same =
       refused_as r (outcome_with model book call (Err refusal)) other (has_outcome (outcome_with model book call (Err refusal)) (record { read = Err refusal; read_is = is; outcome_is = refl }))
       (none_there (Err refusal) other there) same
-  by_story (Fault fault) r (Ok history) there is same = fault_performs model command fault r same
-  by_story (Fault fault) r (Err other) there is same =
+  by_history (Fault fault) r (Ok history) there is same = fault_performs model command fault r same
+  by_history (Fault fault) r (Err other) there is same =
       refused_as r (outcome_with model book call is.1.0) other (has_outcome (outcome_with model book call is.1.0) (record { read = is.1.0; read_is = is.1.1; outcome_is = refl }))
       (none_there is.1.0 other there) same
 
   pub denied_read : (error : Denied) (r : Reply) → ParserReturns {A = A} reads (Err error) → (r ≡ first_denial (book_line_on_histories model.books book) error) ⊎ IsFaultReply r → PerformsCommand model command r model.books
   denied_read error r is d =
       ⊎_elim
-      (λ same. by_story error r (history_named model.books book) refl is same)
+      (λ same. by_history error r (history_named model.books book) refl is same)
       (λ fault. fault_performs model command fault.fault r fault.reply_is)
       d

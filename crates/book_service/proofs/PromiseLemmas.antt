@@ -31,13 +31,13 @@ use Rattle.book_service.specs.DeviceReplies.{HandlesReply}
 use Rattle.book_service.specs.Commands.{Outcome, DeliversOutcome}
 use Rattle.book_service.specs.Promise.{InEachBook, CountsBalance, HistoriesExtend, MovesTransferOneCard, DevicesStayConsistent, LastPagesComplete, HasWellFormedRows, RowsStayWellFormed, NewStoresStart}
 use Rattle.book_service.specs.Runs.{SystemState, Step}
-use Rattle.book_service.proofs.DevicePageLemmas.{refused_right}
-use Rattle.book_service.proofs.StepLemmas.{place_set, step_leads, step_limits, step_world}
+use Rattle.book_service.proofs.DevicePageLemmas.{refusals_keep_devices_consistent}
+use Rattle.book_service.proofs.StepLemmas.{place_set, step_leads, step_limits, steps_keep_sound}
 
 -- ---- the books
 
-pub books_add_up : EventsAreCounted → LiveCardsAreCounted → InEachBook CountsBalance
-books_add_up events cards model name history w found =
+pub counts_balance : EventsAreCounted → LiveCardsAreCounted → InEachBook CountsBalance
+counts_balance events cards model name history w found =
     let valid_log = (w.books name history found).valid_log in
     record { valid_log = valid_log; changes = events history.log; cards = cards history.log valid_log }
 
@@ -75,30 +75,30 @@ moves_transfer_one_card law now next event r w s book uid to expect numbers is_m
 -- ---- the devices
 
 -- a reply leaves a consistent device consistent
-pub answers_right : PartialPagesKeepDevicesConsistent → WholePagesKeepDevicesConsistent → (limits : Bounds) (books : BookHistories) → 1 ≤ limits.page_max → (limit : Option ℕ) (r : Reply) (old new : DeviceState)
+pub replies_keep_devices_consistent : PartialPagesKeepDevicesConsistent → WholePagesKeepDevicesConsistent → (limits : Bounds) (books : BookHistories) → 1 ≤ limits.page_max → (limit : Option ℕ) (r : Reply) (old new : DeviceState)
     → HandlesReply r (report_on_histories limits books old.book old.token limit) old new → IsConsistentDevice books old → IsConsistentDevice books new
-answers_right parts whole limits books room limit (reply.Page page) old new a right = subst (IsConsistentDevice books) (sym a.1) (whole limits books old limit page (omega (arith, room)) right a.0)
-answers_right parts whole limits books room limit (reply.Refused refusal) old new a right = subst (IsConsistentDevice books) (sym a.1) (refused_right books old refusal right)
-answers_right parts whole limits books room limit (reply.Fault fault) old new a right =
+replies_keep_devices_consistent parts whole limits books room limit (reply.Page page) old new a right = subst (IsConsistentDevice books) (sym a.1) (whole limits books old limit page (omega (arith, room)) right a.0)
+replies_keep_devices_consistent parts whole limits books room limit (reply.Refused refusal) old new a right = subst (IsConsistentDevice books) (sym a.1) (refusals_keep_devices_consistent books old refusal right)
+replies_keep_devices_consistent parts whole limits books room limit (reply.Fault fault) old new a right =
     ⊎_elim (λ same. subst (IsConsistentDevice books) (sym same) right) (λ applied_part. parts limits books old new limit applied_part.page right applied_part.received (inr applied_part.applied_part)) a
-answers_right parts whole limits books room limit (reply.Created id) old new a right = absurd a
-answers_right parts whole limits books room limit (reply.Books lines) old new a right = absurd a
-answers_right parts whole limits books room limit (reply.Card uid version card) old new a right = absurd a
-answers_right parts whole limits books room limit (reply.Put answer) old new a right = absurd a
-answers_right parts whole limits books room limit (reply.Gone number) old new a right = absurd a
-answers_right parts whole limits books room limit (reply.Moved numbers) old new a right = absurd a
-answers_right parts whole limits books room limit (reply.Imported tally) old new a right = absurd a
-answers_right parts whole limits books room limit (reply.Forgot dropped horizon) old new a right = absurd a
-answers_right parts whole limits books room limit (reply.Tally tally) old new a right = absurd a
-answers_right parts whole limits books room limit (reply.Csv text) old new a right = absurd a
-answers_right parts whole limits books room limit (reply.People expansion) old new a right = absurd a
+replies_keep_devices_consistent parts whole limits books room limit (reply.Created id) old new a right = absurd a
+replies_keep_devices_consistent parts whole limits books room limit (reply.Books lines) old new a right = absurd a
+replies_keep_devices_consistent parts whole limits books room limit (reply.Card uid version card) old new a right = absurd a
+replies_keep_devices_consistent parts whole limits books room limit (reply.Put answer) old new a right = absurd a
+replies_keep_devices_consistent parts whole limits books room limit (reply.Gone number) old new a right = absurd a
+replies_keep_devices_consistent parts whole limits books room limit (reply.Moved numbers) old new a right = absurd a
+replies_keep_devices_consistent parts whole limits books room limit (reply.Imported tally) old new a right = absurd a
+replies_keep_devices_consistent parts whole limits books room limit (reply.Forgot dropped horizon) old new a right = absurd a
+replies_keep_devices_consistent parts whole limits books room limit (reply.Tally tally) old new a right = absurd a
+replies_keep_devices_consistent parts whole limits books room limit (reply.Csv text) old new a right = absurd a
+replies_keep_devices_consistent parts whole limits books room limit (reply.People expansion) old new a right = absurd a
 
 module _ (calls : CallsKeepDevicesConsistent) (parts : PartialPagesKeepDevicesConsistent) (whole : WholePagesKeepDevicesConsistent) where
-  pub devices_stay_right : (now next : SystemState) (event : Event) (r : Reply) → IsSoundStoreHistory now.model → Step now event r next → DevicesStayConsistent now event r next
-  devices_stay_right now next (Do command) r w s i old was right =
+  pub devices_stay_consistent : (now next : SystemState) (event : Event) (r : Reply) → IsSoundStoreHistory now.model → Step now event r next → DevicesStayConsistent now event r next
+  devices_stay_consistent now next (Do command) r w s i old was right =
       let leads = step_leads now next (Do command) r s in
       (old, ap (λ (m : SystemState). slice_get m.devices i) s.2 ∙ was, subst (λ (b : BookHistories). IsConsistentDevice b old) (sym leads.new_is) (calls now.model.limits now.model.books leads.calls old right))
-  devices_stay_right now next (Ask j limit) r w s i old was right =
+  devices_stay_consistent now next (Ask j limit) r w s i old was right =
       let books : next.model.books ≡ now.model.books = ap (λ (m : SystemState). m.model.books) s.next_is in
       let device_at : slice_get next.devices i ≡ slice_get (slice_set now.devices j s.new) i = ap (λ (m : SystemState). slice_get m.devices i) s.next_is in
       ⊎_elim
@@ -106,7 +106,7 @@ module _ (calls : CallsKeepDevicesConsistent) (parts : PartialPagesKeepDevicesCo
         s.new,
         device_at ∙ own.1,
         subst (λ (b : BookHistories). IsConsistentDevice b s.new) (sym books)
-            (answers_right parts whole now.model.limits now.model.books w.limits.page_least limit r s.old s.new s.answers (subst (IsConsistentDevice now.model.books) (sym own.2) right)),
+            (replies_keep_devices_consistent parts whole now.model.limits now.model.books w.limits.page_least limit r s.old s.new s.answers (subst (IsConsistentDevice now.model.books) (sym own.2) right)),
       ))
       (λ other. (old, device_at ∙ other.1, subst (λ (b : BookHistories). IsConsistentDevice b old) (sym books) right))
       (place_set now.devices i j s.new old s.old was s.found)
@@ -126,8 +126,8 @@ last_pages_complete law now next event r w s i limit page old is_ask is_page las
 
 -- ---- the rows
 
-pub step_keeps_form : CallsKeepHistoriesSound → RowsMatchHistoriesAfterCalls → CallsKeepWellFormed → (now next : SystemState) (event : Event) (r : Reply) → IsSoundStoreHistory now.model → Step now event r next → HasWellFormedRows now → HasWellFormedRows next
-step_keeps_form stays follow keep now next event r w s formed =
+pub steps_keep_rows_well_formed : CallsKeepHistoriesSound → RowsMatchHistoriesAfterCalls → CallsKeepWellFormed → (now next : SystemState) (event : Event) (r : Reply) → IsSoundStoreHistory now.model → Step now event r next → HasWellFormedRows now → HasWellFormedRows next
+steps_keep_rows_well_formed stays follow keep now next event r w s formed =
     let leads = step_leads now next event r s in
     let same : next.model.limits ≡ now.model.limits = step_limits now next event r s in
     let rows_are : rows_after_calls now.model.limits (rows_of now.model.books) leads.calls ≡ rows_of next.model.books = follow now.model leads.calls w.limits w.books ∙ ap rows_of (sym leads.new_is) in
@@ -137,8 +137,8 @@ step_keeps_form stays follow keep now next event r w s formed =
 pub rows_stay_well_formed : CallsKeepHistoriesSound → RowsMatchHistoriesAfterCalls → CallsKeepWellFormed → RowsStayWellFormed
 rows_stay_well_formed stays follow keep now [] w formed run = tt
 rows_stay_well_formed stays follow keep now (h ∷ rest) w formed run =
-    let next = step_keeps_form stays follow keep now h.after h.event h.reply w run.0 formed in
-    (next, rows_stay_well_formed stays follow keep h.after rest (step_world stays now h.after h.event h.reply w run.0) next run.1)
+    let next = steps_keep_rows_well_formed stays follow keep now h.after h.event h.reply w run.0 formed in
+    (next, rows_stay_well_formed stays follow keep h.after rest (steps_keep_sound stays now h.after h.event h.reply w run.0) next run.1)
 
 -- ---- a new store
 

@@ -88,18 +88,18 @@ module _ (model : StoreHistory) (outcome : Outcome) (command : Command) where
   with_text : {A : Type 0} (book : List ℕ) (reads : Result A Refusal → Type 0) (call : A → Call) → ((x : A) → forgets (call x) ≡ false) → IsCallWithText model book reads call outcome → OneCallOrNone model command outcome
   with_text {A = A} book reads call keeps is = by_read is.read is.outcome_is
     where
-      by_story : (named : Result BookHistory Refusal) (refusal : Refusal) → outcome ≡ (named >>= λ history. Err refusal) → OneCallOrNone model command outcome
-      by_story (Ok history) refusal same = inr (refusal, same)
-      by_story (Err other) refusal same = inr (other, same)
+      by_history : (named : Result BookHistory Refusal) (refusal : Refusal) → outcome ≡ (named >>= λ history. Err refusal) → OneCallOrNone model command outcome
+      by_history (Ok history) refusal same = inr (refusal, same)
+      by_history (Err other) refusal same = inr (other, same)
 
       by_read : (read : Result A Refusal) → outcome ≡ outcome_with model book call read → OneCallOrNone model command outcome
       by_read (Ok x) same = by_call (call x) (keeps x) same
-      by_read (Err refusal) same = by_story (history_named model.books book) refusal same
+      by_read (Err refusal) same = by_history (history_named model.books book) refusal same
 
 -- with a stored result under the key, an import of any cards returns it
 pub kept_answers : (limits : Bounds) (histories : BookHistories) (name key : List ℕ) (cards : List (List Line)) (kept : ImportTally) → kept_import_on_histories histories name key ≡ Ok (Some kept)
     → import_on_histories limits histories name key cards ≡ Ok (kept, histories)
-kept_answers limits histories name key cards kept is = by_story (history_named histories name) is
+kept_answers limits histories name key cards kept is = by_history (history_named histories name) is
   where
     by_key : (history : BookHistory) (test : Result (Unit {0}) Refusal) → (test >>= λ legal. Ok (finite.get history.imports key)) ≡ Ok (Some kept)
         → (test >>= λ legal. import_on_histories_under limits histories name history key cards (finite.get history.imports key)) ≡ Ok (kept, histories)
@@ -108,10 +108,10 @@ kept_answers limits histories name key cards kept is = by_story (history_named h
         ap (import_on_histories_under limits histories name history key cards) found
     by_key history (Err refusal) same = absurd (let no : Err refusal ≡ Ok (Some kept) = same in cc)
 
-    by_story : (named : Result BookHistory Refusal) → (named >>= λ history. refuse_unless (is_legal_key key) BadKey >>= λ legal. Ok (finite.get history.imports key)) ≡ Ok (Some kept)
+    by_history : (named : Result BookHistory Refusal) → (named >>= λ history. refuse_unless (is_legal_key key) BadKey >>= λ legal. Ok (finite.get history.imports key)) ≡ Ok (Some kept)
         → (named >>= λ history. refuse_unless (is_legal_key key) BadKey >>= λ legal. import_on_histories_under limits histories name history key cards (finite.get history.imports key)) ≡ Ok (kept, histories)
-    by_story (Ok history) same = by_key history (refuse_unless (is_legal_key key) BadKey) same
-    by_story (Err refusal) same = absurd (let no : Err refusal ≡ Ok (Some kept) = same in cc)
+    by_history (Ok history) same = by_key history (refuse_unless (is_legal_key key) BadKey) same
+    by_history (Err refusal) same = absurd (let no : Err refusal ≡ Ok (Some kept) = same in cc)
 
 means_call : (model : StoreHistory) (outcome : Outcome) (command : Command) → HasOutcome model command outcome → OneCallOrNone model command outcome
 means_call model outcome (CreateBook book) is = by_call model outcome (CreateBook book) (CreateBookCall book) refl is

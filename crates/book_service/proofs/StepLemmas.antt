@@ -39,14 +39,14 @@ abbrev pub step_leads : (now next : SystemState) (event : Event) (r : Reply) →
 step_leads now next event r s = (event_leads now next event r s).leads
 
 -- calls lead from a sound store history to a sound one
-pub leads_world : CallsKeepHistoriesSound → (now next : SystemState) → IsSoundStoreHistory now.model → next.model.limits ≡ now.model.limits → Leads now.model.limits now.model.books next.model.books → IsSoundStoreHistory next.model
-leads_world stays now next w same leads = record {
+pub calls_keep_sound : CallsKeepHistoriesSound → (now next : SystemState) → IsSoundStoreHistory now.model → next.model.limits ≡ now.model.limits → Leads now.model.limits now.model.books next.model.books → IsSoundStoreHistory next.model
+calls_keep_sound stays now next w same leads = record {
   limits = subst IsInRange (sym same) w.limits;
   books = subst AreSoundHistories (sym leads.new_is) (stays now.model leads.calls w.limits w.books);
 }
 
-pub step_world : CallsKeepHistoriesSound → (now next : SystemState) (event : Event) (r : Reply) → IsSoundStoreHistory now.model → Step now event r next → IsSoundStoreHistory next.model
-step_world stays now next event r w s = leads_world stays now next w (step_limits now next event r s) (step_leads now next event r s)
+pub steps_keep_sound : CallsKeepHistoriesSound → (now next : SystemState) (event : Event) (r : Reply) → IsSoundStoreHistory now.model → Step now event r next → IsSoundStoreHistory next.model
+steps_keep_sound stays now next event r w s = calls_keep_sound stays now next w (step_limits now next event r s) (step_leads now next event r s)
 
 -- ---- runs
 
@@ -55,7 +55,7 @@ pub always : CallsKeepHistoriesSound → (holds : SystemState → Event → Repl
     → ((now next : SystemState) (event : Event) (r : Reply) → IsSoundStoreHistory now.model → Step now event r next → holds now event r next) → Always holds
 always stays holds each now [] w run = tt
 always stays holds each now (h ∷ rest) w run =
-    (each now h.after h.event h.reply w run.0, always stays holds each h.after rest (step_world stays now h.after h.event h.reply w run.0) run.1)
+    (each now h.after h.event h.reply w run.0, always stays holds each h.after rest (steps_keep_sound stays now h.after h.event h.reply w run.0) run.1)
 
 pub run_limits : (now : SystemState) (run : List TraceStep) → Run now run → (end_of now run).model.limits ≡ now.model.limits
 run_limits now [] steps = refl

@@ -32,7 +32,7 @@ use Rattle.book_service.specs.Runs.{SystemState, Step, TraceStep, Run, end_of}
 use Rattle.book_service.specs.Mirrors.{report_at}
 use Rattle.book_service.specs.Texts.{ReadsToken}
 use Rattle.book_service.proofs.RunLemmas.{after_more}
-use Rattle.book_service.proofs.StepLemmas.{event_leads, step_leads, step_limits, step_world, run_limits, runs_split}
+use Rattle.book_service.proofs.StepLemmas.{event_leads, step_leads, step_limits, steps_keep_sound, run_limits, runs_split}
 use Rattle.book_laws.specs.RunLaws.{CallsKeepHistoriesSound}
 
 -- ---- a token's text is parsed in one way
@@ -240,10 +240,10 @@ forgot_at name base (h ∷ run) now steps earlier later upto dropped histories_l
 -- ---- the clause
 
 -- if a book returned a page at the start of a run and refuses its token at the end
-grow_old : TokensStayValid → (now : SystemState) (run : List TraceStep) (name : List ℕ) (token : Option Token) (limit again : Option ℕ) (page : SyncPage) (cause : TokenCause)
+token_expires : TokensStayValid → (now : SystemState) (run : List TraceStep) (name : List ℕ) (token : Option Token) (limit again : Option ℕ) (page : SyncPage) (cause : TokenCause)
     → IsSoundStoreHistory now.model → Run now run → report_at now name token limit ≡ Ok page → report_at (end_of now run) name (Some (token_of page)) again ≡ Err (BadToken cause)
     → (cause ≡ TooOld) × (AtSomeStep (ForgetsAbove name page.mark.base) run ⊎ RemovalsExceedKeep (end_of now run).model.books name page.mark.base)
-grow_old good now run name token limit again page cause w steps received refused =
+token_expires good now run name token limit again page cause w steps received refused =
     let refused_then : report_on_histories now.model.limits (histories_after_calls now.model.limits now.model.books (calls_of now run steps)) name (Some (token_of page)) again ≡ Err (BadToken cause) =
     subst (λ (b : BookHistories). report_on_histories now.model.limits b name (Some (token_of page)) again ≡ Err (BadToken cause)) (run_calls now run steps)
     (subst (λ (l : Bounds). report_on_histories l (end_of now run).model.books name (Some (token_of page)) again ≡ Err (BadToken cause)) (run_limits now run steps) refused) in
@@ -255,8 +255,8 @@ grow_old good now run name token limit again page cause w steps received refused
           old.1,
     )
 
-pub tokens_grow_old : CallsKeepHistoriesSound → TokenTextsAreUnique → TokensStayValid → TokensExpire
-tokens_grow_old stays law good now received again between name token page cause w steps asked is_page asks_again is_refusal =
+pub tokens_expire : CallsKeepHistoriesSound → TokenTextsAreUnique → TokensStayValid → TokensExpire
+tokens_expire stays law good now received again between name token page cause w steps asked is_page asks_again is_refusal =
     let first = steps.0 in
     let parts = runs_split received.after between (again ∷ []) steps.1 in
     let page_then = received_page law now received.after received.event received.reply name token page first asked is_page in
@@ -264,4 +264,4 @@ tokens_grow_old stays law good now received again between name token page cause 
     subst (λ (b : BookHistories). report_on_histories received.after.model.limits b name token page_then.0 ≡ Ok page) (sym (asking_keeps law now received.after received.event received.reply name token first asked))
     (subst (λ (l : Bounds). report_on_histories l now.model.books name token page_then.0 ≡ Ok page) (sym (step_limits now received.after received.event received.reply first)) page_then.1) in
     let refusal_then = returned_refusal law (end_of received.after between) again.after again.event again.reply name (Some (token_of page)) (BadToken cause) parts.1.0 asks_again is_refusal in
-    grow_old good received.after between name token page_then.0 refusal_then.0 page cause (step_world stays now received.after received.event received.reply w first) parts.0 later refusal_then.1
+    token_expires good received.after between name token page_then.0 refusal_then.0 page cause (steps_keep_sound stays now received.after received.event received.reply w first) parts.0 later refusal_then.1

@@ -43,7 +43,7 @@ use Rattle.book_service.specs.Commands.{Outcome, DeliversOutcome, PerformsComman
 use Rattle.book_service.specs.internal.RowSteps.{CommandOnRows}
 use Rattle.book_service.specs.Replies.{denied_reply, reply_to}
 use Rattle.book_service.specs.WholeBooks.{lines_by_uid, export_text}
-use Rattle.book_service.proofs.PerformLemmas.{of_world, same_rows, keeps_same, fault_performs, received, returns_expected, read_keeps}
+use Rattle.book_service.proofs.PerformLemmas.{from_history, same_rows, keeps_same, fault_performs, received, returns_expected, read_keeps}
 
 -- ---- cards without their versions
 
@@ -97,7 +97,7 @@ module _ (limits : Bounds) (old new : Books) where
       → CommandOnRows limits old (Export book form) (reply_to (λ cards. reply.Csv (export_text form cards)) call_result) new
   exports law book form call_result d =
       received (λ cards. reply.Csv (export_text form cards)) ReturnedCards (λ (t a : LiveCards). a ≡ t) (Export book form) (λ cards. refl) limits old new call_result (cards_step old book) (λ model. cards_on_histories model.books book)
-      (λ model same w. returns_expected (cards_step old book) (cards_on_histories model.books book) (of_world (λ l b. cards_step b book ≡ cards_on_histories model.books book) model same w (law model.books book)))
+      (λ model same w. returns_expected (cards_step old book) (cards_on_histories model.books book) (from_history (λ l b. cards_step b book ≡ cards_on_histories model.books book) model same w (law model.books book)))
       (λ model. refl) d
 
   -- memory ran out after the store's call
@@ -139,7 +139,7 @@ module _ (limits : Bounds) (old new : Books) (law : CardsRefine) (book uid : Lis
   stays call_result d = cards_keep limits old new (λ (t c : LiveCards). c ≡ t) call_result book d
 
   as_expected : (model : StoreHistory) → model.limits ≡ limits → AreHistoriesOf old model.books → (call_result : Result LiveCards Denied) → SyncPage call_result (cards_step old book) → SyncPage call_result (cards_on_histories model.books book)
-  as_expected model same w call_result d = subst (SyncPage call_result) (of_world (λ l b. cards_step b book ≡ cards_on_histories model.books book) model same w (law model.books book)) d
+  as_expected model same w call_result d = subst (SyncPage call_result) (from_history (λ l b. cards_step b book ≡ cards_on_histories model.books book) model same w (law model.books book)) d
 
   -- there is no such book
   no_book : (model : StoreHistory) (refusal : Refusal) (named : Result BookHistory Refusal) → history_named model.books book ≡ named → SyncPage (Err (Refused refusal)) (named >>= λ (history : BookHistory). Ok (live history.log))
@@ -165,20 +165,20 @@ module _ (limits : Bounds) (old new : Books) (law : CardsRefine) (book uid : Lis
   module _ (cards : LiveCards) (d : SyncPage (Ok cards) (cards_step old book)) where
     -- the store returned the cards, and this is the reply
     module _ (r : Reply) (answer : BookHistories → Outcome) (after : (books : BookHistories) → after_found cards books (finite.get cards uid) ≡ answer books) (delivers : (books : BookHistories) → DeliversOutcome (People book uid) books (answer books) r books) where
-      by_story : (model : StoreHistory) (named : Result BookHistory Refusal) → history_named model.books book ≡ named → SyncPage (Ok cards) (named >>= λ (history : BookHistory). Ok (live history.log)) → PerformsCommand model (People book uid) r model.books
-      by_story model (Ok history) there t = inl (record {
+      by_history : (model : StoreHistory) (named : Result BookHistory Refusal) → history_named model.books book ≡ named → SyncPage (Ok cards) (named >>= λ (history : BookHistory). Ok (live history.log)) → PerformsCommand model (People book uid) r model.books
+      by_history model (Ok history) there t = inl (record {
         outcome = answer model.books;
         has_outcome = sym (ap (after_named model.books uid) there ∙ ap (λ (c : LiveCards). after_found c model.books (finite.get c uid)) (sym t.0) ∙ after model.books);
         delivers = delivers model.books;
       })
-      by_story model (Err refusal) there t = absurd t
+      by_history model (Err refusal) there t = absurd t
 
       is_received : CommandOnRows limits old (People book uid) r new
       is_received = record {
         kept = keeps_same r old new (stays (Ok cards) d);
         performed = λ model same w. record {
           next = model.books;
-          performs = by_story model (history_named model.books book) refl (as_expected model same w (Ok cards) d);
+          performs = by_history model (history_named model.books book) refl (as_expected model same w (Ok cards) d);
           histories = same_rows model old new (stays (Ok cards) d) w;
         };
       }
@@ -193,8 +193,8 @@ module _ (limits : Bounds) (old new : Books) (law : CardsRefine) (book uid : Lis
     at_uid : (found : Option Stored) → finite.get cards uid ≡ found → finite.get (lines_by_uid cards) uid ≡ option_map card_in found
     at_uid found is = get-lines cards uid ∙ ap (option_map card_in) is
 
-    pub reply_has_nobody : finite.get (lines_by_uid cards) uid ≡ None → CommandOnRows limits old (People book uid) (reply.Refused NoSuchCard) new
-    reply_has_nobody none =
+    pub reply_has_no_people : finite.get (lines_by_uid cards) uid ≡ None → CommandOnRows limits old (People book uid) (reply.Refused NoSuchCard) new
+    reply_has_no_people none =
         is_received (reply.Refused NoSuchCard) (λ books. Err NoSuchCard) (λ books. ap (after_found cards books) (nothing (finite.get cards uid) refl)) (λ books. (refl, refl))
       where
         nothing : (found : Option Stored) → finite.get cards uid ≡ found → finite.get cards uid ≡ None

@@ -6,6 +6,7 @@ use Rattle.book_model.specs.Devices.{DeviceState}
 use Rattle.book_laws.specs.Refinement.{AreHistoriesOf}
 use Rattle.book_laws.specs.StoreHistories.{BookHistories, StoreHistory}
 use Rattle.book_laws.specs.HistorySteps.{report_on_histories}
+use Rattle.sync_core.specs.StoreModels.{StoreModel}
 use Rattle.book_service.specs.declared.event.Event.{Event}
 use Rattle.book_service.specs.declared.event.Event.TheVariants.{Do, Ask}
 use Rattle.book_commands.specs.declared.reply.Reply.{Reply}
@@ -76,6 +77,12 @@ replies_of run = map (λ (h : TraceStep). h.reply) run
 pub record MatchesRows (now : SystemState) (limits : Bounds) (books : Books) : Type 0 where
   pub limits_are : now.model.limits ≡ limits
   pub histories : AreHistoriesOf books now.model.books
+
+-- if the premise of the store holds, this holds from each state that matched its old rows
+abbrev pub FromEachState : {S : Type 0} → StoreModel S → S → S → (SystemState → Type 0) → Type 0
+FromEachState model old new holds =
+    model.premise new → (now : SystemState) → MatchesRows now (model.limits old) (model.books old) →
+    holds now
 
 -- this event and reply are a step to a state with these rows and devices
 pub record StepsTo (now : SystemState) (event : Event) (r : Reply)

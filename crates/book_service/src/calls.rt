@@ -4,13 +4,13 @@ ghost use Rattle.book_laws.specs.ChangeRefinement.{CreateRefines, PutRefines, Re
 ghost use Rattle.book_laws.specs.ChangeRefinement.{MoveRefines, ForgetRefines};
 ghost use Rattle.book_laws.specs.QueryRefinement.{BooksRefine, BookLinesRefine, GetRefines};
 ghost use Rattle.book_laws.specs.QueryRefinement.{TalliesRefine, ReportsRefine};
-ghost use Rattle.book_model.specs.Bounds.{IsInRange};
 ghost use Rattle.book_model.specs.CallOutcomes.{IfFault};
 ghost use Rattle.book_commands.specs.declared.command.Command.{Command as TheCommand};
 ghost use Rattle.book_commands.specs.declared.reply.Reply.{Reply as TheReply};
 ghost use Rattle.book_service.specs.Faults.{IfFaultReply, CommandFault};
-ghost use Rattle.book_service.specs.internal.RowSteps.{CommandOnRows, IsFirstDenial};
+ghost use Rattle.book_service.specs.internal.RowSteps.{CommandOnStore, IsFirstDenial};
 ghost use Rattle.book_service.specs.Replies.{denied_reply, reply_to};
+ghost use Rattle.sync_core.specs.StoreModels.{KeepsBooks, KeepsTerms};
 
 use crate::importing::import_body;
 use crate::texts::{parse_card, parse_token};
@@ -58,14 +58,11 @@ pub(crate) fn perform_call<S: BookStore>(
     store: &mut S,
     command: &Command,
 ) -> Result<Reply, Denied>
-    ensures premise { S.premise store.new → S.premise store.old }
-    ensures limits { S.limits store.new ≡ S.limits store.old }
-    ensures range { IsInRange (S.limits store.new) }
-    ensures fault { IfFault result (CommandFault S.may_fault command.now) }
+    ensures terms { KeepsTerms S.model store.old store.new }
+    ensures fault { IfFault result (CommandFault S.model.may_fault command.now) }
     ensures no_fault { IfOk result (λ r. IfFaultReply r (λ fault. ⊥)) }
-    ensures step { S.premise store.new →
-        CommandOnRows (S.limits store.old) (S.books store.old) command.now
-        (reply_to (λ r. r) result) (S.books store.new) }
+    ensures step { CommandOnStore S.model store.old command.now
+        (reply_to (λ r. r) result) store.new }
 {
     // A law, no code.
     calls_follow_histories();
@@ -145,15 +142,12 @@ fn put<S: BookStore>(
     expect: Option<u64>,
     text: &Items<u8>,
 ) -> Result<PutAnswer, Denied>
-    ensures premise { S.premise store.new → S.premise store.old }
-    ensures limits { S.limits store.new ≡ S.limits store.old }
-    ensures range { IsInRange (S.limits store.new) }
+    ensures terms { KeepsTerms S.model store.old store.new }
     ensures fault { IfFault result
-        (CommandFault S.may_fault (TheCommand.Put book.now uid.now expect text.now)) }
-    ensures step { S.premise store.new →
-        CommandOnRows (S.limits store.old) (S.books store.old)
+        (CommandFault S.model.may_fault (TheCommand.Put book.now uid.now expect text.now)) }
+    ensures step { CommandOnStore S.model store.old
         (TheCommand.Put book.now uid.now expect text.now)
-        (reply_to TheReply.Put result) (S.books store.new) }
+        (reply_to TheReply.Put result) store.new }
 {
     calls_follow_histories();
     match parse_card(alloc, uid.as_str(), text.as_slice()) {
@@ -169,14 +163,10 @@ fn report<S: BookStore>(
     token: &Text,
     limit: Option<u64>,
 ) -> Result<Page, Denied>
-    ensures premise { S.premise store.new → S.premise store.old }
-    ensures limits { S.limits store.new ≡ S.limits store.old }
-    ensures range { IsInRange (S.limits store.new) }
-    ensures fault { IfFault result S.may_fault }
-    ensures step { S.premise store.new →
-        CommandOnRows (S.limits store.old) (S.books store.old)
-        (TheCommand.Report book.now token.now limit)
-        (reply_to TheReply.Page result) (S.books store.new) }
+    ensures terms { KeepsTerms S.model store.old store.new }
+    ensures fault { IfFault result S.model.may_fault }
+    ensures step { CommandOnStore S.model store.old (TheCommand.Report book.now token.now limit)
+        (reply_to TheReply.Page result) store.new }
 {
     calls_follow_histories();
     match parse_token(token.as_str()) {
@@ -187,13 +177,11 @@ fn report<S: BookStore>(
 
 /// The denial of a command whose text can't be read: `NoSuchBook` comes first, then `error`.
 fn first_denial<S: BookStore>(store: &mut S, book: &str, error: Denied) -> Denied
-    ensures premise { S.premise store.new → S.premise store.old }
-    ensures limits { S.limits store.new ≡ S.limits store.old }
-    ensures range { IsInRange (S.limits store.new) }
-    ensures reads_only { S.premise store.new → S.books store.new ≡ S.books store.old }
-    ensures fault { (result ≡ error) ⊎ IfFault {A = Unit {0}} (Err result) S.may_fault }
-    ensures denies { S.premise store.new →
-        IsFirstDenial (S.books store.old) book.now error (denied_reply result) }
+    ensures terms { KeepsTerms S.model store.old store.new }
+    ensures reads_only { KeepsBooks S.model store.old store.new }
+    ensures fault { (result ≡ error) ⊎ IfFault {A = Unit {0}} (Err result) S.model.may_fault }
+    ensures denies { S.model.premise store.new →
+        IsFirstDenial (S.model.books store.old) book.now error (denied_reply result) }
 {
     match store.book(book) {
         Ok(_) => error,

@@ -1,10 +1,9 @@
 //! Performing one command on a store.
-ghost use Rattle.std.specs.Prelude.{◌≡◌};
 ghost use Rattle.book_service.specs.declared.event.Event.TheVariants.{Do};
-ghost use Rattle.book_model.specs.Bounds.{IsInRange};
 ghost use Rattle.book_service.specs.Faults.{IfFaultReply, CommandFault};
 ghost use Rattle.book_service.specs.Replies.{UnchangedIfReadOnly};
-ghost use Rattle.book_service.specs.Runs.{SystemState, MatchesRows, StepsTo};
+ghost use Rattle.book_service.specs.Runs.{FromEachState, StepsTo};
+ghost use Rattle.sync_core.specs.StoreModels.{KeepsTerms};
 
 use crate::calls::perform_call;
 use crate::reply::denied_reply;
@@ -28,22 +27,19 @@ use sync_core::BookStore;
 /// returns it, or if memory runs out while a put reads the card's text, a get copies the UID, an
 /// import reads the body, or an export or a list of people is built.
 pub fn perform<S: BookStore>(alloc: Global, store: &mut S, command: &Command) -> Reply
-    ensures premise { S.premise store.new → S.premise store.old }
-    ensures limits { S.limits store.new ≡ S.limits store.old }
-    ensures range { IsInRange (S.limits store.new) }
+    ensures terms { KeepsTerms S.model store.old store.new }
 
     // A fault is one that the store may return, or out of memory while a text is read or copied.
-    ensures fault { IfFaultReply result (CommandFault S.may_fault command.now) }
+    ensures fault { IfFaultReply result (CommandFault S.model.may_fault command.now) }
 
     // A refusal, a fault and a read leave the rows unchanged, whatever the rows are.
-    ensures unchanged { S.premise store.new
-        → UnchangedIfReadOnly result (S.books store.old) (S.books store.new) }
+    ensures unchanged { S.model.premise store.new
+        → UnchangedIfReadOnly result (S.model.books store.old) (S.model.books store.new) }
 
     // From every system state that matches the store's rows, the command is one step to a state
     // that matches its rows now.
-    ensures step { S.premise store.new → (now : SystemState) →
-        MatchesRows now (S.limits store.old) (S.books store.old) →
-        StepsTo now (Do command.now) result (S.books store.new) now.devices }
+    ensures step { FromEachState S.model store.old store.new (λ now.
+        StepsTo now (Do command.now) result (S.model.books store.new) now.devices) }
 {
     match perform_call(alloc, store, command) {
         Ok(reply) => reply,

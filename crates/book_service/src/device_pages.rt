@@ -1,13 +1,13 @@
 //! A device's request for its next page.
 ghost use Rattle.std.specs.Prelude.{◌≡◌};
 ghost use Rattle.book_commands.specs.declared.reply.Reply.{Reply};
-ghost use Rattle.book_model.specs.Bounds.{IsInRange};
 ghost use Rattle.book_model.specs.CallOutcomes.{IfFault};
 ghost use Rattle.book_service.specs.Faults.{IsOutOfMemoryOr};
 ghost use Rattle.book_service.specs.DeviceReplies.{HandlesReply, device_after_refusal};
 ghost use Rattle.book_service.specs.Replies.{reply_to};
 ghost use Rattle.book_service.specs.Mirrors.{report_at};
-ghost use Rattle.book_service.specs.Runs.{SystemState, MatchesRows};
+ghost use Rattle.book_service.specs.Runs.{FromEachState};
+ghost use Rattle.sync_core.specs.StoreModels.{KeepsBooks, KeepsTerms};
 
 use book_laws::refinement::reports_refine_histories;
 use sync_core::{BookStore, Denied, Device, Fault, Page, Refusal};
@@ -27,15 +27,12 @@ pub(crate) fn next_page<S: BookStore>(
     device: &mut Device,
     limit: Option<u64>,
 ) -> Result<Page, Denied>
-    ensures premise { S.premise store.new → S.premise store.old }
-    ensures limits { S.limits store.new ≡ S.limits store.old }
-    ensures reads_only { S.premise store.new → S.books store.new ≡ S.books store.old }
-    ensures range { IsInRange (S.limits store.new) }
-    ensures fault { IfFault result (IsOutOfMemoryOr S.may_fault) }
-    ensures handled { S.premise store.new → (now : SystemState) →
-        MatchesRows now (S.limits store.old) (S.books store.old) →
+    ensures terms { KeepsTerms S.model store.old store.new }
+    ensures reads_only { KeepsBooks S.model store.old store.new }
+    ensures fault { IfFault result (IsOutOfMemoryOr S.model.may_fault) }
+    ensures handled { FromEachState S.model store.old store.new (λ now.
         HandlesReply (reply_to Reply.Page result)
-        (report_at now device.old.book device.old.token limit) device.old device.new }
+        (report_at now device.old.book device.old.token limit) device.old device.new) }
 {
     // A law, no code: the store's page is the report of its histories.
     reports_refine_histories();

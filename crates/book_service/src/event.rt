@@ -2,7 +2,7 @@
 ghost use Rattle.std.specs.Prelude.{◌≡◌, ◌↔◌, length, All, IfOk, IsTrue, OnErr};
 ghost use Rattle.book_service.specs.Faults.{AllowedFaults, IfFaultReply, EventFault};
 ghost use Rattle.book_service.specs.PageCounts.{HasFewTruncatedPages};
-ghost use Rattle.book_service.specs.Runs.{SystemState, NamesDeviceBelow, MatchesRows, StepsTo};
+ghost use Rattle.book_service.specs.Runs.{NamesDeviceBelow, FromEachState, StepsTo};
 ghost use Rattle.book_service.specs.Runs.{RanTo};
 
 use crate::command::perform;
@@ -48,13 +48,13 @@ fn do_event<S: BookStore>(
     event: &Event,
 ) -> Reply
     requires { NamesDeviceBelow (length devices.old.items) event.now }
-    ensures premise { S.premise store.new → S.premise store.old }
-    ensures limits { S.limits store.new ≡ S.limits store.old }
+    ensures premise { S.model.premise store.new → S.model.premise store.old }
+    ensures limits { S.model.limits store.new ≡ S.model.limits store.old }
     ensures count { length devices.new.items ≡ length devices.old.items }
-    ensures fault { IfFaultReply result (EventFault S.may_fault event.now) }
-    ensures step { S.premise store.new → (now : SystemState) →
-        MatchesRows now (S.limits store.old) (S.books store.old) → now.devices ≡ devices.old.items →
-        StepsTo now event.now result (S.books store.new) devices.new.items }
+    ensures fault { IfFaultReply result (EventFault S.model.may_fault event.now) }
+    ensures step { FromEachState S.model store.old store.new (λ now.
+        now.devices ≡ devices.old.items →
+        StepsTo now event.now result (S.model.books store.new) devices.new.items) }
 {
     match event {
         Event::Do(command) => perform(alloc, store, command),
@@ -78,26 +78,27 @@ pub fn drive<S: BookStore>(
     events: &[Event],
 ) -> Result<Vec<Reply>, NoMemory>
     requires { All (NamesDeviceBelow (length devices.old.items)) events.now }
-    ensures premise { S.premise store.new → S.premise store.old }
-    ensures limits { S.limits store.new ≡ S.limits store.old }
+    ensures premise { S.model.premise store.new → S.model.premise store.old }
+    ensures limits { S.model.limits store.new ≡ S.model.limits store.old }
 
     // A fault is one that the store may return, or out of memory while a text is read or copied or
     // a page applied.
-    ensures faults { IfOk result (λ replies. AllowedFaults S.may_fault events.now replies.items) }
+    ensures faults { IfOk result (λ replies.
+        AllowedFaults S.model.may_fault events.now replies.items) }
 
     // From every system state that matches the store's rows, the events ran, with these replies, to
     // a state that matches its rows now.
-    ensures runs { IfOk result (λ replies. S.premise store.new → (now : SystemState) →
-        MatchesRows now (S.limits store.old) (S.books store.old) → now.devices ≡ devices.old.items →
-        RanTo now events.now replies.items (S.books store.new) devices.new.items) }
+    ensures runs { IfOk result (λ replies. FromEachState S.model store.old store.new (λ now.
+        now.devices ≡ devices.old.items →
+        RanTo now events.now replies.items (S.model.books store.new) devices.new.items)) }
 
     // The number of truncated pages that a device receives is bounded.
-    ensures truncated { IfOk result (λ replies. S.premise store.new → (now : SystemState) →
-        MatchesRows now (S.limits store.old) (S.books store.old) → now.devices ≡ devices.old.items →
-        HasFewTruncatedPages now events.now replies.items (S.books store.new)) }
+    ensures truncated { IfOk result (λ replies. FromEachState S.model store.old store.new (λ now.
+        now.devices ≡ devices.old.items →
+        HasFewTruncatedPages now events.now replies.items (S.model.books store.new))) }
 
     // Without memory for the replies nothing changes.
-    ensures err { OnErr result ((S.books store.new ≡ S.books store.old)
+    ensures err { OnErr result ((S.model.books store.new ≡ S.model.books store.old)
         × (devices.new.items ≡ devices.old.items)) }
 {
     // A law, no code.

@@ -1,14 +1,14 @@
 //! Importing a CSV body under a key.
-ghost use Rattle.std.specs.Prelude.{◌≡◌, IfOk, IfErr};
+ghost use Rattle.std.specs.Prelude.{IfOk, IfErr};
 ghost use Rattle.csv_cards.specs.Reading.{TextHasCards};
-ghost use Rattle.book_model.specs.Bounds.{IsInRange};
 ghost use Rattle.book_model.specs.CallOutcomes.{IfFault};
 ghost use Rattle.book_commands.specs.declared.command.Command.{Command as TheCommand};
 ghost use Rattle.book_commands.specs.declared.reply.Reply.{Reply as TheReply};
 ghost use Rattle.book_service.specs.Faults.{CommandFault};
-ghost use Rattle.book_service.specs.internal.RowSteps.{CommandOnRows};
+ghost use Rattle.book_service.specs.internal.RowSteps.{CommandOnStore};
 ghost use Rattle.book_service.specs.Replies.{reply_to};
 ghost use Rattle.book_service.specs.internal.TextParsers.{DeniesBody};
+ghost use Rattle.sync_core.specs.StoreModels.{KeepsTerms};
 
 use book_laws::refinement::{import_refines_histories, kept_imports_refine_histories};
 use csv_cards::{CsvCause, read_rows};
@@ -44,15 +44,11 @@ pub(crate) fn import_body<S: BookStore>(
     key: &Text,
     body: &Items<u8>,
 ) -> Result<ImportTally, Denied>
-    ensures premise { S.premise store.new → S.premise store.old }
-    ensures limits { S.limits store.new ≡ S.limits store.old }
-    ensures range { IsInRange (S.limits store.new) }
+    ensures terms { KeepsTerms S.model store.old store.new }
     ensures fault { IfFault result
-        (CommandFault S.may_fault (TheCommand.Import book.now key.now body.now)) }
-    ensures step { S.premise store.new →
-        CommandOnRows (S.limits store.old) (S.books store.old)
-        (TheCommand.Import book.now key.now body.now)
-        (reply_to TheReply.Imported result) (S.books store.new) }
+        (CommandFault S.model.may_fault (TheCommand.Import book.now key.now body.now)) }
+    ensures step { CommandOnStore S.model store.old (TheCommand.Import book.now key.now body.now)
+        (reply_to TheReply.Imported result) store.new }
 {
     // Laws, no code.
     import_refines_histories();

@@ -3,7 +3,8 @@ ghost use Rattle.std.specs.Prelude.{◌≡◌, IfOk, IfErr};
 ghost use Rattle.book_model.specs.CallOutcomes.{IfFault};
 ghost use Rattle.book_service.specs.Faults.{IsOutOfMemoryOr};
 ghost use Rattle.book_service.specs.Mirrors.{IsMirrorRun, IsMirrorDenied, HasExactPageCount};
-ghost use Rattle.book_service.specs.Runs.{SystemState, MatchesRows};
+ghost use Rattle.book_service.specs.Runs.{FromEachState};
+ghost use Rattle.sync_core.specs.StoreModels.{KeepsBooks};
 
 use crate::device_pages::next_page;
 use book_laws::devices::{
@@ -36,28 +37,25 @@ pub fn mirror<S: BookStore>(
     limit: u64,
     max_pages: u64,
 ) -> Result<Mirrored, Denied>
-    ensures premise { S.premise store.new → S.premise store.old }
-    ensures limits { S.limits store.new ≡ S.limits store.old }
-    ensures reads_only { S.premise store.new → S.books store.new ≡ S.books store.old }
+    ensures premise { S.model.premise store.new → S.model.premise store.old }
+    ensures limits { S.model.limits store.new ≡ S.model.limits store.old }
+    ensures reads_only { KeepsBooks S.model store.old store.new }
 
     // A fault is out of memory, or one that the store may return.
-    ensures fault { IfFault result (IsOutOfMemoryOr S.may_fault) }
+    ensures fault { IfFault result (IsOutOfMemoryOr S.model.may_fault) }
 
     // From every system state that matches the store's rows, a new device made this run, and if it
     // is done, its copy is the live cards.
-    ensures mirrors { IfOk result (λ mirrored. S.premise store.new → (now : SystemState) →
-        MatchesRows now (S.limits store.old) (S.books store.old) →
-        IsMirrorRun now book.now limit max_pages mirrored) }
+    ensures mirrors { IfOk result (λ mirrored. FromEachState S.model store.old store.new (λ now.
+        IsMirrorRun now book.now limit max_pages mirrored)) }
 
     // The number of pages is exactly what the book's members need, or `max_pages` if that is less.
-    ensures pages { IfOk result (λ mirrored. S.premise store.new → (now : SystemState) →
-        MatchesRows now (S.limits store.old) (S.books store.old) →
-        HasExactPageCount now book.now limit max_pages mirrored) }
+    ensures pages { IfOk result (λ mirrored. FromEachState S.model store.old store.new (λ now.
+        HasExactPageCount now book.now limit max_pages mirrored)) }
 
     // A refusal is that of the initial report.
-    ensures denied { IfErr result (λ denied. S.premise store.new → (now : SystemState) →
-        MatchesRows now (S.limits store.old) (S.books store.old) →
-        IsMirrorDenied now book.now limit max_pages denied) }
+    ensures denied { IfErr result (λ denied. FromEachState S.model store.old store.new (λ now.
+        IsMirrorDenied now book.now limit max_pages denied)) }
 {
     // Laws, no code: the device stays consistent, no page's token is refused, and the pages are
     // counted.

@@ -1,14 +1,13 @@
 //! Commands over all live cards of a book: CSV export and the people of a group.
-ghost use Rattle.std.specs.Prelude.{◌≡◌};
 ghost use Rattle.base_types.specs.TextMaps.{octet_map};
-ghost use Rattle.book_model.specs.Bounds.{IsInRange};
 ghost use Rattle.book_model.specs.CallOutcomes.{IfFault};
 ghost use Rattle.book_commands.specs.declared.command.Command.{Command as TheCommand};
 ghost use Rattle.book_commands.specs.declared.reply.Reply.{Reply as TheReply};
 ghost use Rattle.book_service.specs.Faults.{CommandFault};
-ghost use Rattle.book_service.specs.internal.RowSteps.{CommandOnRows};
+ghost use Rattle.book_service.specs.internal.RowSteps.{CommandOnStore};
 ghost use Rattle.book_service.specs.Replies.{reply_to};
 ghost use Rattle.book_service.specs.WholeBooks.{lines_by_uid};
+ghost use Rattle.sync_core.specs.StoreModels.{KeepsTerms};
 
 use base_types::value_at;
 use book_laws::refinement::cards_refine_histories;
@@ -56,13 +55,11 @@ pub(crate) fn export<S: BookStore>(
     book: &Text,
     form: Form,
 ) -> Result<Items<u8>, Denied>
-    ensures premise { S.premise store.new → S.premise store.old }
-    ensures limits { S.limits store.new ≡ S.limits store.old }
-    ensures range { IsInRange (S.limits store.new) }
-    ensures fault { IfFault result (CommandFault S.may_fault (TheCommand.Export book.now form)) }
-    ensures step { S.premise store.new →
-        CommandOnRows (S.limits store.old) (S.books store.old) (TheCommand.Export book.now form)
-        (reply_to TheReply.Csv result) (S.books store.new) }
+    ensures terms { KeepsTerms S.model store.old store.new }
+    ensures fault { IfFault result
+        (CommandFault S.model.may_fault (TheCommand.Export book.now form)) }
+    ensures step { CommandOnStore S.model store.old (TheCommand.Export book.now form)
+        (reply_to TheReply.Csv result) store.new }
 {
     // A law, no code.
     cards_refine_histories();
@@ -81,13 +78,11 @@ pub(crate) fn people<S: BookStore>(
     book: &Text,
     uid: &Text,
 ) -> Result<Expansion, Denied>
-    ensures premise { S.premise store.new → S.premise store.old }
-    ensures limits { S.limits store.new ≡ S.limits store.old }
-    ensures range { IsInRange (S.limits store.new) }
-    ensures fault { IfFault result (CommandFault S.may_fault (TheCommand.People book.now uid.now)) }
-    ensures step { S.premise store.new →
-        CommandOnRows (S.limits store.old) (S.books store.old) (TheCommand.People book.now uid.now)
-        (reply_to TheReply.People result) (S.books store.new) }
+    ensures terms { KeepsTerms S.model store.old store.new }
+    ensures fault { IfFault result
+        (CommandFault S.model.may_fault (TheCommand.People book.now uid.now)) }
+    ensures step { CommandOnStore S.model store.old (TheCommand.People book.now uid.now)
+        (reply_to TheReply.People result) store.new }
 {
     // A law, no code.
     cards_refine_histories();

@@ -38,13 +38,12 @@ impl FailingStore {
 }
 
 impl BookStore for FailingStore {
-    ghost books = { λ s. s.inner.books };
-
-    ghost limits = { λ s. s.limits };
-
-    ghost premise = { λ _. Unit {0} };
-
-    ghost may_fault = { λ _. Unit {0} };
+    ghost model = { record {
+      books = λ s. s.inner.books;
+      limits = λ s. s.limits;
+      premise = λ _. Unit {0};
+      may_fault = λ _. Unit {0};
+    } };
 
     fn create_book(&mut self, name: &str) -> Result<u64, Denied> {
         if let Some(fault) = self.fault {

@@ -14,6 +14,7 @@ use Rattle.book_laws.specs.StoreHistories.{BookHistories, StoreHistory}
 use Rattle.book_commands.specs.declared.command.Command.{Command}
 use Rattle.book_commands.specs.declared.reply.Reply.{Reply}
 use Rattle.book_commands.specs.declared.reply.Reply.TheVariants as reply
+use Rattle.sync_core.specs.StoreModels.{StoreModel}
 use Rattle.book_service.specs.Commands.{PerformsCommand}
 use Rattle.book_service.specs.Replies.{UnchangedIfReadOnly, denied_reply}
 
@@ -32,6 +33,12 @@ pub record CommandOnRows (limits : Bounds) (old : Books) (command : Command) (r 
   -- if the rows are those of a store history, the command is performed on that history
   pub performed : (model : StoreHistory) → model.limits ≡ limits → AreHistoriesOf old model.books →
       IsPerformed model command r new
+
+-- if the premise holds, this is the effect of a command on the rows of the store
+abbrev pub CommandOnStore : {S : Type 0} → StoreModel S → S → Command → Reply → S → Type 0
+CommandOnStore model old command r new =
+    model.premise new →
+    CommandOnRows (model.limits old) (model.books old) command r (model.books new)
 
 -- the reply to a command whose text was denied: that there is no such book, if there is none, else
 -- that denial

@@ -5,13 +5,13 @@ use Rattle.book_http.proofs.ReaderLemmas.{readers_are_devices}
 use Rattle.book_http.proofs.laws.octets_keep_the_promise.Goals as goal
 
 pub returns-clause-requests : goal.returns-clause-requests
-returns-clause-requests g c = requests_run g.S.BookStore.books g.S.BookStore.limits g.S.BookStore.premise g.S.BookStore.may_fault
+returns-clause-requests g c = requests_run g.S.BookStore.model
 
 pub returns-clause-sessions : goal.returns-clause-sessions
-returns-clause-sessions g c = sessions_run g.S.BookStore.books g.S.BookStore.limits g.S.BookStore.premise g.S.BookStore.may_fault
+returns-clause-sessions g c = sessions_run g.S.BookStore.model
 
 pub returns-clause-cuts : goal.returns-clause-cuts
-returns-clause-cuts g c = cuts_run_alike g.S.BookStore.books g.S.BookStore.limits g.S.BookStore.premise g.S.BookStore.may_fault (record {
+returns-clause-cuts g c = cuts_run_alike g.S.BookStore.model (record {
   cards = c.card_is_unique.ensures;
   card_faults = c.first_fault_without_card.ensures.one;
   no_card_has_fault = c.first_fault_without_card.ensures.not_both;
@@ -23,13 +23,13 @@ returns-clause-cuts g c = cuts_run_alike g.S.BookStore.books g.S.BookStore.limit
 })
 
 pub returns-clause-out_of_memory : goal.returns-clause-out_of_memory
-returns-clause-out_of_memory g c = lost_pieces_run g.S.BookStore.books g.S.BookStore.limits g.S.BookStore.premise g.S.BookStore.may_fault
+returns-clause-out_of_memory g c = lost_pieces_run g.S.BookStore.model
 
 pub returns-clause-connections : goal.returns-clause-connections
-returns-clause-connections g c = connections_run g.S.BookStore.books g.S.BookStore.limits g.S.BookStore.premise g.S.BookStore.may_fault
+returns-clause-connections g c = connections_run g.S.BookStore.model
 
 pub returns-clause-faults : goal.returns-clause-faults
-returns-clause-faults g c = faults_leave_runs g.S.BookStore.books g.S.BookStore.limits g.S.BookStore.premise g.S.BookStore.may_fault
+returns-clause-faults g c = faults_leave_runs g.S.BookStore.model
 
 pub returns-clause-devices : goal.returns-clause-devices
 returns-clause-devices g c = readers_are_devices c.token_texts_are_unique.ensures c.texts_determine_pages.ensures

@@ -33,46 +33,46 @@ denied limits old new command own call_result error is same does =
 
 pub returns-in_err-id-in-CreateBook-clause-step : goal.returns-in_err-id-in-CreateBook-clause-step
 returns-in_err-id-in-CreateBook-clause-step g c = λ premise.
-    let limits = g.S.BookStore.limits c.args.store.now in
-    let old = g.S.BookStore.books c.args.store.now in
-    let new = g.S.BookStore.books c.create_book.new.self in
+    let limits = g.S.BookStore.model.limits c.args.store.now in
+    let old = g.S.BookStore.model.books c.args.store.now in
+    let new = g.S.BookStore.model.books c.create_book.new.self in
     let p = err_from_is_err_and c.from_residual.result c.from_residual.ensures.1 in
     denied limits old new c.args.command.now (CreateBook c.in-CreateBook.book) c.from_residual.result c.in_err-id-in-CreateBook.field-0.0 c.in-CreateBook.is (p.1 ∙ ap (λ (d : Denied). Err d) p.2)
-    (creates limits old new c.calls_follow_histories.ensures.creating (subst IsInRange c.create_book.ensures.limits c.create_book.ensures.range) c.in-CreateBook.book (Err c.in_err-id-in-CreateBook.field-0.0)
+    (creates limits old new c.calls_follow_histories.ensures.creating (subst IsInRange c.create_book.ensures.terms.limits c.create_book.ensures.terms.range) c.in-CreateBook.book (Err c.in_err-id-in-CreateBook.field-0.0)
     (subst (λ (name : List ℕ). MatchesStep (Err c.in_err-id-in-CreateBook.field-0.0) (create_step limits old name) old new) c.as_str.ensures (c.in_err-id-in-CreateBook.ensures.step premise)))
 
 pub returns-in_ok-id-in-CreateBook-clause-step : goal.returns-in_ok-id-in-CreateBook-clause-step
 returns-in_ok-id-in-CreateBook-clause-step g c = λ premise.
-    let limits = g.S.BookStore.limits c.args.store.now in
-    let old = g.S.BookStore.books c.args.store.now in
-    let new = g.S.BookStore.books c.create_book.new.self in
+    let limits = g.S.BookStore.model.limits c.args.store.now in
+    let old = g.S.BookStore.model.books c.args.store.now in
+    let new = g.S.BookStore.model.books c.create_book.new.self in
     done limits old new c.args.command.now (CreateBook c.in-CreateBook.book) (reply.Created c.in_ok-id-in-CreateBook.id) c.in-CreateBook.is
-    (creates limits old new c.calls_follow_histories.ensures.creating (subst IsInRange c.create_book.ensures.limits c.create_book.ensures.range) c.in-CreateBook.book (Ok c.in_ok-id-in-CreateBook.id)
+    (creates limits old new c.calls_follow_histories.ensures.creating (subst IsInRange c.create_book.ensures.terms.limits c.create_book.ensures.terms.range) c.in-CreateBook.book (Ok c.in_ok-id-in-CreateBook.id)
     (subst (λ (name : List ℕ). MatchesStep (Ok c.in_ok-id-in-CreateBook.id) (create_step limits old name) old new) c.as_str.ensures (c.in_ok-id-in-CreateBook.ensures.step premise)))
 
 pub returns-in_err-lines-in-Books-clause-step : goal.returns-in_err-lines-in-Books-clause-step
 returns-in_err-lines-in-Books-clause-step g c = λ premise.
-    let limits = g.S.BookStore.limits c.args.store.now in
-    let old = g.S.BookStore.books c.args.store.now in
-    let new = g.S.BookStore.books c.books.new.self in
+    let limits = g.S.BookStore.model.limits c.args.store.now in
+    let old = g.S.BookStore.model.books c.args.store.now in
+    let new = g.S.BookStore.model.books c.books.new.self in
     let p = err_from_is_err_and c.from_residual-in_err-lines-in-Books.result c.from_residual-in_err-lines-in-Books.ensures.1 in
     denied limits old new c.args.command.now ListBooks c.from_residual-in_err-lines-in-Books.result c.in_err-lines-in-Books.field-0.0 c.in-Books.is (p.1 ∙ ap (λ (d : Denied). Err d) p.2)
     (lists_not limits old new _ c.books.result c.in_err-lines-in-Books.field-0.0 c.in_err-lines-in-Books.was (c.books.ensures.step premise))
 
 pub returns-in_ok-lines-in-Books-clause-step : goal.returns-in_ok-lines-in-Books-clause-step
 returns-in_ok-lines-in-Books-clause-step g c = λ premise.
-    let limits = g.S.BookStore.limits c.args.store.now in
-    let old = g.S.BookStore.books c.args.store.now in
-    let new = g.S.BookStore.books c.books.new.self in
+    let limits = g.S.BookStore.model.limits c.args.store.now in
+    let old = g.S.BookStore.model.books c.args.store.now in
+    let new = g.S.BookStore.model.books c.books.new.self in
     done limits old new c.args.command.now ListBooks (reply.Books c.from_vec.result) c.in-Books.is
     (let received = c.in_ok-lines-in-Books.ensures.step premise in
     lists limits old new c.calls_follow_histories.ensures.books c.from_vec.result (c.from_vec.ensures ∙ received.0, received.1))
 
 pub returns-in_err-version-in-Get-clause-step : goal.returns-in_err-version-in-Get-clause-step
 returns-in_err-version-in-Get-clause-step g c = λ premise.
-    let limits = g.S.BookStore.limits c.args.store.now in
-    let old = g.S.BookStore.books c.args.store.now in
-    let new = g.S.BookStore.books c.get.new.self in
+    let limits = g.S.BookStore.model.limits c.args.store.now in
+    let old = g.S.BookStore.model.books c.args.store.now in
+    let new = g.S.BookStore.model.books c.get.new.self in
     let p = err_from_is_err_and c.from_residual-in_err-version-in-Get.result c.from_residual-in_err-version-in-Get.ensures.1 in
     denied limits old new c.args.command.now (Get c.in-Get.book c.in-Get.uid) c.from_residual-in_err-version-in-Get.result c.in_err-version-in-Get.field-0.0 c.in-Get.is (p.1 ∙ ap (λ (d : Denied). Err d) p.2)
     (gets limits old new c.calls_follow_histories.ensures.getting c.in-Get.book c.in-Get.uid (Err c.in_err-version-in-Get.field-0.0)
@@ -81,9 +81,9 @@ returns-in_err-version-in-Get-clause-step g c = λ premise.
 
 pub returns-in_err-uid-in-Get-clause-step : goal.returns-in_err-uid-in-Get-clause-step
 returns-in_err-uid-in-Get-clause-step g c = λ premise.
-    let limits = g.S.BookStore.limits c.args.store.now in
-    let old = g.S.BookStore.books c.args.store.now in
-    let new = g.S.BookStore.books c.get.new.self in
+    let limits = g.S.BookStore.model.limits c.args.store.now in
+    let old = g.S.BookStore.model.books c.args.store.now in
+    let new = g.S.BookStore.model.books c.get.new.self in
     let p = err_from_is_err_and c.from_residual-in_err-uid-in-Get.result c.from_residual-in_err-uid-in-Get.ensures.1 in
     let received : ReturnsExactly (Ok c.in_ok-version-in-Get.field-0) (get_step old c.as_str-in-Get.result.now c.as_str-in-Get-2.result.now) old new = c.in_ok-version-in-Get.ensures.step premise in
     denied limits old new c.args.command.now (Get c.in-Get.book c.in-Get.uid) c.from_residual-in_err-uid-in-Get.result (Fault Memory) c.in-Get.is (p.1 ∙ ap (λ (d : Denied). Err d) p.2)
@@ -91,9 +91,9 @@ returns-in_err-uid-in-Get-clause-step g c = λ premise.
 
 pub returns-in_ok-uid-in-Get-clause-step : goal.returns-in_ok-uid-in-Get-clause-step
 returns-in_ok-uid-in-Get-clause-step g c = λ premise.
-    let limits = g.S.BookStore.limits c.args.store.now in
-    let old = g.S.BookStore.books c.args.store.now in
-    let new = g.S.BookStore.books c.get.new.self in
+    let limits = g.S.BookStore.model.limits c.args.store.now in
+    let old = g.S.BookStore.model.books c.args.store.now in
+    let new = g.S.BookStore.model.books c.get.new.self in
     let stored : Stored = c.in_ok-version-in-Get.field-0 in
     done limits old new c.args.command.now (Get c.in-Get.book c.in-Get.uid) (reply.Card c.in_ok-uid-in-Get.uid stored.version stored.card) c.in-Get.is
     (subst (λ (uid : List ℕ). CommandOnRows limits old (Get c.in-Get.book c.in-Get.uid) (reply.Card uid stored.version stored.card) new) (sym c.in_ok-uid-in-Get.ensures)
@@ -103,17 +103,17 @@ returns-in_ok-uid-in-Get-clause-step g c = λ premise.
 
 pub returns-in_ok-answer-in-Put-clause-step : goal.returns-in_ok-answer-in-Put-clause-step
 returns-in_ok-answer-in-Put-clause-step g c = λ premise.
-    let limits = g.S.BookStore.limits c.args.store.now in
-    let old = g.S.BookStore.books c.args.store.now in
-    let new = g.S.BookStore.books c.put.new.store in
+    let limits = g.S.BookStore.model.limits c.args.store.now in
+    let old = g.S.BookStore.model.books c.args.store.now in
+    let new = g.S.BookStore.model.books c.put.new.store in
     done limits old new c.args.command.now (Put c.in-Put.book c.in-Put.uid c.in-Put.expect c.in-Put.text) (reply.Put c.in_ok-answer-in-Put.answer) c.in-Put.is
     (c.in_ok-answer-in-Put.ensures.step premise)
 
 pub returns-in_err-number-in-Remove-clause-step : goal.returns-in_err-number-in-Remove-clause-step
 returns-in_err-number-in-Remove-clause-step g c = λ premise.
-    let limits = g.S.BookStore.limits c.args.store.now in
-    let old = g.S.BookStore.books c.args.store.now in
-    let new = g.S.BookStore.books c.remove.new.self in
+    let limits = g.S.BookStore.model.limits c.args.store.now in
+    let old = g.S.BookStore.model.books c.args.store.now in
+    let new = g.S.BookStore.model.books c.remove.new.self in
     let p = err_from_is_err_and c.from_residual-in_err-number-in-Remove.result c.from_residual-in_err-number-in-Remove.ensures.1 in
     denied limits old new c.args.command.now (Remove c.in-Remove.book c.in-Remove.uid c.in-Remove.expect) c.from_residual-in_err-number-in-Remove.result c.in_err-number-in-Remove.field-0.0 c.in-Remove.is (p.1 ∙ ap (λ (d : Denied). Err d) p.2)
     (removes limits old new c.calls_follow_histories.ensures.removing c.in-Remove.book c.in-Remove.uid c.in-Remove.expect (Err c.in_err-number-in-Remove.field-0.0)
@@ -122,9 +122,9 @@ returns-in_err-number-in-Remove-clause-step g c = λ premise.
 
 pub returns-in_ok-number-in-Remove-clause-step : goal.returns-in_ok-number-in-Remove-clause-step
 returns-in_ok-number-in-Remove-clause-step g c = λ premise.
-    let limits = g.S.BookStore.limits c.args.store.now in
-    let old = g.S.BookStore.books c.args.store.now in
-    let new = g.S.BookStore.books c.remove.new.self in
+    let limits = g.S.BookStore.model.limits c.args.store.now in
+    let old = g.S.BookStore.model.books c.args.store.now in
+    let new = g.S.BookStore.model.books c.remove.new.self in
     done limits old new c.args.command.now (Remove c.in-Remove.book c.in-Remove.uid c.in-Remove.expect) (reply.Gone c.in_ok-number-in-Remove.number) c.in-Remove.is
     (removes limits old new c.calls_follow_histories.ensures.removing c.in-Remove.book c.in-Remove.uid c.in-Remove.expect (Ok c.in_ok-number-in-Remove.number)
     (subst (λ (book : List ℕ). MatchesStep (Ok c.in_ok-number-in-Remove.number) (remove_step limits old book c.in-Remove.uid c.in-Remove.expect) old new) c.as_str-in-Remove.ensures
@@ -132,9 +132,9 @@ returns-in_ok-number-in-Remove-clause-step g c = λ premise.
 
 pub returns-in_err-numbers-in-MoveCard-clause-step : goal.returns-in_err-numbers-in-MoveCard-clause-step
 returns-in_err-numbers-in-MoveCard-clause-step g c = λ premise.
-    let limits = g.S.BookStore.limits c.args.store.now in
-    let old = g.S.BookStore.books c.args.store.now in
-    let new = g.S.BookStore.books c.move_card.new.self in
+    let limits = g.S.BookStore.model.limits c.args.store.now in
+    let old = g.S.BookStore.model.books c.args.store.now in
+    let new = g.S.BookStore.model.books c.move_card.new.self in
     let p = err_from_is_err_and c.from_residual-in_err-numbers-in-MoveCard.result c.from_residual-in_err-numbers-in-MoveCard.ensures.1 in
     denied limits old new c.args.command.now (MoveCard c.in-MoveCard.book c.in-MoveCard.uid c.in-MoveCard.to c.in-MoveCard.expect) c.from_residual-in_err-numbers-in-MoveCard.result c.in_err-numbers-in-MoveCard.field-0.0 c.in-MoveCard.is (p.1 ∙ ap (λ (d : Denied). Err d) p.2)
     (moves limits old new c.calls_follow_histories.ensures.moving c.in-MoveCard.book c.in-MoveCard.to c.in-MoveCard.uid c.in-MoveCard.expect (Err c.in_err-numbers-in-MoveCard.field-0.0)
@@ -144,9 +144,9 @@ returns-in_err-numbers-in-MoveCard-clause-step g c = λ premise.
 
 pub returns-in_ok-numbers-in-MoveCard-clause-step : goal.returns-in_ok-numbers-in-MoveCard-clause-step
 returns-in_ok-numbers-in-MoveCard-clause-step g c = λ premise.
-    let limits = g.S.BookStore.limits c.args.store.now in
-    let old = g.S.BookStore.books c.args.store.now in
-    let new = g.S.BookStore.books c.move_card.new.self in
+    let limits = g.S.BookStore.model.limits c.args.store.now in
+    let old = g.S.BookStore.model.books c.args.store.now in
+    let new = g.S.BookStore.model.books c.move_card.new.self in
     done limits old new c.args.command.now (MoveCard c.in-MoveCard.book c.in-MoveCard.uid c.in-MoveCard.to c.in-MoveCard.expect) (reply.Moved c.in_ok-numbers-in-MoveCard.numbers) c.in-MoveCard.is
     (moves limits old new c.calls_follow_histories.ensures.moving c.in-MoveCard.book c.in-MoveCard.to c.in-MoveCard.uid c.in-MoveCard.expect (Ok c.in_ok-numbers-in-MoveCard.numbers)
     (subst (λ (book : List ℕ). MatchesStep (Ok c.in_ok-numbers-in-MoveCard.numbers) (move_step limits old book c.in-MoveCard.to c.in-MoveCard.uid c.in-MoveCard.expect) old new) c.as_str-in-MoveCard.ensures
@@ -155,17 +155,17 @@ returns-in_ok-numbers-in-MoveCard-clause-step g c = λ premise.
 
 pub returns-in_ok-tally-in-Import-clause-step : goal.returns-in_ok-tally-in-Import-clause-step
 returns-in_ok-tally-in-Import-clause-step g c = λ premise.
-    let limits = g.S.BookStore.limits c.args.store.now in
-    let old = g.S.BookStore.books c.args.store.now in
-    let new = g.S.BookStore.books c.import_body.new.store in
+    let limits = g.S.BookStore.model.limits c.args.store.now in
+    let old = g.S.BookStore.model.books c.args.store.now in
+    let new = g.S.BookStore.model.books c.import_body.new.store in
     done limits old new c.args.command.now (Import c.in-Import.book c.in-Import.key c.in-Import.body) (reply.Imported c.in_ok-tally-in-Import.tally) c.in-Import.is
     (c.in_ok-tally-in-Import.ensures.step premise)
 
 pub returns-in_err-dropped-in-Forget-clause-step : goal.returns-in_err-dropped-in-Forget-clause-step
 returns-in_err-dropped-in-Forget-clause-step g c = λ premise.
-    let limits = g.S.BookStore.limits c.args.store.now in
-    let old = g.S.BookStore.books c.args.store.now in
-    let new = g.S.BookStore.books c.forget.new.self in
+    let limits = g.S.BookStore.model.limits c.args.store.now in
+    let old = g.S.BookStore.model.books c.args.store.now in
+    let new = g.S.BookStore.model.books c.forget.new.self in
     let p = err_from_is_err_and c.from_residual-in_err-dropped-in-Forget.result c.from_residual-in_err-dropped-in-Forget.ensures.1 in
     denied limits old new c.args.command.now (Forget c.in-Forget.book c.in-Forget.upto) c.from_residual-in_err-dropped-in-Forget.result c.in_err-dropped-in-Forget.field-0.0 c.in-Forget.is (p.1 ∙ ap (λ (d : Denied). Err d) p.2)
     (forgets limits old new c.calls_follow_histories.ensures.forgetting c.in-Forget.book c.in-Forget.upto (Err c.in_err-dropped-in-Forget.field-0.0)
@@ -173,18 +173,18 @@ returns-in_err-dropped-in-Forget-clause-step g c = λ premise.
 
 pub returns-in_ok-dropped-in-Forget-clause-step : goal.returns-in_ok-dropped-in-Forget-clause-step
 returns-in_ok-dropped-in-Forget-clause-step g c = λ premise.
-    let limits = g.S.BookStore.limits c.args.store.now in
-    let old = g.S.BookStore.books c.args.store.now in
-    let new = g.S.BookStore.books c.forget.new.self in
+    let limits = g.S.BookStore.model.limits c.args.store.now in
+    let old = g.S.BookStore.model.books c.args.store.now in
+    let new = g.S.BookStore.model.books c.forget.new.self in
     done limits old new c.args.command.now (Forget c.in-Forget.book c.in-Forget.upto) (reply.Forgot c.in_ok-dropped-in-Forget.dropped c.in-Forget.upto) c.in-Forget.is
     (forgets limits old new c.calls_follow_histories.ensures.forgetting c.in-Forget.book c.in-Forget.upto (Ok c.in_ok-dropped-in-Forget.dropped)
     (subst (λ (book : List ℕ). MatchesStep (Ok c.in_ok-dropped-in-Forget.dropped) (forget_step old book c.in-Forget.upto) old new) c.as_str-in-Forget.ensures (c.in_ok-dropped-in-Forget.ensures.step premise)))
 
 pub returns-in_err-tally-in-TallyOf-clause-step : goal.returns-in_err-tally-in-TallyOf-clause-step
 returns-in_err-tally-in-TallyOf-clause-step g c = λ premise.
-    let limits = g.S.BookStore.limits c.args.store.now in
-    let old = g.S.BookStore.books c.args.store.now in
-    let new = g.S.BookStore.books c.tally.new.self in
+    let limits = g.S.BookStore.model.limits c.args.store.now in
+    let old = g.S.BookStore.model.books c.args.store.now in
+    let new = g.S.BookStore.model.books c.tally.new.self in
     let p = err_from_is_err_and c.from_residual-in_err-tally-in-TallyOf.result c.from_residual-in_err-tally-in-TallyOf.ensures.1 in
     denied limits old new c.args.command.now (TallyOf c.in-TallyOf.book) c.from_residual-in_err-tally-in-TallyOf.result c.in_err-tally-in-TallyOf.field-0.0 c.in-TallyOf.is (p.1 ∙ ap (λ (d : Denied). Err d) p.2)
     (tallies limits old new c.calls_follow_histories.ensures.tallies c.in-TallyOf.book (Err c.in_err-tally-in-TallyOf.field-0.0)
@@ -192,25 +192,25 @@ returns-in_err-tally-in-TallyOf-clause-step g c = λ premise.
 
 pub returns-in_ok-tally-in-TallyOf-clause-step : goal.returns-in_ok-tally-in-TallyOf-clause-step
 returns-in_ok-tally-in-TallyOf-clause-step g c = λ premise.
-    let limits = g.S.BookStore.limits c.args.store.now in
-    let old = g.S.BookStore.books c.args.store.now in
-    let new = g.S.BookStore.books c.tally.new.self in
+    let limits = g.S.BookStore.model.limits c.args.store.now in
+    let old = g.S.BookStore.model.books c.args.store.now in
+    let new = g.S.BookStore.model.books c.tally.new.self in
     done limits old new c.args.command.now (TallyOf c.in-TallyOf.book) (reply.Tally c.in_ok-tally-in-TallyOf.tally) c.in-TallyOf.is
     (tallies limits old new c.calls_follow_histories.ensures.tallies c.in-TallyOf.book (Ok c.in_ok-tally-in-TallyOf.tally)
     (subst (λ (book : List ℕ). ReturnsExactly (Ok c.in_ok-tally-in-TallyOf.tally) (tally_step old book) old new) c.as_str-in-TallyOf.ensures (c.in_ok-tally-in-TallyOf.ensures.step premise)))
 
 pub returns-in_ok-text-in-Export-clause-step : goal.returns-in_ok-text-in-Export-clause-step
 returns-in_ok-text-in-Export-clause-step g c = λ premise.
-    let limits = g.S.BookStore.limits c.args.store.now in
-    let old = g.S.BookStore.books c.args.store.now in
-    let new = g.S.BookStore.books c.export.new.store in
+    let limits = g.S.BookStore.model.limits c.args.store.now in
+    let old = g.S.BookStore.model.books c.args.store.now in
+    let new = g.S.BookStore.model.books c.export.new.store in
     done limits old new c.args.command.now (Export c.in-Export.book c.in-Export.form) (reply.Csv c.in_ok-text-in-Export.text) c.in-Export.is
     (c.in_ok-text-in-Export.ensures.step premise)
 
 pub returns-in_ok-expansion-in-People-clause-step : goal.returns-in_ok-expansion-in-People-clause-step
 returns-in_ok-expansion-in-People-clause-step g c = λ premise.
-    let limits = g.S.BookStore.limits c.args.store.now in
-    let old = g.S.BookStore.books c.args.store.now in
-    let new = g.S.BookStore.books c.people.new.store in
+    let limits = g.S.BookStore.model.limits c.args.store.now in
+    let old = g.S.BookStore.model.books c.args.store.now in
+    let new = g.S.BookStore.model.books c.people.new.store in
     done limits old new c.args.command.now (People c.in-People.book c.in-People.uid) (reply.People c.in_ok-expansion-in-People.expansion) c.in-People.is
     (c.in_ok-expansion-in-People.ensures.step premise)

@@ -11,18 +11,18 @@ use Rattle.book_service.proofs.calls.put.Goals as goal
 
 pub returns-in-Ok-clause-step : goal.returns-in-Ok-clause-step
 returns-in-Ok-clause-step g c = λ premise.
-    let limits = g.S.BookStore.limits c.args.store.now in
-    let old = g.S.BookStore.books c.args.store.now in
-    let new = g.S.BookStore.books c.put.new.self in
+    let limits = g.S.BookStore.model.limits c.args.store.now in
+    let old = g.S.BookStore.model.books c.args.store.now in
+    let new = g.S.BookStore.model.books c.put.new.self in
     puts limits old new c.calls_follow_histories.ensures.putting c.args.book.now c.args.uid.now c.in-Ok.card c.args.expect c.args.text.now c.put.result
     (subst (λ (uid : List ℕ). ReadsCard uid c.args.text.now (Ok c.in-Ok.card)) c.as_str.ensures (subst (λ (text : List ℕ). ReadsCard c.as_str.result.now text (Ok c.in-Ok.card)) c.as_slice.ensures c.in-Ok.ensures))
     (subst (λ (book : List ℕ). MatchesStep c.put.result (put_step limits old book c.in-Ok.card c.args.expect) old new) c.as_str-in-Ok.ensures (c.put.ensures.step premise))
 
 pub returns-in-Err-clause-step : goal.returns-in-Err-clause-step
 returns-in-Err-clause-step g c = λ premise.
-    let limits = g.S.BookStore.limits c.args.store.now in
-    let old = g.S.BookStore.books c.args.store.now in
-    let new = g.S.BookStore.books c.first_denial.new.store in
+    let limits = g.S.BookStore.model.limits c.args.store.now in
+    let old = g.S.BookStore.model.books c.args.store.now in
+    let new = g.S.BookStore.model.books c.first_denial.new.store in
     puts_not limits old new c.calls_follow_histories.ensures.lines c.args.book.now c.args.uid.now c.args.expect c.args.text.now c.in-Err.error (denied_reply c.first_denial.result)
     (subst (λ (uid : List ℕ). ParserReturns {A = List Line} (ReadsCard uid c.args.text.now) (Err c.in-Err.error)) c.as_str.ensures
     (subst (λ (text : List ℕ). ParserReturns {A = List Line} (ReadsCard c.as_str.result.now text) (Err c.in-Err.error)) c.as_slice.ensures c.in-Err.ensures))

@@ -27,14 +27,14 @@ no_fault may (reply.Csv text) none = tt
 no_fault may (reply.People expansion) none = tt
 
 pub returns-in-Ok-clause-fault : goal.returns-in-Ok-clause-fault
-returns-in-Ok-clause-fault g c = no_fault (CommandFault g.S.BookStore.may_fault c.args.command.now) c.in-Ok.reply c.in-Ok.ensures.no_fault
+returns-in-Ok-clause-fault g c = no_fault (CommandFault g.S.BookStore.model.may_fault c.args.command.now) c.in-Ok.reply c.in-Ok.ensures.no_fault
 
 pub returns-in-Ok-clause-step : goal.returns-in-Ok-clause-step
 returns-in-Ok-clause-step g c = λ premise now at.
-    command_happens (g.S.BookStore.limits c.args.store.now) (g.S.BookStore.books c.args.store.now) (g.S.BookStore.books c.perform_call.new.store) c.in-Ok.reply now at c.args.command.now (c.in-Ok.ensures.step premise)
+    command_happens (g.S.BookStore.model.limits c.args.store.now) (g.S.BookStore.model.books c.args.store.now) (g.S.BookStore.model.books c.perform_call.new.store) c.in-Ok.reply now at c.args.command.now (c.in-Ok.ensures.step premise)
 
 pub returns-in-Err-clause-step : goal.returns-in-Err-clause-step
 returns-in-Err-clause-step g c = λ premise now at.
-    let new = g.S.BookStore.books c.perform_call.new.store in
+    let new = g.S.BookStore.model.books c.perform_call.new.store in
     subst (λ (r : Reply). StepsTo now (Do c.args.command.now) r new now.devices) (sym c.denied_reply.ensures)
-    (command_happens (g.S.BookStore.limits c.args.store.now) (g.S.BookStore.books c.args.store.now) new (denied_reply c.in-Err.error) now at c.args.command.now (c.in-Err.ensures.step premise))
+    (command_happens (g.S.BookStore.model.limits c.args.store.now) (g.S.BookStore.model.books c.args.store.now) new (denied_reply c.in-Err.error) now at c.args.command.now (c.in-Err.ensures.step premise))

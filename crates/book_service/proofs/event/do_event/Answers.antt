@@ -13,9 +13,9 @@ use Rattle.book_service.proofs.event.do_event.Goals as goal
 
 pub returns-in-Do-clause-step : goal.returns-in-Do-clause-step
 returns-in-Do-clause-step g c = λ premise now at device_at.
-    let limits = g.S.BookStore.limits c.args.store.now in
-    let old = g.S.BookStore.books c.args.store.now in
-    let new = g.S.BookStore.books c.perform.new.store in
+    let limits = g.S.BookStore.model.limits c.args.store.now in
+    let old = g.S.BookStore.model.books c.args.store.now in
+    let new = g.S.BookStore.model.books c.perform.new.store in
     let devices = c.args.devices.now.items in
     subst (λ (e : Event). StepsTo now e c.perform.result new devices) (sym c.in-Do.is)
     (subst (λ (ds : List DeviceState). StepsTo now (Do c.in-Do.command) c.perform.result new ds) device_at (c.perform.ensures.step premise now at))
@@ -25,8 +25,8 @@ returns-in-Ok-clause-step g c = λ premise now at device_at.
     let devices = c.args.devices.now.items in
     let within = subst (NamesDeviceBelow (length devices)) c.in-Ask.is c.requires in
     let was = c.index_mut.result.now in
-    subst (λ (e : Event). StepsTo now e (reply.Page c.in-Ok.page) (g.S.BookStore.books c.next_page.new.store) (slice_set devices c.in-Ask.device c.next_page.new.device)) (sym c.in-Ask.is)
-    (ask_happens (g.S.BookStore.limits c.args.store.now) (g.S.BookStore.books c.args.store.now) (g.S.BookStore.books c.next_page.new.store) (reply.Page c.in-Ok.page) now at devices device_at c.in-Ask.device c.in-Ask.limit was c.next_page.new.device
+    subst (λ (e : Event). StepsTo now e (reply.Page c.in-Ok.page) (g.S.BookStore.model.books c.next_page.new.store) (slice_set devices c.in-Ask.device c.next_page.new.device)) (sym c.in-Ask.is)
+    (ask_happens (g.S.BookStore.model.limits c.args.store.now) (g.S.BookStore.model.books c.args.store.now) (g.S.BookStore.model.books c.next_page.new.store) (reply.Page c.in-Ok.page) now at devices device_at c.in-Ask.device c.in-Ask.limit was c.next_page.new.device
     (slice_get_read devices (length devices) c.in-Ask.device was refl within c.index_mut.ensures.value)
     (c.in-Ok.ensures.handled premise now at) (c.next_page.ensures.reads_only premise))
 
@@ -35,8 +35,8 @@ returns-in-Err-clause-step g c = λ premise now at device_at.
     let devices = c.args.devices.now.items in
     let within = subst (NamesDeviceBelow (length devices)) c.in-Ask.is c.requires in
     let was = c.index_mut.result.now in
-    subst (λ (e : Event). StepsTo now e c.denied_reply.result (g.S.BookStore.books c.next_page.new.store) (slice_set devices c.in-Ask.device c.next_page.new.device)) (sym c.in-Ask.is)
-    (ask_happens (g.S.BookStore.limits c.args.store.now) (g.S.BookStore.books c.args.store.now) (g.S.BookStore.books c.next_page.new.store) c.denied_reply.result now at devices device_at c.in-Ask.device c.in-Ask.limit was c.next_page.new.device
+    subst (λ (e : Event). StepsTo now e c.denied_reply.result (g.S.BookStore.model.books c.next_page.new.store) (slice_set devices c.in-Ask.device c.next_page.new.device)) (sym c.in-Ask.is)
+    (ask_happens (g.S.BookStore.model.limits c.args.store.now) (g.S.BookStore.model.books c.args.store.now) (g.S.BookStore.model.books c.next_page.new.store) c.denied_reply.result now at devices device_at c.in-Ask.device c.in-Ask.limit was c.next_page.new.device
     (slice_get_read devices (length devices) c.in-Ask.device was refl within c.index_mut.ensures.value)
     (subst (λ (r : Reply). HandlesReply r (report_at now was.book was.token c.in-Ask.limit) was c.next_page.new.device) (sym c.denied_reply.ensures) (c.in-Err.ensures.handled premise now at))
     (c.next_page.ensures.reads_only premise))

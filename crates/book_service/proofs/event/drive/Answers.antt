@@ -14,10 +14,10 @@ loop-event-init g c = record {
   count = refl;
   limits = refl;
   premise = λ premise. premise;
-  faults = subst (λ (rs : List Reply). AllowedFaults g.S.BookStore.may_fault [] rs) (sym c.in_ok-replies.ensures.items) (λ k d lt. absurd (omega (arith, lt)));
+  faults = subst (λ (rs : List Reply). AllowedFaults g.S.BookStore.model.may_fault [] rs) (sym c.in_ok-replies.ensures.items) (λ k d lt. absurd (omega (arith, lt)));
   ran = λ premise now at device_at.
-      subst (λ (rs : List Reply). RanTo now [] rs (g.S.BookStore.books c.args.store.now) c.args.devices.now.items) (sym c.in_ok-replies.ensures.items)
-      (ran_nowhere now (g.S.BookStore.limits c.args.store.now) (g.S.BookStore.books c.args.store.now) c.args.devices.now.items at device_at);
+      subst (λ (rs : List Reply). RanTo now [] rs (g.S.BookStore.model.books c.args.store.now) c.args.devices.now.items) (sym c.in_ok-replies.ensures.items)
+      (ran_nowhere now (g.S.BookStore.model.limits c.args.store.now) (g.S.BookStore.model.books c.args.store.now) c.args.devices.now.items at device_at);
 }
 
 pub loop-event-preserved : goal.loop-event-preserved
@@ -28,10 +28,10 @@ loop-event-preserved g c = record {
   limits = c.do_event-reply.ensures.limits ∙ c.loop-event.invariant.limits;
   premise = λ premise. c.loop-event.invariant.premise (c.do_event-reply.ensures.premise premise);
   faults =
-      faults_more g.S.BookStore.may_fault c.args.events.now c.loop-event.event-index c.loop-event.replies.items c.push.new.self.items c.event-item.result c.do_event-reply.result
+      faults_more g.S.BookStore.model.may_fault c.args.events.now c.loop-event.event-index c.loop-event.replies.items c.push.new.self.items c.event-item.result c.do_event-reply.result
       c.loop-event-test.true c.event-item.is c.loop-event.invariant.received c.in_ok-push.ensures.items c.loop-event.invariant.faults c.do_event-reply.ensures.fault;
   ran = λ premise now at device_at.
-      ran_more now (g.S.BookStore.limits c.loop-event.store) (g.S.BookStore.books c.loop-event.store) (g.S.BookStore.books c.do_event-reply.new.store) c.loop-event.devices.items c.do_event-reply.new.devices.items
+      ran_more now (g.S.BookStore.model.limits c.loop-event.store) (g.S.BookStore.model.books c.loop-event.store) (g.S.BookStore.model.books c.do_event-reply.new.store) c.loop-event.devices.items c.do_event-reply.new.devices.items
       c.args.events.now c.loop-event.event-index c.loop-event.replies.items c.push.new.self.items c.event-item.result c.do_event-reply.result
       (at.limits_are ∙ sym c.loop-event.invariant.limits) c.loop-event-test.true c.event-item.is c.in_ok-push.ensures.items
       (c.loop-event.invariant.ran (c.do_event-reply.ensures.premise premise) now at device_at) (c.do_event-reply.ensures.step premise);
@@ -39,19 +39,19 @@ loop-event-preserved g c = record {
 
 pub returns-clause-runs : goal.returns-clause-runs
 returns-clause-runs g c = λ premise now at device_at.
-    subst (λ (es : List Event). RanTo now es c.loop-event.replies.items (g.S.BookStore.books c.loop-event.store) c.loop-event.devices.items)
+    subst (λ (es : List Event). RanTo now es c.loop-event.replies.items (g.S.BookStore.model.books c.loop-event.store) c.loop-event.devices.items)
     (take_all c.loop-event.event-index c.args.events.now (omega arith))
     (c.loop-event.invariant.ran premise now at device_at)
 
 pub returns-clause-faults : goal.returns-clause-faults
 returns-clause-faults g c =
-    subst (λ (es : List Event). AllowedFaults g.S.BookStore.may_fault es c.loop-event.replies.items)
+    subst (λ (es : List Event). AllowedFaults g.S.BookStore.model.may_fault es c.loop-event.replies.items)
     (take_all c.loop-event.event-index c.args.events.now (omega arith))
     c.loop-event.invariant.faults
 
 pub returns-clause-truncated : goal.returns-clause-truncated
 returns-clause-truncated g c = λ premise now at device_at.
-    ran_few c.truncated_pages_are_few.ensures now c.args.events.now c.loop-event.replies.items (g.S.BookStore.books c.loop-event.store) c.loop-event.devices.items
-    (subst (λ (es : List Event). RanTo now es c.loop-event.replies.items (g.S.BookStore.books c.loop-event.store) c.loop-event.devices.items)
+    ran_few c.truncated_pages_are_few.ensures now c.args.events.now c.loop-event.replies.items (g.S.BookStore.model.books c.loop-event.store) c.loop-event.devices.items
+    (subst (λ (es : List Event). RanTo now es c.loop-event.replies.items (g.S.BookStore.model.books c.loop-event.store) c.loop-event.devices.items)
     (take_all c.loop-event.event-index c.args.events.now (omega arith))
     (c.loop-event.invariant.ran premise now at device_at))

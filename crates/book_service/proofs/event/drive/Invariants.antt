@@ -8,9 +8,9 @@ invariant-loop-event g l = record {
   room : length l.events ≤ vec_capacity l.replies;
   received : length l.replies.items ≡ l.event-index;
   count : length l.devices.items ≡ length l.fn.devices.items;
-  limits : g.S.BookStore.limits l.store ≡ g.S.BookStore.limits l.fn.store;
-  premise : g.S.BookStore.premise l.store → g.S.BookStore.premise l.fn.store;
-  faults : AllowedFaults g.S.BookStore.may_fault (take l.event-index l.events) l.replies.items;
-  ran : g.S.BookStore.premise l.store → (now : SystemState) → MatchesRows now (g.S.BookStore.limits l.fn.store) (g.S.BookStore.books l.fn.store) → now.devices ≡ l.fn.devices.items →
-      RanTo now (take l.event-index l.events) l.replies.items (g.S.BookStore.books l.store) l.devices.items;
+  limits : g.S.BookStore.model.limits l.store ≡ g.S.BookStore.model.limits l.fn.store;
+  premise : g.S.BookStore.model.premise l.store → g.S.BookStore.model.premise l.fn.store;
+  faults : AllowedFaults g.S.BookStore.model.may_fault (take l.event-index l.events) l.replies.items;
+  ran : g.S.BookStore.model.premise l.store → (now : SystemState) → MatchesRows now (g.S.BookStore.model.limits l.fn.store) (g.S.BookStore.model.books l.fn.store) → now.devices ≡ l.fn.devices.items →
+      RanTo now (take l.event-index l.events) l.replies.items (g.S.BookStore.model.books l.store) l.devices.items;
 }

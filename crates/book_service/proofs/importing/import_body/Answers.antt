@@ -29,9 +29,9 @@ none_is (Some tally) none = absurd (none tally refl)
 
 pub returns-in_err-kept-clause-step : goal.returns-in_err-kept-clause-step
 returns-in_err-kept-clause-step g c = λ premise.
-    let limits = g.S.BookStore.limits c.args.store.now in
-    let old = g.S.BookStore.books c.args.store.now in
-    let new = g.S.BookStore.books c.kept_import.new.self in
+    let limits = g.S.BookStore.model.limits c.args.store.now in
+    let old = g.S.BookStore.model.books c.args.store.now in
+    let new = g.S.BookStore.model.books c.kept_import.new.self in
     let p = err_from_is_err_and c.from_residual.result c.from_residual.ensures.1 in
     subst (λ (o : Result ImportTally Denied). CommandOnRows limits old (Import c.args.book.now c.args.key.now c.args.body.now) (reply_to reply.Imported o) new) (sym (p.1 ∙ ap (λ (d : Denied). Err d) p.2))
     (kept_not limits old new c.args.book.now c.args.key.now c.args.body.now c.kept_imports_refine_histories.ensures c.in_err-kept.field-0.0
@@ -39,18 +39,18 @@ returns-in_err-kept-clause-step g c = λ premise.
 
 pub returns-in-Some-clause-step : goal.returns-in-Some-clause-step
 returns-in-Some-clause-step g c = λ premise.
-    let limits = g.S.BookStore.limits c.args.store.now in
-    let old = g.S.BookStore.books c.args.store.now in
-    let new = g.S.BookStore.books c.kept_import.new.self in
+    let limits = g.S.BookStore.model.limits c.args.store.now in
+    let old = g.S.BookStore.model.books c.args.store.now in
+    let new = g.S.BookStore.model.books c.kept_import.new.self in
     returns_stored limits old new c.args.book.now c.args.key.now c.args.body.now c.kept_imports_refine_histories.ensures c.in-Some.kept
     (subst (λ (k : Option ImportTally). ReturnsExactly (Ok k) (kept_import_step old c.args.book.now c.args.key.now) old new) c.in-Some.is
     (received_as old new (Ok c.in_ok-kept.field-0) c.as_str.result.now c.args.book.now c.as_str-2.result.now c.args.key.now c.as_str.ensures c.as_str-2.ensures (c.in_ok-kept.ensures.step premise)))
 
 pub returns-in_err-cards-clause-step : goal.returns-in_err-cards-clause-step
 returns-in_err-cards-clause-step g c = λ premise.
-    let limits = g.S.BookStore.limits c.args.store.now in
-    let old = g.S.BookStore.books c.args.store.now in
-    let new = g.S.BookStore.books c.kept_import.new.self in
+    let limits = g.S.BookStore.model.limits c.args.store.now in
+    let old = g.S.BookStore.model.books c.args.store.now in
+    let new = g.S.BookStore.model.books c.kept_import.new.self in
     let p = err_from_is_err_and c.from_residual-in_err-cards.result c.from_residual-in_err-cards.ensures.1 in
     subst (λ (o : Result ImportTally Denied). CommandOnRows limits old (Import c.args.book.now c.args.key.now c.args.body.now) (reply_to reply.Imported o) new) (sym (p.1 ∙ ap (λ (d : Denied). Err d) p.2))
     (body_not limits old new c.args.book.now c.args.key.now c.args.body.now c.kept_imports_refine_histories.ensures c.in_err-cards.field-0.0
@@ -65,16 +65,16 @@ import-requires g c = record {
 
 pub returns-clause-step : goal.returns-clause-step
 returns-clause-step g c = λ premise.
-    let limits = g.S.BookStore.limits c.args.store.now in
-    let old = g.S.BookStore.books c.args.store.now in
-    let mid = g.S.BookStore.books c.kept_import.new.self in
-    let new = g.S.BookStore.books c.import.new.self in
+    let limits = g.S.BookStore.model.limits c.args.store.now in
+    let old = g.S.BookStore.model.books c.args.store.now in
+    let mid = g.S.BookStore.model.books c.kept_import.new.self in
+    let new = g.S.BookStore.model.books c.import.new.self in
     imports_cards limits old mid new c.args.book.now c.args.key.now c.args.body.now c.kept_imports_refine_histories.ensures c.import_refines_histories.ensures c.in_ok-cards.cards.items
     (subst (λ (body : List ℕ). TextHasCards body c.in_ok-cards.cards.items) c.as_slice.ensures c.in_ok-cards.ensures.cards)
     (subst (λ (k : Option ImportTally). ReturnsExactly (Ok k) (kept_import_step old c.args.book.now c.args.key.now) old mid) (none_is c.in_ok-kept.field-0 (λ tally is. c.in_default.not-Some tally is))
-    (received_as old mid (Ok c.in_ok-kept.field-0) c.as_str.result.now c.args.book.now c.as_str-2.result.now c.args.key.now c.as_str.ensures c.as_str-2.ensures (c.in_ok-kept.ensures.step (c.import.ensures.premise premise))))
+    (received_as old mid (Ok c.in_ok-kept.field-0) c.as_str.result.now c.args.book.now c.as_str-2.result.now c.args.key.now c.as_str.ensures c.as_str-2.ensures (c.in_ok-kept.ensures.step (c.import.ensures.terms.premise premise))))
     c.import.result
-    (subst (λ (l : Bounds). MatchesStep c.import.result (import_step l mid c.args.book.now c.args.key.now c.in_ok-cards.cards.items) mid new) c.kept_import.ensures.limits
-    (subst (λ (book : List ℕ). MatchesStep c.import.result (import_step (g.S.BookStore.limits c.kept_import.new.self) mid book c.args.key.now c.in_ok-cards.cards.items) mid new) c.as_str-3.ensures
-    (subst (λ (key : List ℕ). MatchesStep c.import.result (import_step (g.S.BookStore.limits c.kept_import.new.self) mid c.as_str-3.result.now key c.in_ok-cards.cards.items) mid new) c.as_str-4.ensures
-    (subst (λ (cards : List (List Line)). MatchesStep c.import.result (import_step (g.S.BookStore.limits c.kept_import.new.self) mid c.as_str-3.result.now c.as_str-4.result.now cards) mid new) c.as_slice-2.ensures.value (c.import.ensures.step premise)))))
+    (subst (λ (l : Bounds). MatchesStep c.import.result (import_step l mid c.args.book.now c.args.key.now c.in_ok-cards.cards.items) mid new) c.kept_import.ensures.terms.limits
+    (subst (λ (book : List ℕ). MatchesStep c.import.result (import_step (g.S.BookStore.model.limits c.kept_import.new.self) mid book c.args.key.now c.in_ok-cards.cards.items) mid new) c.as_str-3.ensures
+    (subst (λ (key : List ℕ). MatchesStep c.import.result (import_step (g.S.BookStore.model.limits c.kept_import.new.self) mid c.as_str-3.result.now key c.in_ok-cards.cards.items) mid new) c.as_str-4.ensures
+    (subst (λ (cards : List (List Line)). MatchesStep c.import.result (import_step (g.S.BookStore.model.limits c.kept_import.new.self) mid c.as_str-3.result.now c.as_str-4.result.now cards) mid new) c.as_slice-2.ensures.value (c.import.ensures.step premise)))))

@@ -16,9 +16,9 @@ use Rattle.book_service.proofs.whole_books.export.Goals as goal
 
 pub returns-in_err-stored-clause-step : goal.returns-in_err-stored-clause-step
 returns-in_err-stored-clause-step g c = λ premise.
-    let limits = g.S.BookStore.limits c.args.store.now in
-    let old = g.S.BookStore.books c.args.store.now in
-    let new = g.S.BookStore.books c.cards.new.self in
+    let limits = g.S.BookStore.model.limits c.args.store.now in
+    let old = g.S.BookStore.model.books c.args.store.now in
+    let new = g.S.BookStore.model.books c.cards.new.self in
     let p = err_from_is_err_and c.from_residual.result c.from_residual.ensures.1 in
     subst (λ (o : Result (List ℕ) Denied). CommandOnRows limits old (Export c.args.book.now c.args.form) (reply_to (λ (text : List ℕ). reply.Csv text) o) new) (sym (p.1 ∙ ap (λ (d : Denied). Err d) p.2))
     (exports limits old new c.cards_refine_histories.ensures.all c.args.book.now c.args.form (Err c.in_err-stored.field-0.0)
@@ -27,9 +27,9 @@ returns-in_err-stored-clause-step g c = λ premise.
 
 pub returns-in_err-text-clause-step : goal.returns-in_err-text-clause-step
 returns-in_err-text-clause-step g c = λ premise.
-    let limits = g.S.BookStore.limits c.args.store.now in
-    let old = g.S.BookStore.books c.args.store.now in
-    let new = g.S.BookStore.books c.cards.new.self in
+    let limits = g.S.BookStore.model.limits c.args.store.now in
+    let old = g.S.BookStore.model.books c.args.store.now in
+    let new = g.S.BookStore.model.books c.cards.new.self in
     let p = err_from_is_err_and c.from_residual-in_err-text.result c.from_residual-in_err-text.ensures.1 in
     subst (λ (o : Result (List ℕ) Denied). CommandOnRows limits old (Export c.args.book.now c.args.form) (reply_to (λ (text : List ℕ). reply.Csv text) o) new) (sym (p.1 ∙ ap (λ (d : Denied). Err d) p.2))
     (fails limits old new (Export c.args.book.now c.args.form) Memory
@@ -37,9 +37,9 @@ returns-in_err-text-clause-step g c = λ premise.
 
 pub returns-clause-step : goal.returns-clause-step
 returns-clause-step g c = λ premise.
-    let limits = g.S.BookStore.limits c.args.store.now in
-    let old = g.S.BookStore.books c.args.store.now in
-    let new = g.S.BookStore.books c.cards.new.self in
+    let limits = g.S.BookStore.model.limits c.args.store.now in
+    let old = g.S.BookStore.model.books c.args.store.now in
+    let new = g.S.BookStore.model.books c.cards.new.self in
     subst (λ (text : List ℕ). CommandOnRows limits old (Export c.args.book.now c.args.form) (reply.Csv text) new) (sym (c.from_vec.ensures ∙ c.in_ok-text.ensures.text))
     (exports limits old new c.cards_refine_histories.ensures.all c.args.book.now c.args.form (Ok (octet_map c.in_ok-stored.stored))
     (subst (λ (book : List ℕ). MatchesQuery {A = BTreeMap (String Global) Stored} (λ received cards. octet_map cards ≡ received) (Ok c.in_ok-stored.stored) (cards_step old book) old new) c.as_str.ensures (c.in_ok-stored.ensures.step premise)))

@@ -16,7 +16,7 @@ use Rattle.book_commands.specs.declared.reply.Reply.{Reply}
 use Rattle.book_commands.specs.declared.reply.Reply.TheVariants as reply
 use Rattle.book_service.specs.internal.RowSteps.{CommandOnRows}
 use Rattle.book_service.specs.Replies.{denied_reply, reply_to}
-use Rattle.book_service.proofs.WholeBookLemmas.{other_answer, fails, cards_keep, people_not, reply_has_nobody, reply_is_not_group, reply_has_people}
+use Rattle.book_service.proofs.WholeBookLemmas.{other_answer, fails, cards_keep, people_not, reply_has_no_people, reply_is_not_group, reply_has_people}
 use Rattle.book_service.proofs.whole_books.people.Goals as goal
 
 -- the same command, by the texts that its fields borrow
@@ -26,9 +26,9 @@ as_named limits old new r book named uid of_uid same_book same_uid does =
 
 pub returns-in_err-stored-clause-step : goal.returns-in_err-stored-clause-step
 returns-in_err-stored-clause-step g c = λ premise.
-    let limits = g.S.BookStore.limits c.args.store.now in
-    let old = g.S.BookStore.books c.args.store.now in
-    let new = g.S.BookStore.books c.cards.new.self in
+    let limits = g.S.BookStore.model.limits c.args.store.now in
+    let old = g.S.BookStore.model.books c.args.store.now in
+    let new = g.S.BookStore.model.books c.cards.new.self in
     let p = err_from_is_err_and c.from_residual.result c.from_residual.ensures.1 in
     subst (λ (o : Result Expansion Denied). CommandOnRows limits old (People c.args.book.now c.args.uid.now) (reply_to (λ (expansion : Expansion). reply.People expansion) o) new) (sym (p.1 ∙ ap (λ (d : Denied). Err d) p.2))
     (as_named limits old new (denied_reply c.in_err-stored.field-0.0) c.as_str.result.now c.args.book.now c.args.uid.now c.args.uid.now c.as_str.ensures refl
@@ -37,9 +37,9 @@ returns-in_err-stored-clause-step g c = λ premise.
 
 pub returns-in-Ok-clause-step : goal.returns-in-Ok-clause-step
 returns-in-Ok-clause-step g c = λ premise.
-    let limits = g.S.BookStore.limits c.args.store.now in
-    let old = g.S.BookStore.books c.args.store.now in
-    let new = g.S.BookStore.books c.cards.new.self in
+    let limits = g.S.BookStore.model.limits c.args.store.now in
+    let old = g.S.BookStore.model.books c.args.store.now in
+    let new = g.S.BookStore.model.books c.cards.new.self in
     as_named limits old new (reply.People c.in-Ok.expansion) c.as_str.result.now c.args.book.now c.as_str-2.result.now c.args.uid.now c.as_str.ensures c.as_str-2.ensures
     (reply_has_people limits old new c.cards_refine_histories.ensures.all c.as_str.result.now c.as_str-2.result.now (octet_map c.in_ok-stored.stored) (c.in_ok-stored.ensures.step premise) c.in-Ok.expansion c.in-Ok.ensures.expansion
     (λ none. absurd (let no : Ok c.in-Ok.expansion ≡ Err group_fault.NoSuchCard = sym c.in-Ok.is ∙ c.expand.ensures.no_such_card.1 none in cc))
@@ -47,26 +47,26 @@ returns-in-Ok-clause-step g c = λ premise.
 
 pub returns-in-Err-NoSuchCard-clause-step : goal.returns-in-Err-NoSuchCard-clause-step
 returns-in-Err-NoSuchCard-clause-step g c = λ premise.
-    let limits = g.S.BookStore.limits c.args.store.now in
-    let old = g.S.BookStore.books c.args.store.now in
-    let new = g.S.BookStore.books c.cards.new.self in
+    let limits = g.S.BookStore.model.limits c.args.store.now in
+    let old = g.S.BookStore.model.books c.args.store.now in
+    let new = g.S.BookStore.model.books c.cards.new.self in
     as_named limits old new (reply.Refused NoSuchCard) c.as_str.result.now c.args.book.now c.as_str-2.result.now c.args.uid.now c.as_str.ensures c.as_str-2.ensures
-    (reply_has_nobody limits old new c.cards_refine_histories.ensures.all c.as_str.result.now c.as_str-2.result.now (octet_map c.in_ok-stored.stored) (c.in_ok-stored.ensures.step premise)
+    (reply_has_no_people limits old new c.cards_refine_histories.ensures.all c.as_str.result.now c.as_str-2.result.now (octet_map c.in_ok-stored.stored) (c.in_ok-stored.ensures.step premise)
     (c.expand.ensures.no_such_card.0 (c.in-Err-NoSuchCard.is ∙ ap (λ (f : GroupFault). Err f) c.in-Err-NoSuchCard.field-0-is)))
 
 pub returns-in-Err-NotGroup-clause-step : goal.returns-in-Err-NotGroup-clause-step
 returns-in-Err-NotGroup-clause-step g c = λ premise.
-    let limits = g.S.BookStore.limits c.args.store.now in
-    let old = g.S.BookStore.books c.args.store.now in
-    let new = g.S.BookStore.books c.cards.new.self in
+    let limits = g.S.BookStore.model.limits c.args.store.now in
+    let old = g.S.BookStore.model.books c.args.store.now in
+    let new = g.S.BookStore.model.books c.cards.new.self in
     as_named limits old new (reply.Refused NotGroup) c.as_str.result.now c.args.book.now c.as_str-2.result.now c.args.uid.now c.as_str.ensures c.as_str-2.ensures
     (reply_is_not_group limits old new c.cards_refine_histories.ensures.all c.as_str.result.now c.as_str-2.result.now (octet_map c.in_ok-stored.stored) (c.in_ok-stored.ensures.step premise)
     (c.expand.ensures.not_group.0 (c.in-Err-NotGroup.is ∙ ap (λ (f : GroupFault). Err f) c.in-Err-NotGroup.field-0-is)))
 
 pub returns-clause-step : goal.returns-clause-step
 returns-clause-step g c = λ premise.
-    let limits = g.S.BookStore.limits c.args.store.now in
-    let old = g.S.BookStore.books c.args.store.now in
-    let new = g.S.BookStore.books c.cards.new.self in
+    let limits = g.S.BookStore.model.limits c.args.store.now in
+    let old = g.S.BookStore.model.books c.args.store.now in
+    let new = g.S.BookStore.model.books c.cards.new.self in
     fails limits old new (People c.args.book.now c.args.uid.now) Memory
     (cards_keep limits old new (λ received cards. octet_map cards ≡ received) (Ok c.in_ok-stored.stored) c.as_str.result.now (c.in_ok-stored.ensures.step premise))
