@@ -1,4 +1,4 @@
--- A stream has exactly one list of requests, and the stream can be cut anywhere.
+-- A stream has at most one list of requests, and it can be cut anywhere. This project's own.
 use Rattle.std.specs.Prelude.{◌≡◌, ℕ, Bool, true, false, List, ◌++◌}
 use Rattle.http_requests.specs.Requests.{Request, StartsWithRequests, AreAllRequests}
 

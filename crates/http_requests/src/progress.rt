@@ -7,7 +7,8 @@ ghost use Rattle.http_requests.specs.SessionFeeding.{FeedsPiece};
 ghost use Rattle.http_requests.specs.ParsedHeads.{IsBoundFault};
 ghost use Rattle.http_requests.specs.internal.Progress.{MatchesStage, IsPartialHead, IsClosed};
 ghost use Rattle.http_requests.specs.internal.Progress.{IsOpen, IsPartialBody, IsCompleteRequest};
-ghost use Rattle.http_requests.specs.internal.Progress.{StepsSession, open_octets};
+ghost use Rattle.http_requests.specs.internal.Progress.{HoldsNoneIfClosed, StepsSession};
+ghost use Rattle.http_requests.specs.internal.Progress.{open_octets};
 ghost use Rattle.http_requests.specs.internal.HeadScans.{Scans};
 ghost use Rattle.http_requests.specs.declared.head_state.HeadState.TheVariants.{Blank, Ended};
 
@@ -259,6 +260,19 @@ impl Progress {
                 self.consume_body(alloc, handler, out, head, start, end, piece)
             }
             Stage::Closed => Ok((piece.len(), false)),
+        }
+    }
+
+    /// Frees the octets that a closed session still holds.
+    pub(crate) fn release_if_closed(&mut self, alloc: Global)
+        requires holds { MatchesStage self.old.held.items self.old.stage }
+        ensures holds { MatchesStage self.new.held.items self.new.stage }
+        ensures same_value { open_octets self.new.held.items self.new.stage
+            ≡ open_octets self.old.held.items self.old.stage }
+        ensures released { HoldsNoneIfClosed self.new.held.items self.new.stage }
+    {
+        if self.is_closed() {
+            self.held = Vec::new(alloc);
         }
     }
 

@@ -8,8 +8,9 @@ use base_types::NoMemory;
 use std::alloc::Global;
 use std::marker::Model;
 
-/// The requests of one connection. It holds the octets of at most one incomplete request. In
-/// contracts its value is those octets while it is open, and `None` once it is closed.
+/// The requests of one connection. It holds the octets of at most one incomplete request, and none
+/// once it is closed. In contracts its value is those octets while it is open, and `None` once it
+/// is closed.
 #[derive(Debug, Drop)]
 pub struct Session {
     progress: Progress,
@@ -17,14 +18,16 @@ pub struct Session {
 
 impl Model for Session {
     ghost use Rattle.std.specs.Prelude.{ℕ, List, Option};
-    ghost use Rattle.http_requests.specs.internal.Progress.{MatchesStage, open_octets};
+    ghost use Rattle.http_requests.specs.internal.Progress.{HoldsNoneIfClosed, MatchesStage};
+    ghost use Rattle.http_requests.specs.internal.Progress.{open_octets};
 
     ghost Value = { Option (List ℕ) };
 
     ghost view = { λ session. open_octets session.progress.held.items session.progress.stage };
 
     ghost invariant = { λ session.
-        MatchesStage session.progress.held.items session.progress.stage };
+        MatchesStage session.progress.held.items session.progress.stage
+        × HoldsNoneIfClosed session.progress.held.items session.progress.stage };
 }
 
 impl Session {
@@ -61,6 +64,8 @@ impl Session {
             self.old handler.old piece.now handler.new) }
         ensures no_memory_closes { OnErr result (self.new ≡ None) }
     {
-        self.progress.feed(alloc, handler, piece)
+        let fed = self.progress.feed(alloc, handler, piece);
+        self.progress.release_if_closed(alloc);
+        fed
     }
 }

@@ -1,5 +1,5 @@
 -- What a session holds of the request at the front, and what one step does with more octets.
-use Rattle.std.specs.Prelude.{◌≡◌, ◌≢◌, ◌<◌, ◌≤◌, ◌+◌, ℕ, Bool, true, false, List, ◌++◌, length}
+use Rattle.std.specs.Prelude.{◌≡◌, ◌≢◌, ◌<◌, ◌≤◌, ◌+◌, ℕ, Bool, true, false, List, [], ◌++◌, length}
 use Rattle.std.specs.Prelude.{Option, Some, None, ⊤}
 use Rattle.httparse.specs.Grammar.{RequestHead, print_request}
 use Rattle.http_requests.specs.Fields.{fault_of_head, longest_body}
@@ -57,6 +57,10 @@ IsClosed stage.Closed = ⊤
 
 abbrev pub IsOpen : Stage → Type 0
 IsOpen at = ¬ (IsClosed at)
+
+-- a closed session holds no octets
+abbrev pub HoldsNoneIfClosed : List ℕ → Stage → Type 0
+HoldsNoneIfClosed held at = IsClosed at → held ≡ []
 
 -- the value of a session in contracts
 abbrev pub open_octets : List ℕ → Stage → Option (List ℕ)
