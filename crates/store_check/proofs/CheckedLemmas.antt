@@ -2,20 +2,22 @@
 use Rattle.std.proofs.Common.{◌≡◌, inl, inr, ◌≤◌, ℕ, ℤ, Bool, true, false, ◌&&◌, List, [], ◌∷◌, find, length, bytes_eq, int_eq, Option, Some, None, IfSome, IsTrue, ◌↔◌, is_some, refl, sym, ap, ap₂, subst, ◌∙◌, ◌+◌, true≢false}
 use Rattle.std.specs.List.{list_any}
 use Rattle.std.specs.Option.{option_map}
+use Rattle.std.proofs.lemmas.Bool.{and_parts}
 use Rattle.sqlite_rules.specs.Lists.{Has}
 use Rattle.vcard_text.specs.Cards.{uid_of}
 use Rattle.book_model.specs.Bounds.{Bounds}
 use Rattle.book_model.specs.Counting.{departed_cards}
 use Rattle.book_model.specs.WellFormed.{IsWellFormedBook, IsWellFormedRow}
+use Rattle.book_model.proofs.BasicLemmas.{is_some-map}
 use Rattle.store_tables.specs.Books.{BookRow, has_id}
 use Rattle.store_tables.specs.Imports.{ImportRow}
 use Rattle.store_tables.specs.Members.{MemberRow, has_uid}
+use Rattle.store_tables.proofs.KeyedRows.{all_has, same_int, text_itself}
 use Rattle.store_rows.specs.SoundTables.{HasBookId, AreWellFormed, IsReadableBook}
 use Rattle.store_rows.specs.TableBooks.{model_row, row_tally, row_counts, keep_of_book, row_book}
 use Rattle.store_rows.specs.TableRows.{TableRows}
 use Rattle.store_rows.specs.Values.{natural, text_card}
-use Rattle.store_rows.proofs.KeyedEntries.{all_has, found_has, both_true, text_itself}
-use Rattle.store_rows.proofs.RowLemmas.{same_int}
+use Rattle.store_rows.proofs.KeyedEntries.{found_has}
 use Rattle.store_check.specs.BookChecks.{PassRowChecks, IsCheckedBook, IsCheckedMember, IsCheckedImport, IfBook, is_written_by}
 use Rattle.store_check.proofs.GetLemmas.{give_book, len_books, give_member, give_import, live_count_is}
 use Rattle.store_check.proofs.ListLemmas.{all_from_has, ascending_on}
@@ -89,7 +91,7 @@ module _ (limits : Bounds) (rows : TableRows) (well : AreWellFormed limits rows)
       go : (t : Bool) → is_written_by a.book a.changed b ≡ t → t ≡ false
       go false e = refl
       go true e =
-          let at = both_true (int_eq b.book a.book) (int_eq b.changed a.changed) e in
+          let at = and_parts (int_eq b.book a.book) (int_eq b.changed a.changed) e in
           let book : b.book ≡ a.book = same_int b.book a.book at.0 in
           let changed : b.changed ≡ a.changed = same_int b.changed a.changed at.1 in
           let listed = listed_book rows.books a.book (all_has (λ (m : MemberRow). list_any (has_id m.book) rows.books ≡ true) rows.members a well.sound.listed_members has) in
@@ -116,11 +118,7 @@ any_found p (b ∷ bs) = step (p b) refl (any_found p bs)
     step true e more = rw e refl
     step false e more = rw e more
 
-some_mapped : {X Y : Type 0} (f : X → Y) (o : Option X) → is_some (option_map f o) ≡ is_some o
-some_mapped f None = refl
-some_mapped f (Some x) = refl
-
 pub listed_is : {X : Type 0} (f : X → BookRow) (o : Option X) (bs : List BookRow) (id : ℤ) (returned : Bool) → returned ≡ is_some o → option_map f o ≡ find (has_id id) bs → IsTrue returned ↔ HasBookId bs id
 listed_is f o bs id returned is found =
-    let e : returned ≡ list_any (has_id id) bs = is ∙ sym (some_mapped f o) ∙ ap (λ r. is_some r) found ∙ any_found (has_id id) bs in
+    let e : returned ≡ list_any (has_id id) bs = is ∙ sym (is_some-map f o) ∙ ap (λ r. is_some r) found ∙ any_found (has_id id) bs in
     (λ t. sym e ∙ t, λ h. e ∙ h)

@@ -1,5 +1,5 @@
 -- Lists of distinct keys, by the size of the set of them.
-use Rattle.std.proofs.Common.{◌≡◌, ◌↔◌, ℕ, Bool, true, false, BTreeSet, Ordering, List, [], ◌∷◌, map, length, IsTrue, nat_eq, ℤ, int_eq, ◌&&◌, bytes_eq, refl, subst, sym, ap, ap₂, ◌∙◌, eq-eqb, arith}
+use Rattle.std.proofs.Common.{◌≡◌, ◌↔◌, ℕ, Bool, true, false, BTreeSet, Ordering, List, [], ◌∷◌, map, length, IsTrue, nat_eq, ℤ, int_eq, ◌&&◌, bytes_eq, subst, sym, ap, ap₂, ◌∙◌, eq-eqb, arith}
 use Rattle.std.specs.BTreeSet.{IsFromIterResult, btree_set_len}
 use Rattle.std.specs.Cmp.{IsTotalOrder}
 use Rattle.std.specs.List.{AllByRecursion, IsDistinct}
@@ -7,7 +7,7 @@ use Rattle.std.specs.Ordering.{eq_by_cmp, int_cmp, is_eq, ordering_then}
 use Rattle.std.specs.Ordering.{nat_cmp}
 use Rattle.std.specs.Cmp.Lexicographic.{slice_cmp}
 use Rattle.std.proofs.lemmas.Map.Text.{is_eq-slice_cmp}
-use Rattle.store_rows.proofs.KeyedEntries.{both_true, text_turned}
+use Rattle.store_rows.proofs.KeyedEntries.{text_turned}
 use Rattle.sqlite_trees.proofs.ListLemmas.{all_both, ascending-map, ascending_from_map, ascending_weaker}
 use Rattle.store_rows.proofs.RowLemmas.{int_turned}
 use Rattle.std.proofs.lemmas.Int.{ints}
@@ -15,6 +15,7 @@ use Rattle.std.proofs.Common.{Less, Equal, Greater}
 use Rattle.std.proofs.lemmas.Cmp.{eq_by_cmp_equiv}
 use Rattle.std.proofs.lemmas.Map.Made.{IsDistinct-from_count, distinct_count-from_IsDistinct}
 use Rattle.std.proofs.lemmas.Map.Views.{btree_set_len-from_list}
+use Rattle.std.proofs.lemmas.Bool.{and_parts}
 use Rattle.sqlite_trees.specs.Tree.{IsAscending}
 
 eq_of : (a b : ℕ) → nat_eq a b ≡ true → a ≡ b
@@ -80,10 +81,6 @@ both_alike Greater p s t h k = ap (λ b. b && t) h
 pub texts_alike : (a b : List ℕ) → is_eq (slice_cmp nat_cmp a b) ≡ bytes_eq b a
 texts_alike a b = is_eq-slice_cmp a b ∙ text_turned a b
 
-pub map_same : {X : Type 0} (xs : List X) → map (λ x. x) xs ≡ xs
-map_same [] = refl
-map_same (x ∷ xs) = ap (λ l. x ∷ l) (map_same xs)
-
 pub turned_ints : (a b : ℤ) → eq_by_cmp int_cmp a b ≡ int_eq b a
 turned_ints a b = ints_alike a b ∙ int_turned a b
 
@@ -99,7 +96,7 @@ mapped_keys P f xs returned h = (λ t. ascending-map P f xs (h.0 t), λ a. h.1 (
 pub two_keys : {X Y : Type 0} (P Q : Y → Y → Type 0) (f : X → Y) (xs : List X) → (s t : Bool) → (IsTrue s ↔ IsAscending (λ a b. P (f a) (f b)) xs) → (IsTrue t ↔ IsAscending (λ a b. Q (f a) (f b)) xs)
     → IsTrue (s && t) ↔ IsAscending (λ a b. P a b × Q a b) (map f xs)
 two_keys P Q f xs s t h k = (
-  λ both. let parts = both_true s t both in ascending-map (λ a b. P a b × Q a b) f xs (ascending_both (λ a b. P (f a) (f b)) (λ a b. Q (f a) (f b)) xs (h.0 parts.0) (k.0 parts.1)),
+  λ both. let parts = and_parts s t both in ascending-map (λ a b. P a b × Q a b) f xs (ascending_both (λ a b. P (f a) (f b)) (λ a b. Q (f a) (f b)) xs (h.0 parts.0) (k.0 parts.1)),
   λ a. let back = ascending_from_map (λ a b. P a b × Q a b) f xs a in
       ap₂ (λ x y. x && y) (h.1 (ascending_weaker (λ a b. P (f a) (f b) × Q (f a) (f b)) (λ a b. P (f a) (f b)) (λ a b r. r.0) xs back)) (k.1 (ascending_weaker (λ a b. P (f a) (f b) × Q (f a) (f b)) (λ a b. Q (f a) (f b)) (λ a b r. r.1) xs back)),
 )

@@ -1,11 +1,12 @@
 -- Look-ups in the books of sound rows, and the rows that they find.
-use Rattle.std.proofs.Common.{◌≡◌, ℕ, ℤ, pos, Bool, true, false, ◌&&◌, List, [], ◌∷◌, filter, find, length, is_some, bytes_eq, int_eq, Option, Some, None, refl, sym, ap, ap₂, subst, ◌∙◌, true≢false}
+use Rattle.std.proofs.Common.{◌≡◌, ℕ, ℤ, Bool, true, false, ◌&&◌, List, [], ◌∷◌, filter, find, length, is_some, bytes_eq, int_eq, Option, Some, None, refl, sym, ap, ap₂, ◌∙◌, true≢false}
 use Rattle.std.specs.List.{AllByRecursion}
 use Rattle.std.specs.Option.{option_map, option_map_or, option_and_then}
 use Rattle.std.specs.FinMap as finite
 use Rattle.std.proofs.lemmas.List.{length-map}
 use Rattle.std.proofs.lemmas.List.Sorted.{length_permutation}
 use Rattle.std.proofs.lemmas.Map.Lookups.{exact_bytes}
+use Rattle.std.proofs.lemmas.Bool.{and_parts}
 use Rattle.sqlite_rules.specs.Lists.{Has}
 use Rattle.base_types.specs.TextMaps.{text_cmp}
 use Rattle.base_types.proofs.TextLemmas.{text_total, same_text}
@@ -18,13 +19,14 @@ use Rattle.book_model.proofs.LiveCardLemmas.{find_live}
 use Rattle.store_tables.specs.Books.{BookRow, AreBooks, has_name, has_id}
 use Rattle.store_tables.specs.Imports.{ImportRow, has_key}
 use Rattle.store_tables.specs.Members.{MemberRow, is_in_book, has_uid}
+use Rattle.store_tables.proofs.KeyedRows.{same_int, int_itself, text_itself}
 use Rattle.store_rows.specs.SoundTables.{AreSoundRows}
 use Rattle.store_rows.specs.TableBooks.{model_row, row_tally, members_in, imports_in, book_entry, row_book, books_of}
 use Rattle.store_rows.specs.TableRows.{TableRows}
 use Rattle.store_rows.specs.Values.{natural, text_card}
 use Rattle.store_rows.proofs.BookLemmas.{book_at}
-use Rattle.store_rows.proofs.KeyedEntries.{Single, Once, map_of, here, get_is, entries_are, find_single, found_has, both_true, text_itself}
-use Rattle.store_rows.proofs.RowLemmas.{once_members, single_member, single_import, uid_of_row, get-members_in, get-imports_in, get-books_of, once_books, books_map, each_book, name_of, every, same_int, int_itself}
+use Rattle.store_rows.proofs.KeyedEntries.{Single, Once, map_of, here, get_is, entries_are, find_single, found_has}
+use Rattle.store_rows.proofs.RowLemmas.{once_members, single_member, single_import, uid_of_row, get-members_in, get-imports_in, get-books_of, once_books, books_map, each_book, name_of, every}
 use Rattle.sqlite_trees.proofs.ListLemmas.{ascending_weaker, all_weaker}
 use Rattle.store_check.specs.BookChecks.{is_live_in}
 
@@ -77,7 +79,7 @@ pub got_member : (rows : TableRows) (b : BookRow) (uid : List ℕ) (row : Kept) 
 got_member rows b uid row h =
     let it = some_of model_row (find (has_uid b.id uid) rows.members) row (sym (get-members_in b.id rows.members uid) ∙ h) in
     let found = found_has (has_uid b.id uid) rows.members it.0 it.1 in
-    let at = both_true (int_eq it.0.book b.id) (bytes_eq it.0.uid uid) found.1 in
+    let at = and_parts (int_eq it.0.book b.id) (bytes_eq it.0.uid uid) found.1 in
     record { m = it.0; there = found.0; book_is = same_int it.0.book b.id at.0; uid_is = same_text it.0.uid uid at.1; is = it.2 }
 
 pub give_member : (rows : TableRows) (b : BookRow) (m : MemberRow) → AreSoundRows rows → Has rows.members m → m.book ≡ b.id → finite.get (members_in b.id rows.members) m.uid ≡ Some (model_row m)
@@ -98,7 +100,7 @@ pub got_import : (rows : TableRows) (b : BookRow) (key : List ℕ) (tally : Impo
 got_import rows b key tally h =
     let it = some_of row_tally (find (has_key b.id key) rows.imports) tally (sym (get-imports_in b.id rows.imports key) ∙ h) in
     let found = found_has (has_key b.id key) rows.imports it.0 it.1 in
-    let at = both_true (int_eq it.0.book b.id) (bytes_eq it.0.key key) found.1 in
+    let at = and_parts (int_eq it.0.book b.id) (bytes_eq it.0.key key) found.1 in
     record { i = it.0; there = found.0; book_is = same_int it.0.book b.id at.0; key_is = same_text it.0.key key at.1; is = it.2 }
 
 pub give_import : (rows : TableRows) (b : BookRow) (i : ImportRow) → AreSoundRows rows → Has rows.imports i → i.book ≡ b.id → finite.get (imports_in b.id rows.imports) i.key ≡ Some (row_tally i)
@@ -154,7 +156,7 @@ live_count_is rows b sound =
   where
     once : Once (is_live_in b.id) uid_of_row stored_of rows.members
     once = ascending_weaker (λ (a c : MemberRow). is_in_book b.id a ≡ true → has_uid b.id a.uid c ≡ false) (λ (a c : MemberRow). is_live_in b.id a ≡ true → here (is_live_in b.id) uid_of_row stored_of a.uid c ≡ false)
-        (λ a c h e. less (is_in_book b.id c) (is_some c.card) (bytes_eq c.uid a.uid) (h (both_true (is_in_book b.id a) (is_some a.card) e).0)) rows.members (once_members b.id rows.members sound.members)
+        (λ a c h e. less (is_in_book b.id c) (is_some c.card) (bytes_eq c.uid a.uid) (h (and_parts (is_in_book b.id a) (is_some a.card) e).0)) rows.members (once_members b.id rows.members sound.members)
       where
         less : (x y z : Bool) → (x && z) ≡ false → ((x && y) && z) ≡ false
         less false y z h = refl

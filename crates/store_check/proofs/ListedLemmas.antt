@@ -21,6 +21,7 @@ use Rattle.store_rows.specs.TableRows.{TableRows, HoldsRows, load_member, load_i
 use Rattle.store_rows.specs.Values.{text_or_empty, text_or_none}
 use Rattle.store_rows.proofs.OpenLemmas.{listed_held}
 use Rattle.store_rows.proofs.RowLemmas.{AreSame}
+use Rattle.store_rows.proofs.HeldRows.{member_loads}
 use Rattle.store_check.specs.RowChecks.{AreWellStored, AreTableRows, IsBookRow, IsMemberRow, IsImportRow, IsKeepRow, decode_book, decode_keep, decode_rows}
 use Rattle.store_schema.specs.StoredSchema.{IsCurrentSchema}
 use Rattle.store_check.specs.ListedRows.{AreListedRows, WellStoredAreHeld}
@@ -127,13 +128,6 @@ import_shows i h = record {
 keep_shows : (k : KeepRow) → IsReadableKeep k → IsKeepRow (keep_pair k)
 keep_shows k h = record { book = refl; keep = ap Int h }
 
-member_again : (m : MemberRow) → load_member (member_row m) ≡ m
-member_again m = step m.card
-  where
-    step : (card : Option (List ℕ)) → load_member (member_row (record m { card = card })) ≡ record m { card = card }
-    step None = refl
-    step (Some t) = refl
-
 -- ---- lists of rows
 
 map_all : {X : Type 0} (f : X → X) (xs : List X) → AllByRecursion (λ x. f x ≡ x) xs → map f xs ≡ xs
@@ -220,7 +214,7 @@ module _ (limits : Bounds) (db : Database) (books members imports keeps : List R
     shown_of_held : AreTableRows books members imports keeps
     shown_of_held = record {
       each_book = rows_show book_row book_cells book_listed bare_row book_shown IsBookRow decode_book IsReadableBook (λ _. refl) (λ _. refl) book_shows (λ _. refl) had.books books (db.trees 2) holds.books listed.all_books readable.books;
-      each_member = rows_show member_row member_cells member_cells whole_row member_row IsMemberRow load_member IsReadableMember (λ _. refl) (λ _. refl) member_shows member_again had.members members (db.trees 4) holds.members listed.all_members readable.members;
+      each_member = rows_show member_row member_cells member_cells whole_row member_row IsMemberRow load_member IsReadableMember (λ _. refl) (λ _. refl) member_shows member_loads had.members members (db.trees 4) holds.members listed.all_members readable.members;
       each_import = rows_show import_row import_cells import_cells whole_row import_row IsImportRow load_import IsReadableImport (λ _. refl) (λ _. refl) import_shows (λ _. refl) had.imports imports (db.trees 7) holds.imports listed.all_imports readable.imports;
       each_keep = rows_show keep_row keep_cells keep_listed bare_row keep_pair IsKeepRow decode_keep IsReadableKeep (λ _. refl) (λ _. refl) keep_shows (λ _. refl) had.keeps keeps (db.trees 9) holds.keeps listed.all_keeps readable.keeps;
     }
@@ -228,7 +222,7 @@ module _ (limits : Bounds) (db : Database) (books members imports keeps : List R
     same_rows : AreSame had (decode_rows books members imports keeps)
     same_rows = record {
       books = rows_same book_row book_cells book_listed bare_row book_shown IsBookRow decode_book IsReadableBook (λ _. refl) (λ _. refl) book_shows (λ _. refl) had.books books (db.trees 2) holds.books listed.all_books;
-      members = rows_same member_row member_cells member_cells whole_row member_row IsMemberRow load_member IsReadableMember (λ _. refl) (λ _. refl) member_shows member_again had.members members (db.trees 4) holds.members listed.all_members;
+      members = rows_same member_row member_cells member_cells whole_row member_row IsMemberRow load_member IsReadableMember (λ _. refl) (λ _. refl) member_shows member_loads had.members members (db.trees 4) holds.members listed.all_members;
       imports = rows_same import_row import_cells import_cells whole_row import_row IsImportRow load_import IsReadableImport (λ _. refl) (λ _. refl) import_shows (λ _. refl) had.imports imports (db.trees 7) holds.imports listed.all_imports;
       keeps = rows_same keep_row keep_cells keep_listed bare_row keep_pair IsKeepRow decode_keep IsReadableKeep (λ _. refl) (λ _. refl) keep_shows (λ _. refl) had.keeps keeps (db.trees 9) holds.keeps listed.all_keeps;
     }

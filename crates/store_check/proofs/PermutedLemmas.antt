@@ -1,6 +1,7 @@
 -- Permuted rows: a property of the rows in one order holds in each order.
-use Rattle.std.proofs.Common.{◌≡◌, ℤ, Bool, true, false, ◌||◌, ◌&&◌, List, int_eq, IsPermutation, refl, sym, ap, ap₂, subst, ◌∙◌}
-use Rattle.std.specs.List.{AllByRecursion, list_any}
+use Rattle.std.proofs.Common.{◌≡◌, ℤ, false, ◌&&◌, List, int_eq, IsPermutation, sym, ap₂, subst, ◌∙◌}
+use Rattle.std.specs.List.{AllByRecursion}
+use Rattle.std.proofs.lemmas.List.Sorted.{list_any-IsPermutation}
 use Rattle.sqlite_trees.specs.Tree.{IsAscending}
 use Rattle.sqlite_trees.proofs.ListLemmas.{along_permutation, all-permutation, all_weaker}
 use Rattle.book_model.specs.Bounds.{Bounds}
@@ -33,16 +34,6 @@ module _ {X : Type 0} (R : X → X → Type 0) (turned : (a b : X) → R a b →
   pub apart_moved : (xs ys : List X) → IsPermutation xs ys → IsAscending R xs → IsAscending R ys
   apart_moved xs ys h = (moves xs ys h).apart
 
-or_swapped : (a b c : Bool) → (a || (b || c)) ≡ (b || (a || c))
-or_swapped true true c = refl
-or_swapped true false c = refl
-or_swapped false true c = refl
-or_swapped false false c = refl
-
-pub any_moved : {X : Type 0} (p : X → Bool) (xs ys : List X) → IsPermutation xs ys → list_any p xs ≡ list_any p ys
-any_moved p = along_permutation (λ xs ys. list_any p xs ≡ list_any p ys) (λ xs. refl) (λ x xs ys h. ap (λ t. p x || t) h)
-    (λ x y xs. or_swapped (p x) (p y) (list_any p xs)) (λ xs ys zs h k. h ∙ k)
-
 -- ---- sound rows
 
 abbrev BooksApart : BookRow → BookRow → Type 0
@@ -71,7 +62,7 @@ keeps_turned a b h = int_turned b.book a.book ∙ h
 
 module _ (a b : TableRows) (same : AreSame a b) where
   still_listed : (id : ℤ) → HasBookId a.books id → HasBookId b.books id
-  still_listed id h = sym (any_moved (has_id id) a.books b.books same.books) ∙ h
+  still_listed id h = sym (list_any-IsPermutation (has_id id) a.books b.books same.books) ∙ h
 
   pub sound_moved : AreSoundRows a → AreSoundRows b
   sound_moved sound = record {

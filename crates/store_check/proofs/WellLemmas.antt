@@ -14,17 +14,17 @@ use Rattle.book_model.specs.Counting.{departed_cards}
 use Rattle.book_model.specs.Importing.{is_legal_key}
 use Rattle.book_model.specs.BookQueries.{tombstone_count}
 use Rattle.book_model.specs.WellFormed.{IsWellFormed, IsWellFormedBook, IsWellFormedRow, IsWellFormedImport}
+use Rattle.book_model.proofs.BasicLemmas.{same_Some_at}
 use Rattle.store_tables.specs.Books.{BookRow}
 use Rattle.store_tables.specs.Imports.{ImportRow}
 use Rattle.store_tables.specs.Members.{MemberRow, is_removed_above}
+use Rattle.store_tables.proofs.KeyedRows.{all_has, int_itself}
 use Rattle.store_rows.specs.SoundTables.{AreSoundRows, AreReadable, AreWellFormed, IsReadableBook, IsReadableMember}
 use Rattle.store_rows.specs.TableBooks.{model_row, row_counts, keep_of_book, members_in, imports_in, row_book, books_of}
 use Rattle.store_rows.specs.TableRows.{TableRows}
 use Rattle.store_rows.specs.Values.{IsNatural, natural, text_card}
 use Rattle.store_rows.proofs.BookLemmas.{same_row}
-use Rattle.store_rows.proofs.KeyedEntries.{all_has}
 use Rattle.store_rows.proofs.RemovedLemmas.{removed_count}
-use Rattle.store_rows.proofs.RowLemmas.{int_itself}
 use Rattle.store_check.specs.BookChecks.{PassRowChecks, IsCheckedBook, IsCheckedMember, IsCheckedImport, IfBook, is_written_by}
 use Rattle.store_check.proofs.GetLemmas.{got_book, len_books, found_by_id, got_member, got_import, live_count_is}
 use Rattle.store_check.proofs.ListLemmas.{alike_or_apart}
@@ -37,9 +37,6 @@ pub remembered_is : (rows : TableRows) (b : BookRow) → AreSoundRows rows → I
 remembered_is rows b sound is =
     removed_count b.id rows.members (natural b.numbers.horizon) sound.members
     ∙ ap (λ h. length (filter (is_removed_above b.id h) rows.members)) (sym is)
-
-same_some : {X : Type 0} (x y : X) → Some x ≡ Some y → x ≡ y
-same_some x y e = cc
 
 no_card : (c : Option (List ℕ)) → option_map text_card c ≡ None → c ≡ None
 no_card None e = refl
@@ -55,7 +52,7 @@ member_well rows b uid m is c = record {
   where
     own : (text : Option (List ℕ)) → IfSome text (λ t. uid_of (text_card t) ≡ m.uid) → (card : List Line) → option_map text_card text ≡ Some card → uid_of card ≡ uid
     own None h card e = absurd (let k = e in cc)
-    own (Some t) h card e = ap uid_of (sym (same_some (text_card t) card e)) ∙ h ∙ is
+    own (Some t) h card e = ap uid_of (sym (same_Some_at (text_card t) card e)) ∙ h ∙ is
 
 -- a property of the book with an id holds of each book that has it
 of_book : (rows : TableRows) (b : BookRow) (id : ℤ) (P : BookRow → Type 0) → AreSoundRows rows → Has rows.books b → id ≡ b.id → IfBook rows.books id P → P b

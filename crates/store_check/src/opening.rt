@@ -1,10 +1,8 @@
 //! Tests whether the tables of a connection are a store's and hold well-formed books.
-ghost use Rattle.store_check.specs.OpenResults.{IsOpenResult, IsRowCheckResult};
-ghost use Rattle.store_check.specs.ListedRows.{AreListedRows};
-ghost use Rattle.store_tables.specs.StatementEffects.{OnlyReads, GivenTables};
-ghost use Rattle.store_schema.specs.StoredSchema.{ChangesNothing, IsCurrentSchema};
-ghost use Rattle.sqlite.specs.Held.{state};
-ghost use Rattle.sqlite.specs.State.{HasCleanDisk};
+ghost use Rattle.store_check.specs.OpenResults.{IsRowCheckResult};
+ghost use Rattle.store_check.specs.OnConnections.{AreListedRows, IsOpenResult};
+ghost use Rattle.store_schema.specs.OnConnections.{ChangesNothing, IsCurrentSchema};
+ghost use Rattle.store_tables.specs.OnConnections.{GivenTables, HasCleanDisk, OnlyReads};
 ghost use Rattle.std.specs.Prelude.{IfOk};
 
 use crate::tables::are_well_stored;
@@ -29,10 +27,11 @@ struct TableContents {
 
 /// Reads all rows of the four tables, whatever their contents.
 fn list_table_rows<S: Alter>(conn: &mut Connection<S>) -> Result<TableContents, Error>
-    ensures lists { GivenTables (state S.Store conn.old) (state S.Store conn.new)
-        (IfOk result (λ listed. AreListedRows (state S.Store conn.old).now listed.books.items
-        listed.members.items listed.imports.items listed.keeps.items)) }
-    ensures reads_only { OnlyReads (state S.Store conn.old) (state S.Store conn.new) }
+    ensures lists { GivenTables S.Store conn.old conn.new
+        (IfOk result
+        (λ listed. AreListedRows S.Store conn.old listed.books.items listed.members.items
+        listed.imports.items listed.keeps.items)) }
+    ensures reads_only { OnlyReads S.Store conn.old conn.new }
 {
     let books = all_books(conn)?;
     let members = all_members(conn)?;
@@ -72,10 +71,9 @@ fn check_rows<S: Alter>(
     conn: &mut Connection<S>,
     limits: Limits,
 ) -> Result<(), OpenFault>
-    ensures answers { HasCleanDisk (state S.Store conn.new)
-        → IsCurrentSchema (state S.Store conn.old).now
-        → IsOpenResult limits (state S.Store conn.old).now result }
-    ensures reads_only { OnlyReads (state S.Store conn.old) (state S.Store conn.new) }
+    ensures answers { HasCleanDisk S.Store conn.new → IsCurrentSchema S.Store conn.old
+        → IsOpenResult S.Store conn.old limits result }
+    ensures reads_only { OnlyReads S.Store conn.old conn.new }
 {
     match list_table_rows(conn) {
         Ok(listed) => check_listed_rows(alloc, limits, &listed),
@@ -94,11 +92,10 @@ pub fn test_tables<S: Alter>(
     conn: &mut Connection<S>,
     limits: Limits,
 ) -> Result<(), OpenFault>
-    ensures answers { HasCleanDisk (state S.Store conn.new)
-        → IsOpenResult limits (state S.Store conn.old).now result }
+    ensures answers { HasCleanDisk S.Store conn.new → IsOpenResult S.Store conn.old limits result }
 
     // Nothing is changed or committed, also on an error.
-    ensures changes_nothing { ChangesNothing (state S.Store conn.old) (state S.Store conn.new) }
+    ensures changes_nothing { ChangesNothing S.Store conn.old conn.new }
 {
     test_schema(conn)?;
     check_rows(alloc, conn, limits)

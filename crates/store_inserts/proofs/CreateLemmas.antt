@@ -1,8 +1,7 @@
 -- The rows after creating a book, and the creation against the model.
-use Rattle.std.proofs.Common.{◌≡◌, inl, ℕ, ℤ, pos, Bool, true, false, is_some, List, [], ◌∷◌, length, Option, Some, None, Result, Ok, Err, IfOk, refl, sym, ap, ap₂, subst, ◌∙◌}
+use Rattle.std.proofs.Common.{◌≡◌, inl, ℕ, pos, Bool, true, false, is_some, List, [], ◌∷◌, length, Result, Ok, Err, IfOk, refl, sym, ap, ap₂, subst, ◌∙◌}
 use Rattle.std.specs.Option.{option_map}
 use Rattle.std.specs.FinMap as finite
-use Rattle.sqlite.specs.Effect.{Database}
 use Rattle.sqlite.specs.Order.{Row}
 use Rattle.sqlite.specs.State.{State}
 use Rattle.sqlite.specs.Tree.{Trees}
@@ -20,7 +19,6 @@ use Rattle.store_tables.specs.Books.{AddsBook, has_name, numbers_shown, blank_bo
 use Rattle.store_tables.specs.Keeps.{AddsKeep}
 use Rattle.store_tables.specs.SchemaCreation.{HoldsInTx}
 use Rattle.store_tables.specs.StatementEffects.{KeepsOtherTables, WritesOnly}
-use Rattle.store_rows.specs.LookupLaws.{IsNameFree}
 use Rattle.store_rows.specs.ShownRows.{ShowsCount}
 use Rattle.store_rows.specs.SoundTables.{AreSoundRows}
 use Rattle.store_rows.specs.TableBooks.{row_book, books_of}

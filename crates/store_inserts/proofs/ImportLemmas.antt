@@ -1,5 +1,5 @@
 -- The plan of an import against the model, card by card.
-use Rattle.std.proofs.Common.{◌≡◌, ℕ, ◌+◌, ◌-◌, true, false, cond, List, [], ◌∷◌, ◌++◌, ◌<◌, get_or, length, map, fold, take, Option, Some, None, Result, Ok, Err, refl, sym, ap, subst, ◌∙◌, arith}
+use Rattle.std.proofs.Common.{◌≡◌, ℕ, ◌+◌, false, List, [], ◌∷◌, ◌<◌, get_or, length, map, fold, take, Option, Some, None, Result, Ok, Err, refl, sym, ap, subst, ◌∙◌, arith}
 use Rattle.std.specs.List.{AllByRecursion, IsDistinct}
 use Rattle.std.specs.FinMap as finite
 use Rattle.std.specs.Option.{option_and_then, option_map_or}
@@ -10,7 +10,6 @@ use Rattle.vcard_lines.specs.declared.line.Line.{Line}
 use Rattle.vcard_text.specs.Cards.{uid_of}
 use Rattle.base_types.proofs.TextLemmas.{text_total}
 use Rattle.book_model.specs.declared.answers.ImportTally.{ImportTally}
-use Rattle.book_model.specs.declared.answers.Stored.{Stored}
 use Rattle.book_model.specs.declared.change.StoreReason.{StoreReason}
 use Rattle.book_model.specs.declared.change.StoreReason.TheVariants.{Creation, Edit, Import, ImportEdit, MoveIn}
 use Rattle.book_model.specs.declared.refusal.Refusal.{Refusal}
@@ -23,8 +22,7 @@ use Rattle.sqlite.specs.Effect.{Database}
 use Rattle.book_model.specs.Bounds.{Bounds}
 use Rattle.book_model.specs.Books.{Book, Books, same_name, stored_in_row, live_at}
 use Rattle.book_model.specs.CallOutcomes.{MatchesStep, ◌>>=◌, refuse_unless}
-use Rattle.book_model.specs.Counting.{arrived_cards, departed_cards, live_count}
-use Rattle.book_model.specs.declared.counts.Counts.{Counts}
+use Rattle.book_model.specs.Counting.{live_count}
 use Rattle.book_model.specs.Importing.{Importing, import_card, import_cards, import_with_reason, import_reason, import_state, import_step, import_tally, import_under_key, imported_so_far, is_legal_key, book_after_store, book_import_tally, book_with_kept_import}
 use Rattle.book_model.specs.ImportLaws.{HaveDistinctUids}
 use Rattle.book_model.proofs.ImportCountLemmas.{apart_turned, imports_take_numbers}

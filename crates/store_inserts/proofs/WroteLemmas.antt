@@ -1,26 +1,23 @@
 -- The rows of one book, statement by statement, before its own row is written.
-use Rattle.std.proofs.Common.{◌≡◌, ◌+◌, ℕ, ℤ, pos, Bool, true, false, List, [], ◌∷◌, filter, find, Option, Some, None, IsTrue, refl, sym, ap, subst, ◌∙◌}
+use Rattle.std.proofs.Common.{◌≡◌, ◌+◌, ℕ, ℤ, pos, Bool, true, false, List, [], ◌∷◌, filter, find, Option, None, refl, sym, ap, subst, ◌∙◌}
 use Rattle.std.specs.Option.{option_map}
 use Rattle.std.specs.FinMap as finite
 use Rattle.sqlite.specs.Effect.{Database}
 use Rattle.sqlite.specs.State.{State, KeepsCommit}
 use Rattle.sqlite_rules.specs.Lists.{Has}
-use Rattle.vcard_lines.specs.declared.line.Line.{Line}
 use Rattle.book_model.specs.declared.answers.ImportTally.{ImportTally}
 use Rattle.book_model.specs.declared.change.Change.{Change}
-use Rattle.book_model.specs.Books.{Book, Books}
+use Rattle.book_model.specs.Books.{Book}
 use Rattle.book_model.specs.BookChanges.{book_with_row}
 use Rattle.book_model.specs.Importing.{book_with_kept_import}
-use Rattle.store_tables.specs.QueryResults.{AddsRow}
-use Rattle.store_tables.specs.Books.{BookRow, HasBooks, renumbered}
-use Rattle.store_tables.specs.Imports.{ImportRow, HoldImports, AddsImport, has_key}
+use Rattle.store_tables.specs.Books.{HasBooks, renumbered}
+use Rattle.store_tables.specs.Imports.{ImportRow, AddsImport, has_key}
 use Rattle.store_tables.specs.SchemaCreation.{HoldsInTx}
 use Rattle.store_tables.specs.Members.{PutsRow}
 use Rattle.store_tables.specs.StatementEffects.{WritesOnly}
 use Rattle.store_rows.specs.AddLaws.{import_tally_row}
 use Rattle.store_rows.specs.ChangeLaws.{IsCardTextOf, WritesWithin, header_after}
-use Rattle.store_rows.specs.SoundTables.{AreSoundRows}
-use Rattle.store_rows.specs.TableBooks.{HeaderRow, row_book, books_of, imports_in, line_row, numbers_row, row_tally}
+use Rattle.store_rows.specs.TableBooks.{HeaderRow, row_book, books_of, line_row, numbers_row, row_tally}
 use Rattle.store_rows.specs.TableRows.{TableRows, HoldsRows, put_rows, import_rows, renumbered_rows}
 use Rattle.store_rows.proofs.AddedLemmas.{import_added, import_kept}
 use Rattle.store_rows.proofs.BookLemmas.{changes_one, renumbering_held}

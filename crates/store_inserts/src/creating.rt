@@ -1,20 +1,28 @@
 //! Creates an empty book.
 ghost use Rattle.book_model.specs.Books.{fresh_book};
 ghost use Rattle.book_model.specs.Creating.{create_step};
-ghost use Rattle.store_lookups.specs.CallResults.{GivenSoundRows};
 ghost use Rattle.store_lookups.specs.Faults.{IsDeniedFault};
 ghost use Rattle.store_rows.specs.TableBooks.{books_of};
-ghost use Rattle.store_rows.specs.TableRows.{TableRows};
-ghost use Rattle.store_writes.specs.TableChanges.{AppliesStep, CommitsOnce, HoldsBooks, IsAtomic};
-ghost use Rattle.store_writes.specs.TableChanges.{LacksBookRow, TreesHold};
 ghost use Rattle.store_inserts.specs.internal.Creating.{AreNameAndCount, IsCreationPlanned};
 ghost use Rattle.store_inserts.specs.internal.Creating.{IsNameFound};
-ghost use Rattle.store_tables.specs.SchemaCreation.{HoldsInTx};
-ghost use Rattle.store_tables.specs.StatementEffects.{OnlyReads, GivenTables};
-ghost use Rattle.sqlite.specs.Held.{state};
-ghost use Rattle.sqlite.specs.State.{HasCleanDisk, IsUnchanged, KeepsCommit, Survives};
+ghost use Rattle.store_lookups.specs.OnConnections.{GivenSoundRows};
+ghost use Rattle.store_tables.specs.OnConnections.{
+  CountsFaults,
+  KeepsCommit,
+  OnlyReads,
+  SurvivesAsBefore,
+  UnchangedOnOk,
+  WasOpenOnOk,
+};
+ghost use Rattle.store_writes.specs.OnConnections.{AppliesStep, CommitsOnce};
+ghost use Rattle.store_inserts.specs.internal.OnConnections.{
+  AddsNewBookInTx,
+  CommitsNewBook,
+  CommitsNewBookOnce,
+  InTxWithoutBook,
+};
 ghost use Rattle.std.specs.FinMap as finite;
-ghost use Rattle.std.specs.Prelude.{◌≡◌, IfErr, IfOk, IsTrue, OnOk, false, pos, ℕ, ⊤};
+ghost use Rattle.std.specs.Prelude.{◌≡◌, IfErr, IfOk, false, pos, ℕ};
 
 use book_model::decisions::id_of_new_book;
 use book_model::{Denied, Limits};
@@ -22,6 +30,7 @@ use sqlite::{Alter, Connection, Error, Transaction};
 use store_lookups::{column_of, count_in, fault_of};
 use store_tables::books::{count_books, find_book, insert_book};
 use store_tables::keeps::insert_keep;
+use store_tables::settled::assert_settled;
 use store_writes::lookups::check_open;
 
 /// Inserts the row of the empty book and the row of its keep.
@@ -32,19 +41,12 @@ fn insert_book_rows<S: Alter>(
     keep: i64,
 ) -> Result<(), Error>
     ensures same_reference { tx.new.conn.ghost_name ≡ tx.old.conn.ghost_name }
-    ensures books_after { (rows : TableRows) (book most : ℕ)
-        → HasCleanDisk (state S.Store tx.new.conn.now)
-        → IsTrue (state S.Store tx.old.conn.now).in_transaction
-        → LacksBookRow (state S.Store tx.old.conn.now).now rows name.now
-        → id ≡ pos book → keep ≡ pos most
-        → OnOk result (HoldsInTx (state S.Store tx.new.conn.now) (λ db. HoldsBooks db
-        (finite.insert (books_of rows) name.now (fresh_book book most)))) }
-    ensures keeps_commit { (rows : TableRows) → HasCleanDisk (state S.Store tx.new.conn.now)
-        → IsTrue (state S.Store tx.old.conn.now).in_transaction
-        → LacksBookRow (state S.Store tx.old.conn.now).now rows name.now
-        → KeepsCommit (state S.Store tx.old.conn.now) (state S.Store tx.new.conn.now) }
-    ensures survives { Survives (state S.Store tx.old.conn.now) (state S.Store tx.new.conn.now)
-        (λ _. ⊥) }
+    ensures books_after { (book most : ℕ) → id ≡ pos book → keep ≡ pos most
+        → AddsNewBookInTx S.Store tx.old.conn.now tx.new.conn.now name.now result
+        (fresh_book book most) }
+    ensures keeps_commit { InTxWithoutBook S.Store tx.old.conn.now tx.new.conn.now name.now
+        (λ rows. KeepsCommit S.Store tx.old.conn.now tx.new.conn.now) }
+    ensures survives { SurvivesAsBefore S.Store tx.old.conn.now tx.new.conn.now }
 {
     insert_book(tx, id, name)?;
     insert_keep(tx, id, keep)?;
@@ -59,20 +61,14 @@ fn commit_create<S: Alter>(
     keep: i64,
 ) -> Result<(), Error>
     requires { conn.old.in_transaction ≡ false }
-    ensures atomic { (rows : TableRows) (book most : ℕ) → HasCleanDisk (state S.Store conn.new)
-        → LacksBookRow (state S.Store conn.old).now rows name.now
-        → id ≡ pos book → keep ≡ pos most
-        → IsAtomic (state S.Store conn.old) (state S.Store conn.new) result (λ _ db. HoldsBooks db
-        (finite.insert (books_of rows) name.now (fresh_book book most))) }
+    ensures atomic { (book most : ℕ) → id ≡ pos book → keep ≡ pos most
+        → CommitsNewBook S.Store conn.old conn.new name.now result (fresh_book book most) }
     ensures settled { conn.new.in_transaction ≡ false }
-    ensures survives { Survives (state S.Store conn.old) (state S.Store conn.new) (λ _. ⊤) }
-    ensures crash { (rows : TableRows) (book most : ℕ)
-        → LacksBookRow (state S.Store conn.old).now rows name.now
-        → id ≡ pos book → keep ≡ pos most
-        → Survives (state S.Store conn.old) (state S.Store conn.new) (TreesHold
-        (finite.insert (books_of rows) name.now (fresh_book book most))) }
+    ensures survives { CountsFaults S.Store conn.old conn.new }
+    ensures crash { (book most : ℕ) → id ≡ pos book → keep ≡ pos most
+        → CommitsNewBookOnce S.Store conn.old conn.new name.now (fresh_book book most) }
 {
-    let _settled = conn.is_autocommit();
+    assert_settled(conn);
     let mut tx = conn.transaction();
     insert_book_rows(&mut tx, id, name, keep)?;
     tx.commit()?;
@@ -87,18 +83,13 @@ fn write_create<S: Alter>(
     keep: u64,
 ) -> Result<(), Denied>
     requires { conn.old.in_transaction ≡ false }
-    ensures atomic { (rows : TableRows) → HasCleanDisk (state S.Store conn.new)
-        → LacksBookRow (state S.Store conn.old).now rows name.now
-        → IsAtomic (state S.Store conn.old) (state S.Store conn.new) result (λ _ db. HoldsBooks db
-        (finite.insert (books_of rows) name.now (fresh_book id keep))) }
+    ensures atomic { CommitsNewBook S.Store conn.old conn.new name.now result (fresh_book id keep) }
     ensures fault { IfErr result IsDeniedFault }
     ensures settled { conn.new.in_transaction ≡ false }
-    ensures survives { Survives (state S.Store conn.old) (state S.Store conn.new) (λ _. ⊤) }
-    ensures crash { (rows : TableRows) → LacksBookRow (state S.Store conn.old).now rows name.now
-        → Survives (state S.Store conn.old) (state S.Store conn.new) (TreesHold
-        (finite.insert (books_of rows) name.now (fresh_book id keep))) }
+    ensures survives { CountsFaults S.Store conn.old conn.new }
+    ensures crash { CommitsNewBookOnce S.Store conn.old conn.new name.now (fresh_book id keep) }
 {
-    let _settled = conn.is_autocommit();
+    assert_settled(conn);
     let book = column_of(id)?;
     let most = column_of(keep)?;
     match commit_create(conn, book, name, most) {
@@ -109,12 +100,11 @@ fn write_create<S: Alter>(
 
 /// Whether a book has the name. The contents of its row are not decoded.
 fn has_book<S: Alter>(conn: &mut Connection<S>, name: &str) -> Result<bool, Denied>
-    ensures found { GivenSoundRows (state S.Store conn.old) (state S.Store conn.new)
+    ensures found { GivenSoundRows S.Store conn.old conn.new
         (λ rows. IfOk result (IsNameFound rows name.now)) }
     ensures fault { IfErr result IsDeniedFault }
-    ensures unchanged { GivenTables (state S.Store conn.old) (state S.Store conn.new)
-        (OnOk result (IsUnchanged (state S.Store conn.old) (state S.Store conn.new))) }
-    ensures reads_only { OnlyReads (state S.Store conn.old) (state S.Store conn.new) }
+    ensures unchanged { UnchangedOnOk S.Store conn.old conn.new result }
+    ensures reads_only { OnlyReads S.Store conn.old conn.new }
 {
     let _row = match find_book(conn, name) {
         Ok(row) => row,
@@ -126,12 +116,11 @@ fn has_book<S: Alter>(conn: &mut Connection<S>, name: &str) -> Result<bool, Deni
 
 /// The number of books. Fails with `Store` if it is 2^63 - 1 or more.
 fn number_of_books<S: Alter>(conn: &mut Connection<S>) -> Result<u64, Denied>
-    ensures counted { GivenSoundRows (state S.Store conn.old) (state S.Store conn.new)
+    ensures counted { GivenSoundRows S.Store conn.old conn.new
         (λ rows. IfOk result (λ count. finite.len (books_of rows) ≡ count)) }
     ensures fault { IfErr result IsDeniedFault }
-    ensures unchanged { GivenTables (state S.Store conn.old) (state S.Store conn.new)
-        (OnOk result (IsUnchanged (state S.Store conn.old) (state S.Store conn.new))) }
-    ensures reads_only { OnlyReads (state S.Store conn.old) (state S.Store conn.new) }
+    ensures unchanged { UnchangedOnOk S.Store conn.old conn.new result }
+    ensures reads_only { OnlyReads S.Store conn.old conn.new }
 {
     match count_books(conn) {
         Ok(row) => count_in(&row),
@@ -141,12 +130,11 @@ fn number_of_books<S: Alter>(conn: &mut Connection<S>) -> Result<u64, Denied>
 
 /// Whether a book has the name, and the number of books.
 fn name_and_count<S: Alter>(conn: &mut Connection<S>, name: &str) -> Result<(bool, u64), Denied>
-    ensures found { GivenSoundRows (state S.Store conn.old) (state S.Store conn.new)
+    ensures found { GivenSoundRows S.Store conn.old conn.new
         (λ rows. IfOk result (AreNameAndCount rows name.now)) }
     ensures fault { IfErr result IsDeniedFault }
-    ensures unchanged { GivenTables (state S.Store conn.old) (state S.Store conn.new)
-        (OnOk result (IsUnchanged (state S.Store conn.old) (state S.Store conn.new))) }
-    ensures reads_only { OnlyReads (state S.Store conn.old) (state S.Store conn.new) }
+    ensures unchanged { UnchangedOnOk S.Store conn.old conn.new result }
+    ensures reads_only { OnlyReads S.Store conn.old conn.new }
 {
     let has_name_already = has_book(conn, name)?;
     let books = number_of_books(conn)?;
@@ -159,13 +147,11 @@ fn plan_create<S: Alter>(
     limits: Limits,
     name: &str,
 ) -> Result<u64, Denied>
-    ensures planned { GivenSoundRows (state S.Store conn.old) (state S.Store conn.new)
+    ensures planned { GivenSoundRows S.Store conn.old conn.new
         (λ rows. IsCreationPlanned limits rows name.now result) }
-    ensures unchanged { GivenTables (state S.Store conn.old) (state S.Store conn.new)
-        (OnOk result (IsUnchanged (state S.Store conn.old) (state S.Store conn.new))) }
-    ensures was_open { HasCleanDisk (state S.Store conn.new)
-        → OnOk result (IsTrue (state S.Store conn.old).is_open) }
-    ensures reads_only { OnlyReads (state S.Store conn.old) (state S.Store conn.new) }
+    ensures unchanged { UnchangedOnOk S.Store conn.old conn.new result }
+    ensures was_open { WasOpenOnOk S.Store conn.old conn.new result }
+    ensures reads_only { OnlyReads S.Store conn.old conn.new }
 {
     check_open(conn)?;
     let (has_name_already, books) = name_and_count(conn, name)?;
@@ -180,12 +166,12 @@ pub fn create_in_tables<S: Alter>(
     name: &str,
 ) -> Result<u64, Denied>
     requires { conn.old.in_transaction ≡ false }
-    ensures changes { AppliesStep (state S.Store conn.old) (state S.Store conn.new) result
+    ensures changes { AppliesStep S.Store conn.old conn.new result
         (λ books. create_step limits books name.now) }
-    ensures crash { CommitsOnce (state S.Store conn.old) (state S.Store conn.new)
+    ensures crash { CommitsOnce S.Store conn.old conn.new
         (λ books. create_step limits books name.now) }
 {
-    let _settled = conn.is_autocommit();
+    assert_settled(conn);
     let id = plan_create(conn, limits, name)?;
     write_create(conn, id, name, limits.keep())?;
     Ok(id)

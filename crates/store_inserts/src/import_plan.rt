@@ -1,21 +1,19 @@
 //! Plans an import from the book's contents before it.
-ghost use Rattle.book_model.specs.Books.{live_at, as_stored};
+ghost use Rattle.book_model.specs.Books.{live_at};
 ghost use Rattle.book_model.specs.Counting.{live_count};
 ghost use Rattle.book_model.specs.ImportLaws.{HaveDistinctUids};
 ghost use Rattle.book_model.specs.Importing.{import_with_reason, import_reason, import_state};
 ghost use Rattle.book_model.specs.Importing.{import_tally, imported_so_far};
-ghost use Rattle.store_lookups.specs.CallResults.{FollowsStep, IsExactly, GivenBook};
-ghost use Rattle.store_lookups.specs.CallResults.{GivenSoundRows};
+ghost use Rattle.store_lookups.specs.CallResults.{FollowsStep, IsExactly};
 ghost use Rattle.store_lookups.specs.Faults.{IsDeniedFault};
 ghost use Rattle.store_inserts.specs.internal.Importing.{HasNumbersFor, CountsStoredCards};
 ghost use Rattle.store_inserts.specs.internal.Importing.{IsImportPlanned, IsImportKeyLookup};
 ghost use Rattle.store_inserts.specs.internal.Importing.{IsBookImportPlanned, card_count};
 ghost use Rattle.store_inserts.specs.internal.Importing.{model_plan, planned_import, planning};
 ghost use Rattle.store_inserts.specs.internal.Importing.{counts_after_plan};
-ghost use Rattle.store_tables.specs.StatementEffects.{OnlyReads, GivenTables};
-ghost use Rattle.sqlite.specs.Held.{state};
-ghost use Rattle.sqlite.specs.State.{HasCleanDisk, IsUnchanged};
-ghost use Rattle.std.specs.Prelude.{[], ◌≡◌, ◌+◌, ◌<◌, ◌^◌, IfErr, IfOk, IsTrue, OnOk, length};
+ghost use Rattle.store_lookups.specs.OnConnections.{GivenBook, GivenSoundRows};
+ghost use Rattle.store_tables.specs.OnConnections.{OnlyReads, UnchangedOnOk, WasOpenOnOk};
+ghost use Rattle.std.specs.Prelude.{[], ◌≡◌, ◌+◌, ◌<◌, ◌^◌, IfErr, IfOk, OnOk, length};
 ghost use Rattle.vcard_text.specs.Cards.{uid_of};
 
 use book_model::decisions::{is_import_key, reason_to_import, tally_of_import};
@@ -93,13 +91,12 @@ fn reason_to_store<S: Alter>(
     header: BookHeader,
     card: &Card,
 ) -> Result<Option<StoreReason>, Denied>
-    ensures reason { GivenBook (state S.Store conn.old) (state S.Store conn.new) header
-        (λ book. IfOk result (λ why.
-        why ≡ import_reason card.now (live_at book (uid_of card.now)))) }
+    ensures reason { GivenBook S.Store conn.old conn.new header
+        (λ book. IfOk result
+        (λ why. why ≡ import_reason card.now (live_at book (uid_of card.now)))) }
     ensures fault { IfErr result IsDeniedFault }
-    ensures unchanged { GivenTables (state S.Store conn.old) (state S.Store conn.new)
-        (OnOk result (IsUnchanged (state S.Store conn.old) (state S.Store conn.new))) }
-    ensures reads_only { OnlyReads (state S.Store conn.old) (state S.Store conn.new) }
+    ensures unchanged { UnchangedOnOk S.Store conn.old conn.new result }
+    ensures reads_only { OnlyReads S.Store conn.old conn.new }
 {
     let live = find_live(alloc, conn, header, card.uid())?;
     Ok(reason_to_import(as_version_and_card(&live), card))
@@ -112,14 +109,13 @@ fn plan_cards<'a, S: Alter>(
     header: BookHeader,
     cards: &'a [Card],
 ) -> Result<ImportPlan<'a>, Denied>
-    ensures planned { GivenBook (state S.Store conn.old) (state S.Store conn.new) header
+    ensures planned { GivenBook S.Store conn.old conn.new header
         (λ book. IfOk result (λ plan. model_plan plan ≡ planned_import book cards.now)) }
     ensures counts_all { IfOk result (λ plan. card_count plan ≡ length cards.now) }
     ensures counted { IfOk result CountsStoredCards }
     ensures fault { IfErr result IsDeniedFault }
-    ensures unchanged { GivenTables (state S.Store conn.old) (state S.Store conn.new)
-        (OnOk result (IsUnchanged (state S.Store conn.old) (state S.Store conn.new))) }
-    ensures reads_only { OnlyReads (state S.Store conn.old) (state S.Store conn.new) }
+    ensures unchanged { UnchangedOnOk S.Store conn.old conn.new result }
+    ensures reads_only { OnlyReads S.Store conn.old conn.new }
 {
     // An import without cards looks none up, and must also fail on a closed connection.
     check_open(conn)?;
@@ -165,13 +161,11 @@ fn find_import_key<S: Alter>(
     name: &str,
     key: &str,
 ) -> Result<(BookHeader, Option<ImportTally>), Denied>
-    ensures found { GivenSoundRows (state S.Store conn.old) (state S.Store conn.new)
+    ensures found { GivenSoundRows S.Store conn.old conn.new
         (λ rows. IsImportKeyLookup rows name.now key.now result) }
-    ensures unchanged { GivenTables (state S.Store conn.old) (state S.Store conn.new)
-        (OnOk result (IsUnchanged (state S.Store conn.old) (state S.Store conn.new))) }
-    ensures was_open { HasCleanDisk (state S.Store conn.new)
-        → OnOk result (IsTrue (state S.Store conn.old).is_open) }
-    ensures reads_only { OnlyReads (state S.Store conn.old) (state S.Store conn.new) }
+    ensures unchanged { UnchangedOnOk S.Store conn.old conn.new result }
+    ensures was_open { WasOpenOnOk S.Store conn.old conn.new result }
+    ensures reads_only { OnlyReads S.Store conn.old conn.new }
 {
     let header = open_header(conn, name)?;
     if !is_import_key(key) {
@@ -190,13 +184,12 @@ fn plan_new_import<'a, S: Alter>(
     cards: &'a [Card],
 ) -> Result<(ImportPlan<'a>, ImportTally), Denied>
     requires distinct { HaveDistinctUids cards.now }
-    ensures planned { GivenBook (state S.Store conn.old) (state S.Store conn.new) header
+    ensures planned { GivenBook S.Store conn.old conn.new header
         (λ book. IsBookImportPlanned limits book cards.now result) }
     ensures numbers_fit { IfOk result
         (λ order. header.number + length order.0.stored.items < 2 ^ 63) }
-    ensures unchanged { GivenTables (state S.Store conn.old) (state S.Store conn.new)
-        (OnOk result (IsUnchanged (state S.Store conn.old) (state S.Store conn.new))) }
-    ensures reads_only { OnlyReads (state S.Store conn.old) (state S.Store conn.new) }
+    ensures unchanged { UnchangedOnOk S.Store conn.old conn.new result }
+    ensures reads_only { OnlyReads S.Store conn.old conn.new }
 {
     let plan = plan_cards(alloc, conn, header, cards)?;
     let tally = plan_tally(limits, header, &plan)?;
@@ -213,14 +206,12 @@ pub(crate) fn plan_import<'a, S: Alter>(
     cards: &'a [Card],
 ) -> Result<(BookHeader, ImportDecision<'a>), Denied>
     requires distinct { HaveDistinctUids cards.now }
-    ensures planned { GivenSoundRows (state S.Store conn.old) (state S.Store conn.new)
+    ensures planned { GivenSoundRows S.Store conn.old conn.new
         (λ rows. IsImportPlanned limits rows name.now key.now cards.now result) }
     ensures numbers_fit { IfOk result (λ found. HasNumbersFor found.0 found.1) }
-    ensures unchanged { GivenTables (state S.Store conn.old) (state S.Store conn.new)
-        (OnOk result (IsUnchanged (state S.Store conn.old) (state S.Store conn.new))) }
-    ensures was_open { HasCleanDisk (state S.Store conn.new)
-        → OnOk result (IsTrue (state S.Store conn.old).is_open) }
-    ensures reads_only { OnlyReads (state S.Store conn.old) (state S.Store conn.new) }
+    ensures unchanged { UnchangedOnOk S.Store conn.old conn.new result }
+    ensures was_open { WasOpenOnOk S.Store conn.old conn.new result }
+    ensures reads_only { OnlyReads S.Store conn.old conn.new }
 {
     let (header, kept) = find_import_key(conn, name, key)?;
     if let Some(tally) = kept {

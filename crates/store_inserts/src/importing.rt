@@ -7,18 +7,32 @@ ghost use Rattle.store_lookups.specs.Faults.{IsDeniedFault};
 ghost use Rattle.store_rows.specs.ChangeLaws.{header_after};
 ghost use Rattle.store_rows.specs.TableBooks.{row_book, books_of, line_row};
 ghost use Rattle.store_rows.specs.TableRows.{TableRows};
-ghost use Rattle.store_writes.specs.TableChanges.{AppliesStep, CommitsOnce, HasBookRow, HoldsBooks};
-ghost use Rattle.store_writes.specs.TableChanges.{IsAtomic, TreesHold};
-ghost use Rattle.store_inserts.specs.internal.Importing.{InUnwrittenBookTx, InWrittenBookTx};
+ghost use Rattle.store_writes.specs.TableChanges.{HoldsBooks, TreesHold};
 ghost use Rattle.store_inserts.specs.internal.Importing.{IsImportKeyFree, WritesBook};
 ghost use Rattle.store_inserts.specs.internal.Importing.{book_with_pair, planned_pair};
 ghost use Rattle.store_inserts.specs.internal.Importing.{book_with_import, book_with_stored};
-ghost use Rattle.store_tables.specs.SchemaCreation.{HoldsInTx};
-ghost use Rattle.sqlite.specs.Held.{state};
-ghost use Rattle.sqlite.specs.State.{HasCleanDisk, KeepsCommit, Survives};
+ghost use Rattle.store_inserts.specs.internal.OnConnections.{
+  InWrittenBookTx,
+  KeepsCommitInWrittenBook,
+};
+ghost use Rattle.store_tables.specs.OnConnections.{
+  CountsFaults,
+  HoldsInTx,
+  KeepsCommit,
+  Survives,
+  SurvivesAsBefore,
+};
+ghost use Rattle.store_writes.specs.OnConnections.{
+  AppliesStep,
+  CommitsOnce,
+  GivenBookRow,
+  HasBookRow,
+  InTxWithBook,
+  IsAtomic,
+  with_book_after,
+};
 ghost use Rattle.std.specs.FinMap as finite;
 ghost use Rattle.std.specs.Prelude.{◌≡◌, ◌+◌, ◌<◌, ◌^◌, IfErr, IfOk, List, OnOk, false, length, ℕ};
-ghost use Rattle.std.specs.Prelude.{⊤};
 
 use crate::import_plan::{ImportDecision, PlannedCard, plan_import};
 use book_model::{Denied, ImportTally, Limits};
@@ -28,6 +42,7 @@ use store_lookups::{BookHeader, column_of, fault_of};
 use store_tables::books::renumber_book;
 use store_tables::imports::insert_import;
 use store_tables::members::put_member;
+use store_tables::settled::assert_settled;
 use store_writes::columns::{columns_of, text_of_card};
 use vcard_text::Card;
 
@@ -41,19 +56,15 @@ fn write_next_card<S: Alter>(
 ) -> Result<BookHeader, Denied>
     requires { header.number + 1 < 2 ^ 63 }
     ensures same_reference { tx.new.conn.ghost_name ≡ tx.old.conn.ghost_name }
-    ensures book_after { InWrittenBookTx (state S.Store tx.old.conn.now)
-        (state S.Store tx.new.conn.now) header
-        (λ rows name book. IfOk result (λ next. HoldsInTx (state S.Store tx.new.conn.now)
+    ensures book_after { InWrittenBookTx S.Store tx.old.conn.now tx.new.conn.now header
+        (λ rows name book. IfOk result
+        (λ next. HoldsInTx S.Store tx.new.conn.now
         (λ db. WritesBook db rows name next (book_with_pair book (planned_pair stored.entry))))) }
     ensures next_header { IfOk result (λ next.
         next ≡ header_after (Stores stored.entry.card.now stored.entry.why) header) }
-    ensures keeps_commit { InWrittenBookTx (state S.Store tx.old.conn.now)
-        (state S.Store tx.new.conn.now) header
-        (λ rows name book.
-        KeepsCommit (state S.Store tx.old.conn.now) (state S.Store tx.new.conn.now)) }
+    ensures keeps_commit { KeepsCommitInWrittenBook S.Store tx.old.conn.now tx.new.conn.now header }
     ensures fault { IfErr result IsDeniedFault }
-    ensures survives { Survives (state S.Store tx.old.conn.now) (state S.Store tx.new.conn.now)
-        (λ _. ⊥) }
+    ensures survives { SurvivesAsBefore S.Store tx.old.conn.now tx.new.conn.now }
 {
     let text = text_of_card(alloc, stored.card)?;
     let id = column_of(header.id())?;
@@ -74,18 +85,14 @@ fn write_next_cards<S: Alter>(
 ) -> Result<BookHeader, Denied>
     requires { header.number + length stored.now < 2 ^ 63 }
     ensures same_reference { tx.new.conn.ghost_name ≡ tx.old.conn.ghost_name }
-    ensures book_after { InWrittenBookTx (state S.Store tx.old.conn.now)
-        (state S.Store tx.new.conn.now) header
-        (λ rows name book. IfOk result (λ next. HoldsInTx (state S.Store tx.new.conn.now)
+    ensures book_after { InWrittenBookTx S.Store tx.old.conn.now tx.new.conn.now header
+        (λ rows name book. IfOk result
+        (λ next. HoldsInTx S.Store tx.new.conn.now
         (λ db. WritesBook db rows name next (book_with_stored book stored.now)))) }
     ensures same_id { IfOk result (λ next. next.id ≡ header.id) }
-    ensures keeps_commit { InWrittenBookTx (state S.Store tx.old.conn.now)
-        (state S.Store tx.new.conn.now) header
-        (λ rows name book.
-        KeepsCommit (state S.Store tx.old.conn.now) (state S.Store tx.new.conn.now)) }
+    ensures keeps_commit { KeepsCommitInWrittenBook S.Store tx.old.conn.now tx.new.conn.now header }
     ensures fault { IfErr result IsDeniedFault }
-    ensures survives { Survives (state S.Store tx.old.conn.now) (state S.Store tx.new.conn.now)
-        (λ _. ⊥) }
+    ensures survives { SurvivesAsBefore S.Store tx.old.conn.now tx.new.conn.now }
 {
     let mut so_far = header;
     for card in stored {
@@ -102,18 +109,13 @@ fn insert_kept_import<S: Alter>(
     tally: ImportTally,
 ) -> Result<(), Denied>
     ensures same_reference { tx.new.conn.ghost_name ≡ tx.old.conn.ghost_name }
-    ensures book_after { InWrittenBookTx (state S.Store tx.old.conn.now)
-        (state S.Store tx.new.conn.now) header
-        (λ rows name book. IsImportKeyFree book key.now →
-        OnOk result (HoldsInTx (state S.Store tx.new.conn.now)
+    ensures book_after { InWrittenBookTx S.Store tx.old.conn.now tx.new.conn.now header
+        (λ rows name book. IsImportKeyFree book key.now
+        → OnOk result (HoldsInTx S.Store tx.new.conn.now
         (λ db. WritesBook db rows name header (book_with_kept_import book key.now tally)))) }
-    ensures keeps_commit { InWrittenBookTx (state S.Store tx.old.conn.now)
-        (state S.Store tx.new.conn.now) header
-        (λ rows name book.
-        KeepsCommit (state S.Store tx.old.conn.now) (state S.Store tx.new.conn.now)) }
+    ensures keeps_commit { KeepsCommitInWrittenBook S.Store tx.old.conn.now tx.new.conn.now header }
     ensures fault { IfErr result IsDeniedFault }
-    ensures survives { Survives (state S.Store tx.old.conn.now) (state S.Store tx.new.conn.now)
-        (λ _. ⊥) }
+    ensures survives { SurvivesAsBefore S.Store tx.old.conn.now tx.new.conn.now }
 {
     let id = column_of(header.id())?;
     let added = column_of(tally.added)?;
@@ -129,17 +131,12 @@ fn insert_kept_import<S: Alter>(
 /// Writes the header into the book's own row.
 fn write_book_row<S: Alter>(tx: &mut Transaction<'_, S>, header: BookHeader) -> Result<(), Denied>
     ensures same_reference { tx.new.conn.ghost_name ≡ tx.old.conn.ghost_name }
-    ensures books_after { InWrittenBookTx (state S.Store tx.old.conn.now)
-        (state S.Store tx.new.conn.now) header
-        (λ rows name book. OnOk result (HoldsInTx (state S.Store tx.new.conn.now)
+    ensures books_after { InWrittenBookTx S.Store tx.old.conn.now tx.new.conn.now header
+        (λ rows name book. OnOk result (HoldsInTx S.Store tx.new.conn.now
         (λ db. HoldsBooks db (finite.insert (books_of rows) name book)))) }
-    ensures keeps_commit { InWrittenBookTx (state S.Store tx.old.conn.now)
-        (state S.Store tx.new.conn.now) header
-        (λ rows name book.
-        KeepsCommit (state S.Store tx.old.conn.now) (state S.Store tx.new.conn.now)) }
+    ensures keeps_commit { KeepsCommitInWrittenBook S.Store tx.old.conn.now tx.new.conn.now header }
     ensures fault { IfErr result IsDeniedFault }
-    ensures survives { Survives (state S.Store tx.old.conn.now) (state S.Store tx.new.conn.now)
-        (λ _. ⊥) }
+    ensures survives { SurvivesAsBefore S.Store tx.old.conn.now tx.new.conn.now }
 {
     let id = column_of(header.id())?;
     let numbers = columns_of(header.number(), header.horizon(), header.counts())?;
@@ -160,19 +157,16 @@ fn import_rows<S: Alter>(
 ) -> Result<(), Denied>
     requires { header.number + length stored.now < 2 ^ 63 }
     ensures same_reference { tx.new.conn.ghost_name ≡ tx.old.conn.ghost_name }
-    ensures books_after { InUnwrittenBookTx (state S.Store tx.old.conn.now)
-        (state S.Store tx.new.conn.now) header
-        (λ rows name. IsImportKeyFree (row_book rows (line_row name header)) key.now →
-        OnOk result (HoldsInTx (state S.Store tx.new.conn.now)
-        (λ db. HoldsBooks db (finite.insert (books_of rows) name
-        (book_with_import (row_book rows (line_row name header)) stored.now key.now tally))))) }
-    ensures keeps_commit { InUnwrittenBookTx (state S.Store tx.old.conn.now)
-        (state S.Store tx.new.conn.now) header
-        (λ rows name. IsImportKeyFree (row_book rows (line_row name header)) key.now →
-        KeepsCommit (state S.Store tx.old.conn.now) (state S.Store tx.new.conn.now)) }
+    ensures books_after { InTxWithBook S.Store tx.old.conn.now tx.new.conn.now header
+        (λ rows name. IsImportKeyFree (row_book rows (line_row name header)) key.now
+        → OnOk result (HoldsInTx S.Store tx.new.conn.now
+        (λ db. HoldsBooks db (with_book_after rows name header
+        (λ book. book_with_import book stored.now key.now tally))))) }
+    ensures keeps_commit { InTxWithBook S.Store tx.old.conn.now tx.new.conn.now header
+        (λ rows name. IsImportKeyFree (row_book rows (line_row name header)) key.now
+        → KeepsCommit S.Store tx.old.conn.now tx.new.conn.now) }
     ensures fault { IfErr result IsDeniedFault }
-    ensures survives { Survives (state S.Store tx.old.conn.now) (state S.Store tx.new.conn.now)
-        (λ _. ⊥) }
+    ensures survives { SurvivesAsBefore S.Store tx.old.conn.now tx.new.conn.now }
 {
     let after = write_next_cards(alloc, tx, header, stored)?;
     insert_kept_import(tx, after, key, tally)?;
@@ -190,23 +184,21 @@ fn commit_import<S: Alter>(
 ) -> Result<(), Denied>
     requires settled { conn.old.in_transaction ≡ false }
     requires room { header.number + length stored.now < 2 ^ 63 }
-    ensures atomic { (rows : TableRows) (name : List ℕ) → HasCleanDisk (state S.Store conn.new)
-        → HasBookRow (state S.Store conn.old).now rows name header
-        → IsImportKeyFree (row_book rows (line_row name header)) key.now
-        → IsAtomic (state S.Store conn.old) (state S.Store conn.new) result (λ _ db. HoldsBooks db
-        (finite.insert (books_of rows) name
-        (book_with_import (row_book rows (line_row name header)) stored.now key.now tally))) }
+    ensures atomic { GivenBookRow S.Store conn.old conn.new header
+        (λ rows name. IsImportKeyFree (row_book rows (line_row name header)) key.now
+        → IsAtomic S.Store conn.old conn.new result
+        (λ _ db. HoldsBooks db (with_book_after rows name header
+        (λ book. book_with_import book stored.now key.now tally)))) }
     ensures fault { IfErr result IsDeniedFault }
     ensures settled { conn.new.in_transaction ≡ false }
-    ensures survives { Survives (state S.Store conn.old) (state S.Store conn.new) (λ _. ⊤) }
+    ensures survives { CountsFaults S.Store conn.old conn.new }
     ensures crash { (rows : TableRows) (name : List ℕ)
-        → HasBookRow (state S.Store conn.old).now rows name header
+        → HasBookRow S.Store conn.old rows name header
         → IsImportKeyFree (row_book rows (line_row name header)) key.now
-        → Survives (state S.Store conn.old) (state S.Store conn.new) (TreesHold
-        (finite.insert (books_of rows) name
-        (book_with_import (row_book rows (line_row name header)) stored.now key.now tally))) }
+        → Survives S.Store conn.old conn.new (TreesHold (with_book_after rows name header
+        (λ book. book_with_import book stored.now key.now tally))) }
 {
-    let _settled = conn.is_autocommit();
+    assert_settled(conn);
     let mut tx = conn.transaction();
     import_rows(alloc, &mut tx, header, key, stored, tally)?;
     match tx.commit() {
@@ -226,12 +218,12 @@ pub fn import_in_book<S: Alter>(
 ) -> Result<ImportTally, Denied>
     requires settled { conn.old.in_transaction ≡ false }
     requires distinct { HaveDistinctUids cards.now }
-    ensures changes { AppliesStep (state S.Store conn.old) (state S.Store conn.new) result
+    ensures changes { AppliesStep S.Store conn.old conn.new result
         (λ books. import_step limits books name.now key.now cards.now) }
-    ensures crash { CommitsOnce (state S.Store conn.old) (state S.Store conn.new)
+    ensures crash { CommitsOnce S.Store conn.old conn.new
         (λ books. import_step limits books name.now key.now cards.now) }
 {
-    let _settled = conn.is_autocommit();
+    assert_settled(conn);
     let (header, order) = plan_import(alloc, conn, limits, name, key, cards)?;
     let (plan, tally) = match order {
         ImportDecision::Kept(tally) => return Ok(tally),

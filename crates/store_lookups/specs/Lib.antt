@@ -1,3 +1,4 @@
 pub mod Faults
 pub mod RowChecks
 pub mod CallResults
+pub mod OnConnections

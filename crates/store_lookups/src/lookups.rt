@@ -3,14 +3,12 @@
 //! connection unchanged. A malformed row is `Store`.
 ghost use Rattle.book_model.specs.Books.{live_at};
 ghost use Rattle.book_model.specs.BookQueries.{tombstone_count};
-ghost use Rattle.store_rows.specs.TableBooks.{line_row, row_book};
-ghost use Rattle.store_lookups.specs.CallResults.{FindsHeader, GivenBook, GivenSoundRows};
+ghost use Rattle.store_lookups.specs.CallResults.{FindsHeader};
 ghost use Rattle.store_lookups.specs.Faults.{IsDeniedFault};
-ghost use Rattle.store_tables.specs.StatementEffects.{OnlyReads, GivenTables};
-ghost use Rattle.sqlite.specs.Held.{state};
-ghost use Rattle.sqlite.specs.State.{IsUnchanged};
+ghost use Rattle.store_lookups.specs.OnConnections.{GivenBook, GivenSoundRows};
+ghost use Rattle.store_tables.specs.OnConnections.{OnlyReads, UnchangedOnOk};
 ghost use Rattle.std.specs.FinMap as finite;
-ghost use Rattle.std.specs.Prelude.{◌≡◌, IfErr, IfOk, OnOk};
+ghost use Rattle.std.specs.Prelude.{◌≡◌, IfErr, IfOk};
 
 use crate::columns::number_in;
 use crate::faults::{column_of, fault_of};
@@ -27,11 +25,10 @@ use store_tables::members::{count_removed, find_member};
 /// Returns the header of the book with this name. Refused with `NoSuchBook` if there is none; fails
 /// with `Store` if its row is malformed.
 pub fn find_header<S: Alter>(conn: &mut Connection<S>, name: &str) -> Result<BookHeader, Denied>
-    ensures finds { GivenSoundRows (state S.Store conn.old) (state S.Store conn.new)
+    ensures finds { GivenSoundRows S.Store conn.old conn.new
         (λ rows. FindsHeader rows name.now result) }
-    ensures unchanged { GivenTables (state S.Store conn.old) (state S.Store conn.new)
-        (OnOk result (IsUnchanged (state S.Store conn.old) (state S.Store conn.new))) }
-    ensures reads_only { OnlyReads (state S.Store conn.old) (state S.Store conn.new) }
+    ensures unchanged { UnchangedOnOk S.Store conn.old conn.new result }
+    ensures reads_only { OnlyReads S.Store conn.old conn.new }
 {
     let row = match find_book(conn, name) {
         Ok(row) => row,
@@ -49,12 +46,11 @@ pub fn find_live<S: Alter>(
     header: BookHeader,
     uid: &str,
 ) -> Result<Option<Stored>, Denied>
-    ensures live { GivenBook (state S.Store conn.old) (state S.Store conn.new) header
+    ensures live { GivenBook S.Store conn.old conn.new header
         (λ book. IfOk result (λ live. live_at book uid.now ≡ live)) }
     ensures fault { IfErr result IsDeniedFault }
-    ensures unchanged { GivenTables (state S.Store conn.old) (state S.Store conn.new)
-        (OnOk result (IsUnchanged (state S.Store conn.old) (state S.Store conn.new))) }
-    ensures reads_only { OnlyReads (state S.Store conn.old) (state S.Store conn.new) }
+    ensures unchanged { UnchangedOnOk S.Store conn.old conn.new result }
+    ensures reads_only { OnlyReads S.Store conn.old conn.new }
 {
     let id = column_of(header.id())?;
     match find_member(conn, id, uid) {
@@ -71,12 +67,11 @@ pub fn find_import_tally<S: Alter>(
     header: BookHeader,
     key: &str,
 ) -> Result<Option<ImportTally>, Denied>
-    ensures tally { GivenBook (state S.Store conn.old) (state S.Store conn.new) header
+    ensures tally { GivenBook S.Store conn.old conn.new header
         (λ book. IfOk result (λ kept. finite.get book.imports key.now ≡ kept)) }
     ensures fault { IfErr result IsDeniedFault }
-    ensures unchanged { GivenTables (state S.Store conn.old) (state S.Store conn.new)
-        (OnOk result (IsUnchanged (state S.Store conn.old) (state S.Store conn.new))) }
-    ensures reads_only { OnlyReads (state S.Store conn.old) (state S.Store conn.new) }
+    ensures unchanged { UnchangedOnOk S.Store conn.old conn.new result }
+    ensures reads_only { OnlyReads S.Store conn.old conn.new }
 {
     let id = column_of(header.id())?;
     let row = match find_import(conn, id, key) {
@@ -91,12 +86,11 @@ pub fn find_import_tally<S: Alter>(
 /// Returns the keep of the book with this header: how many removed members it remembers at most.
 /// Fails with `Store` if its row is missing or malformed.
 pub fn fetch_keep<S: Alter>(conn: &mut Connection<S>, header: BookHeader) -> Result<u64, Denied>
-    ensures keep { GivenBook (state S.Store conn.old) (state S.Store conn.new) header
+    ensures keep { GivenBook S.Store conn.old conn.new header
         (λ book. IfOk result (λ keep. book.keep ≡ keep)) }
     ensures fault { IfErr result IsDeniedFault }
-    ensures unchanged { GivenTables (state S.Store conn.old) (state S.Store conn.new)
-        (OnOk result (IsUnchanged (state S.Store conn.old) (state S.Store conn.new))) }
-    ensures reads_only { OnlyReads (state S.Store conn.old) (state S.Store conn.new) }
+    ensures unchanged { UnchangedOnOk S.Store conn.old conn.new result }
+    ensures reads_only { OnlyReads S.Store conn.old conn.new }
 {
     let id = column_of(header.id())?;
     match find_keep(conn, id) {
@@ -108,12 +102,11 @@ pub fn fetch_keep<S: Alter>(conn: &mut Connection<S>, header: BookHeader) -> Res
 /// Returns how many removed members the book with this header remembers: those above its horizon,
 /// counted by the query. Fails with `Store` if there are 2^63 - 1 or more.
 pub fn count_removals<S: Alter>(conn: &mut Connection<S>, header: BookHeader) -> Result<u64, Denied>
-    ensures remembered { GivenBook (state S.Store conn.old) (state S.Store conn.new) header
+    ensures remembered { GivenBook S.Store conn.old conn.new header
         (λ book. IfOk result (λ count. tombstone_count book ≡ count)) }
     ensures fault { IfErr result IsDeniedFault }
-    ensures unchanged { GivenTables (state S.Store conn.old) (state S.Store conn.new)
-        (OnOk result (IsUnchanged (state S.Store conn.old) (state S.Store conn.new))) }
-    ensures reads_only { OnlyReads (state S.Store conn.old) (state S.Store conn.new) }
+    ensures unchanged { UnchangedOnOk S.Store conn.old conn.new result }
+    ensures reads_only { OnlyReads S.Store conn.old conn.new }
 {
     let id = column_of(header.id())?;
     let horizon = column_of(header.horizon())?;

@@ -13,14 +13,12 @@ ghost use Rattle.book_model.specs.BookQueries.{
   tally_with,
 };
 ghost use Rattle.book_model.specs.Counting.{live_count};
-ghost use Rattle.store_rows.specs.TableBooks.{books_of, line_row, row_book};
-ghost use Rattle.store_lookups.specs.CallResults.{FollowsStep, IsExactly, GivenBook};
-ghost use Rattle.store_lookups.specs.CallResults.{GivenSoundRows};
+ghost use Rattle.store_rows.specs.TableBooks.{books_of};
+ghost use Rattle.store_lookups.specs.CallResults.{FollowsStep, IsExactly};
 ghost use Rattle.store_lookups.specs.Faults.{IsDeniedFault};
 ghost use Rattle.store_queries.specs.internal.QuerySteps.{import_tally_step};
-ghost use Rattle.store_tables.specs.StatementEffects.{OnlyReads};
-ghost use Rattle.sqlite.specs.Held.{state};
-ghost use Rattle.std.specs.FinMap as finite;
+ghost use Rattle.store_lookups.specs.OnConnections.{GivenBook, GivenSoundRows};
+ghost use Rattle.store_tables.specs.OnConnections.{OnlyReads};
 ghost use Rattle.std.specs.Prelude.{◌≡◌, IfErr, IfOk, Ok};
 
 use book_model::decisions::is_import_key;
@@ -49,9 +47,9 @@ pub fn line_of_book<S: Alter>(
     conn: &mut Connection<S>,
     name: &str,
 ) -> Result<BookLine, Denied>
-    ensures answers { GivenSoundRows (state S.Store conn.old) (state S.Store conn.new)
+    ensures answers { GivenSoundRows S.Store conn.old conn.new
         (λ rows. FollowsStep IsExactly result (book_line_step (books_of rows) name.now)) }
-    ensures reads_only { OnlyReads (state S.Store conn.old) (state S.Store conn.new) }
+    ensures reads_only { OnlyReads S.Store conn.old conn.new }
 {
     let header = find_header(conn, name)?;
     line_with(alloc, name, header)
@@ -63,9 +61,9 @@ fn stored_at<S: Alter>(
     header: BookHeader,
     uid: &str,
 ) -> Result<Stored, Denied>
-    ensures answers { GivenBook (state S.Store conn.old) (state S.Store conn.new) header
+    ensures answers { GivenBook S.Store conn.old conn.new header
         (λ book. FollowsStep IsExactly result (live_or_no_such_card (live_at book uid.now))) }
-    ensures reads_only { OnlyReads (state S.Store conn.old) (state S.Store conn.new) }
+    ensures reads_only { OnlyReads S.Store conn.old conn.new }
 {
     match find_live(alloc, conn, header, uid)? {
         Some(stored) => Ok(stored),
@@ -81,9 +79,9 @@ pub fn stored_of_book<S: Alter>(
     name: &str,
     uid: &str,
 ) -> Result<Stored, Denied>
-    ensures answers { GivenSoundRows (state S.Store conn.old) (state S.Store conn.new)
+    ensures answers { GivenSoundRows S.Store conn.old conn.new
         (λ rows. FollowsStep IsExactly result (get_step (books_of rows) name.now uid.now)) }
-    ensures reads_only { OnlyReads (state S.Store conn.old) (state S.Store conn.new) }
+    ensures reads_only { OnlyReads S.Store conn.old conn.new }
 {
     let header = find_header(conn, name)?;
     stored_at(alloc, conn, header, uid)
@@ -94,9 +92,9 @@ fn import_at<S: Alter>(
     header: BookHeader,
     key: &str,
 ) -> Result<Option<ImportTally>, Denied>
-    ensures answers { GivenBook (state S.Store conn.old) (state S.Store conn.new) header
+    ensures answers { GivenBook S.Store conn.old conn.new header
         (λ book. FollowsStep IsExactly result (import_tally_step key.now book)) }
-    ensures reads_only { OnlyReads (state S.Store conn.old) (state S.Store conn.new) }
+    ensures reads_only { OnlyReads S.Store conn.old conn.new }
 {
     if !is_import_key(key) {
         return Err(Denied::Refused(Refusal::BadKey));
@@ -112,50 +110,36 @@ pub fn import_of_book<S: Alter>(
     name: &str,
     key: &str,
 ) -> Result<Option<ImportTally>, Denied>
-    ensures answers { GivenSoundRows (state S.Store conn.old) (state S.Store conn.new)
+    ensures answers { GivenSoundRows S.Store conn.old conn.new
         (λ rows. FollowsStep IsExactly result (kept_import_step (books_of rows) name.now key.now)) }
-    ensures reads_only { OnlyReads (state S.Store conn.old) (state S.Store conn.new) }
+    ensures reads_only { OnlyReads S.Store conn.old conn.new }
 {
     let header = find_header(conn, name)?;
     import_at(conn, header, key)
 }
 
-fn tally_with(header: BookHeader, remembered: u64) -> Tally
-    ensures { result ≡ tally_with header.number header.horizon (live_count header.counts)
-        header.counts remembered }
-{
-    let counts = header.counts();
-    Tally {
-        number: header.number(),
-        horizon: header.horizon(),
-        cards: counts.live(),
-        created: counts.created,
-        edited: counts.edited,
-        imported: counts.imported,
-        import_edited: counts.import_edited,
-        moved_in: counts.moved_in,
-        deleted: counts.deleted,
-        moved_out: counts.moved_out,
-        remembered,
-    }
-}
-
 fn tally_at<S: Alter>(conn: &mut Connection<S>, header: BookHeader) -> Result<Tally, Denied>
-    ensures answers { GivenBook (state S.Store conn.old) (state S.Store conn.new) header
-        (λ book. FollowsStep IsExactly result (Ok (tally_with header.number header.horizon
-        (live_count header.counts) header.counts (tombstone_count book)))) }
-    ensures reads_only { OnlyReads (state S.Store conn.old) (state S.Store conn.new) }
+    ensures answers { GivenBook S.Store conn.old conn.new header
+        (λ book. FollowsStep IsExactly result
+        (Ok (tally_with header.number header.horizon (live_count header.counts) header.counts
+        (tombstone_count book)))) }
+    ensures reads_only { OnlyReads S.Store conn.old conn.new }
 {
     let remembered = count_removals(conn, header)?;
-    Ok(tally_with(header, remembered))
+    Ok(Tally::of(
+        header.number(),
+        header.horizon(),
+        header.counts(),
+        remembered,
+    ))
 }
 
 /// Returns the tally of the book with this name. The query counts the remembered removals; the
 /// number of cards follows from the counts of changes. Refused with `NoSuchBook`.
 pub fn tally_of_book<S: Alter>(conn: &mut Connection<S>, name: &str) -> Result<Tally, Denied>
-    ensures answers { GivenSoundRows (state S.Store conn.old) (state S.Store conn.new)
+    ensures answers { GivenSoundRows S.Store conn.old conn.new
         (λ rows. FollowsStep IsExactly result (tally_step (books_of rows) name.now)) }
-    ensures reads_only { OnlyReads (state S.Store conn.old) (state S.Store conn.new) }
+    ensures reads_only { OnlyReads S.Store conn.old conn.new }
 {
     let header = find_header(conn, name)?;
     tally_at(conn, header)

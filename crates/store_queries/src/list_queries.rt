@@ -4,11 +4,11 @@
 ghost use Rattle.base_types.specs.TextMaps.{octet_map};
 ghost use Rattle.book_model.specs.BookQueries.{book_lines, cards_step, live_cards};
 ghost use Rattle.store_rows.specs.TableBooks.{books_of};
-ghost use Rattle.store_lookups.specs.CallResults.{FollowsStep, GivenBook, GivenSoundRows};
+ghost use Rattle.store_lookups.specs.CallResults.{FollowsStep};
 ghost use Rattle.store_lookups.specs.Faults.{IsDeniedFault};
 ghost use Rattle.store_queries.specs.internal.RowLists.{ShowCards};
-ghost use Rattle.store_tables.specs.StatementEffects.{OnlyReads};
-ghost use Rattle.sqlite.specs.Held.{state};
+ghost use Rattle.store_lookups.specs.OnConnections.{GivenBook, GivenSoundRows};
+ghost use Rattle.store_tables.specs.OnConnections.{OnlyReads};
 ghost use Rattle.std.specs.Prelude.{◌≡◌, IfErr, IfOk, Ok};
 
 use crate::row_lists::{cards_in, lines_in};
@@ -25,10 +25,10 @@ pub fn lines_of_books<S: Alter>(
     alloc: Global,
     conn: &mut Connection<S>,
 ) -> Result<Vec<BookLine>, Denied>
-    ensures answers { GivenSoundRows (state S.Store conn.old) (state S.Store conn.new)
+    ensures answers { GivenSoundRows S.Store conn.old conn.new
         (λ rows. FollowsStep (λ wanted lines. lines.items ≡ wanted) result
         (Ok (book_lines (books_of rows)))) }
-    ensures reads_only { OnlyReads (state S.Store conn.old) (state S.Store conn.new) }
+    ensures reads_only { OnlyReads S.Store conn.old conn.new }
 {
     match all_books(conn) {
         Ok(rows) => lines_in(alloc, rows.as_slice()),
@@ -49,10 +49,10 @@ fn cards_at<S: Alter>(
     conn: &mut Connection<S>,
     header: BookHeader,
 ) -> Result<BTreeMap<String, Stored>, Denied>
-    ensures answers { GivenBook (state S.Store conn.old) (state S.Store conn.new) header
+    ensures answers { GivenBook S.Store conn.old conn.new header
         (λ book. FollowsStep (λ wanted cards. octet_map cards ≡ wanted) result
         (Ok (live_cards book))) }
-    ensures reads_only { OnlyReads (state S.Store conn.old) (state S.Store conn.new) }
+    ensures reads_only { OnlyReads S.Store conn.old conn.new }
 {
     let id = column_of(header.id())?;
     match members_of(conn, id) {
@@ -68,10 +68,10 @@ pub fn cards_of_book<S: Alter>(
     conn: &mut Connection<S>,
     name: &str,
 ) -> Result<BTreeMap<String, Stored>, Denied>
-    ensures answers { GivenSoundRows (state S.Store conn.old) (state S.Store conn.new)
+    ensures answers { GivenSoundRows S.Store conn.old conn.new
         (λ rows. FollowsStep (λ wanted cards. octet_map cards ≡ wanted) result
         (cards_step (books_of rows) name.now)) }
-    ensures reads_only { OnlyReads (state S.Store conn.old) (state S.Store conn.new) }
+    ensures reads_only { OnlyReads S.Store conn.old conn.new }
 {
     let header = find_header(conn, name)?;
     cards_at(alloc, conn, header)

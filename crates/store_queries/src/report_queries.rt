@@ -7,12 +7,12 @@ ghost use Rattle.store_rows.specs.ReadLaws.{AreFirstDue, request_of};
 ghost use Rattle.store_rows.specs.SoundTables.{AreSoundRows};
 ghost use Rattle.store_rows.specs.TableBooks.{books_of};
 ghost use Rattle.store_rows.specs.TableRows.{TableRows};
-ghost use Rattle.store_lookups.specs.CallResults.{FollowsStep, GivenBook, GivenSoundRows};
+ghost use Rattle.store_lookups.specs.CallResults.{FollowsStep};
 ghost use Rattle.store_lookups.specs.Faults.{IsDeniedFault};
 ghost use Rattle.store_queries.specs.internal.QuerySteps.{request_for, page_step};
-ghost use Rattle.store_tables.specs.StatementEffects.{OnlyReads};
-ghost use Rattle.sqlite.specs.Held.{state};
-ghost use Rattle.std.specs.Prelude.{◌≡◌, ◌≤◌, IfErr, IfOk, List, Ok, ℕ};
+ghost use Rattle.store_lookups.specs.OnConnections.{GivenBook, GivenSoundRows};
+ghost use Rattle.store_tables.specs.OnConnections.{OnlyReads};
+ghost use Rattle.std.specs.Prelude.{◌≤◌, IfErr, IfOk, List, Ok, ℕ};
 
 use crate::row_lists::entries_in;
 use book_model::decisions::{mark_of, size_of_page, truncated_page, whole_page};
@@ -55,9 +55,9 @@ fn page_at<S: Alter>(
 ) -> Result<Page, Denied>
     requires some { 1 ≤ size }
     requires within { size ≤ 1000 }
-    ensures answers { GivenBook (state S.Store conn.old) (state S.Store conn.new) header
+    ensures answers { GivenBook S.Store conn.old conn.new header
         (λ book. FollowsStep IsReport result (Ok (request_for book mark size))) }
-    ensures reads_only { OnlyReads (state S.Store conn.old) (state S.Store conn.new) }
+    ensures reads_only { OnlyReads S.Store conn.old conn.new }
 {
     let id = column_of(header.id())?;
     let at = column_of(mark.at)?;
@@ -78,9 +78,9 @@ fn page_in<S: Alter>(
     token: Option<Token>,
     limit: Option<u64>,
 ) -> Result<Page, Denied>
-    ensures answers { GivenBook (state S.Store conn.old) (state S.Store conn.new) header
+    ensures answers { GivenBook S.Store conn.old conn.new header
         (λ book. FollowsStep IsReport result (page_step limits token limit book)) }
-    ensures reads_only { OnlyReads (state S.Store conn.old) (state S.Store conn.new) }
+    ensures reads_only { OnlyReads S.Store conn.old conn.new }
 {
     let mark = mark_of(header.id(), header.number(), header.horizon(), token)?;
     let size = size_of_page(limits, limit)?;
@@ -101,10 +101,10 @@ pub fn page_of_book<S: Alter>(
     token: Option<Token>,
     limit: Option<u64>,
 ) -> Result<Page, Denied>
-    ensures answers { GivenSoundRows (state S.Store conn.old) (state S.Store conn.new)
-        (λ rows. FollowsStep IsReport result (report_step limits (books_of rows) name.now token
-        limit)) }
-    ensures reads_only { OnlyReads (state S.Store conn.old) (state S.Store conn.new) }
+    ensures answers { GivenSoundRows S.Store conn.old conn.new
+        (λ rows. FollowsStep IsReport result
+        (report_step limits (books_of rows) name.now token limit)) }
+    ensures reads_only { OnlyReads S.Store conn.old conn.new }
 {
     let header = find_header(conn, name)?;
     page_in(alloc, conn, limits, header, token, limit)

@@ -1,5 +1,5 @@
 -- The rows after a move, and the move against the model.
-use Rattle.std.proofs.Common.{◌≡◌, ◌≤◌, inl, inr, ℕ, pos, Bool, true, false, not, int_eq, bytes_eq, List, Option, Some, None, Result, Ok, Err, OnOk, refl, sym, ap, ap₂, subst, ◌∙◌, true≢false}
+use Rattle.std.proofs.Common.{◌≡◌, ◌≤◌, ℕ, pos, Bool, true, false, not, int_eq, List, Option, Some, None, Result, Ok, Err, refl, sym, ap, ap₂, subst, ◌∙◌, true≢false}
 use Rattle.std.specs.FinMap as finite
 use Rattle.sqlite.specs.Effect.{Database}
 use Rattle.sqlite.specs.State.{State}
@@ -15,9 +15,9 @@ use Rattle.book_model.specs.declared.denied.Denied.{Denied}
 use Rattle.book_model.specs.declared.denied.Denied.TheVariants.{Refused, Fault}
 use Rattle.book_model.specs.declared.refusal.Refusal.{Refusal}
 use Rattle.book_model.specs.declared.refusal.Refusal.TheVariants.{NoSuchCard, SameBook}
-use Rattle.book_model.specs.Books.{Book, Books, book_named, live_at, same_name}
+use Rattle.book_model.specs.Books.{Book, Books, live_at, same_name}
 use Rattle.book_model.specs.Bounds.{Bounds}
-use Rattle.book_model.specs.BookChanges.{book_after_drop, forced_horizon, book_after_change, book_with_row}
+use Rattle.book_model.specs.BookChanges.{book_after_drop, forced_horizon, book_with_row}
 use Rattle.book_model.specs.Counting.{live_count}
 use Rattle.book_model.specs.Moving.{Moving, books_after_move, move_answer, move_step, moving_of}
 use Rattle.book_model.specs.CallOutcomes.{MatchesStep, ◌>>=◌, refuse_unless}
@@ -35,7 +35,7 @@ use Rattle.base_types.proofs.TextLemmas.{same_self}
 use Rattle.store_tables.specs.Books.{BookRow}
 use Rattle.store_rows.proofs.BookLemmas.{same_row}
 use Rattle.store_removals.specs.declared.move_call.Transfer.{Transfer}
-use Rattle.store_removals.specs.internal.Moves.{HasBothRows, IsMoveOf, table_books_after_move, both_named, moving_between_named, moving_between_books}
+use Rattle.store_removals.specs.internal.Moves.{HasBothRows, IsMoveOf, table_books_after_move, moving_between_named, moving_between_books}
 use Rattle.store_removals.specs.internal.Removals.{drop_by_next_removal}
 use Rattle.store_writes.specs.StoredBooks.{stored_books}
 use Rattle.store_writes.proofs.CallLemmas.{denied_does}
@@ -43,10 +43,6 @@ use Rattle.store_writes.proofs.HeldLemmas.{change_inside}
 use Rattle.store_writes.proofs.PlanLemmas.{lookup_of}
 
 -- ---- the rows after a move
-
-pub on_ok_then : {X E P Q : Type 0} (r : Result X E) → (P → Q) → OnOk r P → OnOk r Q
-on_ok_then (Ok x) f p = f p
-on_ok_then (Err e) f p = tt
 
 pub to_line : (db : Database) (rows : TableRows) (from : List ℕ) (source : HeaderRow) (to : List ℕ) (target : HeaderRow) → HasBothRows db rows from source to target → HasBookRow db rows to target
 to_line db rows from source to target lines = record { holds = lines.holds; sound = lines.sound; there = lines.has_target }

@@ -1,5 +1,5 @@
 -- The rows after a removal, and the removal against the model.
-use Rattle.std.proofs.Common.{◌≡◌, ◌+◌, ◌≤◌, ℕ, ℤ, pos, Bool, true, false, min, nat_le, nat_lt, cond, List, [], Option, Some, None, Result, Ok, Err, IfOk, filter, add-one, refl, sym, ap, ap₂, subst, ◌∙◌}
+use Rattle.std.proofs.Common.{◌≡◌, ◌+◌, ◌≤◌, ℕ, pos, true, false, min, nat_le, nat_lt, List, Option, Some, None, Result, Ok, Err, filter, add-one, refl, sym, ap, subst, ◌∙◌}
 use Rattle.std.specs.Option.{option_map_or}
 use Rattle.std.specs.FinMap as finite
 use Rattle.sqlite.specs.declared.error.Error.TheVariants.{QueryReturnedNoRows}
@@ -16,13 +16,12 @@ use Rattle.book_model.specs.declared.denied.Denied.{Denied}
 use Rattle.book_model.specs.declared.denied.Denied.TheVariants.{Refused, Fault}
 use Rattle.book_model.specs.declared.refusal.Refusal.{Refusal}
 use Rattle.book_model.specs.declared.refusal.Refusal.TheVariants.{NoSuchCard}
-use Rattle.book_model.specs.Books.{Book, Books, book_named, live_at}
+use Rattle.book_model.specs.Books.{Book, Books, live_at}
 use Rattle.book_model.specs.Bounds.{Bounds}
 use Rattle.book_model.specs.BookChanges.{book_after_drop, forced_horizon, oldest_tombstone, book_after_change, book_with_row}
 use Rattle.book_model.specs.Counting.{counts_after_change, live_count}
 use Rattle.book_model.specs.Forgetting.{book_after_forget}
 use Rattle.book_model.specs.CallOutcomes.{MatchesStep, ◌>>=◌}
-use Rattle.book_model.specs.Putting.{FoundMember, found_in_book}
 use Rattle.book_model.specs.BookQueries.{tombstone_count}
 use Rattle.book_model.specs.Removing.{remove_number}
 use Rattle.store_tables.specs.QueryResults.{FindsFirstRow}
@@ -32,8 +31,6 @@ use Rattle.store_tables.specs.Members.{HasMembers, by_changed, number_shown, is_
 use Rattle.store_tables.specs.StatementEffects.{GivenTables, WritesOnly}
 use Rattle.store_tables.proofs.SchemaCreationLemmas.{clean_before}
 use Rattle.store_rows.specs.ChangeLaws.{HoldsPut, header_after}
-use Rattle.store_rows.specs.ForgetLaws.{first_with_next}
-use Rattle.store_rows.specs.LookupLaws.{IsBookNamed}
 use Rattle.store_rows.specs.ShownRows.{ShowsNumber}
 use Rattle.store_rows.specs.SoundTables.{AreSoundRows}
 use Rattle.store_rows.specs.TableBooks.{HeaderRow, line_row, numbers_row, row_book, books_of}

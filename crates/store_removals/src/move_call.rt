@@ -1,16 +1,15 @@
 //! The move: taking a card from one book to another.
 ghost use Rattle.book_model.specs.Books.{live_at};
 ghost use Rattle.book_model.specs.Moving.{move_step, moving_of};
-ghost use Rattle.store_lookups.specs.CallResults.{FollowsStep, GivenSoundRows};
+ghost use Rattle.store_lookups.specs.CallResults.{FollowsStep};
 ghost use Rattle.store_lookups.specs.Faults.{IsDeniedFault};
 ghost use Rattle.store_rows.specs.TableBooks.{row_book, line_row};
-ghost use Rattle.store_writes.specs.TableChanges.{AppliesStep, CommitsOnce};
 ghost use Rattle.store_removals.specs.internal.Moves.{AreBothNamed, IsMovePlanned};
 ghost use Rattle.store_removals.specs.internal.Moves.{moving_between_books};
-ghost use Rattle.store_tables.specs.StatementEffects.{OnlyReads, GivenTables};
-ghost use Rattle.sqlite.specs.Held.{state};
-ghost use Rattle.sqlite.specs.State.{HasCleanDisk, IsUnchanged};
-ghost use Rattle.std.specs.Prelude.{◌≡◌, ◌<◌, ◌^◌, IfErr, IfOk, IsTrue, List, OnOk, false, ℕ};
+ghost use Rattle.store_lookups.specs.OnConnections.{GivenSoundRows};
+ghost use Rattle.store_tables.specs.OnConnections.{OnlyReads, UnchangedOnOk, WasOpenOnOk};
+ghost use Rattle.store_writes.specs.OnConnections.{AppliesStep, CommitsOnce};
+ghost use Rattle.std.specs.Prelude.{◌≡◌, ◌<◌, ◌^◌, IfErr, IfOk, List, OnOk, false, ℕ};
 
 use crate::moving::write_move;
 use crate::remove_call::plan_drop;
@@ -19,6 +18,7 @@ use book_model::{Denied, Limits, Moved, Refusal, Stored};
 use sqlite::{Alter, Connection};
 use std::alloc::Global;
 use store_lookups::{BookHeader, find_header, find_live};
+use store_tables::settled::assert_settled;
 use store_writes::lookups::{as_version_and_card, open_header};
 use vcard_text::Card;
 
@@ -39,13 +39,11 @@ fn find_both_headers<S: Alter>(
     from: &str,
     to: &str,
 ) -> Result<(BookHeader, BookHeader), Denied>
-    ensures finds { GivenSoundRows (state S.Store conn.old) (state S.Store conn.new)
+    ensures finds { GivenSoundRows S.Store conn.old conn.new
         (λ rows. AreBothNamed rows from.now to.now result) }
-    ensures unchanged { GivenTables (state S.Store conn.old) (state S.Store conn.new)
-        (OnOk result (IsUnchanged (state S.Store conn.old) (state S.Store conn.new))) }
-    ensures was_open { HasCleanDisk (state S.Store conn.new)
-        → OnOk result (IsTrue (state S.Store conn.old).is_open) }
-    ensures reads_only { OnlyReads (state S.Store conn.old) (state S.Store conn.new) }
+    ensures unchanged { UnchangedOnOk S.Store conn.old conn.new result }
+    ensures was_open { WasOpenOnOk S.Store conn.old conn.new result }
+    ensures reads_only { OnlyReads S.Store conn.old conn.new }
 {
     let source = open_header(conn, from)?;
     let target = find_header(conn, to)?;
@@ -60,14 +58,12 @@ fn find_both_live<S: Alter>(
     target: BookHeader,
     uid: &str,
 ) -> Result<(Option<Stored>, Option<Stored>), Denied>
-    ensures live { GivenSoundRows (state S.Store conn.old) (state S.Store conn.new)
-        (λ rows. (from to : List ℕ) → IfOk result (λ live.
-        (live_at (row_book rows (line_row from source)) uid.now ≡ live.0)
+    ensures live { GivenSoundRows S.Store conn.old conn.new (λ rows. (from to : List ℕ)
+        → IfOk result (λ live. (live_at (row_book rows (line_row from source)) uid.now ≡ live.0)
         × (live_at (row_book rows (line_row to target)) uid.now ≡ live.1))) }
     ensures fault { IfErr result IsDeniedFault }
-    ensures unchanged { GivenTables (state S.Store conn.old) (state S.Store conn.new)
-        (OnOk result (IsUnchanged (state S.Store conn.old) (state S.Store conn.new))) }
-    ensures reads_only { OnlyReads (state S.Store conn.old) (state S.Store conn.new) }
+    ensures unchanged { UnchangedOnOk S.Store conn.old conn.new result }
+    ensures reads_only { OnlyReads S.Store conn.old conn.new }
 {
     let here = find_live(alloc, conn, source, uid)?;
     let there = find_live(alloc, conn, target, uid)?;
@@ -84,15 +80,15 @@ fn decide_move<S: Alter>(
     uid: &str,
     expect: Option<u64>,
 ) -> Result<(Card, Moved), Denied>
-    ensures answers { GivenSoundRows (state S.Store conn.old) (state S.Store conn.new)
-        (λ rows. (from to : List ℕ) → FollowsStep (λ asked moving.
-        moving_of moving.0 moving.1 ≡ asked) result (moving_between_books limits uid.now expect
-        (row_book rows (line_row from source)) (row_book rows (line_row to target)))) }
+    ensures answers { GivenSoundRows S.Store conn.old conn.new (λ rows. (from to : List ℕ)
+        → FollowsStep
+        (λ asked moving. moving_of moving.0 moving.1 ≡ asked) result
+        (moving_between_books limits uid.now expect (row_book rows (line_row from source))
+        (row_book rows (line_row to target)))) }
     ensures source_number_fits { OnOk result (source.number < 2 ^ 63) }
     ensures target_number_fits { OnOk result (target.number < 2 ^ 63) }
-    ensures unchanged { GivenTables (state S.Store conn.old) (state S.Store conn.new)
-        (OnOk result (IsUnchanged (state S.Store conn.old) (state S.Store conn.new))) }
-    ensures reads_only { OnlyReads (state S.Store conn.old) (state S.Store conn.new) }
+    ensures unchanged { UnchangedOnOk S.Store conn.old conn.new result }
+    ensures reads_only { OnlyReads S.Store conn.old conn.new }
 {
     let (here, there) = find_both_live(alloc, conn, source, target, uid)?;
     let leaving = source.counts();
@@ -124,15 +120,13 @@ fn plan_move<S: Alter>(
     uid: &str,
     expect: Option<u64>,
 ) -> Result<Transfer, Denied>
-    ensures planned { GivenSoundRows (state S.Store conn.old) (state S.Store conn.new)
+    ensures planned { GivenSoundRows S.Store conn.old conn.new
         (λ rows. IsMovePlanned limits rows from.now to.now uid.now expect result) }
     ensures source_number_fits { IfOk result (λ plan. plan.source.number < 2 ^ 63) }
     ensures target_number_fits { IfOk result (λ plan. plan.target.number < 2 ^ 63) }
-    ensures unchanged { GivenTables (state S.Store conn.old) (state S.Store conn.new)
-        (OnOk result (IsUnchanged (state S.Store conn.old) (state S.Store conn.new))) }
-    ensures was_open { HasCleanDisk (state S.Store conn.new)
-        → OnOk result (IsTrue (state S.Store conn.old).is_open) }
-    ensures reads_only { OnlyReads (state S.Store conn.old) (state S.Store conn.new) }
+    ensures unchanged { UnchangedOnOk S.Store conn.old conn.new result }
+    ensures was_open { WasOpenOnOk S.Store conn.old conn.new result }
+    ensures reads_only { OnlyReads S.Store conn.old conn.new }
 {
     let (source, target) = find_both_headers(conn, from, to)?;
     if from == to {
@@ -163,12 +157,12 @@ pub fn move_in_tables<S: Alter>(
     expect: Option<u64>,
 ) -> Result<Moved, Denied>
     requires { conn.old.in_transaction ≡ false }
-    ensures changes { AppliesStep (state S.Store conn.old) (state S.Store conn.new) result
+    ensures changes { AppliesStep S.Store conn.old conn.new result
         (λ books. move_step limits books from.now to.now uid.now expect) }
-    ensures crash { CommitsOnce (state S.Store conn.old) (state S.Store conn.new)
+    ensures crash { CommitsOnce S.Store conn.old conn.new
         (λ books. move_step limits books from.now to.now uid.now expect) }
 {
-    let _settled = conn.is_autocommit();
+    assert_settled(conn);
     let plan = plan_move(alloc, conn, limits, from, to, uid, expect)?;
     write_move(
         alloc,

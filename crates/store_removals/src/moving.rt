@@ -6,19 +6,24 @@ ghost use Rattle.book_model.specs.declared.change.Change.TheVariants.{Stores, Ta
 ghost use Rattle.book_model.specs.declared.change.RemovalReason.TheVariants.{MoveOut};
 ghost use Rattle.book_model.specs.declared.change.StoreReason.TheVariants.{MoveIn};
 ghost use Rattle.store_lookups.specs.Faults.{IsDeniedFault};
-ghost use Rattle.store_rows.specs.TableBooks.{row_book, books_of, line_row, numbers_row};
-ghost use Rattle.store_rows.specs.TableRows.{TableRows};
+ghost use Rattle.store_rows.specs.TableBooks.{numbers_row};
 ghost use Rattle.store_rows.specs.Values.{text_card};
-ghost use Rattle.store_writes.specs.TableChanges.{HasBookRow, HoldsBooks, HoldsChange, IsAtomic};
-ghost use Rattle.store_writes.specs.TableChanges.{TreesHold};
+ghost use Rattle.store_writes.specs.TableChanges.{HoldsBooks};
 ghost use Rattle.store_tables.specs.Books.{numbers_of};
-ghost use Rattle.store_removals.specs.internal.Moves.{HasBothRows, table_books_after_move};
-ghost use Rattle.store_tables.specs.SchemaCreation.{HoldsInTx};
-ghost use Rattle.sqlite.specs.Held.{state};
-ghost use Rattle.sqlite.specs.State.{HasCleanDisk, KeepsCommit, Survives};
-ghost use Rattle.std.specs.FinMap as finite;
-ghost use Rattle.std.specs.Prelude.{◌≡◌, ◌+◌, ◌<◌, ◌^◌, IfErr, IfOk, IsTrue, List, OnOk, false};
-ghost use Rattle.std.specs.Prelude.{pos, ℕ, ⊤};
+ghost use Rattle.store_removals.specs.internal.Moves.{table_books_after_move};
+ghost use Rattle.store_removals.specs.internal.OnConnections.{
+  CommitsMove,
+  CommitsMoveOnce,
+  InTxWithBothBooks,
+};
+ghost use Rattle.store_tables.specs.OnConnections.{
+  CountsFaults,
+  HoldsInTx,
+  KeepsCommit,
+  SurvivesAsBefore,
+};
+ghost use Rattle.store_writes.specs.OnConnections.{ChangesBookInTx, KeepsCommitWithBook};
+ghost use Rattle.std.specs.Prelude.{◌≡◌, ◌+◌, ◌<◌, ◌^◌, IfErr, IfOk, OnOk, false};
 
 use crate::removing::write_removal_with_drop;
 use book_model::{Change, Denied, RemovalReason, StoreReason};
@@ -26,6 +31,7 @@ use sqlite::{Alter, Connection, Transaction};
 use std::alloc::Global;
 use store_lookups::{BookHeader, column_of, fault_of};
 use store_tables::books::BookNumbers;
+use store_tables::settled::assert_settled;
 use store_writes::columns::{columns_of, text_of_card};
 use store_writes::putting::{columns_after, write_member};
 use vcard_text::Card;
@@ -40,21 +46,11 @@ fn add_to_target<S: Alter>(
 ) -> Result<(), Denied>
     requires { header.number < 2 ^ 63 }
     ensures same_reference { tx.new.conn.ghost_name ≡ tx.old.conn.ghost_name }
-    ensures books_after { (rows : TableRows) (name : List ℕ)
-        → HasCleanDisk (state S.Store tx.new.conn.now)
-        → IsTrue (state S.Store tx.old.conn.now).in_transaction
-        → HasBookRow (state S.Store tx.old.conn.now).now rows name header
-        → text_card text.now ≡ card.now
-        → OnOk result (HoldsInTx (state S.Store tx.new.conn.now) (λ db. HoldsChange db rows
-        (pos header.id) (finite.insert (books_of rows) name
-        (book_with_row (row_book rows (line_row name header)) uid.now (Stores card.now MoveIn))))) }
-    ensures keeps_commit { (rows : TableRows) (name : List ℕ)
-        → HasCleanDisk (state S.Store tx.new.conn.now)
-        → IsTrue (state S.Store tx.old.conn.now).in_transaction
-        → HasBookRow (state S.Store tx.old.conn.now).now rows name header
-        → KeepsCommit (state S.Store tx.old.conn.now) (state S.Store tx.new.conn.now) }
-    ensures survives { Survives (state S.Store tx.old.conn.now) (state S.Store tx.new.conn.now)
-        (λ _. ⊥) }
+    ensures books_after { text_card text.now ≡ card.now
+        → ChangesBookInTx S.Store tx.old.conn.now tx.new.conn.now header result
+        (λ book. book_with_row book uid.now (Stores card.now MoveIn)) }
+    ensures keeps_commit { KeepsCommitWithBook S.Store tx.old.conn.now tx.new.conn.now header }
+    ensures survives { SurvivesAsBefore S.Store tx.old.conn.now tx.new.conn.now }
     ensures fault { IfErr result IsDeniedFault }
 {
     let change = Change::Stores(card.try_copy()?, StoreReason::MoveIn);
@@ -87,20 +83,10 @@ fn remove_keeping_horizon<S: Alter>(
 ) -> Result<(), Denied>
     requires { header.number < 2 ^ 63 }
     ensures same_reference { tx.new.conn.ghost_name ≡ tx.old.conn.ghost_name }
-    ensures books_after { (rows : TableRows) (name : List ℕ)
-        → HasCleanDisk (state S.Store tx.new.conn.now)
-        → IsTrue (state S.Store tx.old.conn.now).in_transaction
-        → HasBookRow (state S.Store tx.old.conn.now).now rows name header
-        → OnOk result (HoldsInTx (state S.Store tx.new.conn.now) (λ db. HoldsChange db rows
-        (pos header.id) (finite.insert (books_of rows) name
-        (book_with_row (row_book rows (line_row name header)) uid.now (TakesAway MoveOut))))) }
-    ensures keeps_commit { (rows : TableRows) (name : List ℕ)
-        → HasCleanDisk (state S.Store tx.new.conn.now)
-        → IsTrue (state S.Store tx.old.conn.now).in_transaction
-        → HasBookRow (state S.Store tx.old.conn.now).now rows name header
-        → KeepsCommit (state S.Store tx.old.conn.now) (state S.Store tx.new.conn.now) }
-    ensures survives { Survives (state S.Store tx.old.conn.now) (state S.Store tx.new.conn.now)
-        (λ _. ⊥) }
+    ensures books_after { ChangesBookInTx S.Store tx.old.conn.now tx.new.conn.now header result
+        (λ book. book_with_row book uid.now (TakesAway MoveOut)) }
+    ensures keeps_commit { KeepsCommitWithBook S.Store tx.old.conn.now tx.new.conn.now header }
+    ensures survives { SurvivesAsBefore S.Store tx.old.conn.now tx.new.conn.now }
     ensures fault { IfErr result IsDeniedFault }
 {
     let numbers = columns_after_leaving(header, header.horizon())?;
@@ -122,21 +108,10 @@ fn remove_raising_horizon<S: Alter>(
 ) -> Result<(), Denied>
     requires { header.number < 2 ^ 63 }
     ensures same_reference { tx.new.conn.ghost_name ≡ tx.old.conn.ghost_name }
-    ensures books_after { (rows : TableRows) (name : List ℕ)
-        → HasCleanDisk (state S.Store tx.new.conn.now)
-        → IsTrue (state S.Store tx.old.conn.now).in_transaction
-        → HasBookRow (state S.Store tx.old.conn.now).now rows name header
-        → OnOk result (HoldsInTx (state S.Store tx.new.conn.now) (λ db. HoldsChange db rows
-        (pos header.id) (finite.insert (books_of rows) name
-        (book_after_forget (book_with_row (row_book rows (line_row name header)) uid.now
-        (TakesAway MoveOut)) upto)))) }
-    ensures keeps_commit { (rows : TableRows) (name : List ℕ)
-        → HasCleanDisk (state S.Store tx.new.conn.now)
-        → IsTrue (state S.Store tx.old.conn.now).in_transaction
-        → HasBookRow (state S.Store tx.old.conn.now).now rows name header
-        → KeepsCommit (state S.Store tx.old.conn.now) (state S.Store tx.new.conn.now) }
-    ensures survives { Survives (state S.Store tx.old.conn.now) (state S.Store tx.new.conn.now)
-        (λ _. ⊥) }
+    ensures books_after { ChangesBookInTx S.Store tx.old.conn.now tx.new.conn.now header result
+        (λ book. book_after_forget (book_with_row book uid.now (TakesAway MoveOut)) upto) }
+    ensures keeps_commit { KeepsCommitWithBook S.Store tx.old.conn.now tx.new.conn.now header }
+    ensures survives { SurvivesAsBefore S.Store tx.old.conn.now tx.new.conn.now }
     ensures fault { IfErr result IsDeniedFault }
 {
     let numbers = columns_after_leaving(header, upto)?;
@@ -159,21 +134,10 @@ fn remove_from_source<S: Alter>(
 ) -> Result<(), Denied>
     requires { header.number < 2 ^ 63 }
     ensures same_reference { tx.new.conn.ghost_name ≡ tx.old.conn.ghost_name }
-    ensures books_after { (rows : TableRows) (name : List ℕ)
-        → HasCleanDisk (state S.Store tx.new.conn.now)
-        → IsTrue (state S.Store tx.old.conn.now).in_transaction
-        → HasBookRow (state S.Store tx.old.conn.now).now rows name header
-        → OnOk result (HoldsInTx (state S.Store tx.new.conn.now) (λ db. HoldsChange db rows
-        (pos header.id) (finite.insert (books_of rows) name
-        (book_after_drop (book_with_row (row_book rows (line_row name header)) uid.now
-        (TakesAway MoveOut)) drop)))) }
-    ensures keeps_commit { (rows : TableRows) (name : List ℕ)
-        → HasCleanDisk (state S.Store tx.new.conn.now)
-        → IsTrue (state S.Store tx.old.conn.now).in_transaction
-        → HasBookRow (state S.Store tx.old.conn.now).now rows name header
-        → KeepsCommit (state S.Store tx.old.conn.now) (state S.Store tx.new.conn.now) }
-    ensures survives { Survives (state S.Store tx.old.conn.now) (state S.Store tx.new.conn.now)
-        (λ _. ⊥) }
+    ensures books_after { ChangesBookInTx S.Store tx.old.conn.now tx.new.conn.now header result
+        (λ book. book_after_drop (book_with_row book uid.now (TakesAway MoveOut)) drop) }
+    ensures keeps_commit { KeepsCommitWithBook S.Store tx.old.conn.now tx.new.conn.now header }
+    ensures survives { SurvivesAsBefore S.Store tx.old.conn.now tx.new.conn.now }
     ensures fault { IfErr result IsDeniedFault }
 {
     match drop {
@@ -195,21 +159,15 @@ fn move_rows<S: Alter>(
     requires from { source.number < 2 ^ 63 }
     requires to { target.number < 2 ^ 63 }
     ensures same_reference { tx.new.conn.ghost_name ≡ tx.old.conn.ghost_name }
-    ensures books_after { (rows : TableRows) (from to : List ℕ)
-        → HasCleanDisk (state S.Store tx.new.conn.now)
-        → IsTrue (state S.Store tx.old.conn.now).in_transaction
-        → HasBothRows (state S.Store tx.old.conn.now).now rows from source to target
-        → text_card text.now ≡ card.now
-        → OnOk result (HoldsInTx (state S.Store tx.new.conn.now) (λ db. HoldsBooks db
-        (table_books_after_move rows from source to target uid.now card.now drop))) }
-    ensures keeps_commit { (rows : TableRows) (from to : List ℕ)
-        → HasCleanDisk (state S.Store tx.new.conn.now)
-        → IsTrue (state S.Store tx.old.conn.now).in_transaction
-        → HasBothRows (state S.Store tx.old.conn.now).now rows from source to target
-        → text_card text.now ≡ card.now
-        → KeepsCommit (state S.Store tx.old.conn.now) (state S.Store tx.new.conn.now) }
-    ensures survives { Survives (state S.Store tx.old.conn.now) (state S.Store tx.new.conn.now)
-        (λ _. ⊥) }
+    ensures books_after { InTxWithBothBooks S.Store tx.old.conn.now tx.new.conn.now source target
+        (λ rows from to. text_card text.now ≡ card.now
+        → OnOk result (HoldsInTx S.Store tx.new.conn.now
+        (λ db. HoldsBooks db
+        (table_books_after_move rows from source to target uid.now card.now drop)))) }
+    ensures keeps_commit { InTxWithBothBooks S.Store tx.old.conn.now tx.new.conn.now source target
+        (λ rows from to. text_card text.now ≡ card.now
+        → KeepsCommit S.Store tx.old.conn.now tx.new.conn.now) }
+    ensures survives { SurvivesAsBefore S.Store tx.old.conn.now tx.new.conn.now }
     ensures fault { IfErr result IsDeniedFault }
 {
     add_to_target(tx, target, uid, card, text)?;
@@ -229,21 +187,15 @@ fn commit_move<S: Alter>(
     requires settled { conn.old.in_transaction ≡ false }
     requires from { source.number < 2 ^ 63 }
     requires to { target.number < 2 ^ 63 }
-    ensures atomic { (rows : TableRows) (from to : List ℕ) → HasCleanDisk (state S.Store conn.new)
-        → HasBothRows (state S.Store conn.old).now rows from source to target
-        → text_card text.now ≡ card.now
-        → IsAtomic (state S.Store conn.old) (state S.Store conn.new) result (λ _ db. HoldsBooks db
-        (table_books_after_move rows from source to target uid.now card.now drop)) }
+    ensures atomic { text_card text.now ≡ card.now
+        → CommitsMove S.Store conn.old conn.new source target result uid.now card.now drop }
     ensures fault { IfErr result IsDeniedFault }
     ensures settled { conn.new.in_transaction ≡ false }
-    ensures survives { Survives (state S.Store conn.old) (state S.Store conn.new) (λ _. ⊤) }
-    ensures crash { (rows : TableRows) (from to : List ℕ)
-        → HasBothRows (state S.Store conn.old).now rows from source to target
-        → text_card text.now ≡ card.now
-        → Survives (state S.Store conn.old) (state S.Store conn.new) (TreesHold
-        (table_books_after_move rows from source to target uid.now card.now drop)) }
+    ensures survives { CountsFaults S.Store conn.old conn.new }
+    ensures crash { text_card text.now ≡ card.now
+        → CommitsMoveOnce S.Store conn.old conn.new source target uid.now card.now drop }
 {
-    let _settled = conn.is_autocommit();
+    assert_settled(conn);
     let mut tx = conn.transaction();
     move_rows(&mut tx, source, target, uid, card, text, drop)?;
     match tx.commit() {
@@ -265,19 +217,14 @@ pub(crate) fn write_move<S: Alter>(
     requires settled { conn.old.in_transaction ≡ false }
     requires from { source.number < 2 ^ 63 }
     requires to { target.number < 2 ^ 63 }
-    ensures atomic { (rows : TableRows) (from to : List ℕ) → HasCleanDisk (state S.Store conn.new)
-        → HasBothRows (state S.Store conn.old).now rows from source to target
-        → IsAtomic (state S.Store conn.old) (state S.Store conn.new) result (λ _ db. HoldsBooks db
-        (table_books_after_move rows from source to target uid.now card.now drop)) }
+    ensures atomic { CommitsMove S.Store conn.old conn.new source target result uid.now card.now
+        drop }
     ensures fault { IfErr result IsDeniedFault }
     ensures settled { conn.new.in_transaction ≡ false }
-    ensures survives { Survives (state S.Store conn.old) (state S.Store conn.new) (λ _. ⊤) }
-    ensures crash { (rows : TableRows) (from to : List ℕ)
-        → HasBothRows (state S.Store conn.old).now rows from source to target
-        → Survives (state S.Store conn.old) (state S.Store conn.new) (TreesHold
-        (table_books_after_move rows from source to target uid.now card.now drop)) }
+    ensures survives { CountsFaults S.Store conn.old conn.new }
+    ensures crash { CommitsMoveOnce S.Store conn.old conn.new source target uid.now card.now drop }
 {
-    let _settled = conn.is_autocommit();
+    assert_settled(conn);
     let text = text_of_card(alloc, card)?;
     commit_move(conn, source, target, uid, card, text.as_str(), drop)
 }

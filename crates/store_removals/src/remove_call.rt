@@ -2,18 +2,15 @@
 ghost use Rattle.book_model.specs.BookChanges.{oldest_tombstone};
 ghost use Rattle.book_model.specs.BookQueries.{tombstone_count};
 ghost use Rattle.book_model.specs.Removing.{remove_step};
-ghost use Rattle.store_lookups.specs.CallResults.{FollowsStep, IsExactly, GivenBook};
-ghost use Rattle.store_lookups.specs.CallResults.{GivenSoundRows};
+ghost use Rattle.store_lookups.specs.CallResults.{FollowsStep, IsExactly};
 ghost use Rattle.store_lookups.specs.Faults.{IsDeniedFault};
-ghost use Rattle.store_writes.specs.TableChanges.{AppliesStep, CommitsOnce};
 ghost use Rattle.store_removals.specs.internal.Removals.{IsRemovalPlanned, drop_by_next_removal};
 ghost use Rattle.store_removals.specs.internal.Removals.{removal_number_in};
-ghost use Rattle.store_tables.specs.StatementEffects.{OnlyReads, GivenTables};
-ghost use Rattle.sqlite.specs.Held.{state};
-ghost use Rattle.sqlite.specs.State.{HasCleanDisk, IsUnchanged};
+ghost use Rattle.store_lookups.specs.OnConnections.{GivenBook, GivenSoundRows};
+ghost use Rattle.store_tables.specs.OnConnections.{OnlyReads, UnchangedOnOk, WasOpenOnOk};
+ghost use Rattle.store_writes.specs.OnConnections.{AppliesStep, CommitsOnce};
 ghost use Rattle.std.specs.Option.{option_map_or};
-ghost use Rattle.std.specs.Prelude.{◌≡◌, ◌+◌, ◌<◌, ◌^◌, IfErr, IfOk, IsTrue, OnOk, false, min};
-ghost use Rattle.std.specs.Prelude.{nat_le};
+ghost use Rattle.std.specs.Prelude.{◌≡◌, ◌+◌, ◌<◌, ◌^◌, IfErr, IfOk, OnOk, false, min, nat_le};
 
 use crate::removing::write_remove;
 use book_model::decisions::{MemberLookup, number_of_removal};
@@ -24,6 +21,7 @@ use store_lookups::{
     BookHeader, column_of, count_removals, fault_of, fetch_keep, find_live, number_in,
 };
 use store_tables::members::first_removed;
+use store_tables::settled::assert_settled;
 use store_writes::lookups::{as_version_and_card, open_header};
 
 /// A planned removal: the header of the book before it, its number, and the number up to which the
@@ -44,12 +42,11 @@ fn decide_removal<S: Alter>(
     uid: &str,
     expect: Option<u64>,
 ) -> Result<u64, Denied>
-    ensures answers { GivenBook (state S.Store conn.old) (state S.Store conn.new) header
+    ensures answers { GivenBook S.Store conn.old conn.new header
         (λ book. FollowsStep IsExactly result (removal_number_in limits uid.now expect book)) }
     ensures number_fits { OnOk result (header.number < 2 ^ 63) }
-    ensures unchanged { GivenTables (state S.Store conn.old) (state S.Store conn.new)
-        (OnOk result (IsUnchanged (state S.Store conn.old) (state S.Store conn.new))) }
-    ensures reads_only { OnlyReads (state S.Store conn.old) (state S.Store conn.new) }
+    ensures unchanged { UnchangedOnOk S.Store conn.old conn.new result }
+    ensures reads_only { OnlyReads S.Store conn.old conn.new }
 {
     let live = find_live(alloc, conn, header, uid)?;
     let counts = header.counts();
@@ -65,12 +62,11 @@ fn decide_removal<S: Alter>(
 /// Whether the book can keep one more tombstone. Counts the tombstones above the horizon, which
 /// reads all members of the book that changed after it.
 fn fits_one_more<S: Alter>(conn: &mut Connection<S>, header: BookHeader) -> Result<bool, Denied>
-    ensures has_room { GivenBook (state S.Store conn.old) (state S.Store conn.new) header
+    ensures has_room { GivenBook S.Store conn.old conn.new header
         (λ book. IfOk result (λ room. nat_le (tombstone_count book + 1) book.keep ≡ room)) }
     ensures fault { IfErr result IsDeniedFault }
-    ensures unchanged { GivenTables (state S.Store conn.old) (state S.Store conn.new)
-        (OnOk result (IsUnchanged (state S.Store conn.old) (state S.Store conn.new))) }
-    ensures reads_only { OnlyReads (state S.Store conn.old) (state S.Store conn.new) }
+    ensures unchanged { UnchangedOnOk S.Store conn.old conn.new result }
+    ensures reads_only { OnlyReads S.Store conn.old conn.new }
 {
     let keep = fetch_keep(conn, header)?;
     let remembered = count_removals(conn, header)?;
@@ -83,12 +79,11 @@ fn oldest_removal_of<S: Alter>(
     conn: &mut Connection<S>,
     header: BookHeader,
 ) -> Result<Option<u64>, Denied>
-    ensures first { GivenBook (state S.Store conn.old) (state S.Store conn.new) header
+    ensures first { GivenBook S.Store conn.old conn.new header
         (λ book. IfOk result (λ first. oldest_tombstone book ≡ first)) }
     ensures fault { IfErr result IsDeniedFault }
-    ensures unchanged { GivenTables (state S.Store conn.old) (state S.Store conn.new)
-        (OnOk result (IsUnchanged (state S.Store conn.old) (state S.Store conn.new))) }
-    ensures reads_only { OnlyReads (state S.Store conn.old) (state S.Store conn.new) }
+    ensures unchanged { UnchangedOnOk S.Store conn.old conn.new result }
+    ensures reads_only { OnlyReads S.Store conn.old conn.new }
 {
     let id = column_of(header.id())?;
     let horizon = column_of(header.horizon())?;
@@ -118,12 +113,11 @@ pub(crate) fn plan_drop<S: Alter>(
     header: BookHeader,
 ) -> Result<Option<u64>, Denied>
     requires { header.number < 2 ^ 63 }
-    ensures drop { GivenBook (state S.Store conn.old) (state S.Store conn.new) header
+    ensures drop { GivenBook S.Store conn.old conn.new header
         (λ book. IfOk result (λ drop. drop_by_next_removal book ≡ drop)) }
     ensures fault { IfErr result IsDeniedFault }
-    ensures unchanged { GivenTables (state S.Store conn.old) (state S.Store conn.new)
-        (OnOk result (IsUnchanged (state S.Store conn.old) (state S.Store conn.new))) }
-    ensures reads_only { OnlyReads (state S.Store conn.old) (state S.Store conn.new) }
+    ensures unchanged { UnchangedOnOk S.Store conn.old conn.new result }
+    ensures reads_only { OnlyReads S.Store conn.old conn.new }
 {
     let room = fits_one_more(conn, header)?;
     if room {
@@ -142,14 +136,12 @@ fn plan_remove<S: Alter>(
     uid: &str,
     expect: Option<u64>,
 ) -> Result<Removal, Denied>
-    ensures planned { GivenSoundRows (state S.Store conn.old) (state S.Store conn.new)
+    ensures planned { GivenSoundRows S.Store conn.old conn.new
         (λ rows. IsRemovalPlanned limits rows name.now uid.now expect result) }
     ensures number_fits { IfOk result (λ plan. plan.header.number < 2 ^ 63) }
-    ensures unchanged { GivenTables (state S.Store conn.old) (state S.Store conn.new)
-        (OnOk result (IsUnchanged (state S.Store conn.old) (state S.Store conn.new))) }
-    ensures was_open { HasCleanDisk (state S.Store conn.new)
-        → OnOk result (IsTrue (state S.Store conn.old).is_open) }
-    ensures reads_only { OnlyReads (state S.Store conn.old) (state S.Store conn.new) }
+    ensures unchanged { UnchangedOnOk S.Store conn.old conn.new result }
+    ensures was_open { WasOpenOnOk S.Store conn.old conn.new result }
+    ensures reads_only { OnlyReads S.Store conn.old conn.new }
 {
     let header = open_header(conn, name)?;
 
@@ -174,12 +166,12 @@ pub fn remove_in_book<S: Alter>(
     expect: Option<u64>,
 ) -> Result<u64, Denied>
     requires { conn.old.in_transaction ≡ false }
-    ensures changes { AppliesStep (state S.Store conn.old) (state S.Store conn.new) result
+    ensures changes { AppliesStep S.Store conn.old conn.new result
         (λ books. remove_step limits books name.now uid.now expect) }
-    ensures crash { CommitsOnce (state S.Store conn.old) (state S.Store conn.new)
+    ensures crash { CommitsOnce S.Store conn.old conn.new
         (λ books. remove_step limits books name.now uid.now expect) }
 {
-    let _settled = conn.is_autocommit();
+    assert_settled(conn);
     let plan = plan_remove(alloc, conn, limits, name, uid, expect)?;
     write_remove(conn, plan.header, uid, plan.drop)?;
     Ok(plan.number)

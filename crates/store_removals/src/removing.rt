@@ -6,24 +6,26 @@ ghost use Rattle.book_model.specs.declared.change.Change.TheVariants.{TakesAway}
 ghost use Rattle.book_model.specs.declared.change.RemovalReason.{RemovalReason};
 ghost use Rattle.book_model.specs.declared.change.RemovalReason.TheVariants.{Deletion};
 ghost use Rattle.store_lookups.specs.Faults.{IsDeniedFault};
-ghost use Rattle.store_rows.specs.TableBooks.{HeaderRow, row_book, books_of, line_row, numbers_row};
-ghost use Rattle.store_rows.specs.TableRows.{TableRows};
-ghost use Rattle.store_writes.specs.TableChanges.{AreHeaderColumns, InBookTx, HasBookRow};
-ghost use Rattle.store_writes.specs.TableChanges.{HoldsBooks, HoldsChange, IsAtomic, TreesHold};
+ghost use Rattle.store_rows.specs.TableBooks.{HeaderRow, numbers_row};
+ghost use Rattle.store_writes.specs.TableChanges.{AreHeaderColumns};
 ghost use Rattle.store_removals.specs.internal.Removals.{header_after_drop};
 ghost use Rattle.store_tables.specs.Books.{numbers_of};
-ghost use Rattle.store_tables.specs.SchemaCreation.{HoldsInTx};
-ghost use Rattle.sqlite.specs.Held.{state};
-ghost use Rattle.sqlite.specs.State.{HasCleanDisk, KeepsCommit, Survives};
-ghost use Rattle.std.specs.FinMap as finite;
-ghost use Rattle.std.specs.Prelude.{◌≡◌, ◌+◌, ◌<◌, ◌^◌, IfErr, IfOk, List, OnOk, Option, Some};
-ghost use Rattle.std.specs.Prelude.{None, false, pos, ℕ, ⊤};
+ghost use Rattle.store_tables.specs.OnConnections.{CountsFaults, SurvivesAsBefore};
+ghost use Rattle.store_writes.specs.OnConnections.{
+  ChangesBookInTx,
+  CommitsBook,
+  CommitsBookOnce,
+  KeepsCommitWithBook,
+};
+ghost use Rattle.std.specs.Prelude.{◌≡◌, ◌+◌, ◌<◌, ◌^◌, IfErr, IfOk, Option, Some};
+ghost use Rattle.std.specs.Prelude.{None, false, pos, ℕ};
 
 use book_model::{Change, Denied, RemovalReason};
 use sqlite::{Alter, Connection, Error, Transaction};
 use store_lookups::{BookHeader, column_of, fault_of};
 use store_tables::books::{BookNumbers, renumber_book};
 use store_tables::members::{forget_members, put_member};
+use store_tables::settled::assert_settled;
 use store_writes::columns::columns_of;
 use store_writes::putting::commit_member;
 
@@ -38,18 +40,14 @@ pub(crate) fn write_removal_with_drop<S: Alter>(
     numbers: BookNumbers,
 ) -> Result<(), Error>
     ensures same_reference { tx.new.conn.ghost_name ≡ tx.old.conn.ghost_name }
-    ensures books_after { InBookTx (state S.Store tx.old.conn.now) (state S.Store tx.new.conn.now)
-        (λ rows name header. (why : RemovalReason) (last : ℕ)
+    ensures books_after { (header : HeaderRow) (why : RemovalReason) (last : ℕ)
         → changed ≡ pos (header.number + 1) → upto ≡ pos last
         → AreHeaderColumns (header_after_drop why last header) id numbers
-        → OnOk result (HoldsInTx (state S.Store tx.new.conn.now) (λ db. HoldsChange db rows
-        (pos header.id) (finite.insert (books_of rows) name (book_after_forget (book_with_row
-        (row_book rows (line_row name header)) uid.now (TakesAway why)) last))))) }
-    ensures keeps_commit { InBookTx (state S.Store tx.old.conn.now) (state S.Store tx.new.conn.now)
-        (λ rows name header. id ≡ pos header.id
-        → KeepsCommit (state S.Store tx.old.conn.now) (state S.Store tx.new.conn.now)) }
-    ensures survives { Survives (state S.Store tx.old.conn.now) (state S.Store tx.new.conn.now)
-        (λ _. ⊥) }
+        → ChangesBookInTx S.Store tx.old.conn.now tx.new.conn.now header result
+        (λ book. book_after_forget (book_with_row book uid.now (TakesAway why)) last) }
+    ensures keeps_commit { (header : HeaderRow) → id ≡ pos header.id
+        → KeepsCommitWithBook S.Store tx.old.conn.now tx.new.conn.now header }
+    ensures survives { SurvivesAsBefore S.Store tx.old.conn.now tx.new.conn.now }
 {
     put_member(tx, id, uid, changed, None)?;
     forget_members(tx, id, upto)?;
@@ -67,26 +65,20 @@ fn commit_removal_with_drop<S: Alter>(
     numbers: BookNumbers,
 ) -> Result<(), Error>
     requires { conn.old.in_transaction ≡ false }
-    ensures atomic { (rows : TableRows) (name : List ℕ) (header : HeaderRow)
-        (why : RemovalReason) (last : ℕ) → HasCleanDisk (state S.Store conn.new)
-        → HasBookRow (state S.Store conn.old).now rows name header
+    ensures atomic { (header : HeaderRow) (why : RemovalReason) (last : ℕ)
         → changed ≡ pos (header.number + 1) → upto ≡ pos last
         → AreHeaderColumns (header_after_drop why last header) id numbers
-        → IsAtomic (state S.Store conn.old) (state S.Store conn.new) result (λ _ db. HoldsBooks db
-        (finite.insert (books_of rows) name (book_after_forget (book_with_row
-        (row_book rows (line_row name header)) uid.now (TakesAway why)) last))) }
+        → CommitsBook S.Store conn.old conn.new header result
+        (λ book. book_after_forget (book_with_row book uid.now (TakesAway why)) last) }
     ensures settled { conn.new.in_transaction ≡ false }
-    ensures survives { Survives (state S.Store conn.old) (state S.Store conn.new) (λ _. ⊤) }
-    ensures crash { (rows : TableRows) (name : List ℕ) (header : HeaderRow)
-        (why : RemovalReason) (last : ℕ)
-        → HasBookRow (state S.Store conn.old).now rows name header
+    ensures survives { CountsFaults S.Store conn.old conn.new }
+    ensures crash { (header : HeaderRow) (why : RemovalReason) (last : ℕ)
         → changed ≡ pos (header.number + 1) → upto ≡ pos last
         → AreHeaderColumns (header_after_drop why last header) id numbers
-        → Survives (state S.Store conn.old) (state S.Store conn.new) (TreesHold
-        (finite.insert (books_of rows) name (book_after_forget (book_with_row
-        (row_book rows (line_row name header)) uid.now (TakesAway why)) last))) }
+        → CommitsBookOnce S.Store conn.old conn.new header
+        (λ book. book_after_forget (book_with_row book uid.now (TakesAway why)) last) }
 {
-    let _settled = conn.is_autocommit();
+    assert_settled(conn);
     let mut tx = conn.transaction();
     write_removal_with_drop(&mut tx, id, uid, changed, upto, numbers)?;
     tx.commit()?;
@@ -113,28 +105,19 @@ fn write_deletion<S: Alter>(
 ) -> Result<(), Denied>
     requires settled { conn.old.in_transaction ≡ false }
     requires room { header.number < 2 ^ 63 }
-    ensures atomic { (rows : TableRows) (name : List ℕ) → HasCleanDisk (state S.Store conn.new)
-        → HasBookRow (state S.Store conn.old).now rows name header
-        → IsAtomic (state S.Store conn.old) (state S.Store conn.new) result (λ _ db. HoldsBooks db
-        (finite.insert (books_of rows) name
-        (book_with_row (row_book rows (line_row name header)) uid.now (TakesAway Deletion)))) }
+    ensures atomic { CommitsBook S.Store conn.old conn.new header result
+        (λ book. book_with_row book uid.now (TakesAway Deletion)) }
     ensures fault { IfErr result IsDeniedFault }
     ensures settled { conn.new.in_transaction ≡ false }
-    ensures survives { Survives (state S.Store conn.old) (state S.Store conn.new) (λ _. ⊤) }
-    ensures crash { (rows : TableRows) (name : List ℕ)
-        → HasBookRow (state S.Store conn.old).now rows name header
-        → Survives (state S.Store conn.old) (state S.Store conn.new) (TreesHold
-        (finite.insert (books_of rows) name
-        (book_with_row (row_book rows (line_row name header)) uid.now (TakesAway Deletion)))) }
+    ensures survives { CountsFaults S.Store conn.old conn.new }
+    ensures crash { CommitsBookOnce S.Store conn.old conn.new header
+        (λ book. book_with_row book uid.now (TakesAway Deletion)) }
 {
-    let _settled = conn.is_autocommit();
+    assert_settled(conn);
     let numbers = columns_after_deletion(header, header.horizon())?;
     let id = column_of(header.id())?;
     let changed = column_of(header.number() + 1)?;
-    match commit_member(conn, id, uid, changed, None, numbers) {
-        Ok(()) => Ok(()),
-        Err(error) => Err(fault_of(error)),
-    }
+    commit_member(conn, id, uid, changed, None, numbers).map_err(|error| fault_of(error))
 }
 
 /// Deletes the member by the next change of the book, and forgets its tombstones up to the number.
@@ -146,29 +129,20 @@ fn write_drop<S: Alter>(
 ) -> Result<(), Denied>
     requires settled { conn.old.in_transaction ≡ false }
     requires room { header.number < 2 ^ 63 }
-    ensures atomic { (rows : TableRows) (name : List ℕ) → HasCleanDisk (state S.Store conn.new)
-        → HasBookRow (state S.Store conn.old).now rows name header
-        → IsAtomic (state S.Store conn.old) (state S.Store conn.new) result (λ _ db. HoldsBooks db
-        (finite.insert (books_of rows) name (book_after_forget (book_with_row
-        (row_book rows (line_row name header)) uid.now (TakesAway Deletion)) upto))) }
+    ensures atomic { CommitsBook S.Store conn.old conn.new header result
+        (λ book. book_after_forget (book_with_row book uid.now (TakesAway Deletion)) upto) }
     ensures fault { IfErr result IsDeniedFault }
     ensures settled { conn.new.in_transaction ≡ false }
-    ensures survives { Survives (state S.Store conn.old) (state S.Store conn.new) (λ _. ⊤) }
-    ensures crash { (rows : TableRows) (name : List ℕ)
-        → HasBookRow (state S.Store conn.old).now rows name header
-        → Survives (state S.Store conn.old) (state S.Store conn.new) (TreesHold
-        (finite.insert (books_of rows) name (book_after_forget (book_with_row
-        (row_book rows (line_row name header)) uid.now (TakesAway Deletion)) upto))) }
+    ensures survives { CountsFaults S.Store conn.old conn.new }
+    ensures crash { CommitsBookOnce S.Store conn.old conn.new header
+        (λ book. book_after_forget (book_with_row book uid.now (TakesAway Deletion)) upto) }
 {
-    let _settled = conn.is_autocommit();
+    assert_settled(conn);
     let numbers = columns_after_deletion(header, upto)?;
     let id = column_of(header.id())?;
     let changed = column_of(header.number() + 1)?;
     let last = column_of(upto)?;
-    match commit_removal_with_drop(conn, id, uid, changed, last, numbers) {
-        Ok(()) => Ok(()),
-        Err(error) => Err(fault_of(error)),
-    }
+    commit_removal_with_drop(conn, id, uid, changed, last, numbers).map_err(|error| fault_of(error))
 }
 
 /// Deletes the member by the next change of the book, and forgets its tombstones up to `drop`, if
@@ -181,19 +155,13 @@ pub(crate) fn write_remove<S: Alter>(
 ) -> Result<(), Denied>
     requires settled { conn.old.in_transaction ≡ false }
     requires room { header.number < 2 ^ 63 }
-    ensures atomic { (rows : TableRows) (name : List ℕ) → HasCleanDisk (state S.Store conn.new)
-        → HasBookRow (state S.Store conn.old).now rows name header
-        → IsAtomic (state S.Store conn.old) (state S.Store conn.new) result (λ _ db. HoldsBooks db
-        (finite.insert (books_of rows) name (book_after_drop (book_with_row
-        (row_book rows (line_row name header)) uid.now (TakesAway Deletion)) drop))) }
+    ensures atomic { CommitsBook S.Store conn.old conn.new header result
+        (λ book. book_after_drop (book_with_row book uid.now (TakesAway Deletion)) drop) }
     ensures fault { IfErr result IsDeniedFault }
     ensures settled { conn.new.in_transaction ≡ false }
-    ensures survives { Survives (state S.Store conn.old) (state S.Store conn.new) (λ _. ⊤) }
-    ensures crash { (rows : TableRows) (name : List ℕ)
-        → HasBookRow (state S.Store conn.old).now rows name header
-        → Survives (state S.Store conn.old) (state S.Store conn.new) (TreesHold
-        (finite.insert (books_of rows) name (book_after_drop (book_with_row
-        (row_book rows (line_row name header)) uid.now (TakesAway Deletion)) drop))) }
+    ensures survives { CountsFaults S.Store conn.old conn.new }
+    ensures crash { CommitsBookOnce S.Store conn.old conn.new header
+        (λ book. book_after_drop (book_with_row book uid.now (TakesAway Deletion)) drop) }
 {
     match drop {
         None => write_deletion(conn, header, uid),

@@ -5,18 +5,19 @@ use Rattle.std.specs.Option.{option_map_or}
 use Rattle.std.specs.FinMap as finite
 use Rattle.sqlite_trees.proofs.ListLemmas.{all_weaker, all_both}
 use Rattle.book_model.specs.Books.{fresh_book}
-use Rattle.store_tables.specs.Books.{BookRow, HoldBooks, AreBooks, has_name, has_id}
+use Rattle.store_tables.specs.Books.{BookRow, HoldBooks, has_name, has_id}
 use Rattle.store_tables.specs.Members.{MemberRow, HoldMembers, is_in_book}
 use Rattle.store_tables.specs.Imports.{ImportRow, HoldImports, has_key}
 use Rattle.store_tables.specs.Keeps.{KeepRow, HoldKeeps, is_keep_of}
 use Rattle.store_tables.specs.Meta.{meta_listed}
+use Rattle.store_tables.proofs.KeyedRows.{same_int, int_itself}
 use Rattle.store_rows.specs.Values.{natural}
 use Rattle.store_rows.specs.TableRows.{TableRows, new_book_rows, keep_rows}
 use Rattle.store_rows.specs.TableBooks.{model_row, row_tally, keep_of_book, row_book, book_entry, line_row}
 use Rattle.store_rows.specs.SoundTables.{HasBookId}
 use Rattle.store_rows.specs.AddLaws.{BooksAreAdded, KeepsAreAdded, NewBooksAreEmpty, ImportsAreAdded, ImportsAreKept, import_tally_row}
 use Rattle.store_rows.proofs.KeyedEntries.{none_mine, added_mine, added_other}
-use Rattle.store_rows.proofs.RowLemmas.{same_int, int_itself, int_turned, uid_of_row, key_of, import_of}
+use Rattle.store_rows.proofs.RowLemmas.{int_turned, uid_of_row, key_of, import_of}
 use Rattle.store_rows.proofs.WriteLemmas.{listed}
 
 none_passes : {X : Type 0} (p : X → Bool) (xs : List X) → filter p xs ≡ [] → AllByRecursion (λ x. p x ≡ false) xs

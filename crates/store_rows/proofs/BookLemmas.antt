@@ -14,12 +14,13 @@ use Rattle.store_tables.specs.Members.{HoldMembers}
 use Rattle.store_tables.specs.Imports.{HoldImports}
 use Rattle.store_tables.specs.Keeps.{HoldKeeps}
 use Rattle.store_tables.specs.Meta.{meta_listed}
+use Rattle.store_tables.proofs.KeyedRows.{all_has, int_itself, text_itself}
 use Rattle.store_rows.specs.TableRows.{TableRows, renumbered_rows}
 use Rattle.store_rows.specs.TableBooks.{row_book, books_of}
 use Rattle.store_rows.specs.SoundTables.{AreSoundRows, HasBookId}
 use Rattle.store_rows.specs.ChangeLaws.{RenumberingIsHeld, WritesChangeOneBook}
-use Rattle.store_rows.proofs.KeyedEntries.{find_single, found_has, all_has, key_is, text_itself, text_turned}
-use Rattle.store_rows.proofs.RowLemmas.{int_itself, int_turned, single_named, get-books_of}
+use Rattle.store_rows.proofs.KeyedEntries.{find_single, found_has, key_is, text_turned}
+use Rattle.store_rows.proofs.RowLemmas.{int_turned, single_named, get-books_of}
 
 abbrev pub with_numbers : ℤ → Numbers → BookRow → BookRow
 with_numbers id numbers b = cond (has_id id b) (record b { numbers = numbers }) b

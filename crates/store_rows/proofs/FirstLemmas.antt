@@ -5,7 +5,7 @@ use Rattle.std.specs.Option.{option_map, option_map_or, option_and_then}
 use Rattle.std.specs.FinMap as finite
 use Rattle.std.proofs.lemmas.List.{length-map}
 use Rattle.std.proofs.lemmas.List.Sorted.{IsPermutation-refl, IsPermutation-cons, IsPermutation-middle, IsPermutation-trans, IsPermutation-map, IsPermutation-sym, length_permutation}
-use Rattle.sqlite.specs.Order.{Row}
+use Rattle.std.proofs.lemmas.Bool.{and_parts}
 use Rattle.sqlite_trees.proofs.ListLemmas.{map-map}
 use Rattle.book_model.specs.declared.answers.Stored.{Stored}
 use Rattle.book_model.specs.declared.row.Row.{Row as Kept}
@@ -16,7 +16,7 @@ use Rattle.store_tables.specs.Members.{MemberRow, number_shown, is_in_book, has_
 use Rattle.store_rows.specs.Values.{natural}
 use Rattle.store_rows.specs.TableBooks.{model_row, member_entry, members_in, keep_of_book}
 use Rattle.store_rows.specs.ForgetLaws.{FirstIsFirstRemoval, NoneIsNoRemoval, RemovalsAreRemembered}
-use Rattle.store_rows.proofs.KeyedEntries.{Once, both_true}
+use Rattle.store_rows.proofs.KeyedEntries.{Once}
 use Rattle.store_rows.proofs.RowLemmas.{once_members, uid_of_row, get-members_in}
 use Rattle.store_rows.proofs.LookupLemmas.{natural_of}
 use Rattle.store_rows.proofs.MemberLemmas.{members_put}
@@ -101,7 +101,7 @@ module _ (book : ℤ) (uid : List ℕ) (number : ℕ) where
           → IsPermutation ((number + 1) ∷ map changed_of (filter (is_removed_above book (pos h)) (m ∷ ms))) (map changed_of (filter (is_removed_above book (pos h)) (removed (m ∷ ms))))
       step true r e k found more =
           let same : m ≡ f = same_found f m (rw e at found) in
-          let mine = (both_true (int_eq m.book book) (bytes_eq m.uid uid) e).0 in
+          let mine = (and_parts (int_eq m.book book) (bytes_eq m.uid uid) e).0 in
           let here : is_removed_above book (pos h) m ≡ false = ap₂ (λ a b. a && (not b && int_lt (pos h) m.changed)) mine (ap (λ (x : MemberRow). is_some x.card) same ∙ live) in
           let then : (int_eq m.book book && int_lt (pos h) (pos (number + 1))) ≡ true = ap₂ (λ a b. a && b) mine later in
           rw (e, here, then) (IsPermutation-refl _)

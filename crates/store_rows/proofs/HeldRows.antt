@@ -36,8 +36,8 @@ module _ {X : Type 0} (read : Row → X) (row : X → Row) (cells : Row → Row)
       subst (λ l. IsPermutation l (map read rows)) (map-map read row xs ∙ all_back xs)
       (subst (IsPermutation (map read (map row xs))) (map-map read cells rows ∙ all_alike rows) (IsPermutation-map read _ _ h))
 
-member_back : (m : MemberRow) → load_member (member_row m) ≡ m
-member_back m = step m.card
+pub member_loads : (m : MemberRow) → load_member (member_row m) ≡ m
+member_loads m = step m.card
   where
     step : (card : Option (List ℕ)) → load_member (member_row (record m { card = card })) ≡ record m { card = card }
     step None = refl
@@ -46,7 +46,7 @@ member_back m = step m.card
 pub rows_held : (db : Database) (rows : TableRows) → HoldsRows db rows → AreSame rows (rows_in db.trees)
 rows_held db rows h = record {
   books = items_held load_book book_row book_cells (λ _. refl) (λ _. refl) rows.books _ h.books;
-  members = items_held load_member member_row member_cells member_back (λ _. refl) rows.members _ h.members;
+  members = items_held load_member member_row member_cells member_loads (λ _. refl) rows.members _ h.members;
   imports = items_held load_import import_row import_cells (λ _. refl) (λ _. refl) rows.imports _ h.imports;
   keeps = items_held load_keep keep_row keep_cells (λ _. refl) (λ _. refl) rows.keeps _ h.keeps;
 }

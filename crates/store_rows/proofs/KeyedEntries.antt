@@ -9,20 +9,19 @@ use Rattle.std.proofs.lemmas.List.{nil_from_length}
 use Rattle.std.proofs.lemmas.List.Sorted.{IsPermutation-refl, IsPermutation-cons, IsPermutation-middle, IsPermutation-trans}
 use Rattle.std.proofs.lemmas.Map.Lookups.{exact_bytes}
 use Rattle.std.proofs.lemmas.Map.Text.{is_eq-slice_cmp}
-use Rattle.std.proofs.lemmas.Slice.Eq.{bytes_eq-Decides}
+use Rattle.std.proofs.lemmas.Bool.{and_parts}
 use Rattle.sqlite_rules.specs.Lists.{Has}
 use Rattle.sqlite_trees.specs.Tree.{IsAscending}
 use Rattle.sqlite_trees.proofs.ListLemmas.{along_permutation, IsPermutation-same, all_weaker, all-permutation, ascending_weaker}
 use Rattle.base_types.specs.TextMaps.{text_cmp}
 use Rattle.base_types.proofs.TextLemmas.{text_total, same_text}
+use Rattle.book_model.proofs.BasicLemmas.{same_Some_at}
+use Rattle.store_tables.proofs.KeyedRows.{all_has, text_itself}
 
 -- ---- texts and tests
 
 pub key_is : (a b : List ℕ) → eq_by_cmp text_cmp a b ≡ bytes_eq a b
 key_is a b = is_eq-slice_cmp a b
-
-pub text_itself : (a : List ℕ) → bytes_eq a a ≡ true
-text_itself a = (bytes_eq-Decides a a).1 refl
 
 pub text_turned : (a b : List ℕ) → bytes_eq a b ≡ bytes_eq b a
 text_turned a b = go (bytes_eq a b) (bytes_eq b a) refl refl
@@ -32,10 +31,6 @@ text_turned a b = go (bytes_eq a b) (bytes_eq b a) refl refl
     go false false e k = refl
     go true false e k = absurd (true≢false (sym (text_itself a) ∙ ap (λ x. bytes_eq x a) (same_text a b e) ∙ k))
     go false true e k = absurd (true≢false (sym (text_itself b) ∙ ap (λ x. bytes_eq x b) (same_text b a k) ∙ e))
-
-pub both_true : (a b : Bool) → (a && b) ≡ true → (a ≡ true) × (b ≡ true)
-both_true true b h = (refl, h)
-both_true false b h = absurd (true≢false (sym h))
 
 -- ---- the first item that passes
 
@@ -55,21 +50,13 @@ has_filtered p (y ∷ ys) x h = step (p y) refl h (has_filtered p ys x)
     step true e h more = elim (rw e at h) [ inl same ↦ (inl same, ap p same ∙ e) | inr k ↦ let it = more k in (inr it.0, it.1) ]
     step false e h more = let it = more (rw e at h) in (inr it.0, it.1)
 
-same_some : {X : Type 0} (x y : X) → Some x ≡ Some y → x ≡ y
-same_some x y e = cc
-
 pub found_has : {X : Type 0} (p : X → Bool) (xs : List X) (x : X) → find p xs ≡ Some x → Has xs x × (p x ≡ true)
 found_has p [] x h = absurd cc
 found_has p (y ∷ ys) x h = step (p y) refl (found_has p ys x)
   where
     step : (b : Bool) → p y ≡ b → (find p ys ≡ Some x → Has ys x × (p x ≡ true)) → Has (y ∷ ys) x × (p x ≡ true)
-    step true e more = let same : y ≡ x = same_some y x (rw e at h) in (inl (sym same), ap p (sym same) ∙ e)
+    step true e more = let same : y ≡ x = same_Some_at y x (rw e at h) in (inl (sym same), ap p (sym same) ∙ e)
     step false e more = let it = more (rw e at h) in (inr it.0, it.1)
-
-pub all_has : {X : Type 0} (P : X → Type 0) (xs : List X) (x : X) → AllByRecursion P xs → Has xs x → P x
-all_has P [] x all h = absurd h
-all_has P (y ∷ ys) x all (inl same) = rw same all.0
-all_has P (y ∷ ys) x all (inr h) = all_has P ys x all.1 h
 
 -- at most one item passes
 abbrev pub Single : {X : Type 0} → (X → Bool) → List X → Type 0
@@ -197,7 +184,7 @@ module _ {X V : Type 0} (mine : X → Bool) (key : X → List ℕ) (value : X �
 
   pub once_single : (q : List ℕ) (xs : List X) → Once xs → Single (here q) xs
   once_single q xs once = ascending_weaker (λ a b. mine a ≡ true → here (key a) b ≡ false) (λ a b. here q a ≡ true → here q b ≡ false)
-      (λ a b h e. let same = both_true (mine a) (bytes_eq (key a) q) e in ap (λ k. here k b) (sym (same_text (key a) q same.1)) ∙ h same.0) xs once
+      (λ a b h e. let same = and_parts (mine a) (bytes_eq (key a) q) e in ap (λ k. here k b) (sym (same_text (key a) q same.1)) ∙ h same.0) xs once
 
   -- ---- the order is irrelevant
 

@@ -16,11 +16,12 @@ use Rattle.book_model.specs.declared.answers.BookLine.{BookLine}
 use Rattle.book_model.specs.Books.{Book}
 use Rattle.book_model.specs.BookQueries.{book_line_in_rows}
 use Rattle.store_tables.specs.Books.{BookRow, AreBooks, has_name, book_shown, by_name}
+use Rattle.store_tables.proofs.KeyedRows.{text_itself}
 use Rattle.store_rows.specs.Values.{text_or_empty}
 use Rattle.store_rows.specs.TableRows.{TableRows}
 use Rattle.store_rows.specs.TableBooks.{row_book, book_entry, books_of}
 use Rattle.store_rows.specs.ReadLaws.{ShowsLine, ShowLines, AllBooksAreListed, AllBooksAreCounted}
-use Rattle.store_rows.proofs.KeyedEntries.{Single, single_moved, same_maps, entries_are, key_is, text_itself, text_turned}
+use Rattle.store_rows.proofs.KeyedEntries.{Single, single_moved, same_maps, entries_are, key_is, text_turned}
 use Rattle.store_rows.proofs.RowLemmas.{each_book, name_of, every, books_map, once_books, single_named}
 use Rattle.store_rows.proofs.LookupLemmas.{natural_of}
 use Rattle.store_rows.proofs.RemovedLemmas.{count_is}

@@ -5,14 +5,16 @@ use Rattle.std.specs.Option.{option_map}
 use Rattle.std.specs.Ordering.{eq_by_cmp}
 use Rattle.std.specs.FinMap as finite
 use Rattle.std.proofs.lemmas.Map.Lookups.{exact_bytes}
+use Rattle.std.proofs.lemmas.Bool.{and_parts}
 use Rattle.base_types.specs.TextMaps.{text_cmp}
 use Rattle.base_types.proofs.TextLemmas.{text_total, same_text}
 use Rattle.book_model.specs.declared.row.Row.{Row as Kept}
 use Rattle.store_tables.specs.Members.{MemberRow, has_uid, upsert_member}
+use Rattle.store_tables.proofs.KeyedRows.{same_int, int_itself}
 use Rattle.store_rows.specs.Values.{natural, text_card}
 use Rattle.store_rows.specs.TableBooks.{model_row, members_in}
-use Rattle.store_rows.proofs.KeyedEntries.{both_true, key_is, text_turned}
-use Rattle.store_rows.proofs.RowLemmas.{same_int, int_itself, get-members_in}
+use Rattle.store_rows.proofs.KeyedEntries.{key_is, text_turned}
+use Rattle.store_rows.proofs.RowLemmas.{get-members_in}
 
 abbrev pub put_row : ℤ → Option (List ℕ) → Kept
 put_row changed card = record { changed = natural changed; card = option_map text_card card }
@@ -25,7 +27,7 @@ module _ (id book : ℤ) (uid : List ℕ) (changed : ℤ) (card : Option (List �
   -- a member at the place of the upserted one passes the same tests as the new one
   place_of : (m : MemberRow) (b : ℤ) (u : List ℕ) → has_uid book uid m ≡ true → new_at b u ≡ has_uid b u m
   place_of m b u here =
-      let same = both_true (int_eq m.book book) (bytes_eq m.uid uid) here in
+      let same = and_parts (int_eq m.book book) (bytes_eq m.uid uid) here in
       ap₂ (λ x y. int_eq x b && bytes_eq y u) (sym (same_int m.book book same.0)) (sym (same_text m.uid uid same.1))
 
   -- a member elsewhere has another key than the new one
@@ -35,7 +37,7 @@ module _ (id book : ℤ) (uid : List ℕ) (changed : ℤ) (card : Option (List �
       go : (t : Bool) → new_at b u ≡ t → t ≡ false
       go false z = refl
       go true z =
-          let at = both_true (int_eq book b) (bytes_eq uid u) z in
+          let at = and_parts (int_eq book b) (bytes_eq uid u) z in
           absurd (true≢false (sym there ∙ ap₂ (λ x y. has_uid x y m) (sym (same_int book b at.0)) (sym (same_text uid u at.1)) ∙ away))
 
   find_put : (b : ℤ) (u : List ℕ) (ms : List MemberRow) → option_map model_row (find (has_uid b u) (upsert_member id book uid changed card ms)) ≡ cond (new_at b u) (Some (put_row changed card)) (option_map model_row (find (has_uid b u) ms))

@@ -1,10 +1,11 @@
 -- Removed members in the tables, remembered or forgotten by a book.
-use Rattle.std.proofs.Common.{◌≡◌, ℕ, ℤ, pos, negsuc, ◌+◌, ◌<◌, min, Bool, true, false, not, ◌&&◌, ◌||◌, cond, List, [], ◌∷◌, map, filter, find, length, Option, Some, None, Ok, Err, is_some, int_eq, int_lt, int_le, nat_lt, IsPermutation, refl, sym, ap, ap₂, subst, ◌∙◌, true≢false, arith}
+use Rattle.std.proofs.Common.{◌≡◌, ℕ, ℤ, pos, negsuc, ◌<◌, min, Bool, true, false, not, ◌&&◌, ◌||◌, cond, List, [], ◌∷◌, map, filter, find, length, Option, Some, None, is_some, int_eq, int_lt, int_le, nat_lt, IsPermutation, refl, sym, ap, ap₂, subst, ◌∙◌, true≢false, arith}
 use Rattle.std.specs.Option.{option_map, option_map_or, option_and_then}
 use Rattle.std.specs.FinMap as finite
 use Rattle.std.proofs.lemmas.List.{length-map}
 use Rattle.std.proofs.lemmas.List.Sorted.{length_permutation}
 use Rattle.std.proofs.lemmas.Map.Lookups.{exact_bytes}
+use Rattle.std.proofs.lemmas.Bool.{and_parts}
 use Rattle.sqlite_trees.proofs.ListLemmas.{filter-map, IsPermutation-filter, ascending-filter, all-filter}
 use Rattle.base_types.proofs.TextLemmas.{text_total}
 use Rattle.book_model.specs.declared.row.Row.{Row as Kept}
@@ -15,8 +16,8 @@ use Rattle.store_rows.specs.Values.{natural, text_card}
 use Rattle.store_rows.specs.TableBooks.{model_row, member_entry, members_in}
 use Rattle.store_rows.specs.ForgetLaws.{CountsAreRemembered, ForgettingIsHeld, ForgettingForgets, DeletionsAreDropped, DropsForget}
 use Rattle.store_rows.specs.SoundTables.{HasBookId}
-use Rattle.store_rows.proofs.KeyedEntries.{Once, entries_are, find_left, found_has, both_true}
-use Rattle.store_rows.proofs.RowLemmas.{once_members, single_member, uid_of_row, get-members_in, int_itself}
+use Rattle.store_rows.proofs.KeyedEntries.{Once, entries_are, find_left, found_has}
+use Rattle.store_rows.proofs.RowLemmas.{once_members, single_member, uid_of_row, get-members_in}
 use Rattle.store_rows.proofs.LookupLemmas.{natural_of}
 use Rattle.store_rows.proofs.WriteLemmas.{holds_members, members_within, sound_members}
 
@@ -102,7 +103,7 @@ left_members book ms u kept = finite.same_map text_total exact_bytes _ _ (λ q.
   where
     stays : (q : List ℕ) (m : MemberRow) → has_uid book q m ≡ true → not (is_removed_up_to book (pos u) m) ≡ is_row_kept u (model_row m)
     stays q m here =
-        let mine : is_in_book book m ≡ true = (both_true (int_eq m.book book) (Rattle.std.proofs.Common.bytes_eq m.uid q) here).0 in
+        let mine : is_in_book book m ≡ true = (and_parts (int_eq m.book book) (Rattle.std.proofs.Common.bytes_eq m.uid q) here).0 in
         ap (λ b. not (b && (not (is_some m.card) && int_le m.changed (pos u)))) mine ∙ sym (kept_is book u m)
 
     at : (q : List ℕ) (found : Option MemberRow) → find (has_uid book q) ms ≡ found
@@ -123,7 +124,7 @@ other_members book other u [] apart = refl
 other_members book other u (m ∷ ms) apart = step (is_in_book other m) (is_removed_up_to book u m) refl refl (other_members book other u ms apart)
   where
     step : (a b : Bool) → is_in_book other m ≡ a → is_removed_up_to book u m ≡ b → filter (is_in_book other) (without_removed book u ms) ≡ filter (is_in_book other) ms → filter (is_in_book other) (without_removed book u (m ∷ ms)) ≡ filter (is_in_book other) (m ∷ ms)
-    step true true e k more = absurd (true≢false (sym (both_true (int_eq m.book book) _ k).0 ∙ ap (λ i. int_eq i book) (Rattle.store_rows.proofs.RowLemmas.same_int m.book other e) ∙ apart))
+    step true true e k more = absurd (true≢false (sym (and_parts (int_eq m.book book) _ k).0 ∙ ap (λ i. int_eq i book) (Rattle.store_tables.proofs.KeyedRows.same_int m.book other e) ∙ apart))
     step true false e k more = rw (k, e) (ap (λ l. m ∷ l) more)
     step false true e k more = rw (k, e) more
     step false false e k more = rw (k, e) more

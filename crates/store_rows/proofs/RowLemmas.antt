@@ -8,15 +8,10 @@ use Rattle.store_tables.specs.Books.{BookRow, AreBooks, has_name}
 use Rattle.store_tables.specs.Members.{MemberRow, AreMembers, is_in_book, has_uid}
 use Rattle.store_tables.specs.Imports.{ImportRow, AreImports, has_key}
 use Rattle.store_tables.specs.Keeps.{KeepRow, AreKeeps, is_keep_of}
+use Rattle.store_tables.proofs.KeyedRows.{same_int}
 use Rattle.store_rows.specs.TableRows.{TableRows}
 use Rattle.store_rows.specs.TableBooks.{model_row, members_in, row_tally, imports_in, row_book, book_entry, books_of}
 use Rattle.store_rows.proofs.KeyedEntries.{Single, Once, once_single, map_of, get_is}
-
-pub same_int : (a b : ℤ) → int_eq a b ≡ true → a ≡ b
-same_int a b h = grind (arith, ints)
-
-pub int_itself : (a : ℤ) → int_eq a a ≡ true
-int_itself a = grind (arith, ints)
 
 pub int_turned : (a b : ℤ) → int_eq a b ≡ int_eq b a
 int_turned a b = grind (arith, ints)

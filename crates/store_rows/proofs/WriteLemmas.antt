@@ -10,12 +10,13 @@ use Rattle.store_tables.specs.Members.{MemberRow, AreMembers, HoldMembers}
 use Rattle.store_tables.specs.Imports.{HoldImports}
 use Rattle.store_tables.specs.Keeps.{HoldKeeps}
 use Rattle.store_tables.specs.Meta.{meta_listed}
+use Rattle.store_tables.proofs.KeyedRows.{int_itself}
 use Rattle.store_rows.specs.TableRows.{TableRows, HoldsRows, WritesTable}
 use Rattle.store_rows.specs.TableBooks.{row_book, line_row, members_in}
 use Rattle.store_rows.specs.SoundTables.{AreSoundRows, HasBookId}
 use Rattle.store_rows.specs.ChangeLaws.{WritesWithin, WritesCompose, NoWriteIsWithin, PutsAreHeld, PutsAreRows}
 use Rattle.store_rows.proofs.MemberLemmas.{members_put, others_put, all_put}
-use Rattle.store_rows.proofs.RowLemmas.{int_itself, int_turned}
+use Rattle.store_rows.proofs.RowLemmas.{int_turned}
 
 pub go_on : WritesCompose
 go_on id a b c p q = record { sound = q.sound; books = q.books ∙ p.books; others = λ x e. q.others x e ∙ p.others x e }

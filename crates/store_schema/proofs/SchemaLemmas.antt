@@ -15,7 +15,9 @@ use Rattle.sqlite_value.specs.declared.keys.Collation.TheVariants.{Binary, NoCas
 use Rattle.sqlite_value.specs.declared.keys.Order.{Order}
 use Rattle.base_types.proofs.TextLemmas.{same_text}
 use Rattle.store_tables.specs.Tables.{table_of, book_reference, key_index}
-use Rattle.std.proofs.lemmas.Slice.Eq.{bytes_eq-Decides}
+use Rattle.store_tables.proofs.KeyedRows.{text_itself}
+use Rattle.std.proofs.lemmas.Bool.{and_parts}
+use Rattle.std.proofs.lemmas.List.{map-id}
 use Rattle.store_schema.specs.internal.SchemaTests.{all_match, are_keys, are_places, columns_of, is_binary, is_column, has_id_key, is_index, is_integer, has_column_kind, is_no_action, is_null, is_only_name, is_plain_order, is_reference, is_text, keys_of, IsTable}
 use Rattle.store_schema.specs.declared.forms.ColumnForm.{ColumnForm}
 use Rattle.store_schema.specs.declared.forms.ColumnForm.TheVariants.{Number, RequiredText, NullableText, RowId}
@@ -23,13 +25,6 @@ use Rattle.store_schema.specs.declared.forms.IndexForm.{IndexForm}
 use Rattle.store_schema.specs.declared.forms.TableForm.{TableForm}
 
 -- ---- texts, numbers and booleans
-
-pub text_itself : (a : List ℕ) → bytes_eq a a ≡ true
-text_itself a = (bytes_eq-Decides a a).1 refl
-
-both_true : (a b : Bool) → (a && b) ≡ true → (a ≡ true) × (b ≡ true)
-both_true true b h = (refl, h)
-both_true false b h = absurd (true≢false (sym h))
 
 same_number : (a b : ℕ) → (a == b) ≡ true → a ≡ b
 same_number a b h = grind arith
@@ -43,16 +38,12 @@ false_from false h = refl
 
 -- ---- lists
 
-map_same : {X : Type 0} (xs : List X) → map (λ x. x) xs ≡ xs
-map_same [] = refl
-map_same (x ∷ xs) = ap (λ l. x ∷ l) (map_same xs)
-
 module _ {F X : Type 0} (is : F → X → Bool) (form_of : F → X) where
   pub all_as : ((f : F) (x : X) → is f x ≡ true → x ≡ form_of f) → (fs : List F) (xs : List X) → all_match is fs xs ≡ true → xs ≡ map form_of fs
   all_as from [] [] h = refl
   all_as from [] (x ∷ xs) h = absurd (true≢false (sym h))
   all_as from (f ∷ fs) [] h = absurd (true≢false (sym h))
-  all_as from (f ∷ fs) (x ∷ xs) h = let parts = both_true (is f x) (all_match is fs xs) h in ap₂ (λ a l. a ∷ l) (from f x parts.0) (all_as from fs xs parts.1)
+  all_as from (f ∷ fs) (x ∷ xs) h = let parts = and_parts (is f x) (all_match is fs xs) h in ap₂ (λ a l. a ∷ l) (from f x parts.0) (all_as from fs xs parts.1)
 
   pub all_itself : ((f : F) → is f (form_of f) ≡ true) → (fs : List F) → all_match is fs (map form_of fs) ≡ true
   all_itself own [] = refl
@@ -61,16 +52,16 @@ module _ {F X : Type 0} (is : F → X → Bool) (form_of : F → X) where
 -- ---- places
 
 places_is : (own places : List ℕ) → are_places own places ≡ true → places ≡ own
-places_is own places h = all_as (λ (o p : ℕ). o == p) (λ o. o) (λ o p e. sym (same_number o p e)) own places h ∙ map_same own
+places_is own places h = all_as (λ (o p : ℕ). o == p) (λ o. o) (λ o p e. sym (same_number o p e)) own places h ∙ map-id own
 
 places_itself : (own : List ℕ) → are_places own own ≡ true
-places_itself own = ap (are_places own) (sym (map_same own)) ∙ all_itself (λ (o p : ℕ). o == p) (λ o. o) number_itself own
+places_itself own = ap (are_places own) (sym (map-id own)) ∙ all_itself (λ (o p : ℕ). o == p) (λ o. o) number_itself own
 
 keys_is : (own keys : List (List ℕ)) → are_keys own keys ≡ true → keys ≡ own
-keys_is own keys h = all_as are_places (λ o. o) places_is own keys h ∙ map_same own
+keys_is own keys h = all_as are_places (λ o. o) places_is own keys h ∙ map-id own
 
 keys_itself : (own : List (List ℕ)) → are_keys own own ≡ true
-keys_itself own = ap (are_keys own) (sym (map_same own)) ∙ all_itself are_places (λ o. o) places_itself own
+keys_itself own = ap (are_keys own) (sym (map-id own)) ∙ all_itself are_places (λ o. o) places_itself own
 
 only_is : (own : List ℕ) (names : List (List ℕ)) → is_only_name own names ≡ true → names ≡ own ∷ []
 only_is own [] h = absurd (true≢false (sym h))
@@ -118,10 +109,10 @@ never_null NullableText = false
 never_null RowId = false
 
 kept_is : (cell : ColumnForm) (k : Kind) (n : Bool) → has_column_kind cell k n ≡ true → (k ≡ kind_of cell) × (n ≡ never_null cell)
-kept_is Number k n h = let parts = both_true (is_integer k) n h in (integer_is k parts.0, parts.1)
-kept_is RequiredText k n h = let parts = both_true (is_text k) n h in (text_is k parts.0, parts.1)
-kept_is NullableText k n h = let parts = both_true (is_text k) (not n) h in (text_is k parts.0, false_from n parts.1)
-kept_is RowId k n h = let parts = both_true (is_integer k) (not n) h in (integer_is k parts.0, false_from n parts.1)
+kept_is Number k n h = let parts = and_parts (is_integer k) n h in (integer_is k parts.0, parts.1)
+kept_is RequiredText k n h = let parts = and_parts (is_text k) n h in (text_is k parts.0, parts.1)
+kept_is NullableText k n h = let parts = and_parts (is_text k) (not n) h in (text_is k parts.0, false_from n parts.1)
+kept_is RowId k n h = let parts = and_parts (is_integer k) (not n) h in (integer_is k parts.0, false_from n parts.1)
 
 kept_itself : (cell : ColumnForm) → has_column_kind cell (kind_of cell) (never_null cell) ≡ true
 kept_itself Number = refl
@@ -141,10 +132,10 @@ column_of form = record {
 
 column_is : (form : List ℕ × ColumnForm) (c : Column) → is_column form c ≡ true → c ≡ column_of form
 column_is form c h =
-    let a = both_true (bytes_eq c.name form.0) _ h in
-    let b = both_true (has_column_kind form.1 c.kind c.not_null) _ a.1 in
-    let d = both_true c.is_strict _ b.1 in
-    let e = both_true (is_null c.default) _ d.1 in
+    let a = and_parts (bytes_eq c.name form.0) _ h in
+    let b = and_parts (has_column_kind form.1 c.kind c.not_null) _ a.1 in
+    let d = and_parts c.is_strict _ b.1 in
+    let e = and_parts (is_null c.default) _ d.1 in
     let name = same_text c.name form.0 a.0 in
     let kept = kept_is form.1 c.kind c.not_null b.0 in
     let default = null_is c.default e.0 in
@@ -184,11 +175,11 @@ no_action_is SetDefault h = absurd (true≢false (sym h))
 
 reference_is : (column : ℕ) (r : Reference) → is_reference column r ≡ true → r ≡ book_reference column
 reference_is column r h =
-    let a = both_true (are_places (column ∷ []) r.columns) _ h in
-    let b = both_true (bytes_eq r.parent (codes "book")) _ a.1 in
-    let d = both_true (is_only_name (codes "id") r.parent_columns) _ b.1 in
-    let e = both_true (is_no_action r.on_delete) _ d.1 in
-    let f = both_true (is_no_action r.on_update) _ e.1 in
+    let a = and_parts (are_places (column ∷ []) r.columns) _ h in
+    let b = and_parts (bytes_eq r.parent (codes "book")) _ a.1 in
+    let d = and_parts (is_only_name (codes "id") r.parent_columns) _ b.1 in
+    let e = and_parts (is_no_action r.on_delete) _ d.1 in
+    let f = and_parts (is_no_action r.on_update) _ e.1 in
     let columns = places_is (column ∷ []) r.columns a.0 in
     let parent = same_text r.parent (codes "book") b.0 in
     let names = only_is (codes "id") r.parent_columns d.0 in
@@ -265,11 +256,11 @@ index_as form = key_index form.name.now form.tree form.table form.columns.now
 
 index_is : (form : IndexForm) (x : Index) → is_index form x ≡ true → x ≡ index_as form
 index_is form x h =
-    let a = both_true (bytes_eq x.name form.name.now) _ h in
-    let b = both_true (x.tree == form.tree) _ a.1 in
-    let d = both_true (x.table == form.table) _ b.1 in
-    let e = both_true (are_places form.columns.now x.columns) _ d.1 in
-    let f = both_true (x.order.digits == 0) _ e.1 in
+    let a = and_parts (bytes_eq x.name form.name.now) _ h in
+    let b = and_parts (x.tree == form.tree) _ a.1 in
+    let d = and_parts (x.table == form.table) _ b.1 in
+    let e = and_parts (are_places form.columns.now x.columns) _ d.1 in
+    let f = and_parts (x.order.digits == 0) _ e.1 in
     let name = same_text x.name form.name.now a.0 in
     let tree = same_number x.tree form.tree b.0 in
     let table = same_number x.table form.table d.0 in

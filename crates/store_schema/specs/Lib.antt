@@ -1,4 +1,5 @@
 pub mod OpenFaults
 pub mod StoredSchema
 pub mod FirstSchema
+pub mod OnConnections
 pub mod internal

@@ -1,8 +1,10 @@
 //! Tests whether a connection has the tables of schema 2, or of schema 1.
-ghost use Rattle.store_schema.specs.FirstSchema.{ClassifiesFirstSchema};
-ghost use Rattle.store_schema.specs.StoredSchema.{ChangesNothing, ClassifiesSchema};
-ghost use Rattle.sqlite.specs.Held.{state};
-ghost use Rattle.sqlite.specs.State.{HasCleanDisk, IsUnchanged};
+ghost use Rattle.store_schema.specs.OnConnections.{
+  ChangesNothing,
+  ClassifiesFirstSchema,
+  ClassifiesSchema,
+};
+ghost use Rattle.store_tables.specs.OnConnections.{HasCleanDisk, IsUnchanged};
 ghost use Rattle.std.specs.Prelude.{OnOk};
 
 use crate::meta::{list_meta, stated_schema, verify};
@@ -21,13 +23,12 @@ const FIRST_SCHEMA_NUMBER: i64 = 1;
 /// number is not 2. Any call may instead return `Memory` when out of memory, or `Store` on another
 /// error of the database.
 pub fn test_schema<S: Alter>(conn: &mut Connection<S>) -> Result<(), OpenFault>
-    ensures answers { HasCleanDisk (state S.Store conn.new)
-        → ClassifiesSchema (state S.Store conn.old).now result }
-    ensures unchanged { HasCleanDisk (state S.Store conn.new)
-        → OnOk result (IsUnchanged (state S.Store conn.old) (state S.Store conn.new)) }
+    ensures answers { HasCleanDisk S.Store conn.new → ClassifiesSchema S.Store conn.old result }
+    ensures unchanged { HasCleanDisk S.Store conn.new
+        → OnOk result (IsUnchanged S.Store conn.old conn.new) }
 
     // On success and on error nothing changes, and nothing is committed.
-    ensures reads_only { ChangesNothing (state S.Store conn.old) (state S.Store conn.new) }
+    ensures reads_only { ChangesNothing S.Store conn.old conn.new }
 {
     let keeps = is_book_schema(conn.schema());
     if !keeps && !is_first_schema(conn.schema()) {
@@ -46,13 +47,13 @@ pub fn test_schema<S: Alter>(conn: &mut Connection<S>) -> Result<(), OpenFault>
 /// number is not 1. Any call may instead return `Memory` when out of memory, or `Store` on another
 /// error of the database.
 pub fn test_first_schema<S: Alter>(conn: &mut Connection<S>) -> Result<(), OpenFault>
-    ensures answers { HasCleanDisk (state S.Store conn.new)
-        → ClassifiesFirstSchema (state S.Store conn.old).now result }
-    ensures unchanged { HasCleanDisk (state S.Store conn.new)
-        → OnOk result (IsUnchanged (state S.Store conn.old) (state S.Store conn.new)) }
+    ensures answers { HasCleanDisk S.Store conn.new
+        → ClassifiesFirstSchema S.Store conn.old result }
+    ensures unchanged { HasCleanDisk S.Store conn.new
+        → OnOk result (IsUnchanged S.Store conn.old conn.new) }
 
     // On success and on error nothing changes, and nothing is committed.
-    ensures reads_only { ChangesNothing (state S.Store conn.old) (state S.Store conn.new) }
+    ensures reads_only { ChangesNothing S.Store conn.old conn.new }
 {
     let is_first = is_first_schema(conn.schema());
     if !is_first && !is_book_schema(conn.schema()) {

@@ -2,13 +2,12 @@
 ghost use Rattle.store_tables.specs.Meta.{meta_listed};
 ghost use Rattle.store_schema.specs.internal.StatedNumber.{IsVerified, IsSchemaRow, IsNumberStated};
 ghost use Rattle.store_schema.specs.internal.StatedNumber.{RowStates};
-ghost use Rattle.store_schema.specs.StoredSchema.{ChangesNothing, IsStoreSchema, GivenStoreSchema};
-ghost use Rattle.sqlite.specs.Held.{state};
+ghost use Rattle.store_schema.specs.StoredSchema.{IsStoreSchema};
+ghost use Rattle.store_schema.specs.OnConnections.{ChangesNothing, GivenStoreSchema};
+ghost use Rattle.store_tables.specs.OnConnections.{IsUnchanged, ListsRows};
 ghost use Rattle.sqlite.specs.Order.{column};
-ghost use Rattle.sqlite.specs.State.{IsUnchanged};
 ghost use Rattle.sqlite_value.specs.Value.{owned};
-ghost use Rattle.std.specs.List.Sorted.{IsPermutation};
-ghost use Rattle.std.specs.Prelude.{◌≡◌, ◌↔◌, ℤ, IfOk, IsTrue, MatchOption, OnOk, map};
+ghost use Rattle.std.specs.Prelude.{◌≡◌, ◌↔◌, ℤ, IsTrue, MatchOption, OnOk};
 
 use crate::open_fault::OpenFault;
 use sqlite::types::ValueRef;
@@ -16,13 +15,11 @@ use sqlite::{Alter, Connection, Error, Row, params};
 
 /// Returns the name and the value of every row of the table, whatever its columns hold.
 pub(crate) fn list_meta<S: Alter>(conn: &mut Connection<S>) -> Result<Vec<Row>, Error>
-    ensures lists { GivenStoreSchema (state S.Store conn.old) (state S.Store conn.new)
-        (IfOk result (λ rows.
-        IsPermutation (map meta_listed ((state S.Store conn.old).now.trees 0)) rows.items)) }
-    ensures unchanged { GivenStoreSchema (state S.Store conn.old) (state S.Store conn.new)
-        (OnOk result (IsUnchanged (state S.Store conn.old) (state S.Store conn.new))) }
-    ensures reads_only { IsStoreSchema (state S.Store conn.old).now.schema
-        → ChangesNothing (state S.Store conn.old) (state S.Store conn.new) }
+    ensures lists { GivenStoreSchema S.Store conn.old conn.new
+        (ListsRows S.Store conn.old 0 meta_listed result) }
+    ensures unchanged { GivenStoreSchema S.Store conn.old conn.new
+        (OnOk result (IsUnchanged S.Store conn.old conn.new)) }
+    ensures reads_only { IsStoreSchema conn.old.schema → ChangesNothing S.Store conn.old conn.new }
 {
     conn.query_all("SELECT name, val FROM meta", params![])
 }

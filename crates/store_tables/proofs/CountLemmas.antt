@@ -4,6 +4,7 @@ use Rattle.std.specs.List.{AllZip}
 use Rattle.std.specs.List.Sorted.{IsPermutation}
 use Rattle.std.proofs.lemmas.List.{length-map}
 use Rattle.std.proofs.lemmas.List.Sorted.{length_permutation}
+use Rattle.std.proofs.lemmas.List.Elements.{filter_agree}
 use Rattle.sqlite.specs.declared.types.Value.TheVariants.{Null, Int, Text}
 use Rattle.sqlite.specs.declared.error.Error.{Error}
 use Rattle.sqlite.specs.Order.{Row}
@@ -26,7 +27,6 @@ use Rattle.store_tables.specs.QueryResults.{count_value}
 use Rattle.store_tables.specs.Members.{MemberRow, member_row, member_cells, HoldMembers, is_removed_above}
 use Rattle.store_tables.proofs.Texts.{count_is, books_count_is}
 use Rattle.store_tables.specs.Books.{BookRow, book_row, book_cells, HoldBooks}
-use Rattle.store_tables.proofs.Cells.{filter_alike}
 use Rattle.store_tables.proofs.Picks.{passes, flat_filter}
 use Rattle.sqlite.specs.Command.TheVariants.{Select}
 use Rattle.sqlite.specs.Listing.{understood, reads_listing}
@@ -66,7 +66,7 @@ module _ {X : Type 0} (tree : ℕ) (tests : List Term) (params : Row) (cells : R
   module _ (tested : (r : Row) → p (cells r) ≡ p r) (passing : (x : X) → p (stored x) ≡ test x) (xs : List X) where
     many : (rows : List Row) → IsPermutation (map stored xs) (map cells rows) → length (filter p rows) ≡ length (filter test xs)
     many rows has =
-        sym (length-map (filter p rows) cells) ∙ ap length (sym (filter-map p cells rows ∙ ap (map cells) (filter_alike (λ r. p (cells r)) p tested rows)))
+        sym (length-map (filter p rows) cells) ∙ ap length (sym (filter-map p cells rows ∙ ap (map cells) (filter_agree (λ r. p (cells r)) p tested rows)))
         ∙ length_permutation _ _ (IsPermutation-filter p _ _ has)
         ∙ ap length (filter-map p stored xs ∙ (λ i. map stored (filter (λ x. passing x i) xs))) ∙ length-map (filter test xs) stored
 

@@ -2,6 +2,8 @@
 use Rattle.std.proofs.Common.{◌≡◌, ℕ, ℤ, false, ◌||◌, List, [], ◌∷◌, map, Option, None, Ok, Err, Result, int_eq, is_eq, OnOk, refl, sym, ap, subst, ◌∙◌}
 use Rattle.std.specs.List.{AllByRecursion, list_any}
 use Rattle.std.specs.List.Sorted.{IsPermutation}
+use Rattle.std.proofs.lemmas.Bool.{or_parts}
+use Rattle.std.proofs.lemmas.List.Sorted.{list_any-IsPermutation}
 use Rattle.sqlite.specs.declared.error.Error.{Error}
 use Rattle.sqlite.specs.declared.types.Value.TheVariants.{Null, Int, Text}
 use Rattle.sqlite.specs.Does.{Tally, Does}
@@ -25,7 +27,7 @@ use Rattle.store_tables.specs.Books.{BookRow, book_row, book_cells, HoldBooks, A
 use Rattle.store_tables.specs.Keeps.{KeepRow, keep_row, keep_cells, HoldKeeps, AddsKeep, keep_row_of}
 use Rattle.store_tables.specs.StatementEffects.{KeepsOtherTables}
 use Rattle.store_tables.specs.Tables.{book_schema, import_key, book, keeping}
-use Rattle.store_tables.proofs.KeyedRows.{free_one, put_beside, has_stored, any_permutation, or_both}
+use Rattle.store_tables.proofs.KeyedRows.{free_one, put_beside, has_stored}
 use Rattle.store_tables.proofs.PutLemmas.{cast_int, cast_null, went_on, same_value}
 use Rattle.store_tables.proofs.UpdateLemmas.{cast_book}
 use Rattle.store_tables.proofs.Queries.{add_import_text, add_import_terms, add_import_command, add_book_text, add_book_terms, add_book_command, add_keep_text, add_keep_terms, add_keep_command}
@@ -34,7 +36,7 @@ use Rattle.store_tables.proofs.Texts.{add_import_is, add_book_is, add_keep_is}
 module _ {X : Type 0} (id : X → ℤ) (stored : X → Row) (at_id : (x : X) → rowid (stored x) ≡ Int (id x)) (cells : Row → Row) (same_id : (r : Row) → rowid (cells r) ≡ rowid r) where
   none_taken : (i : ℤ) (xs : List X) → list_any (λ r. is_eq (value_cmp (rowid r) (Int i))) (map stored xs) ≡ false → AllByRecursion (λ x. int_eq (id x) i ≡ false) xs
   none_taken i [] h = tt
-  none_taken i (x ∷ xs) h = let both = or_both _ _ h in (sym (has_stored id stored at_id i x) ∙ both.0, none_taken i xs both.1)
+  none_taken i (x ∷ xs) h = let both = or_parts _ _ h in (sym (has_stored id stored at_id i x) ∙ both.0, none_taken i xs both.1)
 
   any_cells : (i : ℤ) (rows : List Row) → list_any (λ r. is_eq (value_cmp (rowid r) (Int i))) (map cells rows) ≡ list_any (λ r. is_eq (value_cmp (rowid r) (Int i))) rows
   any_cells i [] = refl
@@ -46,7 +48,7 @@ module _ {X : Type 0} (id : X → ℤ) (stored : X → Row) (at_id : (x : X) →
   added new row xs rows shows at has free =
       let none = subst (λ v. list_any (λ r. is_eq (value_cmp (rowid r) v)) rows ≡ false) at free in (
         put_beside id stored at_id cells row new shows xs rows has free,
-        none_taken (id new) xs (any_permutation (λ r. is_eq (value_cmp (rowid r) (Int (id new)))) _ _ has ∙ any_cells (id new) rows ∙ none),
+        none_taken (id new) xs (list_any-IsPermutation (λ r. is_eq (value_cmp (rowid r) (Int (id new)))) _ _ has ∙ any_cells (id new) rows ∙ none),
       )
 
 -- ---- an import

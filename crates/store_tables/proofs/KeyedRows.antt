@@ -1,22 +1,28 @@
 -- Rows of a table with unique ids: some are deleted, or one is updated or inserted.
-use Rattle.std.proofs.Common.{◌≡◌, inl, inr, ℤ, Bool, true, false, not, ◌&&◌, ◌||◌, cond, if◌then◌else◌, List, [], ◌∷◌, map, filter, Less, Equal, Greater, Ordering, int_eq, is_eq, IsPermutation, refl, sym, ap, subst, ◌∙◌, true≢false, arith}
+use Rattle.std.proofs.Common.{◌≡◌, inl, inr, bytes_eq, ℕ, ℤ, Bool, true, false, not, ◌&&◌, ◌||◌, cond, if◌then◌else◌, List, [], ◌∷◌, map, filter, Less, Equal, Greater, Ordering, int_eq, is_eq, IsPermutation, refl, sym, ap, subst, ◌∙◌, true≢false, arith}
 use Rattle.std.proofs.lemmas.Int.{ints}
-use Rattle.std.proofs.lemmas.List.Sorted.{IsPermutation-refl, IsPermutation-cons, IsPermutation-middle, IsPermutation-trans, IsPermutation-map}
+use Rattle.std.proofs.lemmas.List.Sorted.{IsPermutation-refl, IsPermutation-cons, IsPermutation-middle, IsPermutation-trans, IsPermutation-map, list_any-IsPermutation}
 use Rattle.std.specs.List.{AllByRecursion, list_any}
+use Rattle.std.proofs.lemmas.Bool.{or_parts}
+use Rattle.std.proofs.lemmas.Slice.Eq.{bytes_eq-Decides}
+use Rattle.std.proofs.lemmas.List.Elements.{filter_agree}
 use Rattle.sqlite.specs.Order.{Row, value_cmp}
 use Rattle.sqlite.specs.declared.types.Value.TheVariants.{Int}
 use Rattle.sqlite_rules.specs.Edit.{without_all, is_taken, are_fresh}
 use Rattle.sqlite_rules.specs.Lists.{Has}
 use Rattle.sqlite_trees.specs.Tree.{IsAscending, rowid, has_rowid, put_row, without_rowid}
-use Rattle.sqlite_trees.proofs.ListLemmas.{filter-map, all_weaker, along_permutation, IsPermutation-filter}
+use Rattle.sqlite_trees.proofs.ListLemmas.{filter-map, all_weaker, IsPermutation-filter}
 use Rattle.sqlite_value.proofs.OrderLemmas.{value_cmp-Int}
-use Rattle.store_tables.proofs.Cells.{filter_alike, cells_without}
+use Rattle.store_tables.proofs.Cells.{cells_without}
 
 pub same_int : (a b : ℤ) → int_eq a b ≡ true → a ≡ b
 same_int a b h = grind (arith, ints)
 
-pub itself : (a : ℤ) → int_eq a a ≡ true
-itself a = grind (arith, ints)
+pub int_itself : (a : ℤ) → int_eq a a ≡ true
+int_itself a = grind (arith, ints)
+
+pub text_itself : (a : List ℕ) → bytes_eq a a ≡ true
+text_itself a = (bytes_eq-Decides a a).1 refl
 
 pub turned : (a b : ℤ) → int_eq a b ≡ false → int_eq b a ≡ false
 turned a b h = grind (arith, ints)
@@ -40,15 +46,6 @@ pub filter_on : {X : Type 0} (p q : X → Bool) (xs : List X) → AllByRecursion
 filter_on p q [] h = refl
 filter_on p q (x ∷ xs) h = ap (λ b. cond b (x ∷ filter p xs) (filter p xs)) h.0 ∙ ap (λ l. cond (q x) (x ∷ l) l) (filter_on p q xs h.1)
 
-or_swap : (a b c : Bool) → (a || (b || c)) ≡ (b || (a || c))
-or_swap true true c = refl
-or_swap true false c = refl
-or_swap false b c = refl
-
-pub any_permutation : {X : Type 0} (p : X → Bool) (xs ys : List X) → IsPermutation xs ys → list_any p xs ≡ list_any p ys
-any_permutation p = along_permutation (λ xs ys. list_any p xs ≡ list_any p ys) (λ xs. refl) (λ x xs ys h. ap (λ b. p x || b) h)
-    (λ x y xs. or_swap (p x) (p y) (list_any p xs)) (λ xs ys zs h k. h ∙ k)
-
 pub cells_without_all : (cells : Row → Row) → ((r : Row) → rowid (cells r) ≡ rowid r) → (rows : List Row) (ids : List ℤ) → map cells (without_all rows ids) ≡ without_all (map cells rows) ids
 cells_without_all cells same rows [] = refl
 cells_without_all cells same rows (i ∷ ids) = cells_without_all cells same (without_rowid i rows) ids ∙ ap (λ l. without_all l ids) (cells_without cells same i rows)
@@ -64,14 +61,10 @@ put_step new r rs Less e free more = rw e (IsPermutation-trans _ _ _ (IsPermutat
 put_step new r rs Equal e free more = absurd (true≢false free)
 put_step new r rs Greater e free more = rw e (IsPermutation-refl (new ∷ r ∷ rs))
 
-pub or_both : (a b : Bool) → (a || b) ≡ false → (a ≡ false) × (b ≡ false)
-or_both true b h = absurd (true≢false h)
-or_both false b h = (refl, h)
-
 pub put_free : (new : Row) (rows : List Row) → is_taken rows new ≡ false → IsPermutation (new ∷ rows) (put_row new rows)
 put_free new [] free = IsPermutation-refl (new ∷ [])
 put_free new (r ∷ rs) free =
-    let both = or_both (is_eq (value_cmp (rowid r) (rowid new))) (is_taken rs new) free in
+    let both = or_parts (is_eq (value_cmp (rowid r) (rowid new))) (is_taken rs new) free in
     put_step new r rs (value_cmp (rowid r) (rowid new)) refl both.0 (put_free new rs both.1)
 
 pub free_one : (rows : List Row) (r : Row) → are_fresh rows (r ∷ []) ≡ true → is_taken rows r ≡ false
@@ -89,7 +82,7 @@ module _ {X : Type 0} (id : X → ℤ) (stored : X → Row) (at_id : (x : X) →
   has_stored i x = ap (λ v. is_eq (value_cmp v (Int i))) (at_id x) ∙ ap is_eq (value_cmp-Int (id x) i)
 
   pub without_map : (i : ℤ) (xs : List X) → without_rowid i (map stored xs) ≡ map stored (filter (λ x. not (int_eq (id x) i)) xs)
-  without_map i xs = filter-map (λ r. not (has_rowid i r)) stored xs ∙ ap (map stored) (filter_alike (λ x. not (has_rowid i (stored x))) (λ x. not (int_eq (id x) i)) (λ x. ap not (has_stored i x)) xs)
+  without_map i xs = filter-map (λ r. not (has_rowid i r)) stored xs ∙ ap (map stored) (filter_agree (λ x. not (has_rowid i (stored x))) (λ x. not (int_eq (id x) i)) (λ x. ap not (has_stored i x)) xs)
 
   pub without_all_map : (ids : List ℤ) (xs : List X) → without_all (map stored xs) ids ≡ map stored (filter (λ x. not (list_any (int_eq (id x)) ids)) xs)
   without_all_map [] xs = ap (map stored) (sym (all_kept xs))
@@ -124,14 +117,14 @@ module _ {X : Type 0} (id : X → ℤ) (stored : X → Row) (at_id : (x : X) →
   named_by g (x ∷ xs) apart = (step (g x) refl, later_named g x xs xs apart.0 (named_by g xs apart.1))
     where
       step : (b : Bool) → g x ≡ b → list_any (int_eq (id x)) (map id (filter g (x ∷ xs))) ≡ g x
-      step true e = rw (e, itself (id x))
+      step true e = rw (e, int_itself (id x))
       step false e = rw e (none_named g (id x) xs apart.0)
 
   -- the rows that do not pass
   taken_rows : (g : X → Bool) (xs : List X) (ids : List ℤ) → Apart xs → IsPermutation (map id (filter g xs)) ids → without_all (map stored xs) ids ≡ map stored (filter (λ x. not (g x)) xs)
   taken_rows g xs ids apart same =
       without_all_map ids xs ∙ ap (map stored) (filter_on (λ x. not (list_any (int_eq (id x)) ids)) (λ x. not (g x)) xs
-      (all_weaker _ (λ x. not (list_any (int_eq (id x)) ids) ≡ not (g x)) (λ x h. ap not (sym (any_permutation (int_eq (id x)) _ ids same) ∙ h)) xs (named_by g xs apart)))
+      (all_weaker _ (λ x. not (list_any (int_eq (id x)) ids) ≡ not (g x)) (λ x h. ap not (sym (list_any-IsPermutation (int_eq (id x)) _ ids same) ∙ h)) xs (named_by g xs apart)))
 
   pub taken_out : (cells : Row → Row) → ((r : Row) → rowid (cells r) ≡ rowid r) → (g : X → Bool) (xs : List X) (rows : List Row) (ids : List ℤ) → Apart xs → IsPermutation (map stored xs) (map cells rows)
       → IsPermutation (map id (filter g xs)) ids → IsPermutation (map stored (filter (λ x. not (g x)) xs)) (map cells (without_all rows ids))
@@ -146,16 +139,16 @@ module _ {X : Type 0} (id : X → ℤ) (stored : X → Row) (at_id : (x : X) →
 
   pub only_one : (xs : List X) (x : X) → Apart xs → Has xs x → filter (λ y. int_eq (id y) (id x)) xs ≡ x ∷ []
   only_one [] x apart h = absurd h
-  only_one (y ∷ ys) x apart (inl same) = subst (λ k. filter (λ v. int_eq (id v) (id k)) (y ∷ ys) ≡ k ∷ []) (sym same) (rw (itself (id y)) (ap (λ l. y ∷ l) (no_other y ys apart.0)))
+  only_one (y ∷ ys) x apart (inl same) = subst (λ k. filter (λ v. int_eq (id v) (id k)) (y ∷ ys) ≡ k ∷ []) (sym same) (rw (int_itself (id y)) (ap (λ l. y ∷ l) (no_other y ys apart.0)))
   only_one (y ∷ ys) x apart (inr h) = rw (all_has (λ z. int_eq (id y) (id z) ≡ false) ys x apart.0 h) (only_one ys x apart.1 h)
 
   pub same_item : (xs : List X) (x y : X) → Apart xs → Has xs x → Has xs y → id x ≡ id y → x ≡ y
   same_item [] x y apart h k e = absurd h
   same_item (z ∷ zs) x y apart (inl a) (inl b) e = a ∙ sym b
   same_item (z ∷ zs) x y apart (inl a) (inr k) e =
-      absurd (true≢false (sym (ap (λ i. int_eq i (id y)) (ap id (sym a) ∙ e) ∙ itself (id y)) ∙ all_has (λ v. int_eq (id z) (id v) ≡ false) zs y apart.0 k))
+      absurd (true≢false (sym (ap (λ i. int_eq i (id y)) (ap id (sym a) ∙ e) ∙ int_itself (id y)) ∙ all_has (λ v. int_eq (id z) (id v) ≡ false) zs y apart.0 k))
   same_item (z ∷ zs) x y apart (inr h) (inl b) e =
-      absurd (true≢false (sym (ap (λ i. int_eq i (id x)) (ap id (sym b) ∙ sym e) ∙ itself (id x)) ∙ all_has (λ v. int_eq (id z) (id v) ≡ false) zs x apart.0 h))
+      absurd (true≢false (sym (ap (λ i. int_eq i (id x)) (ap id (sym b) ∙ sym e) ∙ int_itself (id x)) ∙ all_has (λ v. int_eq (id z) (id v) ≡ false) zs x apart.0 h))
   same_item (z ∷ zs) x y apart (inr h) (inr k) e = same_item zs x y apart.1 h k e
 
   -- ---- one row is updated
@@ -177,7 +170,7 @@ module _ {X : Type 0} (id : X → ℤ) (stored : X → Row) (at_id : (x : X) →
     replaced_rows (y ∷ ys) x apart (inl same) is =
         let here : id y ≡ id new = ap id (sym same) ∙ is in
         let others = subst (λ i. AllByRecursion (λ z. int_eq i (id z) ≡ false) ys) here apart.0 in
-        rw (has_stored (id new) y ∙ ap (λ i. int_eq i (id new)) here ∙ itself (id new), all_kept ys others, ap (λ i. int_eq i (id new)) here ∙ itself (id new), unchanged ys others)
+        rw (has_stored (id new) y ∙ ap (λ i. int_eq i (id new)) here ∙ int_itself (id new), all_kept ys others, ap (λ i. int_eq i (id new)) here ∙ int_itself (id new), unchanged ys others)
         (IsPermutation-refl (stored new ∷ map stored ys))
     replaced_rows (y ∷ ys) x apart (inr h) is =
         let other : int_eq (id y) (id new) ≡ false = subst (λ i. int_eq (id y) i ≡ false) is (all_has (λ z. int_eq (id y) (id z) ≡ false) ys x apart.0 h) in

@@ -18,3 +18,4 @@ pub mod ListLemmas
 pub mod MetaLemmas
 pub mod CreateTableLemmas
 pub mod SchemaCreationLemmas
+pub mod TransactionLemmas

@@ -86,10 +86,6 @@ failed_commit first mid last (Ok x) kept inside settled err up = tt
 failed_commit first mid last (Err e) kept inside settled (inl h) up = (h.3.undone up).0 ∙ kept.committed (h.3.was_open up) ∙ sym (settled (kept.was_open (h.3.was_open up)))
 failed_commit first mid last (Err e) kept inside settled (inr h) up = absurd (true≢false (sym inside ∙ h.1))
 
-pub on_ok_map : {X E : Type 0} {P Q : Type 0} (r : Result X E) → (P → Q) → OnOk r P → OnOk r Q
-on_ok_map (Ok x) f h = f h
-on_ok_map (Err e) f h = tt
-
 pub on_ok_both : {X E : Type 0} {P Q R : Type 0} (r : Result X E) → (P → Q → R) → OnOk r P → OnOk r Q → OnOk r R
 on_ok_both (Ok x) f h k = f h k
 on_ok_both (Err e) f h k = tt

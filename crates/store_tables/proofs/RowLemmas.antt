@@ -1,6 +1,6 @@
 -- A member that is upserted: updated in its place, or added.
 use Rattle.std.proofs.Common.{◌≡◌, inl, inr, ℕ, ℤ, Bool, true, false, ◌&&◌, ◌||◌, List, [], ◌∷◌, ◌++◌, map, Option, bytes_eq, int_eq, is_eq, refl, sym, ap, ap₂, subst, ◌∙◌, true≢false}
-use Rattle.std.proofs.lemmas.List.Sorted.{IsPermutation-trans, IsPermutation-map, IsPermutation-to_front}
+use Rattle.std.proofs.lemmas.List.Sorted.{IsPermutation-trans, IsPermutation-map, IsPermutation-to_front, list_any-IsPermutation}
 use Rattle.std.specs.List.{AllByRecursion, list_any}
 use Rattle.std.proofs.lemmas.Slice.Eq.{bytes_eq-Decides}
 use Rattle.sqlite.specs.Order.{Row, value_cmp}
@@ -10,7 +10,7 @@ use Rattle.sqlite_rules.specs.Lists.{Has}
 use Rattle.sqlite_trees.specs.Tree.{rowid, put_row}
 use Rattle.sqlite_trees.proofs.ListLemmas.{all_weaker, ascending_weaker}
 use Rattle.store_tables.specs.Members.{MemberRow, member_row, member_cells, HoldMembers, has_uid, AreMembers, upsert_member}
-use Rattle.store_tables.proofs.KeyedRows.{same_int, itself, turned, all_has, put_beside, any_permutation, has_stored, Apart, with_new, unchanged}
+use Rattle.store_tables.proofs.KeyedRows.{same_int, all_has, put_beside, has_stored, Apart, with_new, unchanged, int_itself}
 
 abbrev pub member_id : MemberRow → ℤ
 member_id m = m.id
@@ -38,7 +38,7 @@ at_parts book uid m h = go (int_eq m.book book) (bytes_eq m.uid uid) refl refl h
     go false b e k h = absurd (true≢false (sym h))
 
 at_itself : (m : MemberRow) → has_uid m.book m.uid m ≡ true
-at_itself m = ap₂ (λ a b. a && b) (itself m.book) ((bytes_eq-Decides m.uid m.uid).1 refl)
+at_itself m = ap₂ (λ a b. a && b) (int_itself m.book) ((bytes_eq-Decides m.uid m.uid).1 refl)
 
 -- the test of a key is symmetric
 at_turned : (book : ℤ) (uid : List ℕ) (m : MemberRow) (id changed : ℤ) (card : Option (List ℕ)) → has_uid book uid m ≡ false → has_uid m.book m.uid (record { id = id; book = book; uid = uid; changed = changed; card = card }) ≡ false
@@ -92,7 +92,7 @@ module _ (id book : ℤ) (uid : List ℕ) (changed : ℤ) (card : Option (List �
 
   none_taken : (ms : List MemberRow) → list_any (λ r. is_eq (value_cmp (rowid r) (Int id))) (map member_row ms) ≡ false → AllByRecursion (λ m. int_eq m.id id ≡ false) ms
   none_taken [] h = tt
-  none_taken (m ∷ ms) h = let both = Rattle.store_tables.proofs.KeyedRows.or_both _ _ h in (sym (has_stored member_id member_row (λ _. refl) id m) ∙ both.0, none_taken ms both.1)
+  none_taken (m ∷ ms) h = let both = Rattle.std.proofs.lemmas.Bool.or_parts _ _ h in (sym (has_stored member_id member_row (λ _. refl) id m) ∙ both.0, none_taken ms both.1)
 
   any_cells : (rows : List Row) → list_any (λ r. is_eq (value_cmp (rowid r) (Int id))) (map member_cells rows) ≡ list_any (λ r. is_eq (value_cmp (rowid r) (Int id))) rows
   any_cells [] = refl
@@ -102,7 +102,7 @@ module _ (id book : ℤ) (uid : List ℕ) (changed : ℤ) (card : Option (List �
   adds_kept ms rows row shows has free kept =
       let same : rowid row ≡ Int id = ap rowid shows in
       let none = subst (λ v. list_any (λ r. is_eq (value_cmp (rowid r) v)) rows ≡ false) same free in
-      put_kept ms kept (none_taken ms (any_permutation (λ r. is_eq (value_cmp (rowid r) (Int id))) _ _ has ∙ any_cells rows ∙ none))
+      put_kept ms kept (none_taken ms (list_any-IsPermutation (λ r. is_eq (value_cmp (rowid r) (Int id))) _ _ has ∙ any_cells rows ∙ none))
 
   -- ---- a member has the key
 
@@ -110,7 +110,7 @@ module _ (id book : ℤ) (uid : List ℕ) (changed : ℤ) (card : Option (List �
   put_is_map [] m kept h here = absurd h
   put_is_map (x ∷ xs) m kept (inl same) here =
       let others : AllByRecursion (λ y. int_eq m.id y.id ≡ false) xs = subst (λ (k : MemberRow). AllByRecursion (λ y. int_eq k.id y.id ≡ false) xs) (sym same) (all_weaker _ (λ (y : MemberRow). int_eq x.id y.id ≡ false) (λ y h. h.0) xs kept.0) in
-      rw (ap (has_uid book uid) (sym same) ∙ here, ap (λ (k : MemberRow). int_eq k.id m.id) (sym same) ∙ itself m.id, unchanged member_id member_row (λ _. refl) (changed_at m) xs others)
+      rw (ap (has_uid book uid) (sym same) ∙ here, ap (λ (k : MemberRow). int_eq k.id m.id) (sym same) ∙ int_itself m.id, unchanged member_id member_row (λ _. refl) (changed_at m) xs others)
       (ap (λ (k : MemberRow). changed_at k ∷ xs) (sym same))
   put_is_map (x ∷ xs) m kept (inr h) here =
       let apart = all_has (λ y. (int_eq x.id y.id ≡ false) × (has_uid x.book x.uid y ≡ false)) xs m kept.0 h in

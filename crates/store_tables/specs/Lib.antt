@@ -7,3 +7,4 @@ pub mod Imports
 pub mod Keeps
 pub mod Meta
 pub mod SchemaCreation
+pub mod OnConnections

@@ -1,43 +1,33 @@
 //! Statements over the table `book`.
-ghost use Rattle.store_tables.specs.QueryResults.{AreRowsInOrder, FindsRow, IfAnswered};
+ghost use Rattle.store_tables.specs.QueryResults.{AreRowsInOrder, FindsRow};
 ghost use Rattle.store_tables.specs.QueryResults.{count_value};
 ghost use Rattle.store_tables.specs.Books.{
-  AddsBook,
   BookRow,
-  GivenBooksTx,
   book_listed,
   book_shown,
   by_name,
-  HasBooks,
-  GivenBooks,
   has_name,
   numbers,
   numbers_of,
   numbers_shown,
   renumbered,
 };
-ghost use Rattle.store_tables.specs.StatementEffects.{
-  InsideTx,
-  IsUndone,
-  OnlyReads,
+ghost use Rattle.store_tables.specs.OnConnections.{
+  AddsBook,
+  GivenBooks,
+  GivenBooksTx,
   GivenTables,
+  HasBooks,
+  ListsRows,
   NoCommit,
+  OnlyReads,
+  UnchangedIfAnswered,
+  UnchangedOnOk,
+  UndoneOnErr,
   WritesOnly,
 };
-ghost use Rattle.sqlite.specs.Held.{state};
-ghost use Rattle.sqlite.specs.State.{IsUnchanged};
 ghost use Rattle.sqlite_rules.specs.Lists.{Has};
-ghost use Rattle.std.specs.List.Sorted.{IsPermutation};
-ghost use Rattle.std.specs.Prelude.{
-  [],
-  ◌∷◌,
-  ◌≡◌,
-  IfOk,
-  OnErr,
-  OnOk,
-  length,
-  map,
-};
+ghost use Rattle.std.specs.Prelude.{[], ◌∷◌, ◌≡◌, IfOk, OnOk, length};
 
 use sqlite::{Alter, Connection, Error, Row, Transaction, params};
 
@@ -68,11 +58,10 @@ pub struct BookNumbers {
 ///
 /// Fails with `QueryReturnedNoRows` if no book has the name.
 pub fn find_book<S: Alter>(conn: &mut Connection<S>, name: &str) -> Result<Row, Error>
-    ensures finds { GivenBooks (state S.Store conn.old) (state S.Store conn.new)
+    ensures finds { GivenBooks S.Store conn.old conn.new
         (λ bs. FindsRow (has_name name.now) numbers_shown bs result) }
-    ensures unchanged { GivenTables (state S.Store conn.old) (state S.Store conn.new)
-        (IfAnswered result (IsUnchanged (state S.Store conn.old) (state S.Store conn.new))) }
-    ensures reads_only { OnlyReads (state S.Store conn.old) (state S.Store conn.new) }
+    ensures unchanged { UnchangedIfAnswered S.Store conn.old conn.new result }
+    ensures reads_only { OnlyReads S.Store conn.old conn.new }
 {
     conn.query_row(
         "SELECT id, number, horizon, created, edited, imported, import_edited, moved_in, deleted, \
@@ -83,11 +72,10 @@ pub fn find_book<S: Alter>(conn: &mut Connection<S>, name: &str) -> Result<Row, 
 
 /// Counts the books.
 pub fn count_books<S: Alter>(conn: &mut Connection<S>) -> Result<Row, Error>
-    ensures counts { GivenBooks (state S.Store conn.old) (state S.Store conn.new)
+    ensures counts { GivenBooks S.Store conn.old conn.new
         (λ bs. IfOk result (λ row. row ≡ count_value (length bs) ∷ [])) }
-    ensures unchanged { GivenTables (state S.Store conn.old) (state S.Store conn.new)
-        (IfAnswered result (IsUnchanged (state S.Store conn.old) (state S.Store conn.new))) }
-    ensures reads_only { OnlyReads (state S.Store conn.old) (state S.Store conn.new) }
+    ensures unchanged { UnchangedIfAnswered S.Store conn.old conn.new result }
+    ensures reads_only { OnlyReads S.Store conn.old conn.new }
 {
     conn.query_row("SELECT COUNT(*) FROM book", params![])
 }
@@ -101,15 +89,12 @@ pub fn insert_book<S: Alter>(
     name: &str,
 ) -> Result<usize, Error>
     ensures same_reference { tx.new.conn.ghost_name ≡ tx.old.conn.ghost_name }
-    ensures adds { GivenBooksTx (state S.Store tx.old.conn.now) (state S.Store tx.new.conn.now)
-        (λ bs. OnOk result (AddsBook (state S.Store tx.new.conn.now) id name.now bs)) }
-    ensures writes { GivenBooksTx (state S.Store tx.old.conn.now) (state S.Store tx.new.conn.now)
-        (λ _. OnOk result
-        (WritesOnly 2 (state S.Store tx.old.conn.now) (state S.Store tx.new.conn.now))) }
-    ensures no_commit { NoCommit (state S.Store tx.old.conn.now) (state S.Store tx.new.conn.now) }
-    ensures rolled_back { InsideTx (state S.Store tx.old.conn.now) (state S.Store tx.new.conn.now)
-        (OnErr result
-        (IsUndone (state S.Store tx.old.conn.now) (state S.Store tx.new.conn.now))) }
+    ensures adds { GivenBooksTx S.Store tx.old.conn.now tx.new.conn.now
+        (λ bs. OnOk result (AddsBook S.Store tx.new.conn.now id name.now bs)) }
+    ensures writes { GivenBooksTx S.Store tx.old.conn.now tx.new.conn.now
+        (λ _. OnOk result (WritesOnly S.Store tx.old.conn.now tx.new.conn.now 2)) }
+    ensures no_commit { NoCommit S.Store tx.old.conn.now tx.new.conn.now }
+    ensures rolled_back { UndoneOnErr S.Store tx.old.conn.now tx.new.conn.now result }
 {
     tx.execute(
         "INSERT INTO book (id, name, number, horizon, created, edited, imported, import_edited, \
@@ -132,18 +117,16 @@ fn renumber<S: Alter>(
     moved_out: i64,
 ) -> Result<Vec<Row>, Error>
     ensures same_reference { tx.new.conn.ghost_name ≡ tx.old.conn.ghost_name }
-    ensures renumbers { GivenBooksTx (state S.Store tx.old.conn.now) (state S.Store tx.new.conn.now)
+    ensures renumbers { GivenBooksTx S.Store tx.old.conn.now tx.new.conn.now
         (λ bs. (b : BookRow) → Has bs b → id ≡ b.id
-        → OnOk result (HasBooks (state S.Store tx.new.conn.now) (renumbered id
-        (numbers number horizon created edited imported import_edited moved_in deleted
-        moved_out) bs))) }
-    ensures writes { GivenBooksTx (state S.Store tx.old.conn.now) (state S.Store tx.new.conn.now)
-        (λ bs. (b : BookRow) → Has bs b → id ≡ b.id → OnOk result
-        (WritesOnly 2 (state S.Store tx.old.conn.now) (state S.Store tx.new.conn.now))) }
-    ensures no_commit { NoCommit (state S.Store tx.old.conn.now) (state S.Store tx.new.conn.now) }
-    ensures rolled_back { InsideTx (state S.Store tx.old.conn.now) (state S.Store tx.new.conn.now)
-        (OnErr result
-        (IsUndone (state S.Store tx.old.conn.now) (state S.Store tx.new.conn.now))) }
+        → OnOk result (HasBooks S.Store tx.new.conn.now (renumbered id
+        (numbers number horizon created edited imported import_edited moved_in deleted moved_out)
+        bs))) }
+    ensures writes { GivenBooksTx S.Store tx.old.conn.now tx.new.conn.now
+        (λ bs. (b : BookRow) → Has bs b → id ≡ b.id
+        → OnOk result (WritesOnly S.Store tx.old.conn.now tx.new.conn.now 2)) }
+    ensures no_commit { NoCommit S.Store tx.old.conn.now tx.new.conn.now }
+    ensures rolled_back { UndoneOnErr S.Store tx.old.conn.now tx.new.conn.now result }
 {
     tx.query_all(
         "UPDATE book SET number = ?2, horizon = ?3, created = ?4, edited = ?5, imported = ?6, \
@@ -173,17 +156,14 @@ pub fn renumber_book<S: Alter>(
     numbers: BookNumbers,
 ) -> Result<Vec<Row>, Error>
     ensures same_reference { tx.new.conn.ghost_name ≡ tx.old.conn.ghost_name }
-    ensures renumbers { GivenBooksTx (state S.Store tx.old.conn.now) (state S.Store tx.new.conn.now)
+    ensures renumbers { GivenBooksTx S.Store tx.old.conn.now tx.new.conn.now
         (λ bs. (b : BookRow) → Has bs b → id ≡ b.id
-        → OnOk result (HasBooks (state S.Store tx.new.conn.now)
-        (renumbered id (numbers_of numbers) bs))) }
-    ensures writes { GivenBooksTx (state S.Store tx.old.conn.now) (state S.Store tx.new.conn.now)
-        (λ bs. (b : BookRow) → Has bs b → id ≡ b.id → OnOk result
-        (WritesOnly 2 (state S.Store tx.old.conn.now) (state S.Store tx.new.conn.now))) }
-    ensures no_commit { NoCommit (state S.Store tx.old.conn.now) (state S.Store tx.new.conn.now) }
-    ensures rolled_back { InsideTx (state S.Store tx.old.conn.now) (state S.Store tx.new.conn.now)
-        (OnErr result
-        (IsUndone (state S.Store tx.old.conn.now) (state S.Store tx.new.conn.now))) }
+        → OnOk result (HasBooks S.Store tx.new.conn.now (renumbered id (numbers_of numbers) bs))) }
+    ensures writes { GivenBooksTx S.Store tx.old.conn.now tx.new.conn.now
+        (λ bs. (b : BookRow) → Has bs b → id ≡ b.id
+        → OnOk result (WritesOnly S.Store tx.old.conn.now tx.new.conn.now 2)) }
+    ensures no_commit { NoCommit S.Store tx.old.conn.now tx.new.conn.now }
+    ensures rolled_back { UndoneOnErr S.Store tx.old.conn.now tx.new.conn.now result }
 {
     renumber(
         tx,
@@ -203,14 +183,12 @@ pub fn renumber_book<S: Alter>(
 /// Returns the id, the name and the nine numbers of every book, sorted by name in byte order. No
 /// row is left out, whatever its columns hold.
 pub fn all_books<S: Alter>(conn: &mut Connection<S>) -> Result<Vec<Row>, Error>
-    ensures ordered { GivenBooks (state S.Store conn.old) (state S.Store conn.new)
+    ensures ordered { GivenBooks S.Store conn.old conn.new
         (λ bs. IfOk result (λ rows. AreRowsInOrder by_name book_shown bs rows.items)) }
-    ensures lists { GivenTables (state S.Store conn.old) (state S.Store conn.new)
-        (IfOk result (λ rows.
-        IsPermutation (map book_listed ((state S.Store conn.old).now.trees 2)) rows.items)) }
-    ensures unchanged { GivenTables (state S.Store conn.old) (state S.Store conn.new)
-        (OnOk result (IsUnchanged (state S.Store conn.old) (state S.Store conn.new))) }
-    ensures reads_only { OnlyReads (state S.Store conn.old) (state S.Store conn.new) }
+    ensures lists { GivenTables S.Store conn.old conn.new
+        (ListsRows S.Store conn.old 2 book_listed result) }
+    ensures unchanged { UnchangedOnOk S.Store conn.old conn.new result }
+    ensures reads_only { OnlyReads S.Store conn.old conn.new }
 {
     conn.query_all(
         "SELECT id, name, number, horizon, created, edited, imported, import_edited, moved_in, \

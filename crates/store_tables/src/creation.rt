@@ -1,9 +1,6 @@
 //! The statements that create the tables, each inside a transaction.
 ghost use Rattle.store_tables.specs.SchemaCreation.{
   HasFirstTables,
-  IsTableCreated,
-  HoldsInTx,
-  StaysUncommitted,
   empty_schema,
   with_books,
   first_schema,
@@ -11,11 +8,19 @@ ghost use Rattle.store_tables.specs.SchemaCreation.{
   with_meta,
 };
 ghost use Rattle.store_tables.specs.Meta.{IsEmptyStore, schema_number};
-ghost use Rattle.store_tables.specs.StatementEffects.{InsideTx, IsUndone};
 ghost use Rattle.store_tables.specs.Tables.{book_schema};
-ghost use Rattle.sqlite.specs.Held.{state};
-ghost use Rattle.sqlite.specs.State.{KeepsCommit, Survives};
-ghost use Rattle.std.specs.Prelude.{◌≡◌, IsTrue, OnErr, OnOk};
+ghost use Rattle.store_tables.specs.OnConnections.{
+  CreatesTable,
+  HoldsInTx,
+  HoldsNow,
+  InsideTx,
+  KeepsCommitInTx,
+  StaysInTxOnOk,
+  StaysUncommitted,
+  SurvivesAsBefore,
+  UndoneOnErr,
+};
+ghost use Rattle.std.specs.Prelude.{◌≡◌, OnOk};
 
 use crate::meta::{SCHEMA_NUMBER, insert_schema};
 use sqlite::{Alter, Error, Transaction, params};
@@ -23,19 +28,12 @@ use sqlite::{Alter, Error, Transaction, params};
 /// Creates the table `meta` in a database without tables.
 pub fn create_meta<S: Alter>(tx: &mut Transaction<'_, S>) -> Result<usize, Error>
     ensures same_reference { tx.new.conn.ghost_name ≡ tx.old.conn.ghost_name }
-    ensures creates { InsideTx (state S.Store tx.old.conn.now) (state S.Store tx.new.conn.now)
-        ((state S.Store tx.old.conn.now).now.schema ≡ empty_schema → OnOk result
-        (IsTableCreated empty_schema with_meta 0 (state S.Store tx.old.conn.now).now
-        (state S.Store tx.new.conn.now).now)) }
-    ensures stays_in_tx { InsideTx (state S.Store tx.old.conn.now) (state S.Store tx.new.conn.now)
-        (OnOk result (IsTrue (state S.Store tx.new.conn.now).in_transaction)) }
-    ensures keeps_commit { InsideTx (state S.Store tx.old.conn.now) (state S.Store tx.new.conn.now)
-        (KeepsCommit (state S.Store tx.old.conn.now) (state S.Store tx.new.conn.now)) }
-    ensures survives { Survives (state S.Store tx.old.conn.now) (state S.Store tx.new.conn.now)
-        (λ _. ⊥) }
-    ensures rolled_back { InsideTx (state S.Store tx.old.conn.now) (state S.Store tx.new.conn.now)
-        (OnErr result
-        (IsUndone (state S.Store tx.old.conn.now) (state S.Store tx.new.conn.now))) }
+    ensures creates { CreatesTable S.Store tx.old.conn.now tx.new.conn.now empty_schema with_meta 0
+        result }
+    ensures stays_in_tx { StaysInTxOnOk S.Store tx.old.conn.now tx.new.conn.now result }
+    ensures keeps_commit { KeepsCommitInTx S.Store tx.old.conn.now tx.new.conn.now }
+    ensures survives { SurvivesAsBefore S.Store tx.old.conn.now tx.new.conn.now }
+    ensures rolled_back { UndoneOnErr S.Store tx.old.conn.now tx.new.conn.now result }
 {
     tx.execute(
         "CREATE TABLE meta (name TEXT NOT NULL PRIMARY KEY, val INTEGER NOT NULL) STRICT",
@@ -46,19 +44,12 @@ pub fn create_meta<S: Alter>(tx: &mut Transaction<'_, S>) -> Result<usize, Error
 /// Creates the table `book`; only `meta` exists.
 pub fn create_books<S: Alter>(tx: &mut Transaction<'_, S>) -> Result<usize, Error>
     ensures same_reference { tx.new.conn.ghost_name ≡ tx.old.conn.ghost_name }
-    ensures creates { InsideTx (state S.Store tx.old.conn.now) (state S.Store tx.new.conn.now)
-        ((state S.Store tx.old.conn.now).now.schema ≡ with_meta → OnOk result
-        (IsTableCreated with_meta with_books 2 (state S.Store tx.old.conn.now).now
-        (state S.Store tx.new.conn.now).now)) }
-    ensures stays_in_tx { InsideTx (state S.Store tx.old.conn.now) (state S.Store tx.new.conn.now)
-        (OnOk result (IsTrue (state S.Store tx.new.conn.now).in_transaction)) }
-    ensures keeps_commit { InsideTx (state S.Store tx.old.conn.now) (state S.Store tx.new.conn.now)
-        (KeepsCommit (state S.Store tx.old.conn.now) (state S.Store tx.new.conn.now)) }
-    ensures survives { Survives (state S.Store tx.old.conn.now) (state S.Store tx.new.conn.now)
-        (λ _. ⊥) }
-    ensures rolled_back { InsideTx (state S.Store tx.old.conn.now) (state S.Store tx.new.conn.now)
-        (OnErr result
-        (IsUndone (state S.Store tx.old.conn.now) (state S.Store tx.new.conn.now))) }
+    ensures creates { CreatesTable S.Store tx.old.conn.now tx.new.conn.now with_meta with_books 2
+        result }
+    ensures stays_in_tx { StaysInTxOnOk S.Store tx.old.conn.now tx.new.conn.now result }
+    ensures keeps_commit { KeepsCommitInTx S.Store tx.old.conn.now tx.new.conn.now }
+    ensures survives { SurvivesAsBefore S.Store tx.old.conn.now tx.new.conn.now }
+    ensures rolled_back { UndoneOnErr S.Store tx.old.conn.now tx.new.conn.now result }
 {
     tx.execute(
         "CREATE TABLE book (id INTEGER PRIMARY KEY, name TEXT NOT NULL UNIQUE, number INTEGER \
@@ -72,19 +63,12 @@ pub fn create_books<S: Alter>(tx: &mut Transaction<'_, S>) -> Result<usize, Erro
 /// Creates the table `member`; `meta` and `book` exist.
 pub fn create_members<S: Alter>(tx: &mut Transaction<'_, S>) -> Result<usize, Error>
     ensures same_reference { tx.new.conn.ghost_name ≡ tx.old.conn.ghost_name }
-    ensures creates { InsideTx (state S.Store tx.old.conn.now) (state S.Store tx.new.conn.now)
-        ((state S.Store tx.old.conn.now).now.schema ≡ with_books → OnOk result
-        (IsTableCreated with_books with_members 4 (state S.Store tx.old.conn.now).now
-        (state S.Store tx.new.conn.now).now)) }
-    ensures stays_in_tx { InsideTx (state S.Store tx.old.conn.now) (state S.Store tx.new.conn.now)
-        (OnOk result (IsTrue (state S.Store tx.new.conn.now).in_transaction)) }
-    ensures keeps_commit { InsideTx (state S.Store tx.old.conn.now) (state S.Store tx.new.conn.now)
-        (KeepsCommit (state S.Store tx.old.conn.now) (state S.Store tx.new.conn.now)) }
-    ensures survives { Survives (state S.Store tx.old.conn.now) (state S.Store tx.new.conn.now)
-        (λ _. ⊥) }
-    ensures rolled_back { InsideTx (state S.Store tx.old.conn.now) (state S.Store tx.new.conn.now)
-        (OnErr result
-        (IsUndone (state S.Store tx.old.conn.now) (state S.Store tx.new.conn.now))) }
+    ensures creates { CreatesTable S.Store tx.old.conn.now tx.new.conn.now with_books with_members 4
+        result }
+    ensures stays_in_tx { StaysInTxOnOk S.Store tx.old.conn.now tx.new.conn.now result }
+    ensures keeps_commit { KeepsCommitInTx S.Store tx.old.conn.now tx.new.conn.now }
+    ensures survives { SurvivesAsBefore S.Store tx.old.conn.now tx.new.conn.now }
+    ensures rolled_back { UndoneOnErr S.Store tx.old.conn.now tx.new.conn.now result }
 {
     tx.execute(
         "CREATE TABLE member (book INTEGER NOT NULL REFERENCES book(id), uid TEXT NOT NULL, \
@@ -97,19 +81,12 @@ pub fn create_members<S: Alter>(tx: &mut Transaction<'_, S>) -> Result<usize, Er
 /// Creates the table `import_key`; `meta`, `book` and `member` exist.
 pub fn create_imports<S: Alter>(tx: &mut Transaction<'_, S>) -> Result<usize, Error>
     ensures same_reference { tx.new.conn.ghost_name ≡ tx.old.conn.ghost_name }
-    ensures creates { InsideTx (state S.Store tx.old.conn.now) (state S.Store tx.new.conn.now)
-        ((state S.Store tx.old.conn.now).now.schema ≡ with_members → OnOk result
-        (IsTableCreated with_members first_schema 7 (state S.Store tx.old.conn.now).now
-        (state S.Store tx.new.conn.now).now)) }
-    ensures stays_in_tx { InsideTx (state S.Store tx.old.conn.now) (state S.Store tx.new.conn.now)
-        (OnOk result (IsTrue (state S.Store tx.new.conn.now).in_transaction)) }
-    ensures keeps_commit { InsideTx (state S.Store tx.old.conn.now) (state S.Store tx.new.conn.now)
-        (KeepsCommit (state S.Store tx.old.conn.now) (state S.Store tx.new.conn.now)) }
-    ensures survives { Survives (state S.Store tx.old.conn.now) (state S.Store tx.new.conn.now)
-        (λ _. ⊥) }
-    ensures rolled_back { InsideTx (state S.Store tx.old.conn.now) (state S.Store tx.new.conn.now)
-        (OnErr result
-        (IsUndone (state S.Store tx.old.conn.now) (state S.Store tx.new.conn.now))) }
+    ensures creates { CreatesTable S.Store tx.old.conn.now tx.new.conn.now with_members first_schema
+        7 result }
+    ensures stays_in_tx { StaysInTxOnOk S.Store tx.old.conn.now tx.new.conn.now result }
+    ensures keeps_commit { KeepsCommitInTx S.Store tx.old.conn.now tx.new.conn.now }
+    ensures survives { SurvivesAsBefore S.Store tx.old.conn.now tx.new.conn.now }
+    ensures rolled_back { UndoneOnErr S.Store tx.old.conn.now tx.new.conn.now result }
 {
     tx.execute(
         "CREATE TABLE import_key (book INTEGER NOT NULL REFERENCES book(id), ikey TEXT NOT \
@@ -123,19 +100,12 @@ pub fn create_imports<S: Alter>(tx: &mut Transaction<'_, S>) -> Result<usize, Er
 /// those of schema 2.
 pub fn create_keeps<S: Alter>(tx: &mut Transaction<'_, S>) -> Result<usize, Error>
     ensures same_reference { tx.new.conn.ghost_name ≡ tx.old.conn.ghost_name }
-    ensures creates { InsideTx (state S.Store tx.old.conn.now) (state S.Store tx.new.conn.now)
-        ((state S.Store tx.old.conn.now).now.schema ≡ first_schema → OnOk result
-        (IsTableCreated first_schema book_schema 9 (state S.Store tx.old.conn.now).now
-        (state S.Store tx.new.conn.now).now)) }
-    ensures stays_in_tx { InsideTx (state S.Store tx.old.conn.now) (state S.Store tx.new.conn.now)
-        (OnOk result (IsTrue (state S.Store tx.new.conn.now).in_transaction)) }
-    ensures keeps_commit { InsideTx (state S.Store tx.old.conn.now) (state S.Store tx.new.conn.now)
-        (KeepsCommit (state S.Store tx.old.conn.now) (state S.Store tx.new.conn.now)) }
-    ensures survives { Survives (state S.Store tx.old.conn.now) (state S.Store tx.new.conn.now)
-        (λ _. ⊥) }
-    ensures rolled_back { InsideTx (state S.Store tx.old.conn.now) (state S.Store tx.new.conn.now)
-        (OnErr result
-        (IsUndone (state S.Store tx.old.conn.now) (state S.Store tx.new.conn.now))) }
+    ensures creates { CreatesTable S.Store tx.old.conn.now tx.new.conn.now first_schema book_schema
+        9 result }
+    ensures stays_in_tx { StaysInTxOnOk S.Store tx.old.conn.now tx.new.conn.now result }
+    ensures keeps_commit { KeepsCommitInTx S.Store tx.old.conn.now tx.new.conn.now }
+    ensures survives { SurvivesAsBefore S.Store tx.old.conn.now tx.new.conn.now }
+    ensures rolled_back { UndoneOnErr S.Store tx.old.conn.now tx.new.conn.now result }
 {
     tx.execute(
         "CREATE TABLE keeping (book INTEGER PRIMARY KEY REFERENCES book(id), keep INTEGER NOT \
@@ -146,13 +116,11 @@ pub fn create_keeps<S: Alter>(tx: &mut Transaction<'_, S>) -> Result<usize, Erro
 
 fn create_first_tables<S: Alter>(tx: &mut Transaction<'_, S>) -> Result<usize, Error>
     ensures same_reference { tx.new.conn.ghost_name ≡ tx.old.conn.ghost_name }
-    ensures creates { InsideTx (state S.Store tx.old.conn.now) (state S.Store tx.new.conn.now)
-        ((state S.Store tx.old.conn.now).now.schema ≡ empty_schema → OnOk result
-        (HoldsInTx (state S.Store tx.new.conn.now) HasFirstTables)) }
-    ensures stays_in_tx { InsideTx (state S.Store tx.old.conn.now) (state S.Store tx.new.conn.now)
-        (OnOk result (IsTrue (state S.Store tx.new.conn.now).in_transaction)) }
-    ensures no_commit { StaysUncommitted (state S.Store tx.old.conn.now)
-        (state S.Store tx.new.conn.now) }
+    ensures creates { InsideTx S.Store tx.old.conn.now tx.new.conn.now
+        (tx.old.conn.now.schema ≡ empty_schema
+        → OnOk result (HoldsInTx S.Store tx.new.conn.now HasFirstTables)) }
+    ensures stays_in_tx { StaysInTxOnOk S.Store tx.old.conn.now tx.new.conn.now result }
+    ensures no_commit { StaysUncommitted S.Store tx.old.conn.now tx.new.conn.now }
 {
     create_meta(tx)?;
     create_books(tx)?;
@@ -161,11 +129,10 @@ fn create_first_tables<S: Alter>(tx: &mut Transaction<'_, S>) -> Result<usize, E
 
 fn create_remaining_tables<S: Alter>(tx: &mut Transaction<'_, S>) -> Result<usize, Error>
     ensures same_reference { tx.new.conn.ghost_name ≡ tx.old.conn.ghost_name }
-    ensures creates { InsideTx (state S.Store tx.old.conn.now) (state S.Store tx.new.conn.now)
-        (HasFirstTables (state S.Store tx.old.conn.now).now → OnOk result
-        (HoldsInTx (state S.Store tx.new.conn.now) (IsEmptyStore schema_number))) }
-    ensures no_commit { StaysUncommitted (state S.Store tx.old.conn.now)
-        (state S.Store tx.new.conn.now) }
+    ensures creates { InsideTx S.Store tx.old.conn.now tx.new.conn.now
+        (HoldsNow S.Store tx.old.conn.now HasFirstTables
+        → OnOk result (HoldsInTx S.Store tx.new.conn.now (IsEmptyStore schema_number))) }
+    ensures no_commit { StaysUncommitted S.Store tx.old.conn.now tx.new.conn.now }
 {
     create_imports(tx)?;
     create_keeps(tx)?;
@@ -178,11 +145,10 @@ fn create_remaining_tables<S: Alter>(tx: &mut Transaction<'_, S>) -> Result<usiz
 /// On an error some of the tables may exist inside the transaction; nothing is committed.
 pub fn create_tables<S: Alter>(tx: &mut Transaction<'_, S>) -> Result<(), Error>
     ensures same_reference { tx.new.conn.ghost_name ≡ tx.old.conn.ghost_name }
-    ensures creates { InsideTx (state S.Store tx.old.conn.now) (state S.Store tx.new.conn.now)
-        ((state S.Store tx.old.conn.now).now.schema ≡ empty_schema → OnOk result
-        (HoldsInTx (state S.Store tx.new.conn.now) (IsEmptyStore schema_number))) }
-    ensures no_commit { StaysUncommitted (state S.Store tx.old.conn.now)
-        (state S.Store tx.new.conn.now) }
+    ensures creates { InsideTx S.Store tx.old.conn.now tx.new.conn.now
+        (tx.old.conn.now.schema ≡ empty_schema
+        → OnOk result (HoldsInTx S.Store tx.new.conn.now (IsEmptyStore schema_number))) }
+    ensures no_commit { StaysUncommitted S.Store tx.old.conn.now tx.new.conn.now }
 {
     create_first_tables(tx)?;
     create_remaining_tables(tx)?;

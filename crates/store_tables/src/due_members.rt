@@ -1,10 +1,8 @@
 //! The query for the due members of a sync report. Its rows are read one at a time.
 ghost use Rattle.store_tables.specs.QueryResults.{AreFirstRowsInOrder};
-ghost use Rattle.store_tables.specs.Members.{GivenMembers, by_changed, member_shown, is_member_due};
-ghost use Rattle.store_tables.specs.StatementEffects.{OnlyReads, GivenTables};
-ghost use Rattle.sqlite.specs.Held.{state};
-ghost use Rattle.sqlite.specs.State.{IsUnchanged};
-ghost use Rattle.std.specs.Prelude.{◌≡◌, IfOk, OnOk, filter};
+ghost use Rattle.store_tables.specs.Members.{by_changed, member_shown, is_member_due};
+ghost use Rattle.store_tables.specs.OnConnections.{GivenMembers, OnlyReads, UnchangedOnOk};
+ghost use Rattle.std.specs.Prelude.{IfOk, filter};
 
 use sqlite::{Alter, Connection, Error, Row, params};
 use std::alloc::Global;
@@ -23,13 +21,12 @@ pub fn first_due<S: Alter>(
     base: i64,
     most: usize,
 ) -> Result<Vec<Row>, Error>
-    ensures first { GivenMembers (state S.Store conn.old) (state S.Store conn.new)
-        (λ ms. IfOk result (λ rows.
-        AreFirstRowsInOrder by_changed member_shown most (filter (is_member_due book at base) ms)
-        rows.items)) }
-    ensures unchanged { GivenTables (state S.Store conn.old) (state S.Store conn.new)
-        (OnOk result (IsUnchanged (state S.Store conn.old) (state S.Store conn.new))) }
-    ensures reads_only { OnlyReads (state S.Store conn.old) (state S.Store conn.new) }
+    ensures first { GivenMembers S.Store conn.old conn.new
+        (λ ms. IfOk result
+        (λ rows. AreFirstRowsInOrder by_changed member_shown most
+        (filter (is_member_due book at base) ms) rows.items)) }
+    ensures unchanged { UnchangedOnOk S.Store conn.old conn.new result }
+    ensures reads_only { OnlyReads S.Store conn.old conn.new }
 {
     let mut first = Vec::new(alloc);
     let mut rows = conn.query(

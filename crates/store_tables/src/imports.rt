@@ -1,31 +1,20 @@
 //! Statements over the table `import_key`.
-ghost use Rattle.store_tables.specs.QueryResults.{FindsRow, IfAnswered};
-ghost use Rattle.store_tables.specs.Imports.{
-  GivenImportsTx,
+ghost use Rattle.store_tables.specs.QueryResults.{FindsRow};
+ghost use Rattle.store_tables.specs.Imports.{import_cells, import_shown, has_key};
+ghost use Rattle.store_tables.specs.OnConnections.{
   AddsImport,
   GivenImports,
-  import_cells,
-  import_shown,
-  has_key,
-};
-ghost use Rattle.store_tables.specs.StatementEffects.{
-  InsideTx,
-  IsUndone,
-  OnlyReads,
+  GivenImportsTx,
   GivenTables,
+  ListsRows,
   NoCommit,
+  OnlyReads,
+  UnchangedIfAnswered,
+  UnchangedOnOk,
+  UndoneOnErr,
   WritesOnly,
 };
-ghost use Rattle.sqlite.specs.Held.{state};
-ghost use Rattle.sqlite.specs.State.{IsUnchanged};
-ghost use Rattle.std.specs.List.Sorted.{IsPermutation};
-ghost use Rattle.std.specs.Prelude.{
-  ◌≡◌,
-  IfOk,
-  OnErr,
-  OnOk,
-  map,
-};
+ghost use Rattle.std.specs.Prelude.{◌≡◌, OnOk};
 
 use sqlite::{Alter, Connection, Error, Row, Transaction, params};
 
@@ -34,11 +23,10 @@ use sqlite::{Alter, Connection, Error, Row, Transaction, params};
 ///
 /// Fails with `QueryReturnedNoRows` if the book has no import with the key.
 pub fn find_import<S: Alter>(conn: &mut Connection<S>, book: i64, key: &str) -> Result<Row, Error>
-    ensures finds { GivenImports (state S.Store conn.old) (state S.Store conn.new)
+    ensures finds { GivenImports S.Store conn.old conn.new
         (λ imports. FindsRow (has_key book key.now) import_shown imports result) }
-    ensures unchanged { GivenTables (state S.Store conn.old) (state S.Store conn.new)
-        (IfAnswered result (IsUnchanged (state S.Store conn.old) (state S.Store conn.new))) }
-    ensures reads_only { OnlyReads (state S.Store conn.old) (state S.Store conn.new) }
+    ensures unchanged { UnchangedIfAnswered S.Store conn.old conn.new result }
+    ensures reads_only { OnlyReads S.Store conn.old conn.new }
 {
     conn.query_row(
         "SELECT added, edited, same, number FROM import_key WHERE book = ?1 AND ikey = ?2",
@@ -61,17 +49,13 @@ pub fn insert_import<S: Alter>(
     number: i64,
 ) -> Result<usize, Error>
     ensures same_reference { tx.new.conn.ghost_name ≡ tx.old.conn.ghost_name }
-    ensures adds { GivenImportsTx (state S.Store tx.old.conn.now) (state S.Store tx.new.conn.now)
+    ensures adds { GivenImportsTx S.Store tx.old.conn.now tx.new.conn.now
         (λ imports. OnOk result
-        (AddsImport (state S.Store tx.new.conn.now) book key.now added edited
-        same number imports)) }
-    ensures writes { GivenImportsTx (state S.Store tx.old.conn.now) (state S.Store tx.new.conn.now)
-        (λ _. OnOk result
-        (WritesOnly 7 (state S.Store tx.old.conn.now) (state S.Store tx.new.conn.now))) }
-    ensures no_commit { NoCommit (state S.Store tx.old.conn.now) (state S.Store tx.new.conn.now) }
-    ensures rolled_back { InsideTx (state S.Store tx.old.conn.now) (state S.Store tx.new.conn.now)
-        (OnErr result
-        (IsUndone (state S.Store tx.old.conn.now) (state S.Store tx.new.conn.now))) }
+        (AddsImport S.Store tx.new.conn.now book key.now added edited same number imports)) }
+    ensures writes { GivenImportsTx S.Store tx.old.conn.now tx.new.conn.now
+        (λ _. OnOk result (WritesOnly S.Store tx.old.conn.now tx.new.conn.now 7)) }
+    ensures no_commit { NoCommit S.Store tx.old.conn.now tx.new.conn.now }
+    ensures rolled_back { UndoneOnErr S.Store tx.old.conn.now tx.new.conn.now result }
 {
     tx.execute(
         "INSERT INTO import_key (book, ikey, added, edited, same, number) \
@@ -83,12 +67,10 @@ pub fn insert_import<S: Alter>(
 /// Returns every row of the table, whatever its columns hold: the row id, the book, the key, the
 /// cards added, edited and unchanged, and the number of the last change.
 pub fn all_imports<S: Alter>(conn: &mut Connection<S>) -> Result<Vec<Row>, Error>
-    ensures lists { GivenTables (state S.Store conn.old) (state S.Store conn.new)
-        (IfOk result (λ rows.
-        IsPermutation (map import_cells ((state S.Store conn.old).now.trees 7)) rows.items)) }
-    ensures unchanged { GivenTables (state S.Store conn.old) (state S.Store conn.new)
-        (OnOk result (IsUnchanged (state S.Store conn.old) (state S.Store conn.new))) }
-    ensures reads_only { OnlyReads (state S.Store conn.old) (state S.Store conn.new) }
+    ensures lists { GivenTables S.Store conn.old conn.new
+        (ListsRows S.Store conn.old 7 import_cells result) }
+    ensures unchanged { UnchangedOnOk S.Store conn.old conn.new result }
+    ensures reads_only { OnlyReads S.Store conn.old conn.new }
 {
     conn.query_all(
         "SELECT rowid, book, ikey, added, edited, same, number FROM import_key",

@@ -13,3 +13,4 @@ pub mod imports;
 pub mod keeps;
 pub mod members;
 pub mod meta;
+pub mod settled;

@@ -1,12 +1,8 @@
 //! Statements over the table `member`. A removed member that the book still remembers has a null
 //! card.
 ghost use Rattle.store_tables.specs.QueryResults.{AreRowsInOrder, FindsRow, FindsFirstRow};
-ghost use Rattle.store_tables.specs.QueryResults.{IfAnswered, count_value};
+ghost use Rattle.store_tables.specs.QueryResults.{count_value};
 ghost use Rattle.store_tables.specs.Members.{
-  GivenMembersTx,
-  HasMembers,
-  PutsRow,
-  GivenMembers,
   by_changed,
   number_card_shown,
   number_shown,
@@ -18,29 +14,21 @@ ghost use Rattle.store_tables.specs.Members.{
   member_cells,
   without_removed,
 };
-ghost use Rattle.store_tables.specs.StatementEffects.{
-  InsideTx,
-  IsUndone,
-  OnlyReads,
+ghost use Rattle.store_tables.specs.OnConnections.{
+  GivenMembers,
+  GivenMembersTx,
   GivenTables,
+  HasMembers,
+  ListsRows,
   NoCommit,
+  OnlyReads,
+  PutsRow,
+  UnchangedIfAnswered,
+  UnchangedOnOk,
+  UndoneOnErr,
   WritesOnly,
 };
-ghost use Rattle.sqlite.specs.Held.{state};
-ghost use Rattle.sqlite.specs.State.{IsUnchanged};
-ghost use Rattle.std.specs.List.Sorted.{IsPermutation};
-ghost use Rattle.std.specs.Prelude.{
-  [],
-  ◌∷◌,
-  ◌≡◌,
-  IfOk,
-  OnErr,
-  OnOk,
-  filter,
-  length,
-  map,
-  option_copied,
-};
+ghost use Rattle.std.specs.Prelude.{[], ◌∷◌, ◌≡◌, IfOk, OnOk, filter, length, option_copied};
 
 use sqlite::{Alter, Connection, Error, Row, Transaction, params};
 
@@ -49,11 +37,10 @@ use sqlite::{Alter, Connection, Error, Row, Transaction, params};
 ///
 /// Fails with `QueryReturnedNoRows` if the book has no such member.
 pub fn find_member<S: Alter>(conn: &mut Connection<S>, book: i64, uid: &str) -> Result<Row, Error>
-    ensures finds { GivenMembers (state S.Store conn.old) (state S.Store conn.new)
+    ensures finds { GivenMembers S.Store conn.old conn.new
         (λ ms. FindsRow (has_uid book uid.now) number_card_shown ms result) }
-    ensures unchanged { GivenTables (state S.Store conn.old) (state S.Store conn.new)
-        (IfAnswered result (IsUnchanged (state S.Store conn.old) (state S.Store conn.new))) }
-    ensures reads_only { OnlyReads (state S.Store conn.old) (state S.Store conn.new) }
+    ensures unchanged { UnchangedIfAnswered S.Store conn.old conn.new result }
+    ensures reads_only { OnlyReads S.Store conn.old conn.new }
 {
     conn.query_row(
         "SELECT changed, card FROM member WHERE book = ?1 AND uid = ?2",
@@ -69,12 +56,11 @@ pub fn count_removed<S: Alter>(
     book: i64,
     horizon: i64,
 ) -> Result<Row, Error>
-    ensures counts { GivenMembers (state S.Store conn.old) (state S.Store conn.new)
-        (λ ms. IfOk result (λ row.
-        row ≡ count_value (length (filter (is_removed_above book horizon) ms)) ∷ [])) }
-    ensures unchanged { GivenTables (state S.Store conn.old) (state S.Store conn.new)
-        (IfAnswered result (IsUnchanged (state S.Store conn.old) (state S.Store conn.new))) }
-    ensures reads_only { OnlyReads (state S.Store conn.old) (state S.Store conn.new) }
+    ensures counts { GivenMembers S.Store conn.old conn.new
+        (λ ms. IfOk result
+        (λ row. row ≡ count_value (length (filter (is_removed_above book horizon) ms)) ∷ [])) }
+    ensures unchanged { UnchangedIfAnswered S.Store conn.old conn.new result }
+    ensures reads_only { OnlyReads S.Store conn.old conn.new }
 {
     conn.query_row(
         "SELECT COUNT(*) FROM member WHERE book = ?1 AND card IS NULL AND changed > ?2",
@@ -92,12 +78,11 @@ pub fn first_removed<S: Alter>(
     book: i64,
     horizon: i64,
 ) -> Result<Row, Error>
-    ensures first { GivenMembers (state S.Store conn.old) (state S.Store conn.new)
+    ensures first { GivenMembers S.Store conn.old conn.new
         (λ ms. FindsFirstRow by_changed number_shown (filter (is_removed_above book horizon) ms)
         result) }
-    ensures unchanged { GivenTables (state S.Store conn.old) (state S.Store conn.new)
-        (IfAnswered result (IsUnchanged (state S.Store conn.old) (state S.Store conn.new))) }
-    ensures reads_only { OnlyReads (state S.Store conn.old) (state S.Store conn.new) }
+    ensures unchanged { UnchangedIfAnswered S.Store conn.old conn.new result }
+    ensures reads_only { OnlyReads S.Store conn.old conn.new }
 {
     conn.query_row(
         "SELECT changed FROM member WHERE book = ?1 AND card IS NULL AND changed > ?2 \
@@ -109,12 +94,11 @@ pub fn first_removed<S: Alter>(
 /// Returns the UID, the number and the card of every member of the book with this id, in the order
 /// of the numbers. The card is null for a removed member.
 pub fn members_of<S: Alter>(conn: &mut Connection<S>, book: i64) -> Result<Vec<Row>, Error>
-    ensures lists { GivenMembers (state S.Store conn.old) (state S.Store conn.new)
-        (λ ms. IfOk result (λ rows.
-        AreRowsInOrder by_changed member_shown (filter (is_in_book book) ms) rows.items)) }
-    ensures unchanged { GivenTables (state S.Store conn.old) (state S.Store conn.new)
-        (OnOk result (IsUnchanged (state S.Store conn.old) (state S.Store conn.new))) }
-    ensures reads_only { OnlyReads (state S.Store conn.old) (state S.Store conn.new) }
+    ensures lists { GivenMembers S.Store conn.old conn.new
+        (λ ms. IfOk result
+        (λ rows. AreRowsInOrder by_changed member_shown (filter (is_in_book book) ms) rows.items)) }
+    ensures unchanged { UnchangedOnOk S.Store conn.old conn.new result }
+    ensures reads_only { OnlyReads S.Store conn.old conn.new }
 {
     conn.query_all(
         "SELECT uid, changed, card FROM member WHERE book = ?1 ORDER BY changed",
@@ -135,16 +119,13 @@ pub fn put_member<S: Alter>(
     card: Option<&str>,
 ) -> Result<Vec<Row>, Error>
     ensures same_reference { tx.new.conn.ghost_name ≡ tx.old.conn.ghost_name }
-    ensures puts { GivenMembersTx (state S.Store tx.old.conn.now) (state S.Store tx.new.conn.now)
-        (λ ms. OnOk result (PutsRow (state S.Store tx.new.conn.now).now.trees book uid.now changed
-        (option_copied card.entry) ms)) }
-    ensures writes { GivenMembersTx (state S.Store tx.old.conn.now) (state S.Store tx.new.conn.now)
-        (λ _. OnOk result
-        (WritesOnly 4 (state S.Store tx.old.conn.now) (state S.Store tx.new.conn.now))) }
-    ensures no_commit { NoCommit (state S.Store tx.old.conn.now) (state S.Store tx.new.conn.now) }
-    ensures rolled_back { InsideTx (state S.Store tx.old.conn.now) (state S.Store tx.new.conn.now)
-        (OnErr result
-        (IsUndone (state S.Store tx.old.conn.now) (state S.Store tx.new.conn.now))) }
+    ensures puts { GivenMembersTx S.Store tx.old.conn.now tx.new.conn.now
+        (λ ms. OnOk result
+        (PutsRow S.Store tx.new.conn.now book uid.now changed (option_copied card.entry) ms)) }
+    ensures writes { GivenMembersTx S.Store tx.old.conn.now tx.new.conn.now
+        (λ _. OnOk result (WritesOnly S.Store tx.old.conn.now tx.new.conn.now 4)) }
+    ensures no_commit { NoCommit S.Store tx.old.conn.now tx.new.conn.now }
+    ensures rolled_back { UndoneOnErr S.Store tx.old.conn.now tx.new.conn.now result }
 {
     tx.query_all(
         "INSERT INTO member (book, uid, changed, card) VALUES (?1, ?2, ?3, ?4) \
@@ -162,18 +143,14 @@ pub fn forget_members<S: Alter>(
     upto: i64,
 ) -> Result<usize, Error>
     ensures same_reference { tx.new.conn.ghost_name ≡ tx.old.conn.ghost_name }
-    ensures forgets { GivenMembersTx (state S.Store tx.old.conn.now) (state S.Store tx.new.conn.now)
-        (λ ms. OnOk result
-        (HasMembers (state S.Store tx.new.conn.now) (without_removed book upto ms))) }
-    ensures dropped { GivenMembersTx (state S.Store tx.old.conn.now) (state S.Store tx.new.conn.now)
+    ensures forgets { GivenMembersTx S.Store tx.old.conn.now tx.new.conn.now
+        (λ ms. OnOk result (HasMembers S.Store tx.new.conn.now (without_removed book upto ms))) }
+    ensures dropped { GivenMembersTx S.Store tx.old.conn.now tx.new.conn.now
         (λ ms. IfOk result (λ count. count ≡ length (filter (is_removed_up_to book upto) ms))) }
-    ensures writes { GivenMembersTx (state S.Store tx.old.conn.now) (state S.Store tx.new.conn.now)
-        (λ _. OnOk result
-        (WritesOnly 4 (state S.Store tx.old.conn.now) (state S.Store tx.new.conn.now))) }
-    ensures no_commit { NoCommit (state S.Store tx.old.conn.now) (state S.Store tx.new.conn.now) }
-    ensures rolled_back { InsideTx (state S.Store tx.old.conn.now) (state S.Store tx.new.conn.now)
-        (OnErr result
-        (IsUndone (state S.Store tx.old.conn.now) (state S.Store tx.new.conn.now))) }
+    ensures writes { GivenMembersTx S.Store tx.old.conn.now tx.new.conn.now
+        (λ _. OnOk result (WritesOnly S.Store tx.old.conn.now tx.new.conn.now 4)) }
+    ensures no_commit { NoCommit S.Store tx.old.conn.now tx.new.conn.now }
+    ensures rolled_back { UndoneOnErr S.Store tx.old.conn.now tx.new.conn.now result }
 {
     tx.execute(
         "DELETE FROM member WHERE book = ?1 AND card IS NULL AND changed <= ?2",
@@ -184,12 +161,10 @@ pub fn forget_members<S: Alter>(
 /// Returns every row of the table, whatever its columns hold: the row id, the book, the UID, the
 /// number and the card.
 pub fn all_members<S: Alter>(conn: &mut Connection<S>) -> Result<Vec<Row>, Error>
-    ensures lists { GivenTables (state S.Store conn.old) (state S.Store conn.new)
-        (IfOk result (λ rows.
-        IsPermutation (map member_cells ((state S.Store conn.old).now.trees 4)) rows.items)) }
-    ensures unchanged { GivenTables (state S.Store conn.old) (state S.Store conn.new)
-        (OnOk result (IsUnchanged (state S.Store conn.old) (state S.Store conn.new))) }
-    ensures reads_only { OnlyReads (state S.Store conn.old) (state S.Store conn.new) }
+    ensures lists { GivenTables S.Store conn.old conn.new
+        (ListsRows S.Store conn.old 4 member_cells result) }
+    ensures unchanged { UnchangedOnOk S.Store conn.old conn.new result }
+    ensures reads_only { OnlyReads S.Store conn.old conn.new }
 {
     conn.query_all(
         "SELECT rowid, book, uid, changed, card FROM member",

@@ -1,10 +1,14 @@
 //! The statement over the table `meta`, which holds the schema number.
-ghost use Rattle.store_tables.specs.Meta.{AddsSchema};
-ghost use Rattle.store_tables.specs.StatementEffects.{InsideTx, IsUndone, NoCommit, WritesOnly};
 ghost use Rattle.store_tables.specs.Tables.{book_schema};
-ghost use Rattle.sqlite.specs.Held.{state};
-ghost use Rattle.sqlite.specs.State.{KeepsCommit};
-ghost use Rattle.std.specs.Prelude.{◌≡◌, OnErr, OnOk};
+ghost use Rattle.store_tables.specs.OnConnections.{
+  AddsSchema,
+  InsideTx,
+  KeepsCommitInTx,
+  NoCommit,
+  UndoneOnErr,
+  WritesOnly,
+};
+ghost use Rattle.std.specs.Prelude.{◌≡◌, OnOk};
 
 use sqlite::{Alter, Error, Transaction, params};
 
@@ -16,19 +20,15 @@ pub const SCHEMA_NUMBER: i64 = 2;
 /// Fails with a constraint error if there is one already.
 pub fn insert_schema<S: Alter>(tx: &mut Transaction<'_, S>, number: i64) -> Result<usize, Error>
     ensures same_reference { tx.new.conn.ghost_name ≡ tx.old.conn.ghost_name }
-    ensures adds { InsideTx (state S.Store tx.old.conn.now) (state S.Store tx.new.conn.now)
-        ((state S.Store tx.old.conn.now).now.schema ≡ book_schema → OnOk result
-        (AddsSchema number ((state S.Store tx.old.conn.now).now.trees 0)
-        (state S.Store tx.new.conn.now))) }
-    ensures writes { InsideTx (state S.Store tx.old.conn.now) (state S.Store tx.new.conn.now)
-        ((state S.Store tx.old.conn.now).now.schema ≡ book_schema → OnOk result
-        (WritesOnly 0 (state S.Store tx.old.conn.now) (state S.Store tx.new.conn.now))) }
-    ensures no_commit { NoCommit (state S.Store tx.old.conn.now) (state S.Store tx.new.conn.now) }
-    ensures keeps_commit { InsideTx (state S.Store tx.old.conn.now) (state S.Store tx.new.conn.now)
-        (KeepsCommit (state S.Store tx.old.conn.now) (state S.Store tx.new.conn.now)) }
-    ensures rolled_back { InsideTx (state S.Store tx.old.conn.now) (state S.Store tx.new.conn.now)
-        (OnErr result
-        (IsUndone (state S.Store tx.old.conn.now) (state S.Store tx.new.conn.now))) }
+    ensures adds { InsideTx S.Store tx.old.conn.now tx.new.conn.now
+        (tx.old.conn.now.schema ≡ book_schema
+        → OnOk result (AddsSchema S.Store tx.old.conn.now tx.new.conn.now number)) }
+    ensures writes { InsideTx S.Store tx.old.conn.now tx.new.conn.now
+        (tx.old.conn.now.schema ≡ book_schema
+        → OnOk result (WritesOnly S.Store tx.old.conn.now tx.new.conn.now 0)) }
+    ensures no_commit { NoCommit S.Store tx.old.conn.now tx.new.conn.now }
+    ensures keeps_commit { KeepsCommitInTx S.Store tx.old.conn.now tx.new.conn.now }
+    ensures rolled_back { UndoneOnErr S.Store tx.old.conn.now tx.new.conn.now result }
 {
     tx.execute(
         "INSERT INTO meta (name, val) VALUES ('schema', ?1)",

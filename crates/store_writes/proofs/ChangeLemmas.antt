@@ -1,5 +1,6 @@
 -- The state after a transaction, for any writes.
 use Rattle.std.proofs.Common.{◌≡◌, ◌⊎◌, inl, inr, false, IsTrue, true≢false, [], List, ℕ, Result, Ok, Err, IfErr, IfOk, sym, subst, ◌∙◌}
+use Rattle.std.specs.Prelude.{IsErrAnd, MatchResult}
 use Rattle.sqlite.specs.declared.error.Error.{Error}
 use Rattle.sqlite.specs.Effect.{Database}
 use Rattle.sqlite.specs.State.{State, HasCleanDisk, IsNotRun, IsRolledBack, IsUnchanged, KeepsCommit, Shows, Survives}
@@ -8,6 +9,8 @@ use Rattle.sqlite.proofs.StateLemmas.{survives_weaker}
 use Rattle.store_tables.specs.SchemaCreation.{HoldsInTx}
 use Rattle.store_tables.specs.StatementEffects.{OnlyReads}
 use Rattle.store_tables.proofs.Lookups.{leaves_as, left_open}
+use Rattle.store_tables.proofs.TransactionLemmas.{rollback_restores}
+use Rattle.store_writes.specs.TableChanges.{IsAtomic}
 
 -- ---- a statement that was prepared
 
@@ -31,13 +34,14 @@ prepare_reads Q sql old new r ok err mode survives = record {
 pub committed_done : (mid end : State) (P : Database → Type 0) → HoldsInTx mid P → Shows mid end mid.now mid.now false → P end.now × (end.now ≡ end.committed)
 committed_done mid end P left shows = (subst P (sym shows.now_is) left.holds, shows.now_is ∙ sym shows.committed_is)
 
--- it was rolled back
-pub rolled_done : (begun mid end : State) → KeepsCommit begun mid → IsRolledBack mid end → (IsTrue begun.is_open → begun.now ≡ begun.committed) → IsTrue end.is_open → (end.now ≡ begun.now) × (end.now ≡ end.committed)
-rolled_done begun mid end kept undone settled up =
-    let open_mid = undone.was_open up in
-    ((undone.undone up).0 ∙ kept.committed open_mid ∙ sym (settled (kept.was_open open_mid)), (undone.undone up).0 ∙ sym (undone.undone up).1)
-
 -- its commit failed
 pub failed_done : (begun mid end : State) (e : Error) → KeepsCommit begun mid → IsTrue mid.in_transaction → FailsToCommit mid end e → (IsTrue begun.is_open → begun.now ≡ begun.committed) → IsTrue end.is_open → (end.now ≡ begun.now) × (end.now ≡ end.committed)
-failed_done begun mid end e kept inside (inl h) settled up = rolled_done begun mid end kept h.3 settled up
+failed_done begun mid end e kept inside (inl h) settled up = rollback_restores begun mid end kept h.3 settled up
 failed_done begun mid end e kept inside (inr h) settled up = absurd (true≢false (sym inside ∙ h.1))
+
+-- an error that is converted leaves the same outcome
+pub mapped_atomic : {A E D : Type 0} (old new : State) (r : Result A E) (s : Result A D) (P : E → D → Type 0) (Then : A → Database → Type 0)
+    → MatchResult r (λ x. s ≡ Ok x) (λ e. IsErrAnd s (P e)) → IsAtomic old new r Then → IsAtomic old new s Then
+mapped_atomic old new (Ok x) s P Then is done = subst (λ t. IsAtomic old new t Then) (sym is) done
+mapped_atomic old new (Err e) (Ok y) P Then is done = absurd is
+mapped_atomic old new (Err e) (Err d) P Then is done = done

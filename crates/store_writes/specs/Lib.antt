@@ -1,3 +1,4 @@
 pub mod StoredBooks
 pub mod TableChanges
+pub mod OnConnections
 pub mod internal

@@ -1,11 +1,16 @@
 //! The checks and look-ups that every change starts with.
 ghost use Rattle.book_model.specs.Books.{as_stored};
-ghost use Rattle.store_lookups.specs.CallResults.{FindsHeader, GivenSoundRows};
+ghost use Rattle.store_lookups.specs.CallResults.{FindsHeader};
 ghost use Rattle.store_lookups.specs.Faults.{IsDeniedFault};
-ghost use Rattle.store_tables.specs.StatementEffects.{OnlyReads, GivenTables};
-ghost use Rattle.sqlite.specs.Held.{state};
-ghost use Rattle.sqlite.specs.State.{HasCleanDisk, IsUnchanged};
-ghost use Rattle.std.specs.Prelude.{◌≡◌, IfErr, IsTrue, OnOk};
+ghost use Rattle.store_lookups.specs.OnConnections.{GivenSoundRows};
+ghost use Rattle.store_tables.specs.OnConnections.{
+  HasCleanDisk,
+  IsUnchanged,
+  OnlyReads,
+  UnchangedOnOk,
+  WasOpenOnOk,
+};
+ghost use Rattle.std.specs.Prelude.{◌≡◌, IfErr, OnOk};
 
 use book_model::{Denied, Stored};
 use sqlite::{Alter, Connection};
@@ -15,10 +20,10 @@ use vcard_text::Card;
 /// Checks that the connection is open, since only an open one prepares a statement. The statement
 /// is short and prepared only once for a connection. Fails if the connection is closed.
 pub fn check_open<S: Alter>(conn: &mut Connection<S>) -> Result<(), Denied>
-    ensures unchanged { HasCleanDisk (state S.Store conn.new)
-        → OnOk result (IsUnchanged (state S.Store conn.old) (state S.Store conn.new)) }
+    ensures unchanged { HasCleanDisk S.Store conn.new
+        → OnOk result (IsUnchanged S.Store conn.old conn.new) }
     ensures fault { IfErr result IsDeniedFault }
-    ensures reads_only { OnlyReads (state S.Store conn.old) (state S.Store conn.new) }
+    ensures reads_only { OnlyReads S.Store conn.old conn.new }
 {
     match conn.prepare("COMMIT") {
         Ok(_) => Ok(()),
@@ -28,13 +33,11 @@ pub fn check_open<S: Alter>(conn: &mut Connection<S>) -> Result<(), Denied>
 
 /// Checks the connection and finds the header of the named book. Refused with `NoSuchBook`.
 pub fn open_header<S: Alter>(conn: &mut Connection<S>, name: &str) -> Result<BookHeader, Denied>
-    ensures finds { GivenSoundRows (state S.Store conn.old) (state S.Store conn.new)
+    ensures finds { GivenSoundRows S.Store conn.old conn.new
         (λ rows. FindsHeader rows name.now result) }
-    ensures unchanged { GivenTables (state S.Store conn.old) (state S.Store conn.new)
-        (OnOk result (IsUnchanged (state S.Store conn.old) (state S.Store conn.new))) }
-    ensures was_open { HasCleanDisk (state S.Store conn.new)
-        → OnOk result (IsTrue (state S.Store conn.old).is_open) }
-    ensures reads_only { OnlyReads (state S.Store conn.old) (state S.Store conn.new) }
+    ensures unchanged { UnchangedOnOk S.Store conn.old conn.new result }
+    ensures was_open { WasOpenOnOk S.Store conn.old conn.new result }
+    ensures reads_only { OnlyReads S.Store conn.old conn.new }
 {
     check_open(conn)?;
     find_header(conn, name)

@@ -1,13 +1,11 @@
 //! The put: storing a card in a book.
 ghost use Rattle.book_model.specs.Putting.{found_in_book, put_answer, put_step, put_store_reason};
-ghost use Rattle.store_lookups.specs.CallResults.{FollowsStep, IsExactly, GivenBook};
-ghost use Rattle.store_lookups.specs.CallResults.{GivenSoundRows};
-ghost use Rattle.store_writes.specs.TableChanges.{AppliesStep, CommitsOnce};
+ghost use Rattle.store_lookups.specs.CallResults.{FollowsStep, IsExactly};
 ghost use Rattle.store_writes.specs.internal.PutPlans.{IsPutPlanned};
-ghost use Rattle.store_tables.specs.StatementEffects.{OnlyReads, GivenTables};
-ghost use Rattle.sqlite.specs.Held.{state};
-ghost use Rattle.sqlite.specs.State.{HasCleanDisk, IsUnchanged};
-ghost use Rattle.std.specs.Prelude.{◌≡◌, ◌<◌, ◌^◌, IfOk, IsSome, IsTrue, OnOk, false};
+ghost use Rattle.store_lookups.specs.OnConnections.{GivenBook, GivenSoundRows};
+ghost use Rattle.store_tables.specs.OnConnections.{OnlyReads, UnchangedOnOk, WasOpenOnOk};
+ghost use Rattle.store_writes.specs.OnConnections.{AppliesStep, CommitsOnce};
+ghost use Rattle.std.specs.Prelude.{◌≡◌, ◌<◌, ◌^◌, IfOk, IsSome, false};
 ghost use Rattle.vcard_text.specs.Cards.{uid_of};
 
 use crate::lookups::{as_version_and_card, open_header};
@@ -17,6 +15,7 @@ use book_model::{Denied, Limits, PutAnswer};
 use sqlite::{Alter, Connection};
 use std::alloc::Global;
 use store_lookups::{BookHeader, find_live};
+use store_tables::settled::assert_settled;
 use vcard_text::Card;
 
 /// What a put of the card returns in the book with this header.
@@ -28,14 +27,13 @@ fn decide_put<S: Alter>(
     card: &Card,
     expect: Option<u64>,
 ) -> Result<PutAnswer, Denied>
-    ensures answers { GivenBook (state S.Store conn.old) (state S.Store conn.new) header
+    ensures answers { GivenBook S.Store conn.old conn.new header
         (λ book. FollowsStep IsExactly result
         (put_answer limits (found_in_book book (uid_of card.now)) card.now expect)) }
     ensures number_fits { IfOk result
         (λ answer. IsSome (put_store_reason answer) → header.number < 2 ^ 63) }
-    ensures unchanged { GivenTables (state S.Store conn.old) (state S.Store conn.new)
-        (OnOk result (IsUnchanged (state S.Store conn.old) (state S.Store conn.new))) }
-    ensures reads_only { OnlyReads (state S.Store conn.old) (state S.Store conn.new) }
+    ensures unchanged { UnchangedOnOk S.Store conn.old conn.new result }
+    ensures reads_only { OnlyReads S.Store conn.old conn.new }
 {
     let live = find_live(alloc, conn, header, card.uid())?;
     let counts = header.counts();
@@ -57,15 +55,13 @@ fn plan_put<S: Alter>(
     card: &Card,
     expect: Option<u64>,
 ) -> Result<(BookHeader, PutAnswer), Denied>
-    ensures planned { GivenSoundRows (state S.Store conn.old) (state S.Store conn.new)
+    ensures planned { GivenSoundRows S.Store conn.old conn.new
         (λ rows. IsPutPlanned limits rows name.now card.now expect result) }
     ensures number_fits { IfOk result
         (λ plan. IsSome (put_store_reason plan.1) → plan.0.number < 2 ^ 63) }
-    ensures unchanged { GivenTables (state S.Store conn.old) (state S.Store conn.new)
-        (OnOk result (IsUnchanged (state S.Store conn.old) (state S.Store conn.new))) }
-    ensures was_open { HasCleanDisk (state S.Store conn.new)
-        → OnOk result (IsTrue (state S.Store conn.old).is_open) }
-    ensures reads_only { OnlyReads (state S.Store conn.old) (state S.Store conn.new) }
+    ensures unchanged { UnchangedOnOk S.Store conn.old conn.new result }
+    ensures was_open { WasOpenOnOk S.Store conn.old conn.new result }
+    ensures reads_only { OnlyReads S.Store conn.old conn.new }
 {
     let header = open_header(conn, name)?;
     let answer = decide_put(alloc, conn, limits, header, card, expect)?;
@@ -82,12 +78,12 @@ pub fn put_in_book<S: Alter>(
     expect: Option<u64>,
 ) -> Result<PutAnswer, Denied>
     requires { conn.old.in_transaction ≡ false }
-    ensures changes { AppliesStep (state S.Store conn.old) (state S.Store conn.new) result
+    ensures changes { AppliesStep S.Store conn.old conn.new result
         (λ books. put_step limits books name.now card.now expect) }
-    ensures crash { CommitsOnce (state S.Store conn.old) (state S.Store conn.new)
+    ensures crash { CommitsOnce S.Store conn.old conn.new
         (λ books. put_step limits books name.now card.now expect) }
 {
-    let _settled = conn.is_autocommit();
+    assert_settled(conn);
     let (header, answer) = plan_put(alloc, conn, limits, name, card, expect)?;
     let Some(reason) = reason_of(answer) else {
         return Ok(answer);

@@ -24,7 +24,6 @@ use Rattle.store_rows.specs.TableRows.{TableRows, HoldsRows}
 use Rattle.sqlite.specs.Effect.{Database}
 use Rattle.sqlite.specs.State.{State, HasCleanDisk}
 use Rattle.sqlite_rules.specs.Lists.{Has}
-use Rattle.store_writes.specs.TableChanges.{HasBookRow}
 use Rattle.store_inserts.specs.declared.import_plan.ImportDecision.{ImportDecision}
 use Rattle.store_inserts.specs.declared.import_plan.ImportDecision.TheVariants.{Kept, New}
 use Rattle.store_inserts.specs.declared.import_plan.ImportPlan.{ImportPlan}
@@ -166,9 +165,3 @@ abbrev pub InWrittenBookTx :
 InWrittenBookTx old new header Then = (rows : TableRows) (name : List ℕ) (book : Book) →
     HasCleanDisk new → IsTrue old.in_transaction → WritesBook old.now rows name header book →
     Then rows name book
-
--- inside a transaction, before anything is written
-abbrev pub InUnwrittenBookTx : State → State → HeaderRow → (TableRows → List ℕ → Type 0) → Type 0
-InUnwrittenBookTx old new header Then = (rows : TableRows) (name : List ℕ) →
-    HasCleanDisk new → IsTrue old.in_transaction → HasBookRow old.now rows name header →
-    Then rows name

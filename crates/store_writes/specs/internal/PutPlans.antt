@@ -1,17 +1,15 @@
 -- The outcome of a put, computed from the tables before anything is written. This project's own.
-use Rattle.std.specs.Prelude.{◌≡◌, ℕ, Bool, true, false, List, Option, Result, Ok, Err}
-use Rattle.std.specs.FinMap as finite
+use Rattle.std.specs.Prelude.{◌≡◌, ℕ, List, Option, Result, Ok, Err}
 use Rattle.vcard_lines.specs.declared.line.Line.{Line}
 use Rattle.vcard_text.specs.Cards.{uid_of}
 use Rattle.book_model.specs.declared.answers.PutAnswer.{PutAnswer}
 use Rattle.book_model.specs.declared.denied.Denied.{Denied}
 use Rattle.book_model.specs.declared.refusal.Refusal.{Refusal}
 use Rattle.book_model.specs.Bounds.{Bounds}
-use Rattle.book_model.specs.Books.{Book, Books, book_named}
-use Rattle.book_model.specs.Creating.{new_id}
+use Rattle.book_model.specs.Books.{Book, book_named}
 use Rattle.book_model.specs.CallOutcomes.{◌>>=◌}
 use Rattle.book_model.specs.Putting.{found_in_book, put_answer}
-use Rattle.store_rows.specs.LookupLaws.{IsBookNamed, IsNameFree}
+use Rattle.store_rows.specs.LookupLaws.{IsBookNamed}
 use Rattle.store_rows.specs.TableBooks.{HeaderRow, row_book, books_of, line_row}
 use Rattle.store_rows.specs.TableRows.{TableRows}
 use Rattle.store_lookups.specs.CallResults.{FollowsStep, IsExactly}

@@ -1,60 +1,83 @@
-use Rattle.std.proofs.Common.{rules, ◌≡◌, IsTrue, true, not, pos, Err, to_z, of_z, w64, sym, ap, subst, ◌∙◌}
+use Rattle.std.proofs.Common.{rules, ◌≡◌, IsTrue, ℕ, true, pos, Err, sym, subst, ◌∙◌}
 use Rattle.std.proofs.Math.Facts.{to_z-of_z}
 use Rattle.std.specs.FinMap as finite
 use Rattle.std.specs.Prelude.{⊤}
 use Rattle.sqlite.specs.Held.{state}
-use Rattle.sqlite.specs.State.{HasCleanDisk, KeepsCommit, Survives}
+use Rattle.sqlite.specs.State.{State, HasCleanDisk, KeepsCommit, Survives}
 use Rattle.sqlite.proofs.StateLemmas.{survives_then}
 use Rattle.sqlite.proofs.Callers.{survives_begin}
-use Rattle.book_model.specs.Books.{fresh_book}
+use Rattle.book_model.specs.Books.{Books, fresh_book}
+use Rattle.store_tables.specs.SchemaCreation.{HoldsInTx}
 use Rattle.store_tables.proofs.SchemaCreationLemmas.{clean_before}
 use Rattle.store_rows.specs.TableBooks.{books_of}
+use Rattle.store_rows.specs.TableRows.{TableRows}
 use Rattle.store_writes.specs.TableChanges.{HoldsBooks, IsAtomic, LacksBookRow}
 use Rattle.store_writes.proofs.ChangeLemmas.{committed_done, failed_done}
+use Rattle.store_inserts.proofs.creating.commit_create.Given as given
 use Rattle.store_inserts.proofs.creating.commit_create.Goals as goal
+use Rattle.store_inserts.proofs.creating.commit_create.Goals.{After-commit}
+
+-- ---- what the clauses share
+
+-- the states: before the transaction, at its start, after its writes, and at its end
+module _ (g : given.Over) (c : After-commit g) where
+  abbrev old : State
+  old = state g.S.Store c.args.conn.now
+
+  abbrev begun : State
+  begun = state g.S.Store c.transaction-tx.result.conn.now
+
+  abbrev mid : State
+  mid = state g.S.Store c.insert_book_rows.new.tx.conn.now
+
+  abbrev end : State
+  end = state g.S.Store c.commit.new.self.0
+
+  abbrev made : TableRows → ℕ → ℕ → Books
+  made rows book most = finite.insert (books_of rows) c.args.name.now (fresh_book book most)
+
+  clean_mid : HasCleanDisk end → HasCleanDisk mid
+  clean_mid late = clean_before _ mid end c.commit.ensures.survives late
+
+-- the writes, given what the clauses are given
+module _ (g : given.Over) (c : After-commit g) (rows : TableRows) (line : LacksBookRow (old g c).now rows c.args.name.now) where
+  inside : IsTrue (begun g c).in_transaction
+  inside = rw c.transaction-tx.ensures.begun
+
+  there : LacksBookRow (begun g c).now rows c.args.name.now
+  there = rw c.transaction-tx.ensures.begun line
+
+  left : (book most : ℕ) → c.args.id ≡ pos book → c.args.keep ≡ pos most → HasCleanDisk (mid g c) → HoldsInTx (mid g c) (λ db. HoldsBooks db (made g c rows book most))
+  left book most id_is keep_is first = c.in_ok-insert_book_rows.ensures.books_after book most (to_z-of_z c.ranges.id ∙ id_is) (to_z-of_z c.ranges.keep ∙ keep_is) rows first inside there
+
+  kept : HasCleanDisk (mid g c) → KeepsCommit (state g.S.Store (record c.args.conn.now { in_transaction = true })) (mid g c)
+  kept first = rw c.transaction-tx.ensures.begun at (c.in_ok-insert_book_rows.ensures.keeps_commit rows first inside there)
+
+-- ---- the clauses
 
 pub returns-in_err-commit-clause-atomic : goal.returns-in_err-commit-clause-atomic
-returns-in_err-commit-clause-atomic g c rows book most clean line id_is keep_is =
-    let old = c.args.conn.now in
-    let end = c.commit.new.self.0 in
-    let same : end ≡ c.conn-2-1.given.0 = search rules in
-    let late : HasCleanDisk (state g.S.Store end) = subst (λ k. HasCleanDisk (state g.S.Store k)) (sym same) clean in
-    let mid = state g.S.Store c.insert_book_rows.new.tx.conn.now in
-    let first : HasCleanDisk mid = clean_before _ mid (state g.S.Store end) c.commit.ensures.survives late in
-    let begun = c.transaction-tx.ensures.begun in
-    let inside : IsTrue (state g.S.Store c.transaction-tx.result.conn.now).in_transaction = rw begun in
-    let there : LacksBookRow (state g.S.Store c.transaction-tx.result.conn.now).now rows c.args.name.now = rw begun line in
-    let id : to_z w64 (of_z w64 c.args.id) ≡ pos book = to_z-of_z c.ranges.id ∙ id_is in
-    let keep : to_z w64 (of_z w64 c.args.keep) ≡ pos most = to_z-of_z c.ranges.keep ∙ keep_is in
-    let left = c.in_ok-insert_book_rows.ensures.books_after rows book most first inside there id keep in
-    let kept : KeepsCommit (state g.S.Store (record old { in_transaction = true })) mid = rw begun at (c.in_ok-insert_book_rows.ensures.keeps_commit rows first inside there) in
-    let settled : IsTrue (state g.S.Store old).is_open → (state g.S.Store old).now ≡ (state g.S.Store old).committed = c.is_autocommit-settled.ensures.settled (c.is_autocommit-settled.ensures.value ∙ ap not c.requires) in
+returns-in_err-commit-clause-atomic g c book most id_is keep_is rows clean line =
+    let p = (goal.at.returns-in_err-commit-clause-atomic g c).After-commit in
+    let same : c.commit.new.self.0 ≡ c.conn-2-1.given.0 = search rules in
+    let late : HasCleanDisk (end g p) = subst (λ k. HasCleanDisk (state g.S.Store k)) (sym same) clean in
+    let first = clean_mid g p late in
     let said : c.from_residual-in_err-commit.result ≡ Err c.in_err-commit.field-0.0 = search rules in
-    subst (λ r. IsAtomic (state g.S.Store old) (state g.S.Store c.conn-2-1.given.0) r (λ _ db. HoldsBooks db (finite.insert (books_of rows) c.args.name.now (fresh_book book most)))) (sym said)
-    (subst (λ k. IsTrue (state g.S.Store k).is_open → ((state g.S.Store k).now ≡ (state g.S.Store old).now) × ((state g.S.Store k).now ≡ (state g.S.Store k).committed)) same
-    (failed_done (state g.S.Store (record old { in_transaction = true })) mid (state g.S.Store end) c.in_err-commit.field-0.0 kept left.inside (c.in_err-commit.ensures.err late) settled))
+    subst (λ r. IsAtomic (old g p) (state g.S.Store c.conn-2-1.given.0) r (λ _ db. HoldsBooks db (made g p rows book most))) (sym said)
+    (subst (λ k. IsTrue (state g.S.Store k).is_open → ((state g.S.Store k).now ≡ (old g p).now) × ((state g.S.Store k).now ≡ (state g.S.Store k).committed)) same
+    (failed_done (state g.S.Store (record c.args.conn.now { in_transaction = true })) (mid g p) (end g p) c.in_err-commit.field-0.0
+    (kept g p rows line first) (left g p rows line book most id_is keep_is first).inside (c.in_err-commit.ensures.err late) c.assert_settled.ensures))
 
 pub returns-clause-atomic : goal.returns-clause-atomic
-returns-clause-atomic g c rows book most clean line id_is keep_is =
-    let end = c.commit.new.self.0 in
-    let same : end ≡ c.conn-2-1.given.0 = search rules in
-    let late : HasCleanDisk (state g.S.Store end) = subst (λ k. HasCleanDisk (state g.S.Store k)) (sym same) clean in
-    let mid = state g.S.Store c.insert_book_rows.new.tx.conn.now in
-    let first : HasCleanDisk mid = clean_before _ mid (state g.S.Store end) c.commit.ensures.survives late in
-    let begun = c.transaction-tx.ensures.begun in
-    let inside : IsTrue (state g.S.Store c.transaction-tx.result.conn.now).in_transaction = rw begun in
-    let there : LacksBookRow (state g.S.Store c.transaction-tx.result.conn.now).now rows c.args.name.now = rw begun line in
-    let id : to_z w64 (of_z w64 c.args.id) ≡ pos book = to_z-of_z c.ranges.id ∙ id_is in
-    let keep : to_z w64 (of_z w64 c.args.keep) ≡ pos most = to_z-of_z c.ranges.keep ∙ keep_is in
-    let left = c.in_ok-insert_book_rows.ensures.books_after rows book most first inside there id keep in
-    let made = finite.insert (books_of rows) c.args.name.now (fresh_book book most) in
-    let did = committed_done mid (state g.S.Store end) (λ db. HoldsBooks db made) left (c.in_ok-commit.ensures.ok late).1 in
-    subst (λ k. HoldsBooks (state g.S.Store k).now made × ((state g.S.Store k).now ≡ (state g.S.Store k).committed)) same did
+returns-clause-atomic g c book most id_is keep_is rows clean line =
+    let p = (goal.at.returns-clause-atomic g c).After-commit in
+    let same : c.commit.new.self.0 ≡ c.conn-2-1.given.0 = search rules in
+    let late : HasCleanDisk (end g p) = subst (λ k. HasCleanDisk (state g.S.Store k)) (sym same) clean in
+    subst (λ k. HoldsBooks (state g.S.Store k).now (made g p rows book most) × ((state g.S.Store k).now ≡ (state g.S.Store k).committed)) same
+    (committed_done (mid g p) (end g p) (λ db. HoldsBooks db (made g p rows book most)) (left g p rows line book most id_is keep_is (clean_mid g p late)) (c.in_ok-commit.ensures.ok late).1)
 
 pub returns-clause-survives : goal.returns-clause-survives
 returns-clause-survives g c =
-    let old = c.args.conn.now in
-    let end = c.commit.new.self.0 in
-    let same : end ≡ c.conn-2-1.given.0 = search rules in
-    let all = survives_then (state g.S.Store c.transaction-tx.result.conn.now) (state g.S.Store c.insert_book_rows.new.tx.conn.now) (state g.S.Store end) _ _ (λ _. ⊤) (λ _ db none. tt) (λ _ db none. tt) c.insert_book_rows.ensures.survives c.commit.ensures.survives in
-    subst (λ k. Survives (state g.S.Store old) (state g.S.Store k) (λ _. ⊤)) same (survives_begin g.S.Store old (state g.S.Store end) (λ _. ⊤) (rw c.transaction-tx.ensures.begun at all))
+    let p = (goal.at.returns-clause-survives g c).After-commit in
+    let same : c.commit.new.self.0 ≡ c.conn-2-1.given.0 = search rules in
+    let all = survives_then (begun g p) (mid g p) (end g p) _ _ (λ _. ⊤) (λ _ db none. tt) (λ _ db none. tt) c.insert_book_rows.ensures.survives c.commit.ensures.survives in
+    subst (λ k. Survives (old g p) (state g.S.Store k) (λ _. ⊤)) same (survives_begin g.S.Store c.args.conn.now (end g p) (λ _. ⊤) (rw c.transaction-tx.ensures.begun at all))

@@ -9,7 +9,7 @@ use Rattle.store_inserts.proofs.CreateLemmas.{rows_created, spares_keeps}
 use Rattle.store_inserts.proofs.creating.insert_book_rows.Goals as goal
 
 pub returns-clause-books_after : goal.returns-clause-books_after
-returns-clause-books_after g c rows book most clean inside line id_is keep_is =
+returns-clause-books_after g c book most id_is keep_is rows clean inside line =
     let old = state g.S.Store c.args.tx.now.conn.now in
     let mid = state g.S.Store c.insert_book.new.tx.conn.now in
     let new = state g.S.Store c.insert_keep.new.tx.conn.now in

@@ -6,22 +6,22 @@ pub returns-in-Ok-clause-atomic : goal.returns-in-Ok-clause-atomic
 returns-in-Ok-clause-atomic g c rows clean line =
     let id : to_z w64 (of_z w64 c.in_ok-book.book) ≡ pos c.args.id = back c.in_ok-book.book c.args.id c.in_ok-book.ensures.ok c.in_ok-book.ensures.fits in
     let keep : to_z w64 (of_z w64 c.in_ok-most.most) ≡ pos c.args.keep = back c.in_ok-most.most c.args.keep c.in_ok-most.ensures.ok c.in_ok-most.ensures.fits in
-    c.in-Ok.ensures.atomic rows c.args.id c.args.keep clean line id keep
+    c.in-Ok.ensures.atomic c.args.id c.args.keep id keep rows clean line
 
 pub returns-in-Ok-clause-crash : goal.returns-in-Ok-clause-crash
 returns-in-Ok-clause-crash g c rows line =
     let id : to_z w64 (of_z w64 c.in_ok-book.book) ≡ pos c.args.id = back c.in_ok-book.book c.args.id c.in_ok-book.ensures.ok c.in_ok-book.ensures.fits in
     let keep : to_z w64 (of_z w64 c.in_ok-most.most) ≡ pos c.args.keep = back c.in_ok-most.most c.args.keep c.in_ok-most.ensures.ok c.in_ok-most.ensures.fits in
-    c.in-Ok.ensures.crash rows c.args.id c.args.keep line id keep
+    c.in-Ok.ensures.crash c.args.id c.args.keep id keep rows line
 
 pub returns-in-Err-clause-atomic : goal.returns-in-Err-clause-atomic
 returns-in-Err-clause-atomic g c rows clean line =
     let id : to_z w64 (of_z w64 c.in_ok-book.book) ≡ pos c.args.id = back c.in_ok-book.book c.args.id c.in_ok-book.ensures.ok c.in_ok-book.ensures.fits in
     let keep : to_z w64 (of_z w64 c.in_ok-most.most) ≡ pos c.args.keep = back c.in_ok-most.most c.args.keep c.in_ok-most.ensures.ok c.in_ok-most.ensures.fits in
-    c.in-Err.ensures.atomic rows c.args.id c.args.keep clean line id keep
+    c.in-Err.ensures.atomic c.args.id c.args.keep id keep rows clean line
 
 pub returns-in-Err-clause-crash : goal.returns-in-Err-clause-crash
 returns-in-Err-clause-crash g c rows line =
     let id : to_z w64 (of_z w64 c.in_ok-book.book) ≡ pos c.args.id = back c.in_ok-book.book c.args.id c.in_ok-book.ensures.ok c.in_ok-book.ensures.fits in
     let keep : to_z w64 (of_z w64 c.in_ok-most.most) ≡ pos c.args.keep = back c.in_ok-most.most c.args.keep c.in_ok-most.ensures.ok c.in_ok-most.ensures.fits in
-    c.in-Err.ensures.crash rows c.args.id c.args.keep line id keep
+    c.in-Err.ensures.crash c.args.id c.args.keep id keep rows line

@@ -1,11 +1,6 @@
-use Rattle.std.proofs.Common.{rules, ◌≡◌, ◌+◌, length, Ok, Err, sym, ap, subst, ◌∙◌, arith}
-use Rattle.std.proofs.lemmas.List.{length-map}
-use Rattle.sqlite.specs.Held.{state}
-use Rattle.sqlite.specs.State.{HasCleanDisk}
-use Rattle.book_model.specs.Importing.{import_cards, book_after_store, book_import_tally}
-use Rattle.book_model.specs.Books.{live_at}
+use Rattle.std.proofs.Common.{rules, ◌≡◌, Err, sym, subst, arith}
 use Rattle.store_rows.specs.TableBooks.{row_book, line_row}
-use Rattle.store_inserts.specs.internal.Importing.{IsBookImportPlanned, IsImportRefusal, model_plan}
+use Rattle.store_inserts.specs.internal.Importing.{IsBookImportPlanned, model_plan}
 use Rattle.store_inserts.proofs.ImportLemmas.{planned_book, planned_tally, refused_tally, tally_is_exact}
 use Rattle.store_inserts.proofs.import_plan.plan_new_import.Goals as goal
 

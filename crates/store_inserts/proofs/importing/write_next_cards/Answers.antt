@@ -1,12 +1,11 @@
-use Rattle.std.proofs.Common.{rules, ◌≡◌, ◌+◌, IsTrue, fold, length, map, take, sym, ap, subst, ◌∙◌, arith}
-use Rattle.std.proofs.lemmas.List.Sums.{fold_more}
+use Rattle.std.proofs.Common.{rules, ◌≡◌, length, take, ap, subst, ◌∙◌, arith}
 use Rattle.std.proofs.Math.Seq.{take-length}
 use Rattle.sqlite.specs.Held.{state}
 use Rattle.sqlite.specs.State.{HasCleanDisk}
 use Rattle.sqlite.proofs.StateLemmas.{survives_then}
 use Rattle.store_tables.proofs.SchemaCreationLemmas.{clean_before}
 use Rattle.store_tables.specs.SchemaCreation.{HoldsInTx}
-use Rattle.store_inserts.specs.internal.Importing.{WritesBook, planned_pair, book_with_pair, book_with_stored}
+use Rattle.store_inserts.specs.internal.Importing.{WritesBook, book_with_stored}
 use Rattle.store_inserts.proofs.WroteLemmas.{keeps_commit_then}
 use Rattle.store_inserts.proofs.ImportLemmas.{stored_more}
 use Rattle.store_inserts.proofs.importing.write_next_cards.Goals as goal

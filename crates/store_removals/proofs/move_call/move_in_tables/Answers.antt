@@ -1,102 +1,105 @@
-use Rattle.std.proofs.Common.{rules, ◌≡◌, Ok, Err, sym, ap, subst}
+use Rattle.std.proofs.Common.{rules, ◌≡◌, IsTrue, Result, Ok, Err, sym, ap, subst}
 use Rattle.sqlite.specs.Effect.{Database}
 use Rattle.sqlite.specs.Held.{state}
+use Rattle.sqlite.specs.State.{State, HasCleanDisk}
 use Rattle.book_model.specs.declared.answers.Moved.{Moved}
+use Rattle.book_model.specs.declared.denied.Denied.{Denied}
+use Rattle.book_model.specs.declared.refusal.Refusal.{Refusal}
 use Rattle.book_model.specs.Books.{Books, book_named, same_name}
+use Rattle.book_model.specs.CallOutcomes.{MatchesStep}
 use Rattle.book_model.specs.Moving.{books_after_move, move_step}
+use Rattle.store_rows.specs.SoundTables.{AreSoundRows}
 use Rattle.store_rows.specs.TableBooks.{books_in, books_of}
-use Rattle.store_rows.specs.TableRows.{TableRows}
-use Rattle.store_writes.specs.TableChanges.{AppliesStep, HoldsBooks, TreesHold}
-use Rattle.store_removals.specs.internal.Moves.{IsMovePlanned, table_books_after_move, moving_between_books}
+use Rattle.store_rows.specs.TableRows.{TableRows, HoldsRows}
+use Rattle.store_writes.specs.TableChanges.{AppliesStep, CommitsOnce, HoldsBooks, IsAtomic, TreesHold}
+use Rattle.store_removals.specs.internal.Moves.{HasBothRows, IsMovePlanned, table_books_after_move, moving_between_books}
 use Rattle.store_writes.specs.StoredBooks.{stored_books}
 use Rattle.store_writes.proofs.CallLemmas.{fault_does, reads_changes, wrote_changes, wrote_commits}
 use Rattle.store_removals.proofs.MoveLemmas.{denied_move, lines_of, moved_does, moved_holds}
+use Rattle.store_removals.proofs.move_call.move_in_tables.Given as given
 use Rattle.store_removals.proofs.move_call.move_in_tables.Goals as goal
+use Rattle.store_removals.proofs.move_call.move_in_tables.Goals.{After-plan_move, After-write_move}
+
+-- ---- what the clauses share once the move is planned
+
+module _ (g : given.Over) (c : After-plan_move g) where
+  abbrev old : State
+  old = state g.S.Store c.args.conn.now
+
+  abbrev mid : State
+  mid = state g.S.Store c.plan_move.new.conn
+
+  abbrev step : Books → Result (Moved × Books) Refusal
+  step books = move_step c.args.limits books c.args.from.now c.args.to.now c.args.uid.now c.args.expect
+
+-- ---- and once the tables are written
+
+module _ (g : given.Over) (c : After-write_move g) where
+  abbrev planning : After-plan_move g
+  planning = (goal.at.After-write_move g c).After-plan_move
+
+  abbrev new : State
+  new = state g.S.Store c.write_move.new.conn
+
+  abbrev moved : TableRows → Books
+  moved rows = table_books_after_move rows c.args.from.now c.in_ok-plan.plan.source c.args.to.now c.in_ok-plan.plan.target c.args.uid.now c.in_ok-plan.plan.card c.in_ok-plan.plan.drop
+
+  abbrev made : TableRows → Moved → Database → Type 0
+  made rows returned db = HoldsBooks db (moved rows)
+
+  abbrev planned : TableRows → Type 0
+  planned rows = IsMovePlanned c.args.limits rows c.args.from.now c.args.to.now c.args.uid.now c.args.expect (Ok c.in_ok-plan.plan)
+
+  both_there : (rows : TableRows) → HoldsRows (mid g planning).now rows → AreSoundRows rows → planned rows → HasBothRows (mid g planning).now rows c.args.from.now c.in_ok-plan.plan.source c.args.to.now c.in_ok-plan.plan.target
+  both_there rows holds sound returned = lines_of (mid g planning).now rows c.args.from.now c.args.to.now c.args.uid.now c.args.limits c.args.expect c.in_ok-plan.plan holds sound returned
+
+  written : (r : Result Moved Denied) → ((rows : TableRows) → HasCleanDisk new → HasBothRows (mid g planning).now rows c.args.from.now c.in_ok-plan.plan.source c.args.to.now c.in_ok-plan.plan.target → IsAtomic (mid g planning) new r (made rows))
+      → ((rows : TableRows) → planned rows → IsAtomic (old g planning) new r (made rows) → IsTrue new.is_open → MatchesStep r (step g planning (books_of rows)) (stored_books (old g planning)) (stored_books new)) → AppliesStep (old g planning) new r (step g planning)
+  written r atomic matches_step =
+      wrote_changes made (step g planning) (old g planning) (mid g planning) new r
+      c.in_ok-plan.ensures.unchanged c.plan_move.ensures.reads_only planned c.in_ok-plan.ensures.planned c.write_move.ensures.survives
+      c.write_move.ensures.settled c.in_ok-plan.ensures.was_open (λ rows clean holds sound returned. atomic rows clean (both_there rows holds sound returned)) (λ rows a h. h.sound) matches_step
+
+  crash : CommitsOnce (old g planning) new (step g planning)
+  crash =
+      let plan = c.in_ok-plan.plan in
+      wrote_commits made (step g planning) (old g planning) (mid g planning) new (Ok plan.moved)
+      c.in_ok-plan.ensures.unchanged c.plan_move.ensures.reads_only planned c.in_ok-plan.ensures.planned c.write_move.ensures.survives
+      (λ rows. TreesHold (moved rows)) (λ rows holds sound returned. c.write_move.ensures.crash rows c.args.from.now c.args.to.now (both_there rows holds sound returned))
+      (λ rows returned db held. moved_holds c.args.limits rows c.args.from.now c.args.to.now c.args.uid.now c.args.expect plan.source plan.target plan.card plan.moved plan.drop returned.source returned.target returned.apart returned.moving returned.drop db held)
+
+-- ---- the clauses
 
 pub returns-in_err-plan-clause-changes : goal.returns-in_err-plan-clause-changes
 returns-in_err-plan-clause-changes g c =
-    let old = state g.S.Store c.args.conn.now in
-    let new = state g.S.Store c.plan_move.new.conn in
+    let p = (goal.at.returns-in_err-plan-clause-changes g c).After-plan_move in
     let from = c.args.from.now in
     let to = c.args.to.now in
     let uid = c.args.uid.now in
-    let step = λ (books : Books). move_step c.args.limits books from to uid c.args.expect in
     let said : c.from_residual.result ≡ Err c.in_err-plan.field-0.0 = search rules in
-    subst (λ r. AppliesStep old new r step) (sym said)
-    (reads_changes step old new (Err c.in_err-plan.field-0.0) c.requires c.plan_move.ensures.reads_only
+    subst (λ r. AppliesStep (old g p) (mid g p) r (step g p)) (sym said)
+    (reads_changes (step g p) (old g p) (mid g p) (Err c.in_err-plan.field-0.0) c.requires c.plan_move.ensures.reads_only
     (λ rows clean holds sound same. denied_move (book_named (books_of rows) from) (book_named (books_of rows) to) (same_name from to) (moving_between_books c.args.limits uid c.args.expect)
-    (λ source target moving. (moving.numbers, books_after_move (books_of rows) from to uid source target moving.card)) c.in_err-plan.field-0.0 (stored_books old) (stored_books new) (c.in_err-plan.ensures.planned rows clean holds sound) same))
+    (λ source target moving. (moving.numbers, books_after_move (books_of rows) from to uid source target moving.card)) c.in_err-plan.field-0.0 (stored_books (old g p)) (stored_books (mid g p)) (c.in_err-plan.ensures.planned rows clean holds sound) same))
 
 pub returns-in_err-write_move-clause-changes : goal.returns-in_err-write_move-clause-changes
 returns-in_err-write_move-clause-changes g c =
-    let old = state g.S.Store c.args.conn.now in
-    let mid = state g.S.Store c.plan_move.new.conn in
-    let new = state g.S.Store c.write_move.new.conn in
-    let from = c.args.from.now in
-    let to = c.args.to.now in
-    let uid = c.args.uid.now in
-    let step = λ (books : Books). move_step c.args.limits books from to uid c.args.expect in
-    let plan = c.in_ok-plan.plan in
-    let planned = λ (rows : TableRows). IsMovePlanned c.args.limits rows from to uid c.args.expect (Ok plan) in
-    let moved = λ (rows : TableRows). table_books_after_move rows from plan.source to plan.target uid plan.card plan.drop in
-    let made = λ (rows : TableRows) (returned : Moved) (db : Database). HoldsBooks db (moved rows) in
+    let p = (goal.at.returns-in_err-write_move-clause-changes g c).After-write_move in
+    let before = old g (planning g p) in
     let said : c.from_residual-in_err-write_move.result ≡ Err c.in_err-write_move.field-0.0 = search rules in
-    subst (λ r. AppliesStep old new r step) (sym said)
-    (wrote_changes made step old mid new (Err c.in_err-write_move.field-0.0)
-    c.in_ok-plan.ensures.unchanged c.plan_move.ensures.reads_only planned c.in_ok-plan.ensures.planned c.write_move.ensures.survives
-    c.write_move.ensures.settled c.in_ok-plan.ensures.was_open (λ rows clean holds sound returned. c.in_err-write_move.ensures.atomic rows from to clean (lines_of mid.now rows from to uid c.args.limits c.args.expect plan holds sound returned)) (λ rows a h. h.sound)
-    (λ rows returned done up. fault_does (step (books_of rows)) c.in_err-write_move.field-0.0 (stored_books old) (stored_books new) c.in_err-write_move.ensures.fault (ap (λ (d : Database). books_in d.trees) (done up).0)))
+    subst (λ r. AppliesStep before (new g p) r (step g (planning g p))) (sym said)
+    (written g p (Err c.in_err-write_move.field-0.0) (λ rows clean both. c.in_err-write_move.ensures.atomic rows c.args.from.now c.args.to.now clean both)
+    (λ rows returned done up. fault_does (step g (planning g p) (books_of rows)) c.in_err-write_move.field-0.0 (stored_books before) (stored_books (new g p)) c.in_err-write_move.ensures.fault (ap (λ (d : Database). books_in d.trees) (done up).0)))
 
 pub returns-clause-changes : goal.returns-clause-changes
 returns-clause-changes g c =
-    let old = state g.S.Store c.args.conn.now in
-    let mid = state g.S.Store c.plan_move.new.conn in
-    let new = state g.S.Store c.write_move.new.conn in
-    let from = c.args.from.now in
-    let to = c.args.to.now in
-    let uid = c.args.uid.now in
-    let step = λ (books : Books). move_step c.args.limits books from to uid c.args.expect in
+    let p = (goal.at.returns-clause-changes g c).After-write_move in
     let plan = c.in_ok-plan.plan in
-    let planned = λ (rows : TableRows). IsMovePlanned c.args.limits rows from to uid c.args.expect (Ok plan) in
-    let moved = λ (rows : TableRows). table_books_after_move rows from plan.source to plan.target uid plan.card plan.drop in
-    let made = λ (rows : TableRows) (returned : Moved) (db : Database). HoldsBooks db (moved rows) in
-    wrote_changes made step old mid new (Ok plan.moved)
-    c.in_ok-plan.ensures.unchanged c.plan_move.ensures.reads_only planned c.in_ok-plan.ensures.planned c.write_move.ensures.survives
-    c.write_move.ensures.settled c.in_ok-plan.ensures.was_open (λ rows clean holds sound returned. c.in_ok-write_move.ensures.atomic rows from to clean (lines_of mid.now rows from to uid c.args.limits c.args.expect plan holds sound returned)) (λ rows a h. h.sound)
-    (λ rows returned done up. moved_does c.args.limits rows from to uid c.args.expect plan.source plan.target plan.card plan.moved plan.drop returned.source returned.target returned.apart returned.moving returned.drop new (stored_books old) done.0)
+    written g p (Ok plan.moved) (λ rows clean both. c.in_ok-write_move.ensures.atomic rows c.args.from.now c.args.to.now clean both)
+    (λ rows returned done up. moved_does c.args.limits rows c.args.from.now c.args.to.now c.args.uid.now c.args.expect plan.source plan.target plan.card plan.moved plan.drop returned.source returned.target returned.apart returned.moving returned.drop (new g p) (stored_books (old g (planning g p))) done.0)
 
 pub returns-in_err-write_move-clause-crash : goal.returns-in_err-write_move-clause-crash
-returns-in_err-write_move-clause-crash g c =
-    let old = state g.S.Store c.args.conn.now in
-    let mid = state g.S.Store c.plan_move.new.conn in
-    let new = state g.S.Store c.write_move.new.conn in
-    let from = c.args.from.now in
-    let to = c.args.to.now in
-    let uid = c.args.uid.now in
-    let step = λ (books : Books). move_step c.args.limits books from to uid c.args.expect in
-    let plan = c.in_ok-plan.plan in
-    let planned = λ (rows : TableRows). IsMovePlanned c.args.limits rows from to uid c.args.expect (Ok plan) in
-    let moved = λ (rows : TableRows). table_books_after_move rows from plan.source to plan.target uid plan.card plan.drop in
-    let made = λ (rows : TableRows) (returned : Moved) (db : Database). HoldsBooks db (moved rows) in
-    wrote_commits made step old mid new (Ok plan.moved)
-    c.in_ok-plan.ensures.unchanged c.plan_move.ensures.reads_only planned c.in_ok-plan.ensures.planned c.write_move.ensures.survives
-    (λ rows. TreesHold (moved rows)) (λ rows holds sound returned. c.write_move.ensures.crash rows from to (lines_of mid.now rows from to uid c.args.limits c.args.expect plan holds sound returned))
-    (λ rows returned db held. moved_holds c.args.limits rows from to uid c.args.expect plan.source plan.target plan.card plan.moved plan.drop returned.source returned.target returned.apart returned.moving returned.drop db held)
+returns-in_err-write_move-clause-crash g c = crash g (goal.at.returns-in_err-write_move-clause-crash g c).After-write_move
 
 pub returns-clause-crash : goal.returns-clause-crash
-returns-clause-crash g c =
-    let old = state g.S.Store c.args.conn.now in
-    let mid = state g.S.Store c.plan_move.new.conn in
-    let new = state g.S.Store c.write_move.new.conn in
-    let from = c.args.from.now in
-    let to = c.args.to.now in
-    let uid = c.args.uid.now in
-    let step = λ (books : Books). move_step c.args.limits books from to uid c.args.expect in
-    let plan = c.in_ok-plan.plan in
-    let planned = λ (rows : TableRows). IsMovePlanned c.args.limits rows from to uid c.args.expect (Ok plan) in
-    let moved = λ (rows : TableRows). table_books_after_move rows from plan.source to plan.target uid plan.card plan.drop in
-    let made = λ (rows : TableRows) (returned : Moved) (db : Database). HoldsBooks db (moved rows) in
-    wrote_commits made step old mid new (Ok plan.moved)
-    c.in_ok-plan.ensures.unchanged c.plan_move.ensures.reads_only planned c.in_ok-plan.ensures.planned c.write_move.ensures.survives
-    (λ rows. TreesHold (moved rows)) (λ rows holds sound returned. c.write_move.ensures.crash rows from to (lines_of mid.now rows from to uid c.args.limits c.args.expect plan holds sound returned))
-    (λ rows returned db held. moved_holds c.args.limits rows from to uid c.args.expect plan.source plan.target plan.card plan.moved plan.drop returned.source returned.target returned.apart returned.moving returned.drop db held)
+returns-clause-crash g c = crash g (goal.at.returns-clause-crash g c).After-write_move

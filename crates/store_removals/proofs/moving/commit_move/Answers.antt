@@ -1,79 +1,102 @@
-use Rattle.std.proofs.Common.{rules, ◌≡◌, IsTrue, true, not, Err, sym, ap, subst, ◌∙◌}
+use Rattle.std.proofs.Common.{rules, ◌≡◌, IsTrue, List, ℕ, true, Err, sym, subst}
 use Rattle.std.specs.Prelude.{⊤}
 use Rattle.sqlite.specs.Held.{state}
-use Rattle.sqlite.specs.State.{HasCleanDisk, KeepsCommit, Survives}
+use Rattle.sqlite.specs.State.{State, HasCleanDisk, KeepsCommit, Survives}
 use Rattle.sqlite.proofs.StateLemmas.{survives_then}
 use Rattle.sqlite.proofs.Callers.{survives_begin}
+use Rattle.book_model.specs.Books.{Books}
 use Rattle.store_tables.proofs.SchemaCreationLemmas.{clean_before}
+use Rattle.store_tables.proofs.TransactionLemmas.{rollback_restores}
+use Rattle.store_rows.specs.TableRows.{TableRows}
 use Rattle.store_writes.specs.TableChanges.{HoldsBooks, IsAtomic}
 use Rattle.store_removals.specs.internal.Moves.{HasBothRows, table_books_after_move}
-use Rattle.store_writes.proofs.ChangeLemmas.{committed_done, failed_done, rolled_done}
+use Rattle.store_writes.proofs.ChangeLemmas.{committed_done, failed_done}
+use Rattle.store_removals.proofs.moving.commit_move.Given as given
 use Rattle.store_removals.proofs.moving.commit_move.Goals as goal
+use Rattle.store_removals.proofs.moving.commit_move.Goals.{After-move_rows, After-commit}
+
+-- ---- what the clauses share
+
+-- the states: before the transaction, at its start, and after its writes
+module _ (g : given.Over) (c : After-move_rows g) where
+  abbrev old : State
+  old = state g.S.Store c.args.conn.now
+
+  abbrev begun : State
+  begun = state g.S.Store c.transaction-tx.result.conn.now
+
+  abbrev mid : State
+  mid = state g.S.Store c.move_rows.new.tx.conn.now
+
+  abbrev made : TableRows → List ℕ → List ℕ → Books
+  made rows from to = table_books_after_move rows from c.args.source to c.args.target c.args.uid.now c.args.card.now c.args.drop
+
+  inside : IsTrue begun.in_transaction
+  inside = rw c.transaction-tx.ensures.begun
+
+  there : (rows : TableRows) (from to : List ℕ) → HasBothRows old.now rows from c.args.source to c.args.target → HasBothRows begun.now rows from c.args.source to c.args.target
+  there rows from to line = rw c.transaction-tx.ensures.begun line
+
+-- and at its end
+module _ (g : given.Over) (c : After-commit g) where
+  abbrev writing : After-move_rows g
+  writing = (goal.at.After-commit g c).After-move_rows
+
+  abbrev end : State
+  end = state g.S.Store c.commit.new.self.0
+
+  clean_mid : HasCleanDisk end → HasCleanDisk (mid g writing)
+  clean_mid late = clean_before _ (mid g writing) end c.commit.ensures.survives late
+
+  survives : Survives (old g writing) end (λ _. ⊤)
+  survives =
+      let all = survives_then (begun g writing) (mid g writing) end _ _ (λ _. ⊤) (λ _ db none. tt) (λ _ db none. tt) c.move_rows.ensures.survives c.commit.ensures.survives in
+      survives_begin g.S.Store c.args.conn.now end (λ _. ⊤) (rw c.transaction-tx.ensures.begun at all)
+
+-- ---- the clauses
 
 pub returns-in-Err-clause-atomic : goal.returns-in-Err-clause-atomic
-returns-in-Err-clause-atomic g c rows from to clean line text =
-    let old = c.args.conn.now in
-    let end = c.commit.new.self.0 in
-    let same : end ≡ c.conn-2-1.given.0 = search rules in
-    let late : HasCleanDisk (state g.S.Store end) = subst (λ k. HasCleanDisk (state g.S.Store k)) (sym same) clean in
-    let mid = state g.S.Store c.move_rows.new.tx.conn.now in
-    let first : HasCleanDisk mid = clean_before _ mid (state g.S.Store end) c.commit.ensures.survives late in
-    let begun = c.transaction-tx.ensures.begun in
-    let inside : IsTrue (state g.S.Store c.transaction-tx.result.conn.now).in_transaction = rw begun in
-    let there : HasBothRows (state g.S.Store c.transaction-tx.result.conn.now).now rows from c.args.source to c.args.target = rw begun line in
-    let left = c.in_ok-move_rows.ensures.books_after rows from to first inside there text in
-    let made = table_books_after_move rows from c.args.source to c.args.target c.args.uid.now c.args.card.now c.args.drop in
-    let kept : KeepsCommit (state g.S.Store (record old { in_transaction = true })) mid = rw begun at (c.in_ok-move_rows.ensures.keeps_commit rows from to first inside there text) in
-    let settled : IsTrue (state g.S.Store old).is_open → (state g.S.Store old).now ≡ (state g.S.Store old).committed = c.is_autocommit-settled.ensures.settled (c.is_autocommit-settled.ensures.value ∙ ap not c.requires.settled) in
-    subst (λ k. IsTrue (state g.S.Store k).is_open → ((state g.S.Store k).now ≡ (state g.S.Store old).now) × ((state g.S.Store k).now ≡ (state g.S.Store k).committed)) same
-    (failed_done (state g.S.Store (record old { in_transaction = true })) mid (state g.S.Store end) c.in-Err.error kept left.inside (c.in-Err.ensures.err late) settled)
+returns-in-Err-clause-atomic g c text rows from to clean line =
+    let p = (goal.at.returns-in-Err-clause-atomic g c).After-commit in
+    let same : c.commit.new.self.0 ≡ c.conn-2-1.given.0 = search rules in
+    let late : HasCleanDisk (end g p) = subst (λ k. HasCleanDisk (state g.S.Store k)) (sym same) clean in
+    let first = clean_mid g p late in
+    let both = there g (writing g p) rows from to line in
+    let kept : KeepsCommit (state g.S.Store (record c.args.conn.now { in_transaction = true })) (mid g (writing g p)) = rw c.transaction-tx.ensures.begun at (c.in_ok-move_rows.ensures.keeps_commit rows from to first (inside g (writing g p)) both text) in
+    subst (λ k. IsTrue (state g.S.Store k).is_open → ((state g.S.Store k).now ≡ (old g (writing g p)).now) × ((state g.S.Store k).now ≡ (state g.S.Store k).committed)) same
+    (failed_done (state g.S.Store (record c.args.conn.now { in_transaction = true })) (mid g (writing g p)) (end g p) c.in-Err.error kept
+    (c.in_ok-move_rows.ensures.books_after rows from to first (inside g (writing g p)) both text).inside (c.in-Err.ensures.err late) c.assert_settled.ensures)
 
 pub returns-in-Ok-clause-atomic : goal.returns-in-Ok-clause-atomic
-returns-in-Ok-clause-atomic g c rows from to clean line text =
-    let old = c.args.conn.now in
-    let end = c.commit.new.self.0 in
-    let same : end ≡ c.conn-2-1.given.0 = search rules in
-    let late : HasCleanDisk (state g.S.Store end) = subst (λ k. HasCleanDisk (state g.S.Store k)) (sym same) clean in
-    let mid = state g.S.Store c.move_rows.new.tx.conn.now in
-    let first : HasCleanDisk mid = clean_before _ mid (state g.S.Store end) c.commit.ensures.survives late in
-    let begun = c.transaction-tx.ensures.begun in
-    let inside : IsTrue (state g.S.Store c.transaction-tx.result.conn.now).in_transaction = rw begun in
-    let there : HasBothRows (state g.S.Store c.transaction-tx.result.conn.now).now rows from c.args.source to c.args.target = rw begun line in
-    let left = c.in_ok-move_rows.ensures.books_after rows from to first inside there text in
-    let made = table_books_after_move rows from c.args.source to c.args.target c.args.uid.now c.args.card.now c.args.drop in
-    let did = committed_done mid (state g.S.Store end) (λ db. HoldsBooks db made) left (c.in-Ok.ensures.ok late).1 in
-    subst (λ k. HoldsBooks (state g.S.Store k).now made × ((state g.S.Store k).now ≡ (state g.S.Store k).committed)) same did
+returns-in-Ok-clause-atomic g c text rows from to clean line =
+    let p = (goal.at.returns-in-Ok-clause-atomic g c).After-commit in
+    let same : c.commit.new.self.0 ≡ c.conn-2-1.given.0 = search rules in
+    let late : HasCleanDisk (end g p) = subst (λ k. HasCleanDisk (state g.S.Store k)) (sym same) clean in
+    let left = c.in_ok-move_rows.ensures.books_after rows from to (clean_mid g p late) (inside g (writing g p)) (there g (writing g p) rows from to line) text in
+    subst (λ k. HoldsBooks (state g.S.Store k).now (made g (writing g p) rows from to) × ((state g.S.Store k).now ≡ (state g.S.Store k).committed)) same
+    (committed_done (mid g (writing g p)) (end g p) (λ db. HoldsBooks db (made g (writing g p) rows from to)) left (c.in-Ok.ensures.ok late).1)
 
 pub returns-in-Err-clause-survives : goal.returns-in-Err-clause-survives
 returns-in-Err-clause-survives g c =
-    let old = c.args.conn.now in
-    let end = c.commit.new.self.0 in
-    let same : end ≡ c.conn-2-1.given.0 = search rules in
-    let all = survives_then (state g.S.Store c.transaction-tx.result.conn.now) (state g.S.Store c.move_rows.new.tx.conn.now) (state g.S.Store end) _ _ (λ _. ⊤) (λ _ db none. tt) (λ _ db none. tt) c.move_rows.ensures.survives c.commit.ensures.survives in
-    subst (λ k. Survives (state g.S.Store old) (state g.S.Store k) (λ _. ⊤)) same (survives_begin g.S.Store old (state g.S.Store end) (λ _. ⊤) (rw c.transaction-tx.ensures.begun at all))
+    let p = (goal.at.returns-in-Err-clause-survives g c).After-commit in
+    let same : c.commit.new.self.0 ≡ c.conn-2-1.given.0 = search rules in
+    subst (λ k. Survives (old g (writing g p)) (state g.S.Store k) (λ _. ⊤)) same (survives g p)
 
 pub returns-in-Ok-clause-survives : goal.returns-in-Ok-clause-survives
 returns-in-Ok-clause-survives g c =
-    let old = c.args.conn.now in
-    let end = c.commit.new.self.0 in
-    let same : end ≡ c.conn-2-1.given.0 = search rules in
-    let all = survives_then (state g.S.Store c.transaction-tx.result.conn.now) (state g.S.Store c.move_rows.new.tx.conn.now) (state g.S.Store end) _ _ (λ _. ⊤) (λ _ db none. tt) (λ _ db none. tt) c.move_rows.ensures.survives c.commit.ensures.survives in
-    subst (λ k. Survives (state g.S.Store old) (state g.S.Store k) (λ _. ⊤)) same (survives_begin g.S.Store old (state g.S.Store end) (λ _. ⊤) (rw c.transaction-tx.ensures.begun at all))
+    let p = (goal.at.returns-in-Ok-clause-survives g c).After-commit in
+    let same : c.commit.new.self.0 ≡ c.conn-2-1.given.0 = search rules in
+    subst (λ k. Survives (old g (writing g p)) (state g.S.Store k) (λ _. ⊤)) same (survives g p)
 
 pub returns-in_err-move_rows-clause-atomic : goal.returns-in_err-move_rows-clause-atomic
-returns-in_err-move_rows-clause-atomic g c rows from to clean line text =
-    let old = c.args.conn.now in
-    let end = c.drop-tx.new.self.0 in
-    let same : end ≡ c.conn-1.given.0 = search rules in
-    let late : HasCleanDisk (state g.S.Store end) = subst (λ k. HasCleanDisk (state g.S.Store k)) (sym same) clean in
-    let mid = state g.S.Store c.move_rows.new.tx.conn.now in
-    let first : HasCleanDisk mid = clean_before _ mid (state g.S.Store end) c.drop-tx.ensures.survives late in
-    let begun = c.transaction-tx.ensures.begun in
-    let inside : IsTrue (state g.S.Store c.transaction-tx.result.conn.now).in_transaction = rw begun in
-    let there : HasBothRows (state g.S.Store c.transaction-tx.result.conn.now).now rows from c.args.source to c.args.target = rw begun line in
-    let kept : KeepsCommit (state g.S.Store (record old { in_transaction = true })) mid = rw begun at (c.in_err-move_rows.ensures.keeps_commit rows from to first inside there text) in
-    let settled : IsTrue (state g.S.Store old).is_open → (state g.S.Store old).now ≡ (state g.S.Store old).committed = c.is_autocommit-settled.ensures.settled (c.is_autocommit-settled.ensures.value ∙ ap not c.requires.settled) in
+returns-in_err-move_rows-clause-atomic g c text rows from to clean line =
+    let p = (goal.at.returns-in_err-move_rows-clause-atomic g c).After-move_rows in
+    let last = state g.S.Store c.drop-tx.new.self.0 in
+    let same : c.drop-tx.new.self.0 ≡ c.conn-1.given.0 = search rules in
+    let late : HasCleanDisk last = subst (λ k. HasCleanDisk (state g.S.Store k)) (sym same) clean in
+    let first : HasCleanDisk (mid g p) = clean_before _ (mid g p) last c.drop-tx.ensures.survives late in
+    let kept : KeepsCommit (state g.S.Store (record c.args.conn.now { in_transaction = true })) (mid g p) = rw c.transaction-tx.ensures.begun at (c.in_err-move_rows.ensures.keeps_commit rows from to first (inside g p) (there g p rows from to line) text) in
     let said : c.from_residual.result ≡ Err c.in_err-move_rows.field-0.0 = search rules in
-    subst (λ r. IsAtomic (state g.S.Store old) (state g.S.Store c.conn-1.given.0) r (λ _ db. HoldsBooks db (table_books_after_move rows from c.args.source to c.args.target c.args.uid.now c.args.card.now c.args.drop))) (sym said)
-    (subst (λ k. IsTrue (state g.S.Store k).is_open → ((state g.S.Store k).now ≡ (state g.S.Store old).now) × ((state g.S.Store k).now ≡ (state g.S.Store k).committed)) same
-    (rolled_done (state g.S.Store (record old { in_transaction = true })) mid (state g.S.Store end) kept (c.drop-tx.ensures.undone late) settled))
+    subst (λ r. IsAtomic (old g p) (state g.S.Store c.conn-1.given.0) r (λ _ db. HoldsBooks db (made g p rows from to))) (sym said)
+    (subst (λ k. IsTrue (state g.S.Store k).is_open → ((state g.S.Store k).now ≡ (old g p).now) × ((state g.S.Store k).now ≡ (state g.S.Store k).committed)) same
+    (rollback_restores (state g.S.Store (record c.args.conn.now { in_transaction = true })) (mid g p) last kept (c.drop-tx.ensures.undone late) c.assert_settled.ensures))

@@ -1,4 +1,4 @@
-use Rattle.std.proofs.Common.{rules, ◌≡◌, Ok, Err, sym, ap, subst, ◌∙◌}
+use Rattle.std.proofs.Common.{rules, ◌≡◌, Err, sym, ap, subst, ◌∙◌}
 use Rattle.book_model.specs.declared.denied.Denied.TheVariants.{Refused}
 use Rattle.book_model.specs.Books.{live_at, as_stored}
 use Rattle.book_model.specs.Counting.{live_count}

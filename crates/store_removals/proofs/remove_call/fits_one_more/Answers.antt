@@ -1,4 +1,4 @@
-use Rattle.std.proofs.Common.{◌≡◌, ◌+◌, ℕ, nat_le, sym, ap₂, ◌∙◌}
+use Rattle.std.proofs.Common.{◌+◌, ℕ, nat_le, sym, ap₂, ◌∙◌}
 use Rattle.sqlite.specs.Held.{state}
 use Rattle.sqlite.specs.State.{HasCleanDisk}
 use Rattle.store_tables.proofs.SchemaCreationLemmas.{clean_before}

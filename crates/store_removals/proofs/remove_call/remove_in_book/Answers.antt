@@ -1,100 +1,105 @@
-use Rattle.std.proofs.Common.{rules, ◌≡◌, ℕ, Ok, Err, sym, ap, subst}
+use Rattle.std.proofs.Common.{rules, ◌≡◌, ℕ, IsTrue, Result, Ok, Err, sym, ap, subst}
 use Rattle.std.specs.FinMap as finite
 use Rattle.sqlite.specs.Effect.{Database}
 use Rattle.sqlite.specs.Held.{state}
+use Rattle.sqlite.specs.State.{State, HasCleanDisk}
 use Rattle.book_model.specs.declared.change.Change.TheVariants.{TakesAway}
 use Rattle.book_model.specs.declared.change.RemovalReason.TheVariants.{Deletion}
+use Rattle.book_model.specs.declared.denied.Denied.{Denied}
+use Rattle.book_model.specs.declared.refusal.Refusal.{Refusal}
 use Rattle.book_model.specs.Books.{Books, book_named}
 use Rattle.book_model.specs.BookChanges.{book_after_drop, book_with_row}
+use Rattle.book_model.specs.CallOutcomes.{MatchesStep}
 use Rattle.book_model.specs.Removing.{remove_step}
 use Rattle.store_rows.specs.TableBooks.{row_book, books_of, books_in, line_row}
 use Rattle.store_rows.specs.TableRows.{TableRows}
-use Rattle.store_writes.specs.TableChanges.{AppliesStep, HoldsBooks, TreesHold}
+use Rattle.store_writes.specs.TableChanges.{AppliesStep, CommitsOnce, HasBookRow, HoldsBooks, IsAtomic, TreesHold}
 use Rattle.store_removals.specs.internal.Removals.{IsRemovalOf}
 use Rattle.store_writes.specs.StoredBooks.{stored_books}
 use Rattle.store_writes.proofs.CallLemmas.{fault_does, named_does, named_row_held, reads_changes, written_changes, written_commits}
 use Rattle.store_removals.proofs.RemoveLemmas.{denied_remove, remove_of, removed_does, removed_holds}
+use Rattle.store_removals.proofs.remove_call.remove_in_book.Given as given
 use Rattle.store_removals.proofs.remove_call.remove_in_book.Goals as goal
+use Rattle.store_removals.proofs.remove_call.remove_in_book.Goals.{After-plan_remove, After-write_remove}
+
+-- ---- what the clauses share once the removal is planned
+
+module _ (g : given.Over) (c : After-plan_remove g) where
+  abbrev old : State
+  old = state g.S.Store c.args.conn.now
+
+  abbrev mid : State
+  mid = state g.S.Store c.plan_remove.new.conn
+
+  abbrev step : Books → Result (ℕ × Books) Refusal
+  step books = remove_step c.args.limits books c.args.name.now c.args.uid.now c.args.expect
+
+-- ---- and once the tables are written
+
+module _ (g : given.Over) (c : After-write_remove g) where
+  abbrev planning : After-plan_remove g
+  planning = (goal.at.After-write_remove g c).After-plan_remove
+
+  abbrev new : State
+  new = state g.S.Store c.write_remove.new.conn
+
+  abbrev removed : TableRows → Books
+  removed rows =
+      finite.insert (books_of rows) c.args.name.now
+      (book_after_drop (book_with_row (row_book rows (line_row c.args.name.now c.in_ok-plan.plan.header)) c.args.uid.now (TakesAway Deletion)) c.in_ok-plan.plan.drop)
+
+  abbrev made : TableRows → ℕ → Database → Type 0
+  made rows returned db = HoldsBooks db (removed rows)
+
+  abbrev planned : TableRows → Type 0
+  planned rows = IsRemovalOf c.args.limits rows c.args.name.now c.args.uid.now c.args.expect c.in_ok-plan.plan
+
+  written : (r : Result ℕ Denied) → ((rows : TableRows) → HasCleanDisk new → HasBookRow (mid g planning).now rows c.args.name.now c.in_ok-plan.plan.header → IsAtomic (mid g planning) new r (made rows))
+      → ((rows : TableRows) → planned rows → IsAtomic (old g planning) new r (made rows) → IsTrue new.is_open → MatchesStep r (step g planning (books_of rows)) (stored_books (old g planning)) (stored_books new)) → AppliesStep (old g planning) new r (step g planning)
+  written r atomic matches_step =
+      written_changes made (step g planning) (old g planning) (mid g planning) new c.args.name.now c.in_ok-plan.plan.header r
+      c.in_ok-plan.ensures.unchanged c.plan_remove.ensures.reads_only planned c.in_ok-plan.ensures.planned (λ rows h. h.named) c.write_remove.ensures.survives
+      c.write_remove.ensures.settled c.in_ok-plan.ensures.was_open atomic (λ rows a h. h.sound) matches_step
+
+  crash : CommitsOnce (old g planning) new (step g planning)
+  crash =
+      let plan = c.in_ok-plan.plan in
+      written_commits made (step g planning) (old g planning) (mid g planning) new c.args.name.now plan.header (Ok plan.number)
+      c.in_ok-plan.ensures.unchanged c.plan_remove.ensures.reads_only planned c.in_ok-plan.ensures.planned (λ rows h. h.named) c.write_remove.ensures.survives
+      (λ rows. TreesHold (removed rows)) (λ rows line. c.write_remove.ensures.crash rows c.args.name.now line)
+      (λ rows h db held. named_row_held rows c.args.name.now plan.header (remove_of c.args.limits (books_of rows) c.args.name.now c.args.uid.now c.args.expect) db h.named
+      (removed_holds rows c.args.name.now plan.header c.args.uid.now c.args.limits c.args.expect plan.number plan.drop h.number h.drop db held))
+
+-- ---- the clauses
 
 pub returns-in_err-plan-clause-changes : goal.returns-in_err-plan-clause-changes
 returns-in_err-plan-clause-changes g c =
-    let old = state g.S.Store c.args.conn.now in
-    let new = state g.S.Store c.plan_remove.new.conn in
-    let step = λ (books : Books). remove_step c.args.limits books c.args.name.now c.args.uid.now c.args.expect in
+    let p = (goal.at.returns-in_err-plan-clause-changes g c).After-plan_remove in
     let said : c.from_residual.result ≡ Err c.in_err-plan.field-0.0 = search rules in
-    subst (λ r. AppliesStep old new r step) (sym said)
-    (reads_changes step old new (Err c.in_err-plan.field-0.0) c.requires c.plan_remove.ensures.reads_only
-    (λ rows clean holds sound same. denied_remove c.args.limits (books_of rows) c.args.name.now c.args.uid.now c.args.expect (book_named (books_of rows) c.args.name.now) c.in_err-plan.field-0.0 (stored_books old) (stored_books new) (c.in_err-plan.ensures.planned rows clean holds sound) same))
+    subst (λ r. AppliesStep (old g p) (mid g p) r (step g p)) (sym said)
+    (reads_changes (step g p) (old g p) (mid g p) (Err c.in_err-plan.field-0.0) c.requires c.plan_remove.ensures.reads_only
+    (λ rows clean holds sound same. denied_remove c.args.limits (books_of rows) c.args.name.now c.args.uid.now c.args.expect (book_named (books_of rows) c.args.name.now) c.in_err-plan.field-0.0 (stored_books (old g p)) (stored_books (mid g p)) (c.in_err-plan.ensures.planned rows clean holds sound) same))
 
 pub returns-in_err-write_remove-clause-changes : goal.returns-in_err-write_remove-clause-changes
 returns-in_err-write_remove-clause-changes g c =
-    let old = state g.S.Store c.args.conn.now in
-    let mid = state g.S.Store c.plan_remove.new.conn in
-    let new = state g.S.Store c.write_remove.new.conn in
-    let step = λ (books : Books). remove_step c.args.limits books c.args.name.now c.args.uid.now c.args.expect in
-    let name = c.args.name.now in
-    let uid = c.args.uid.now in
-    let plan = c.in_ok-plan.plan in
-    let planned = λ (rows : TableRows). IsRemovalOf c.args.limits rows name uid c.args.expect plan in
-    let removed = λ (rows : TableRows). finite.insert (books_of rows) name (book_after_drop (book_with_row (row_book rows (line_row name plan.header)) uid (TakesAway Deletion)) plan.drop) in
-    let made = λ (rows : TableRows) (returned : ℕ) (db : Database). HoldsBooks db (removed rows) in
+    let p = (goal.at.returns-in_err-write_remove-clause-changes g c).After-write_remove in
+    let before = old g (planning g p) in
     let said : c.from_residual-in_err-write_remove.result ≡ Err c.in_err-write_remove.field-0.0 = search rules in
-    subst (λ r. AppliesStep old new r step) (sym said)
-    (written_changes made step old mid new name plan.header (Err c.in_err-write_remove.field-0.0)
-    c.in_ok-plan.ensures.unchanged c.plan_remove.ensures.reads_only planned c.in_ok-plan.ensures.planned (λ rows h. h.named) c.write_remove.ensures.survives
-    c.write_remove.ensures.settled c.in_ok-plan.ensures.was_open (λ rows clean line. c.in_err-write_remove.ensures.atomic rows name clean line) (λ rows a h. h.sound)
-    (λ rows h done up. fault_does (step (books_of rows)) c.in_err-write_remove.field-0.0 (stored_books old) (stored_books new) c.in_err-write_remove.ensures.fault (ap (λ (d : Database). books_in d.trees) (done up).0)))
+    subst (λ r. AppliesStep before (new g p) r (step g (planning g p))) (sym said)
+    (written g p (Err c.in_err-write_remove.field-0.0) (λ rows clean line. c.in_err-write_remove.ensures.atomic rows c.args.name.now clean line)
+    (λ rows h done up. fault_does (step g (planning g p) (books_of rows)) c.in_err-write_remove.field-0.0 (stored_books before) (stored_books (new g p)) c.in_err-write_remove.ensures.fault (ap (λ (d : Database). books_in d.trees) (done up).0)))
 
 pub returns-clause-changes : goal.returns-clause-changes
 returns-clause-changes g c =
-    let old = state g.S.Store c.args.conn.now in
-    let mid = state g.S.Store c.plan_remove.new.conn in
-    let new = state g.S.Store c.write_remove.new.conn in
-    let step = λ (books : Books). remove_step c.args.limits books c.args.name.now c.args.uid.now c.args.expect in
-    let name = c.args.name.now in
-    let uid = c.args.uid.now in
+    let p = (goal.at.returns-clause-changes g c).After-write_remove in
+    let before = old g (planning g p) in
     let plan = c.in_ok-plan.plan in
-    let planned = λ (rows : TableRows). IsRemovalOf c.args.limits rows name uid c.args.expect plan in
-    let removed = λ (rows : TableRows). finite.insert (books_of rows) name (book_after_drop (book_with_row (row_book rows (line_row name plan.header)) uid (TakesAway Deletion)) plan.drop) in
-    let made = λ (rows : TableRows) (returned : ℕ) (db : Database). HoldsBooks db (removed rows) in
-    written_changes made step old mid new name plan.header (Ok plan.number)
-    c.in_ok-plan.ensures.unchanged c.plan_remove.ensures.reads_only planned c.in_ok-plan.ensures.planned (λ rows h. h.named) c.write_remove.ensures.survives
-    c.write_remove.ensures.settled c.in_ok-plan.ensures.was_open (λ rows clean line. c.in_ok-write_remove.ensures.atomic rows name clean line) (λ rows a h. h.sound)
-    (λ rows h done up. named_does rows name plan.header (remove_of c.args.limits (books_of rows) name uid c.args.expect) (Ok plan.number) (stored_books old) (stored_books new) h.named
-    (removed_does rows name plan.header uid c.args.limits c.args.expect plan.number plan.drop h.number h.drop new (stored_books old) done.0))
+    written g p (Ok plan.number) (λ rows clean line. c.in_ok-write_remove.ensures.atomic rows c.args.name.now clean line)
+    (λ rows h done up. named_does rows c.args.name.now plan.header (remove_of c.args.limits (books_of rows) c.args.name.now c.args.uid.now c.args.expect) (Ok plan.number) (stored_books before) (stored_books (new g p)) h.named
+    (removed_does rows c.args.name.now plan.header c.args.uid.now c.args.limits c.args.expect plan.number plan.drop h.number h.drop (new g p) (stored_books before) done.0))
 
 pub returns-in_err-write_remove-clause-crash : goal.returns-in_err-write_remove-clause-crash
-returns-in_err-write_remove-clause-crash g c =
-    let old = state g.S.Store c.args.conn.now in
-    let mid = state g.S.Store c.plan_remove.new.conn in
-    let new = state g.S.Store c.write_remove.new.conn in
-    let step = λ (books : Books). remove_step c.args.limits books c.args.name.now c.args.uid.now c.args.expect in
-    let name = c.args.name.now in
-    let uid = c.args.uid.now in
-    let plan = c.in_ok-plan.plan in
-    let planned = λ (rows : TableRows). IsRemovalOf c.args.limits rows name uid c.args.expect plan in
-    let removed = λ (rows : TableRows). finite.insert (books_of rows) name (book_after_drop (book_with_row (row_book rows (line_row name plan.header)) uid (TakesAway Deletion)) plan.drop) in
-    let made = λ (rows : TableRows) (returned : ℕ) (db : Database). HoldsBooks db (removed rows) in
-    written_commits made step old mid new name plan.header (Ok plan.number)
-    c.in_ok-plan.ensures.unchanged c.plan_remove.ensures.reads_only planned c.in_ok-plan.ensures.planned (λ rows h. h.named) c.write_remove.ensures.survives
-    (λ rows. TreesHold (removed rows)) (λ rows line. c.write_remove.ensures.crash rows name line)
-    (λ rows h db held. named_row_held rows name plan.header (remove_of c.args.limits (books_of rows) name uid c.args.expect) db h.named
-    (removed_holds rows name plan.header uid c.args.limits c.args.expect plan.number plan.drop h.number h.drop db held))
+returns-in_err-write_remove-clause-crash g c = crash g (goal.at.returns-in_err-write_remove-clause-crash g c).After-write_remove
 
 pub returns-clause-crash : goal.returns-clause-crash
-returns-clause-crash g c =
-    let old = state g.S.Store c.args.conn.now in
-    let mid = state g.S.Store c.plan_remove.new.conn in
-    let new = state g.S.Store c.write_remove.new.conn in
-    let step = λ (books : Books). remove_step c.args.limits books c.args.name.now c.args.uid.now c.args.expect in
-    let name = c.args.name.now in
-    let uid = c.args.uid.now in
-    let plan = c.in_ok-plan.plan in
-    let planned = λ (rows : TableRows). IsRemovalOf c.args.limits rows name uid c.args.expect plan in
-    let removed = λ (rows : TableRows). finite.insert (books_of rows) name (book_after_drop (book_with_row (row_book rows (line_row name plan.header)) uid (TakesAway Deletion)) plan.drop) in
-    let made = λ (rows : TableRows) (returned : ℕ) (db : Database). HoldsBooks db (removed rows) in
-    written_commits made step old mid new name plan.header (Ok plan.number)
-    c.in_ok-plan.ensures.unchanged c.plan_remove.ensures.reads_only planned c.in_ok-plan.ensures.planned (λ rows h. h.named) c.write_remove.ensures.survives
-    (λ rows. TreesHold (removed rows)) (λ rows line. c.write_remove.ensures.crash rows name line)
-    (λ rows h db held. named_row_held rows name plan.header (remove_of c.args.limits (books_of rows) name uid c.args.expect) db h.named
-    (removed_holds rows name plan.header uid c.args.limits c.args.expect plan.number plan.drop h.number h.drop db held))
+returns-clause-crash g c = crash g (goal.at.returns-clause-crash g c).After-write_remove

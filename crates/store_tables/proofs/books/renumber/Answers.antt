@@ -1,16 +1,17 @@
 use Rattle.std.proofs.Math.Facts.{to_z-of_z}
+use Rattle.std.proofs.lemmas.Result.{on_ok_weaker}
 use Rattle.sqlite.specs.Held.{state}
 use Rattle.store_tables.specs.Tables.{book_schema}
 use Rattle.store_tables.proofs.Queries.{update_text, update_shows}
 use Rattle.store_tables.specs.Books.{numbers}
 use Rattle.store_tables.proofs.Texts.{update_returns}
-use Rattle.store_tables.proofs.ReturningLemmas.{stays_shown, undone_shown, stays_inside, on_ok_map, written_by}
+use Rattle.store_tables.proofs.ReturningLemmas.{stays_shown, undone_shown, stays_inside, written_by}
 use Rattle.store_tables.proofs.UpdateLemmas.{updates_rows}
 use Rattle.store_tables.proofs.books.renumber.Goals as goal
 
 pub returns-clause-renumbers : goal.returns-clause-renumbers
 returns-clause-renumbers g c bs clean inside has kept rows b there is =
-    rw is (on_ok_map c.query_all.result (λ h. h.1) (updates_rows (state g.S.Store c.args.tx.now.conn.now) (state g.S.Store c.query_all.new.self.conn.now) (numbers c.args.number c.args.horizon c.args.created c.args.edited c.args.imported c.args.import_edited c.args.moved_in c.args.deleted c.args.moved_out) bs b c.query_all.result has kept there rows
+    rw is (on_ok_weaker c.query_all.result (λ h. h.1) (updates_rows (state g.S.Store c.args.tx.now.conn.now) (state g.S.Store c.query_all.new.self.conn.now) (numbers c.args.number c.args.horizon c.args.created c.args.edited c.args.imported c.args.import_edited c.args.moved_in c.args.deleted c.args.moved_out) bs b c.query_all.result has kept there rows
     (rw (c.params-to_sql.ensures, c.params-to_sql-2.ensures, c.params-to_sql-3.ensures, c.params-to_sql-4.ensures, c.params-to_sql-5.ensures, c.params-to_sql-6.ensures, c.params-to_sql-7.ensures, c.params-to_sql-8.ensures, c.params-to_sql-9.ensures, c.params-to_sql-10.ensures, to_z-of_z c.ranges.id, to_z-of_z c.ranges.number, to_z-of_z c.ranges.horizon, to_z-of_z c.ranges.created, to_z-of_z c.ranges.edited, to_z-of_z c.ranges.imported, to_z-of_z c.ranges.import_edited, to_z-of_z c.ranges.moved_in, to_z-of_z c.ranges.deleted, to_z-of_z c.ranges.moved_out, is) at (c.query_all.ensures.ok clean))))
 
 pub returns-clause-writes : goal.returns-clause-writes
@@ -19,7 +20,7 @@ returns-clause-writes g c bs clean inside has kept rows b there is =
     let new = state g.S.Store c.query_all.new.self.conn.now in
     let all = updates_rows old new (numbers c.args.number c.args.horizon c.args.created c.args.edited c.args.imported c.args.import_edited c.args.moved_in c.args.deleted c.args.moved_out) bs b c.query_all.result has kept there rows
     (rw (c.params-to_sql.ensures, c.params-to_sql-2.ensures, c.params-to_sql-3.ensures, c.params-to_sql-4.ensures, c.params-to_sql-5.ensures, c.params-to_sql-6.ensures, c.params-to_sql-7.ensures, c.params-to_sql-8.ensures, c.params-to_sql-9.ensures, c.params-to_sql-10.ensures, to_z-of_z c.ranges.id, to_z-of_z c.ranges.number, to_z-of_z c.ranges.horizon, to_z-of_z c.ranges.created, to_z-of_z c.ranges.edited, to_z-of_z c.ranges.imported, to_z-of_z c.ranges.import_edited, to_z-of_z c.ranges.moved_in, to_z-of_z c.ranges.deleted, to_z-of_z c.ranges.moved_out, is) at (c.query_all.ensures.ok clean)) in
-    written_by 2 old new c.query_all.result (on_ok_map c.query_all.result (λ h. (h.0, h.2)) all) (stays_inside update_text _ old new inside book_schema has update_shows update_returns c.query_all.result (c.query_all.ensures.ok clean))
+    written_by 2 old new c.query_all.result (on_ok_weaker c.query_all.result (λ h. (h.0, h.2)) all) (stays_inside update_text _ old new inside book_schema has update_shows update_returns c.query_all.result (c.query_all.ensures.ok clean))
 
 pub returns-clause-no_commit : goal.returns-clause-no_commit
 returns-clause-no_commit g c =

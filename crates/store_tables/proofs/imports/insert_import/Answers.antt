@@ -1,12 +1,13 @@
 use Rattle.std.proofs.Math.Facts.{to_z-of_z}
+use Rattle.std.proofs.lemmas.Result.{on_ok_weaker}
 use Rattle.sqlite.specs.Held.{state}
-use Rattle.store_tables.proofs.ReturningLemmas.{stays_executed, undone_executed, executed_inside, on_ok_map, written_by}
+use Rattle.store_tables.proofs.ReturningLemmas.{stays_executed, undone_executed, executed_inside, written_by}
 use Rattle.store_tables.proofs.InsertLemmas.{adds_import_inside}
 use Rattle.store_tables.proofs.imports.insert_import.Goals as goal
 
 pub returns-clause-adds : goal.returns-clause-adds
 returns-clause-adds g c xs clean inside has kept rows =
-    on_ok_map c.execute.result (λ h. h.1) (adds_import_inside (state g.S.Store c.args.tx.now.conn.now) (state g.S.Store c.execute.new.self.conn.now) c.args.book c.args.key.now c.args.added c.args.edited c.args.same c.args.number xs c.execute.result has rows
+    on_ok_weaker c.execute.result (λ h. h.1) (adds_import_inside (state g.S.Store c.args.tx.now.conn.now) (state g.S.Store c.execute.new.self.conn.now) c.args.book c.args.key.now c.args.added c.args.edited c.args.same c.args.number xs c.execute.result has rows
     (rw (c.params-to_sql.ensures, c.params-to_sql-2.ensures, c.params-to_sql-3.ensures, c.params-to_sql-4.ensures, c.params-to_sql-5.ensures, c.params-to_sql-6.ensures, to_z-of_z c.ranges.book, to_z-of_z c.ranges.added, to_z-of_z c.ranges.edited, to_z-of_z c.ranges.same, to_z-of_z c.ranges.number) at (c.execute.ensures.runs clean inside)))
 
 pub returns-clause-writes : goal.returns-clause-writes
@@ -14,7 +15,7 @@ returns-clause-writes g c xs clean inside has kept rows =
     let old = state g.S.Store c.args.tx.now.conn.now in
     let new = state g.S.Store c.execute.new.self.conn.now in
     let ran = rw (c.params-to_sql.ensures, c.params-to_sql-2.ensures, c.params-to_sql-3.ensures, c.params-to_sql-4.ensures, c.params-to_sql-5.ensures, c.params-to_sql-6.ensures, to_z-of_z c.ranges.book, to_z-of_z c.ranges.added, to_z-of_z c.ranges.edited, to_z-of_z c.ranges.same, to_z-of_z c.ranges.number) at (c.execute.ensures.runs clean inside) in
-    written_by 7 old new c.execute.result (on_ok_map c.execute.result (λ h. (h.0, h.2)) (adds_import_inside old new c.args.book c.args.key.now c.args.added c.args.edited c.args.same c.args.number xs c.execute.result has rows ran)) (executed_inside _ _ old new c.execute.result ran)
+    written_by 7 old new c.execute.result (on_ok_weaker c.execute.result (λ h. (h.0, h.2)) (adds_import_inside old new c.args.book c.args.key.now c.args.added c.args.edited c.args.same c.args.number xs c.execute.result has rows ran)) (executed_inside _ _ old new c.execute.result ran)
 
 pub returns-clause-no_commit : goal.returns-clause-no_commit
 returns-clause-no_commit g c = stays_executed _ _ (state g.S.Store c.args.tx.now.conn.now) (state g.S.Store c.execute.new.self.conn.now) c.execute.result c.execute.ensures.runs c.execute.ensures.survives

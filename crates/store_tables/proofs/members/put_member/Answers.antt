@@ -1,16 +1,17 @@
 use Rattle.std.proofs.Common.{option_copied}
 use Rattle.std.proofs.Math.Facts.{to_z-of_z}
+use Rattle.std.proofs.lemmas.Result.{on_ok_weaker}
 use Rattle.sqlite.specs.Held.{state}
 use Rattle.store_tables.specs.Tables.{book_schema}
 use Rattle.store_tables.proofs.Queries.{put_text, put_shows}
 use Rattle.store_tables.proofs.Texts.{put_returns}
-use Rattle.store_tables.proofs.ReturningLemmas.{stays_shown, undone_shown, stays_inside, on_ok_map, written_by}
+use Rattle.store_tables.proofs.ReturningLemmas.{stays_shown, undone_shown, stays_inside, written_by}
 use Rattle.store_tables.proofs.PutLemmas.{puts_rows, card_bound}
 use Rattle.store_tables.proofs.members.put_member.Goals as goal
 
 pub returns-clause-puts : goal.returns-clause-puts
 returns-clause-puts g c ms clean inside has kept rows =
-    on_ok_map c.query_all.result (λ h. h.1) (puts_rows (state g.S.Store c.args.tx.now.conn.now) (state g.S.Store c.query_all.new.self.conn.now) c.args.book c.args.uid.now c.args.changed (option_copied c.args.card) ms c.query_all.result has kept rows
+    on_ok_weaker c.query_all.result (λ h. h.1) (puts_rows (state g.S.Store c.args.tx.now.conn.now) (state g.S.Store c.query_all.new.self.conn.now) c.args.book c.args.uid.now c.args.changed (option_copied c.args.card) ms c.query_all.result has kept rows
     (rw (c.params-to_sql.ensures, c.params-to_sql-2.ensures, c.params-to_sql-3.ensures, c.params-to_sql-4.ensures, card_bound c.args.card, to_z-of_z c.ranges.book, to_z-of_z c.ranges.changed) at (c.query_all.ensures.ok clean)))
 
 pub returns-clause-writes : goal.returns-clause-writes
@@ -19,7 +20,7 @@ returns-clause-writes g c ms clean inside has kept rows =
     let new = state g.S.Store c.query_all.new.self.conn.now in
     let all = puts_rows old new c.args.book c.args.uid.now c.args.changed (option_copied c.args.card) ms c.query_all.result has kept rows
     (rw (c.params-to_sql.ensures, c.params-to_sql-2.ensures, c.params-to_sql-3.ensures, c.params-to_sql-4.ensures, card_bound c.args.card, to_z-of_z c.ranges.book, to_z-of_z c.ranges.changed) at (c.query_all.ensures.ok clean)) in
-    written_by 4 old new c.query_all.result (on_ok_map c.query_all.result (λ h. (h.0, h.2)) all) (stays_inside put_text _ old new inside book_schema has put_shows put_returns c.query_all.result (c.query_all.ensures.ok clean))
+    written_by 4 old new c.query_all.result (on_ok_weaker c.query_all.result (λ h. (h.0, h.2)) all) (stays_inside put_text _ old new inside book_schema has put_shows put_returns c.query_all.result (c.query_all.ensures.ok clean))
 
 pub returns-clause-no_commit : goal.returns-clause-no_commit
 returns-clause-no_commit g c =

@@ -11,7 +11,7 @@ use Rattle.store_writes.proofs.PutLemmas.{row_put}
 use Rattle.store_writes.proofs.putting.write_member.Goals as goal
 
 pub returns-clause-books_after : goal.returns-clause-books_after
-returns-clause-books_after g c rows name header clean inside line change changed_is is columns =
+returns-clause-books_after g c header change changed_is is columns rows name clean inside line =
     let old = state g.S.Store c.args.tx.now.conn.now in
     let mid = state g.S.Store c.put_member.new.tx.conn.now in
     let new = state g.S.Store c.renumber_book.new.tx.conn.now in

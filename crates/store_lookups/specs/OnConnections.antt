@@ -1,0 +1,14 @@
+-- The words of contracts, over connections, as in `store_tables`. This project's own.
+use Rattle.sqlite.specs.Held.{Held, state}
+use Rattle.book_model.specs.Books.{Book}
+use Rattle.store_tables.specs.OnConnections.{Ghosts}
+use Rattle.store_rows.specs.TableBooks.{HeaderRow}
+use Rattle.store_rows.specs.TableRows.{TableRows}
+use Rattle.store_lookups.specs.CallResults as calls
+
+module _ {S : Type 0} (store : Ghosts S) (old new : Held S) where
+  abbrev pub GivenSoundRows : (TableRows → Type 0) → Type 0
+  GivenSoundRows = calls.GivenSoundRows (state store old) (state store new)
+
+  abbrev pub GivenBook : HeaderRow → (Book → Type 0) → Type 0
+  GivenBook = calls.GivenBook (state store old) (state store new)

@@ -1,0 +1,40 @@
+-- The words of private contracts, over connections, as in `store_tables`. This project's own.
+use Rattle.std.specs.Prelude.{ℕ, List, Option, Result, IsTrue}
+use Rattle.sqlite.specs.Held.{Held, state}
+use Rattle.vcard_lines.specs.declared.line.Line.{Line}
+use Rattle.store_tables.specs.OnConnections.{Ghosts, HasCleanDisk, Survives}
+use Rattle.store_rows.specs.TableBooks.{HeaderRow}
+use Rattle.store_rows.specs.TableRows.{TableRows}
+use Rattle.store_writes.specs.OnConnections.{IsAtomic}
+use Rattle.store_writes.specs.TableChanges.{HoldsBooks, TreesHold}
+use Rattle.store_removals.specs.internal.Moves as moves
+use Rattle.store_removals.specs.internal.Moves.{table_books_after_move}
+
+abbrev pub HasBothRows :
+    {S : Type 0} → Ghosts S → Held S → TableRows → List ℕ → HeaderRow → List ℕ → HeaderRow → Type 0
+HasBothRows store conn = moves.HasBothRows (state store conn).now
+
+module _ {S : Type 0} (store : Ghosts S) (old new : Held S) where
+  -- inside a transaction, over tables that held the rows of the books with these headers
+  abbrev pub InTxWithBothBooks :
+      HeaderRow → HeaderRow → (TableRows → List ℕ → List ℕ → Type 0) → Type 0
+  InTxWithBothBooks source target Then = (rows : TableRows) (from to : List ℕ) →
+      HasCleanDisk store new → IsTrue old.in_transaction →
+      HasBothRows store old rows from source to target → Then rows from to
+
+  -- a success commits the move of the card from the one book to the other, and a failure changes
+  -- nothing
+  abbrev pub CommitsMove : {T E : Type 0} →
+      HeaderRow → HeaderRow → Result T E → List ℕ → List Line → Option ℕ → Type 0
+  CommitsMove source target result uid card drop = (rows : TableRows) (from to : List ℕ) →
+      HasCleanDisk store new → HasBothRows store old rows from source to target →
+      IsAtomic store old new result
+      (λ _ db. HoldsBooks db (table_books_after_move rows from source to target uid card drop))
+
+  -- a crash leaves what it could leave before, or the one commit, with the books after the move
+  abbrev pub CommitsMoveOnce :
+      HeaderRow → HeaderRow → List ℕ → List Line → Option ℕ → Type 0
+  CommitsMoveOnce source target uid card drop = (rows : TableRows) (from to : List ℕ) →
+      HasBothRows store old rows from source to target →
+      Survives store old new
+      (TreesHold (table_books_after_move rows from source to target uid card drop))

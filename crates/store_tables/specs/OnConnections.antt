@@ -1,0 +1,183 @@
+-- The words of contracts, over connections. A word here takes the store's ghosts and a connection,
+-- or the connection before and after a call. It says of what the connection shows what the word of
+-- the same name says of states and databases. This project's own.
+use Rattle.std.specs.Prelude.{◌≡◌, ℕ, ℤ, List, map, Option, Result, IfOk, OnErr, OnOk, IsTrue, ⊤}
+use Rattle.std.specs.Prelude.{Vec}
+use Rattle.std.specs.declared.alloc.Global.{Global}
+use Rattle.std.specs.List.Sorted.{IsPermutation}
+use Rattle.sqlite.specs.declared.error.Error.{Error}
+use Rattle.sqlite.specs.Effect.{Database}
+use Rattle.sqlite.specs.Held.{Held, state}
+use Rattle.sqlite.specs.Order.{Row}
+use Rattle.sqlite.specs.Schema.{Schema}
+use Rattle.sqlite.specs.State as states
+use Rattle.sqlite.specs.Tree.{Trees}
+pub use Rattle.sqlite_trees.specs.declared.store.Store.{Ghosts}
+use Rattle.store_tables.specs.Books as books
+use Rattle.store_tables.specs.Imports as imports
+use Rattle.store_tables.specs.Keeps as keeps
+use Rattle.store_tables.specs.Members as members
+use Rattle.store_tables.specs.Meta as meta
+use Rattle.store_tables.specs.QueryResults.{IfAnswered}
+use Rattle.store_tables.specs.SchemaCreation as creation
+use Rattle.store_tables.specs.StatementEffects as effects
+
+-- ---- one connection
+
+module _ {S : Type 0} (store : Ghosts S) (conn : Held S) where
+  -- the connection is open
+  abbrev pub IsOpen : Type 0
+  IsOpen = IsTrue (state store conn).is_open
+
+  abbrev pub HasCleanDisk : Type 0
+  HasCleanDisk = states.HasCleanDisk (state store conn)
+
+  abbrev pub HasNoPendingWrites : Type 0
+  HasNoPendingWrites = effects.HasNoPendingWrites (state store conn)
+
+  -- what the connection shows is committed
+  abbrev pub IsCommitted : Type 0
+  IsCommitted = (state store conn).now ≡ (state store conn).committed
+
+  -- the rows of the table in the tree with this number
+  abbrev pub table_rows : ℕ → List Row
+  table_rows = (state store conn).now.trees
+
+  -- on success, the result is every row of this table, as `show` returns it, in any order
+  abbrev pub ListsRows :
+      {E : Type 0} → ℕ → (Row → Row) → Result (Vec Row Global) E → Type 0
+  ListsRows tree show result =
+      IfOk result (λ rows. IsPermutation (map show (table_rows tree)) rows.items)
+
+  -- the fact holds of the database that the connection shows
+  abbrev pub HoldsNow : (Database → Type 0) → Type 0
+  HoldsNow Holds = Holds (state store conn).now
+
+  abbrev pub HoldsInTx : (Database → Type 0) → Type 0
+  HoldsInTx = creation.HoldsInTx (state store conn)
+
+  abbrev pub HasBooks : List books.BookRow → Type 0
+  HasBooks = books.HasBooks (state store conn)
+
+  abbrev pub AddsBook : ℤ → List ℕ → List books.BookRow → Type 0
+  AddsBook = books.AddsBook (state store conn)
+
+  abbrev pub HasMembers : List members.MemberRow → Type 0
+  HasMembers = members.HasMembers (state store conn)
+
+  abbrev pub PutsRow : ℤ → List ℕ → ℤ → Option (List ℕ) → List members.MemberRow → Type 0
+  PutsRow = members.PutsRow table_rows
+
+  abbrev pub AddsImport : ℤ → List ℕ → ℤ → ℤ → ℤ → ℤ → List imports.ImportRow → Type 0
+  AddsImport = imports.AddsImport (state store conn)
+
+  abbrev pub AddsKeep : ℤ → ℤ → List keeps.KeepRow → Type 0
+  AddsKeep = keeps.AddsKeep (state store conn)
+
+-- ---- a connection before and after a call
+
+module _ {S : Type 0} (store : Ghosts S) (old new : Held S) where
+  -- the conditions of a clause
+
+  abbrev pub GivenTables : Type 0 → Type 0
+  GivenTables = effects.GivenTables (state store old) (state store new)
+
+  abbrev pub InsideTx : Type 0 → Type 0
+  InsideTx = effects.InsideTx (state store old) (state store new)
+
+  abbrev pub GivenBooks : (List books.BookRow → Type 0) → Type 0
+  GivenBooks = books.GivenBooks (state store old) (state store new)
+
+  abbrev pub GivenBooksTx : (List books.BookRow → Type 0) → Type 0
+  GivenBooksTx = books.GivenBooksTx (state store old) (state store new)
+
+  abbrev pub GivenMembers : (List members.MemberRow → Type 0) → Type 0
+  GivenMembers = members.GivenMembers (state store old) (state store new)
+
+  abbrev pub GivenMembersTx : (List members.MemberRow → Type 0) → Type 0
+  GivenMembersTx = members.GivenMembersTx (state store old) (state store new)
+
+  abbrev pub GivenImports : (List imports.ImportRow → Type 0) → Type 0
+  GivenImports = imports.GivenImports (state store old) (state store new)
+
+  abbrev pub GivenImportsTx : (List imports.ImportRow → Type 0) → Type 0
+  GivenImportsTx = imports.GivenImportsTx (state store old) (state store new)
+
+  abbrev pub GivenKeeps : (List keeps.KeepRow → Type 0) → Type 0
+  GivenKeeps = keeps.GivenKeeps (state store old) (state store new)
+
+  abbrev pub GivenKeepsTx : (List keeps.KeepRow → Type 0) → Type 0
+  GivenKeepsTx = keeps.GivenKeepsTx (state store old) (state store new)
+
+  -- what a call does
+
+  abbrev pub IsUnchanged : Type 0
+  IsUnchanged = states.IsUnchanged (state store old) (state store new)
+
+  -- the connection shows the same database as before
+  abbrev pub ShowsTheSame : Type 0
+  ShowsTheSame = (state store new).now ≡ (state store old).now
+
+  abbrev pub KeepsCommit : Type 0
+  KeepsCommit = states.KeepsCommit (state store old) (state store new)
+
+  abbrev pub Survives : (Trees → Type 0) → Type 0
+  Survives = states.Survives (state store old) (state store new)
+
+  abbrev pub OnlyReads : Type 0
+  OnlyReads = effects.OnlyReads (state store old) (state store new)
+
+  abbrev pub WritesOnly : ℕ → Type 0
+  WritesOnly tree = effects.WritesOnly tree (state store old) (state store new)
+
+  abbrev pub AddsSchema : ℤ → Type 0
+  AddsSchema number = meta.AddsSchema number ((state store old).now.trees 0) (state store new)
+
+  abbrev pub NoCommit : Type 0
+  NoCommit = effects.NoCommit (state store old) (state store new)
+
+  abbrev pub StaysUncommitted : Type 0
+  StaysUncommitted = creation.StaysUncommitted (state store old) (state store new)
+
+  -- clauses of many functions
+
+  -- a read of the declared tables that succeeds changes nothing
+  abbrev pub UnchangedOnOk : {T E : Type 0} → Result T E → Type 0
+  UnchangedOnOk result = GivenTables (OnOk result IsUnchanged)
+
+  -- the same, also for a read that finds no row
+  abbrev pub UnchangedIfAnswered : Result Row Error → Type 0
+  UnchangedIfAnswered result = GivenTables (IfAnswered result IsUnchanged)
+
+  -- only an open connection succeeds
+  abbrev pub WasOpenOnOk : {T E : Type 0} → Result T E → Type 0
+  WasOpenOnOk result =
+      states.HasCleanDisk (state store new) → OnOk result (IsTrue (state store old).is_open)
+
+  -- inside a transaction, a failed statement has no effect, or undoes the whole transaction
+  abbrev pub UndoneOnErr : {T E : Type 0} → Result T E → Type 0
+  UndoneOnErr result =
+      InsideTx (OnErr result (effects.IsUndone (state store old) (state store new)))
+
+  -- inside a transaction, nothing is committed
+  abbrev pub KeepsCommitInTx : Type 0
+  KeepsCommitInTx = InsideTx KeepsCommit
+
+  -- a transaction stays open on success
+  abbrev pub StaysInTxOnOk : {T E : Type 0} → Result T E → Type 0
+  StaysInTxOnOk result = InsideTx (OnOk result (IsTrue new.in_transaction))
+
+  -- no fault is forgotten, and a crash leaves what it could leave before
+  abbrev pub SurvivesAsBefore : Type 0
+  SurvivesAsBefore = Survives (λ _. ⊥)
+
+  -- No fault is forgotten, and only a fault closes the connection. Nothing is said of a crash.
+  abbrev pub CountsFaults : Type 0
+  CountsFaults = Survives (λ _. ⊤)
+
+  -- Inside a transaction over the tables `before`, a success creates the table in the tree with
+  -- this number. The tables are then `after`, and the rows of the others are unchanged.
+  abbrev pub CreatesTable : {T E : Type 0} → Schema → Schema → ℕ → Result T E → Type 0
+  CreatesTable before after tree result =
+      InsideTx (old.schema ≡ before → OnOk result
+      (creation.IsTableCreated before after tree (state store old).now (state store new).now))
