@@ -1,14 +1,16 @@
 -- The state of a store after opening files.
-use Rattle.std.proofs.Common.{◌≡◌, Result, Ok, Err, IfOk, ap, ◌∙◌, sym, subst}
+use Rattle.std.proofs.Common.{◌≡◌, Result, Ok, Err, IfOk, OnOk, ap, ◌∙◌, sym, subst}
 use Rattle.sqlite.specs.Effect.{Database}
 use Rattle.sqlite.specs.Files.{AreFoundIn}
 use Rattle.sqlite.specs.Start.{FindsIn}
-use Rattle.sqlite.specs.State.{State, HasCleanDisk, IsLive, Opens}
+use Rattle.sqlite.specs.State.{State, HasCleanDisk, IsLive, Opens, Survives}
 use Rattle.sqlite.specs.Recovery.{Image}
 use Rattle.store_schema.specs.StoredSchema.{ChangesNothing}
 use Rattle.store_rows.specs.SoundTables.{HoldsWellFormed}
 use Rattle.store_check.specs.OpenResults.{max_limits}
+use Rattle.store_tables.specs.SchemaCreation.{empty_schema}
 use Rattle.store_writes.specs.StoredBooks.{IsOpenOnHonestDisk}
+use Rattle.book_store.specs.OpenOutcomes.{AreNewStoreTrees, StartsWithoutTables}
 
 -- a connection that was just opened and only tested holds what the files held
 pub found_well_formed : (old new : State) → ChangesNothing old new → (HasCleanDisk old → Opens old × IsLive old) → (IsOpenOnHonestDisk new → IsOpenOnHonestDisk old) → (IsOpenOnHonestDisk new → HoldsWellFormed max_limits old.now)
@@ -39,3 +41,14 @@ pub adopted_found : {A E : Type 0} (image : Image) (state_of : A → State) (old
     → IfOk r (λ a. ChangesNothing old (state_of a)) → IfOk r (λ a. IsOpenOnHonestDisk (state_of a) → IsOpenOnHonestDisk old) → IfOk r (λ a. IsOpenOnHonestDisk (state_of a) → FindsIn image (state_of a))
 adopted_found image state_of old (Ok a) opened found left before = found_in_files image old (state_of a) left opened found before
 adopted_found image state_of old (Err e) opened found left before = tt
+
+-- a store that was created in files began with what the files held, which had no tables
+module _ {C : Type 0} (state_of : C → State) (image : Image) (old : C) where
+  created_start : (new : C) → (HasCleanDisk (state_of old) → FindsIn image (state_of old)) → (IsOpenOnHonestDisk (state_of new) → IsOpenOnHonestDisk (state_of old))
+      → (state_of old).now.schema ≡ empty_schema → Survives (state_of old) (state_of new) AreNewStoreTrees → IsOpenOnHonestDisk (state_of new) → StartsWithoutTables state_of image new
+  created_start new found before empty crash order = record { start = old; found = found (before order).0; was_empty = empty; crash = crash }
+
+  pub adopted_new_start : {A E : Type 0} (conn_of : A → C) (r : Result A E) → (HasCleanDisk (state_of old) → FindsIn image (state_of old)) → IfOk r (λ a. IsOpenOnHonestDisk (state_of (conn_of a)) → IsOpenOnHonestDisk (state_of old))
+      → OnOk r ((state_of old).now.schema ≡ empty_schema) → IfOk r (λ a. Survives (state_of old) (state_of (conn_of a)) AreNewStoreTrees) → IfOk r (λ a. IsOpenOnHonestDisk (state_of (conn_of a)) → StartsWithoutTables state_of image (conn_of a))
+  adopted_new_start conn_of (Ok a) found before empty crash = created_start (conn_of a) found before empty crash
+  adopted_new_start conn_of (Err e) found before empty crash = tt

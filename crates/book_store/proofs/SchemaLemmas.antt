@@ -1,5 +1,5 @@
 -- The state after creating the tables.
-use Rattle.std.proofs.Common.{◌≡◌, inl, inr, [], IsTrue, false, Ok, Err, Result, OnOk, OnErr, IfErr, refl, sym, subst, ◌∙◌}
+use Rattle.std.proofs.Common.{◌≡◌, inl, inr, [], IsTrue, false, Ok, Err, Result, OnOk, IfErr, refl, sym, subst, ◌∙◌}
 use Rattle.sqlite.specs.declared.error.Error.{Error}
 use Rattle.sqlite.specs.Effect.{Database}
 use Rattle.sqlite.specs.State.{State, IsRolledBack, KeepsCommit, KeepsCounts, Shows}
@@ -19,19 +19,9 @@ new_store_committed mid end h shows = record { created = subst (IsEmptyStore sch
 pub rolled_open : (begun mid end : State) → KeepsCommit begun mid → IsRolledBack mid end → IsTrue end.is_open → IsTrue begun.is_open
 rolled_open begun mid end kept undone up = kept.was_open (undone.was_open up)
 
-pub rolled_back : (begun mid end : State) → KeepsCommit begun mid → IsRolledBack mid end → (IsTrue begun.is_open → begun.now ≡ begun.committed) → IsTrue end.is_open → end.now ≡ begun.now
-rolled_back begun mid end kept undone settled up =
-    let open_mid = undone.was_open up in
-    (undone.undone up).0 ∙ kept.committed open_mid ∙ sym (settled (kept.was_open open_mid))
-
 -- the same after a commit, whether it succeeded or not
 pub committed_open : (begun mid end : State) (r : Result (Unit {0}) Error) → KeepsCommit begun mid
     → OnOk r (IsTrue mid.in_transaction × Shows mid end mid.now mid.now false × KeepsCounts mid end × (end.marks ≡ [])) → IfErr r (FailsToCommit mid end) → IsTrue end.is_open → IsTrue begun.is_open
 committed_open begun mid end (Ok done) kept ok err up = kept.was_open ok.1.was_open
 committed_open begun mid end (Err e) kept ok (inl h) up = kept.was_open (h.3.was_open up)
 committed_open begun mid end (Err e) kept ok (inr h) up = kept.was_open h.2.0.was_open
-
--- a fact holds on an error too
-pub on_err_of : {X E : Type 0} {P : Type 0} (r : Result X E) → P → OnErr r P
-on_err_of (Ok x) p = tt
-on_err_of (Err e) p = p

@@ -12,7 +12,6 @@ use Rattle.book_model.specs.Books.{Books}
 use Rattle.book_model.specs.Bounds.{Bounds, IsInRange}
 use Rattle.book_model.specs.CallOutcomes.{MatchesQuery}
 use Rattle.store_tables.specs.StatementEffects.{OnlyReads}
-use Rattle.store_tables.proofs.SchemaCreationLemmas.{clean_before}
 use Rattle.store_rows.specs.SoundTables.{HoldsSoundRows}
 use Rattle.store_rows.specs.TableBooks.{books_of, books_in}
 use Rattle.store_rows.specs.TableRows.{no_rows}
@@ -20,9 +19,10 @@ use Rattle.store_rows.proofs.HeldRows.{books_held, nothing_held, no_rows_sound}
 use Rattle.store_rows.proofs.OpenLemmas.{new_tables_empty}
 use Rattle.store_lookups.specs.CallResults.{FollowsStep, GivenSoundRows}
 use Rattle.book_store.specs.OpenOutcomes.{IsNewStoreCommitted}
-use Rattle.book_store.specs.StoreViews.{ChangesStore, IsStore, StoreView}
+use Rattle.book_store.specs.StoreViews.{ChangesStore, IsStore, ReadsStore, StoreView}
 use Rattle.store_writes.specs.TableChanges.{AppliesStep, CommitsOnce}
 use Rattle.store_writes.specs.StoredBooks.{IsOpenOnHonestDisk, IsCommittedAndSound, stored_books}
+use Rattle.store_writes.proofs.CallLemmas.{read_before}
 
 -- the answer of a call that changed nothing
 pub reads_of : {T A S : Type 0} (allows : T → A → Type 0) (r : Result A Denied) (due : Result T Refusal) (old new : S) → FollowsStep allows r due → new ≡ old → MatchesQuery allows r due old new
@@ -32,16 +32,12 @@ reads_of allows (Err (Refused refusal)) (Ok asked) old new returned same = retur
 reads_of allows (Err (Refused refusal)) (Err wanted) old new returned same = (returned, same)
 reads_of allows (Err (Fault fault)) due old new returned same = same
 
--- if the premise of a store holds after a call, it held before
-pub was_open_on_honest_disk : (old new : State) → OnlyReads old new → IsOpenOnHonestDisk new → IsOpenOnHonestDisk old
-was_open_on_honest_disk old new left order = (clean_before _ old new left.survives order.0, left.was_open order.0 order.1)
-
 -- a read keeps the invariant of the store
 pub still_store : (old new : State) (limits : Bounds) → IsStore old limits → OnlyReads old new → IsStore new limits
 still_store old new limits store left = record {
   settled = left.mode store.settled;
   stays_sound = λ order.
-      let was = store.stays_sound (was_open_on_honest_disk old new left order) in
+      let was = store.stays_sound (read_before old new left order) in
       let here = left.same order.0 was.sound.holds.schema order.1 (λ _. was.committed) in
       record { committed = here.now_is ∙ was.committed ∙ sym here.committed_is; sound = subst HoldsSoundRows (sym here.now_is) was.sound };
   range = store.range;
@@ -52,12 +48,22 @@ pub reads_store : {T A : Type 0} (allows : T → A → Type 0) (r : Result A Den
     → IsStore old limits → OnlyReads old new → GivenSoundRows old new (λ rows. FollowsStep allows r (step (books_of rows))) → IsOpenOnHonestDisk new
     → MatchesQuery allows r (step (stored_books old)) (stored_books old) (stored_books new)
 reads_store allows r step old new limits store left returned order =
-    let was = store.stays_sound (was_open_on_honest_disk old new left order) in
+    let was = store.stays_sound (read_before old new left order) in
     let here = left.same order.0 was.sound.holds.schema order.1 (λ _. was.committed) in
     let books : stored_books old ≡ books_of was.sound.rows = books_held old.now was.sound.rows was.sound.holds was.sound.sound in
     reads_of allows r (step (stored_books old)) (stored_books old) (stored_books new)
     (subst (λ (b : Books). FollowsStep allows r (step b)) (sym books) (returned was.sound.rows order.0 was.sound.holds was.sound.sound))
     (ap (λ (d : Database). books_in d.trees) here.now_is)
+
+pub only_reads_store : {S T A : Type 0} (g : Ghosts S) (allows : T → A → Type 0) (old new : StoreView S) (r : Result A Denied) (query : Bounds → Books → Result T Refusal) → IsStore (state g old.conn) old.limits → new.limits ≡ old.limits
+    → OnlyReads (state g old.conn) (state g new.conn) → GivenSoundRows (state g old.conn) (state g new.conn) (λ rows. FollowsStep allows r (query old.limits (books_of rows))) → ReadsStore g allows old new r query
+only_reads_store g allows old new r query store same left returned = record {
+  premise = read_before (state g old.conn) (state g new.conn) left;
+  limits = same;
+  range = subst IsInRange (sym same) store.range;
+  matches_query = reads_store allows r (query old.limits) (state g old.conn) (state g new.conn) old.limits store left returned;
+  only_reads = left;
+}
 
 -- ---- created tables
 

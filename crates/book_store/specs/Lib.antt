@@ -1,2 +1,3 @@
 pub mod OpenOutcomes
 pub mod StoreViews
+pub mod OnConnections

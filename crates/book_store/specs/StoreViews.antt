@@ -9,7 +9,8 @@ use Rattle.book_model.specs.declared.denied.Denied.{Denied}
 use Rattle.book_model.specs.declared.refusal.Refusal.{Refusal}
 use Rattle.book_model.specs.Books.{Books}
 use Rattle.book_model.specs.Bounds.{Bounds, IsInRange}
-use Rattle.book_model.specs.CallOutcomes.{MatchesStep}
+use Rattle.book_model.specs.CallOutcomes.{MatchesQuery, MatchesStep}
+use Rattle.store_tables.specs.StatementEffects.{OnlyReads}
 use Rattle.store_writes.specs.TableChanges.{HoldBooksAfter}
 use Rattle.store_writes.specs.StoredBooks.{IsOpenOnHonestDisk, IsCommittedAndSound, stored_books}
 
@@ -33,6 +34,19 @@ pub record IsStore (s : State) (limits : Bounds) : Type 0 where
 -- the books of a store
 abbrev pub books_of_store : {S : Type 0} → Ghosts S → StoreView S → Books
 books_of_store g s = stored_books (state g s.conn)
+
+-- A call that reads: the contract of every store, and that it only reads. So a crash leaves what it
+-- could leave before the call, if the tables are declared.
+pub record ReadsStore {S : Type 0} {T A : Type 0} (g : Ghosts S) (allows : T → A → Type 0)
+    (old new : StoreView S) (r : Result A Denied) (query : Bounds → Books → Result T Refusal)
+    : Type 0 where
+  pub premise : IsOpenOnHonestDisk (state g new.conn) → IsOpenOnHonestDisk (state g old.conn)
+  pub limits : new.limits ≡ old.limits
+  pub range : IsInRange new.limits
+  pub matches_query : IsOpenOnHonestDisk (state g new.conn) →
+      MatchesQuery allows r (query old.limits (books_of_store g old)) (books_of_store g old)
+      (books_of_store g new)
+  pub only_reads : OnlyReads (state g old.conn) (state g new.conn)
 
 -- A call that changes the books: the contract of every store, and what a crash can leave. That is
 -- what it could leave before the call, or the one commit, with the books after the whole call.

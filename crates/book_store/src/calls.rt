@@ -1,16 +1,22 @@
-//! The calls of `BookStore` over tables. A call that changes books has one more clause than the
-//! trait requires: what a crash can leave.
+//! The calls of `BookStore` over tables. Each has one more clause than the trait requires, about
+//! what a crash can leave: after a call that changes books, what it could leave before or the
+//! whole change; after a call that reads, what it could leave before. Both hold if the connection
+//! was open on an honest disk before the call.
+ghost use Rattle.base_types.specs.TextMaps.{octet_map};
+ghost use Rattle.book_model.specs.BookQueries.{book_line_step, book_lines, cards_step, get_step};
+ghost use Rattle.book_model.specs.BookQueries.{tally_step};
 ghost use Rattle.book_model.specs.Creating.{create_step};
 ghost use Rattle.book_model.specs.Forgetting.{forget_step};
 ghost use Rattle.book_model.specs.ImportLaws.{HaveDistinctUids};
-ghost use Rattle.book_model.specs.Importing.{import_step};
+ghost use Rattle.book_model.specs.Importing.{import_step, kept_import_step};
 ghost use Rattle.book_model.specs.Moving.{move_step};
+ghost use Rattle.book_model.specs.Pages.{IsReport, report_step};
 ghost use Rattle.book_model.specs.Putting.{put_step};
 ghost use Rattle.book_model.specs.Removing.{remove_step};
-ghost use Rattle.book_store.specs.StoreViews.{ChangesStore};
-ghost use Rattle.store_writes.specs.StoredBooks.{IsOpenOnHonestDisk, stored_books};
-ghost use Rattle.sqlite.specs.Held.{state};
-ghost use Rattle.std.specs.Prelude.{⊤};
+ghost use Rattle.book_store.specs.StoreViews.{ChangesStore, ReadsStore};
+ghost use Rattle.store_writes.specs.OnConnections.{IsOpenOnHonestDisk, stored_books};
+ghost use Rattle.store_lookups.specs.CallResults.{IsExactly};
+ghost use Rattle.std.specs.Prelude.{◌≡◌, Ok, ⊤};
 
 use crate::sql_store::SqlStore;
 use book_model::{BookLine, Denied, ImportTally, Moved, Page, PutAnswer, Stored, Tally, Token};
@@ -29,14 +35,13 @@ use sync_core::BookStore;
 use vcard_text::Card;
 
 impl<S: Alter> BookStore for SqlStore<S> {
-    ghost books = { λ s. stored_books (state S.Store s.conn) };
-
-    ghost limits = { λ s. s.limits };
-
-    // The disk has returned what was written so far, and the connection is open.
-    ghost premise = { λ s. IsOpenOnHonestDisk (state S.Store s.conn) };
-
-    ghost may_fault = { λ _. ⊤ };
+    // The premise: the disk has returned what was written so far, and the connection is open.
+    ghost model = { record {
+      books = λ s. stored_books S.Store s.conn;
+      limits = λ s. s.limits;
+      premise = λ s. IsOpenOnHonestDisk S.Store s.conn;
+      may_fault = λ _. ⊤;
+    } };
 
     fn create_book(&mut self, name: &str) -> Result<u64, Denied>
         ensures changes { ChangesStore S.Store self.old self.new result
@@ -87,7 +92,10 @@ impl<S: Alter> BookStore for SqlStore<S> {
         forget_in_book(&mut self.conn, book, upto)
     }
 
-    fn kept_import(&mut self, book: &str, key: &str) -> Result<Option<ImportTally>, Denied> {
+    fn kept_import(&mut self, book: &str, key: &str) -> Result<Option<ImportTally>, Denied>
+        ensures reads { ReadsStore S.Store IsExactly self.old self.new result
+            (λ _ books. kept_import_step books book.now key.now) }
+    {
         import_of_book(&mut self.conn, book, key)
     }
 
@@ -99,23 +107,38 @@ impl<S: Alter> BookStore for SqlStore<S> {
         import_in_book(self.alloc, &mut self.conn, self.limits, book, key, cards)
     }
 
-    fn get(&mut self, book: &str, uid: &str) -> Result<Stored, Denied> {
+    fn get(&mut self, book: &str, uid: &str) -> Result<Stored, Denied>
+        ensures reads { ReadsStore S.Store IsExactly self.old self.new result
+            (λ _ books. get_step books book.now uid.now) }
+    {
         stored_of_book(self.alloc, &mut self.conn, book, uid)
     }
 
-    fn books(&mut self) -> Result<Vec<BookLine>, Denied> {
+    fn books(&mut self) -> Result<Vec<BookLine>, Denied>
+        ensures reads { ReadsStore S.Store (λ expected lines. lines.items ≡ expected)
+            self.old self.new result (λ _ books. Ok (book_lines books)) }
+    {
         lines_of_books(self.alloc, &mut self.conn)
     }
 
-    fn book(&mut self, name: &str) -> Result<BookLine, Denied> {
+    fn book(&mut self, name: &str) -> Result<BookLine, Denied>
+        ensures reads { ReadsStore S.Store IsExactly self.old self.new result
+            (λ _ books. book_line_step books name.now) }
+    {
         line_of_book(self.alloc, &mut self.conn, name)
     }
 
-    fn cards(&mut self, book: &str) -> Result<BTreeMap<String, Stored>, Denied> {
+    fn cards(&mut self, book: &str) -> Result<BTreeMap<String, Stored>, Denied>
+        ensures reads { ReadsStore S.Store (λ expected cards. octet_map cards ≡ expected)
+            self.old self.new result (λ _ books. cards_step books book.now) }
+    {
         cards_of_book(self.alloc, &mut self.conn, book)
     }
 
-    fn tally(&mut self, book: &str) -> Result<Tally, Denied> {
+    fn tally(&mut self, book: &str) -> Result<Tally, Denied>
+        ensures reads { ReadsStore S.Store IsExactly self.old self.new result
+            (λ _ books. tally_step books book.now) }
+    {
         tally_of_book(&mut self.conn, book)
     }
 
@@ -124,7 +147,10 @@ impl<S: Alter> BookStore for SqlStore<S> {
         book: &str,
         token: Option<Token>,
         limit: Option<u64>,
-    ) -> Result<Page, Denied> {
+    ) -> Result<Page, Denied>
+        ensures reads { ReadsStore S.Store IsReport self.old self.new result
+            (λ limits books. report_step limits books book.now token limit) }
+    {
         page_of_book(self.alloc, &mut self.conn, self.limits, book, token, limit)
     }
 }

@@ -1,4 +1,5 @@
 //! Creates and opens stores in files.
+ghost use Rattle.book_store.specs.OpenOutcomes.{StartsWithoutTables};
 ghost use Rattle.store_check.specs.OpenResults.{max_limits};
 ghost use Rattle.store_rows.specs.SoundTables.{HoldsWellFormed};
 ghost use Rattle.store_writes.specs.StoredBooks.{IsOpenOnHonestDisk, stored_books};
@@ -37,6 +38,8 @@ impl<S: Start> SqlStore<FileStore<FileFrom<S>>> {
         limits: Limits,
         start: S,
     ) -> Result<FileBooksFrom<S>, OpenFault>
+        ensures found { IfOk result (λ store. IsOpenOnHonestDisk (file_state store.conn)
+            → StartsWithoutTables file_state (image_at S.Start) store.conn) }
         ensures books { IfOk result (λ store. IsOpenOnHonestDisk (file_state store.conn)
             → stored_books (file_state store.conn) ≡ finite.empty) }
         ensures limits { IfOk result (λ store. store.limits ≡ limits) }

@@ -1,10 +1,10 @@
 //! Opens a store over existing tables.
 ghost use Rattle.store_rows.specs.SoundTables.{HoldsWellFormed};
 ghost use Rattle.store_check.specs.OpenResults.{max_limits};
-ghost use Rattle.book_store.specs.OpenOutcomes.{IsOpenRefusal};
-ghost use Rattle.store_writes.specs.StoredBooks.{IsOpenOnHonestDisk, stored_books};
-ghost use Rattle.store_schema.specs.StoredSchema.{ChangesNothing};
-ghost use Rattle.sqlite.specs.Held.{state};
+ghost use Rattle.book_store.specs.OpenOutcomes.{DropsRefused, IsOpenRefusal};
+ghost use Rattle.store_schema.specs.OnConnections.{ChangesNothing};
+ghost use Rattle.store_tables.specs.OnConnections.{HoldsNow};
+ghost use Rattle.store_writes.specs.OnConnections.{IsOpenOnHonestDisk, stored_books};
 ghost use Rattle.std.specs.Prelude.{◌≡◌, IfErr, IfOk, false};
 
 use crate::sql_store::SqlStore;
@@ -13,11 +13,11 @@ use sqlite::{Alter, Connection};
 use std::alloc::Global;
 use store_check::opening::test_tables;
 use store_schema::OpenFault;
+use store_tables::settled::assert_settled;
 
-impl<S: Alter + Drop> SqlStore<S> {
+impl<S: Alter> SqlStore<S> {
     /// Opens the store whose books the connection's tables hold. The connection must be outside a
-    /// transaction; it is dropped on an error. All rows are read and tested, and nothing is
-    /// written.
+    /// transaction; an error comes with it. All rows are read and tested, and nothing is written.
     ///
     /// Fails with `NotOurs` if other tables are declared than a store's, of this schema or of the
     /// first, if the table `meta` holds anything but one schema number, or if that is 2 and the
@@ -25,32 +25,59 @@ impl<S: Alter + Drop> SqlStore<S> {
     /// the rows do not represent well-formed books. They are tested against the greatest limits on
     /// books and changes that a store may have, not against `limits`. Fails with `Memory` if memory
     /// runs out, and with `Store` for any other error of the database.
-    pub fn adopt(
+    pub fn try_adopt(
         alloc: Global,
         connection: Connection<S>,
         limits: Limits,
-    ) -> Result<SqlStore<S>, OpenFault>
+    ) -> Result<SqlStore<S>, (OpenFault, Connection<S>)>
         requires { connection.in_transaction ≡ false }
-        ensures well_formed { IfOk result (λ store. IsOpenOnHonestDisk (state S.Store store.conn)
-            → HoldsWellFormed max_limits (state S.Store connection).now) }
-        ensures books { IfOk result (λ store. IsOpenOnHonestDisk (state S.Store store.conn)
-            → stored_books (state S.Store store.conn) ≡ stored_books (state S.Store connection)) }
+        ensures well_formed { IfOk result (λ store. IsOpenOnHonestDisk S.Store store.conn
+            → HoldsNow S.Store connection (HoldsWellFormed max_limits)) }
+        ensures books { IfOk result (λ store. IsOpenOnHonestDisk S.Store store.conn
+            → stored_books S.Store store.conn ≡ stored_books S.Store connection) }
         ensures limits { IfOk result (λ store. store.limits ≡ limits) }
-        ensures premise { IfOk result (λ store. IsOpenOnHonestDisk (state S.Store store.conn)
-            → IsOpenOnHonestDisk (state S.Store connection)) }
-        ensures changes_nothing { IfOk result (λ store.
-            ChangesNothing (state S.Store connection) (state S.Store store.conn)) }
-        ensures refused { IfErr result (IsOpenRefusal S.Store connection) }
+        ensures premise { IfOk result (λ store. IsOpenOnHonestDisk S.Store store.conn
+            → IsOpenOnHonestDisk S.Store connection) }
+        ensures changes_nothing { IfOk result
+            (λ store. ChangesNothing S.Store connection store.conn) }
+        ensures refused { IfErr result (λ refused.
+            IsOpenRefusal S.Store connection refused.1 refused.0) }
     {
         let mut conn = connection;
-        let _settled = conn.is_autocommit();
+        assert_settled(&conn);
         match test_tables(alloc, &mut conn, Limits::standard()) {
             Ok(()) => Ok(SqlStore {
                 conn,
                 limits,
                 alloc,
             }),
-            Err(fault) => Err(fault),
+            Err(fault) => Err((fault, conn)),
+        }
+    }
+}
+
+impl<S: Alter + Drop> SqlStore<S> {
+    /// `try_adopt`, which drops the connection on an error.
+    pub fn adopt(
+        alloc: Global,
+        connection: Connection<S>,
+        limits: Limits,
+    ) -> Result<SqlStore<S>, OpenFault>
+        requires { connection.in_transaction ≡ false }
+        ensures well_formed { IfOk result (λ store. IsOpenOnHonestDisk S.Store store.conn
+            → HoldsNow S.Store connection (HoldsWellFormed max_limits)) }
+        ensures books { IfOk result (λ store. IsOpenOnHonestDisk S.Store store.conn
+            → stored_books S.Store store.conn ≡ stored_books S.Store connection) }
+        ensures limits { IfOk result (λ store. store.limits ≡ limits) }
+        ensures premise { IfOk result (λ store. IsOpenOnHonestDisk S.Store store.conn
+            → IsOpenOnHonestDisk S.Store connection) }
+        ensures changes_nothing { IfOk result
+            (λ store. ChangesNothing S.Store connection store.conn) }
+        ensures refused { IfErr result (DropsRefused S.Store connection) }
+    {
+        match SqlStore::try_adopt(alloc, connection, limits) {
+            Ok(store) => Ok(store),
+            Err((fault, _)) => Err(fault),
         }
     }
 }

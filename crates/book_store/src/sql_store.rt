@@ -1,12 +1,11 @@
 //! The store of books over the tables of a connection.
-ghost use Rattle.book_store.specs.OpenOutcomes.{AreNewStoreTrees};
-ghost use Rattle.book_store.specs.StoreViews.{IsStore};
-ghost use Rattle.store_writes.specs.StoredBooks.{IsOpenOnHonestDisk, stored_books};
+ghost use Rattle.book_store.specs.OpenOutcomes.{AreNewStoreTrees, IsCreationRefusal};
 ghost use Rattle.store_tables.specs.SchemaCreation.{empty_schema};
 ghost use Rattle.store_schema.specs.OpenFaults.{IsErrorFault, IsCreationFault};
 ghost use Rattle.store_schema.specs.declared.open_fault.OpenFault.TheVariants.{NotEmpty};
-ghost use Rattle.sqlite.specs.Held.{state};
-ghost use Rattle.sqlite.specs.State.{Survives};
+ghost use Rattle.book_store.specs.OnConnections.{IsStore};
+ghost use Rattle.store_tables.specs.OnConnections.{Survives};
+ghost use Rattle.store_writes.specs.OnConnections.{IsOpenOnHonestDisk, stored_books};
 ghost use Rattle.sqlite.specs.Steps.{over_memory};
 ghost use Rattle.std.specs.FinMap as finite;
 ghost use Rattle.std.specs.Prelude.{◌≡◌, Err, IfErr, IfOk, OnOk, false};
@@ -29,8 +28,8 @@ pub struct SqlStore<S: Alter> {
 }
 
 impl<S: Alter> Model for SqlStore<S> {
-    ghost use Rattle.book_store.specs.StoreViews.{IsStore, StoreView, store_code};
-    ghost use Rattle.sqlite.specs.Held.{state};
+    ghost use Rattle.book_store.specs.OnConnections.{IsStore};
+    ghost use Rattle.book_store.specs.StoreViews.{StoreView, store_code};
 
     ghost Value = { StoreView S };
 
@@ -38,7 +37,7 @@ impl<S: Alter> Model for SqlStore<S> {
 
     ghost view = { λ s. record { conn = s.conn; limits = s.limits } };
 
-    ghost invariant = { λ s. IsStore (state S.Store s.conn) s.limits };
+    ghost invariant = { λ s. IsStore S.Store s.conn s.limits };
 }
 
 impl<S: Alter + Drop> Drop for SqlStore<S> {
@@ -55,7 +54,7 @@ impl<S: Alter> SqlStore<S> {
     /// Returns the store's connection, which is outside a transaction.
     pub fn into_connection(self) -> Connection<S>
         ensures same_connection { result ≡ self.conn }
-        ensures is_store { IsStore (state S.Store result) self.limits }
+        ensures is_store { IsStore S.Store result self.limits }
     {
         let SqlStore {
             conn,
@@ -66,39 +65,40 @@ impl<S: Alter> SqlStore<S> {
     }
 }
 
-impl<S: Alter + Drop> SqlStore<S> {
+impl<S: Alter> SqlStore<S> {
     /// Creates a store without books over the connection, whose schema must be empty: its tables
-    /// are created in one transaction. The connection must be outside a transaction; it is dropped
-    /// on an error.
+    /// are created in one transaction. The connection must be outside a transaction; an error comes
+    /// with it.
     ///
     /// Fails with `NotEmpty` if there is a table, an index or a view, and then nothing is written;
     /// with `Memory` if memory runs out; and with `Store` for any other error of the database.
     /// After either of these two the transaction is rolled back.
-    pub fn adopt_new(
+    pub fn try_adopt_new(
         alloc: Global,
         connection: Connection<S>,
         limits: Limits,
-    ) -> Result<SqlStore<S>, OpenFault>
+    ) -> Result<SqlStore<S>, (OpenFault, Connection<S>)>
         requires { connection.in_transaction ≡ false }
-        ensures books { IfOk result (λ store. IsOpenOnHonestDisk (state S.Store store.conn)
-            → stored_books (state S.Store store.conn) ≡ finite.empty) }
+        ensures books { IfOk result (λ store. IsOpenOnHonestDisk S.Store store.conn
+            → stored_books S.Store store.conn ≡ finite.empty) }
         ensures limits { IfOk result (λ store. store.limits ≡ limits) }
-        ensures premise { IfOk result (λ store. IsOpenOnHonestDisk (state S.Store store.conn)
-            → IsOpenOnHonestDisk (state S.Store connection)) }
-        ensures was_empty { OnOk result ((state S.Store connection).now.schema ≡ empty_schema) }
-        ensures not_empty { ¬ ((state S.Store connection).now.schema ≡ empty_schema)
-            → result ≡ Err NotEmpty }
-        ensures fault { (state S.Store connection).now.schema ≡ empty_schema
-            → IfErr result IsErrorFault }
-        ensures fault_kind { IfErr result IsCreationFault }
+        ensures premise { IfOk result (λ store. IsOpenOnHonestDisk S.Store store.conn
+            → IsOpenOnHonestDisk S.Store connection) }
+        ensures was_empty { OnOk result (connection.schema ≡ empty_schema) }
+        ensures not_empty { ¬ (connection.schema ≡ empty_schema)
+            → IfErr result (λ refused. refused.0 ≡ NotEmpty) }
 
         // A crash leaves what it could leave before the call, or the created tables.
-        ensures crash { IfOk result (λ store. Survives (state S.Store connection)
-            (state S.Store store.conn) AreNewStoreTrees) }
+        ensures crash { IfOk result
+            (λ store. Survives S.Store connection store.conn AreNewStoreTrees) }
+
+        // The connection comes back as it was, or with its transaction rolled back.
+        ensures refused { IfErr result (λ refused.
+            IsCreationRefusal S.Store connection refused.1 refused.0) }
     {
         let mut conn = connection;
         if !is_schema_empty(conn.schema()) {
-            return Err(OpenFault::NotEmpty);
+            return Err((OpenFault::NotEmpty, conn));
         }
         match commit_tables(&mut conn) {
             Ok(()) => Ok(SqlStore {
@@ -106,7 +106,36 @@ impl<S: Alter + Drop> SqlStore<S> {
                 limits,
                 alloc,
             }),
-            Err(error) => Err(open_fault_of(error)),
+            Err(error) => Err((open_fault_of(error), conn)),
+        }
+    }
+}
+
+impl<S: Alter + Drop> SqlStore<S> {
+    /// `try_adopt_new`, which drops the connection on an error.
+    pub fn adopt_new(
+        alloc: Global,
+        connection: Connection<S>,
+        limits: Limits,
+    ) -> Result<SqlStore<S>, OpenFault>
+        requires { connection.in_transaction ≡ false }
+        ensures books { IfOk result (λ store. IsOpenOnHonestDisk S.Store store.conn
+            → stored_books S.Store store.conn ≡ finite.empty) }
+        ensures limits { IfOk result (λ store. store.limits ≡ limits) }
+        ensures premise { IfOk result (λ store. IsOpenOnHonestDisk S.Store store.conn
+            → IsOpenOnHonestDisk S.Store connection) }
+        ensures was_empty { OnOk result (connection.schema ≡ empty_schema) }
+        ensures not_empty { ¬ (connection.schema ≡ empty_schema) → result ≡ Err NotEmpty }
+        ensures fault { connection.schema ≡ empty_schema → IfErr result IsErrorFault }
+        ensures fault_kind { IfErr result IsCreationFault }
+
+        // A crash leaves what it could leave before the call, or the created tables.
+        ensures crash { IfOk result
+            (λ store. Survives S.Store connection store.conn AreNewStoreTrees) }
+    {
+        match SqlStore::try_adopt_new(alloc, connection, limits) {
+            Ok(store) => Ok(store),
+            Err((fault, _)) => Err(fault),
         }
     }
 }
@@ -115,8 +144,8 @@ impl SqlStore<MemStore> {
     /// Creates a store without books in memory; its books are lost when it is dropped. Fails with
     /// `Memory` if memory runs out, and with `Store` for any other error of the database.
     pub fn open_in_memory(alloc: Global, limits: Limits) -> Result<SqlStore<MemStore>, OpenFault>
-        ensures books { IfOk result (λ store. IsOpenOnHonestDisk (state over_memory store.conn)
-            → stored_books (state over_memory store.conn) ≡ finite.empty) }
+        ensures books { IfOk result (λ store. IsOpenOnHonestDisk over_memory store.conn
+            → stored_books over_memory store.conn ≡ finite.empty) }
         ensures limits { IfOk result (λ store. store.limits ≡ limits) }
         ensures fault { IfErr result IsErrorFault }
     {

@@ -1,3 +1,4 @@
+pub mod FileLemmas
 pub mod FirstLemmas
 pub mod RestateLemmas
 pub mod WriteLemmas

@@ -27,10 +27,10 @@ use Rattle.sqlite_value.proofs.OrderLemmas.{value_cmp-Int}
 use Rattle.store_tables.specs.Meta.{meta_listed, schema_row}
 use Rattle.store_tables.specs.StatementEffects.{KeepsOtherTables}
 use Rattle.store_tables.specs.Tables.{book_schema, meta}
-use Rattle.store_tables.proofs.KeyedRows.{itself}
 use Rattle.store_tables.proofs.Picks.{passes, picked, shows}
 use Rattle.store_tables.proofs.PutLemmas.{cast_int, went_on, same_value}
 use Rattle.store_tables.proofs.Queries.{picks}
+use Rattle.store_tables.proofs.KeyedRows.{int_itself}
 use Rattle.store_schema.specs.StoredSchema.{HasSchemaNumber}
 use Rattle.store_migration.specs.internal.FirstRows.{HasOneSchemaNumber, meta_cells}
 
@@ -84,7 +84,7 @@ module _ (limit : Option ℕ) (id before number : ℤ) (db : Trees) (is : map me
   only_it = ap (λ rows. map f (filter p rows)) it.1 ∙ ap (λ cells. f cells ∷ []) it.2
 
   found : has_rowid id it.0 ≡ true
-  found = ap (λ cells. is_eq (value_cmp (column cells 0) (Int id))) it.2 ∙ ap is_eq (value_cmp-Int id id) ∙ itself id
+  found = ap (λ cells. is_eq (value_cmp (column cells 0) (Int id))) it.2 ∙ ap is_eq (value_cmp-Int id id) ∙ int_itself id
 
   gone : without_rowid id (db 0) ≡ []
   gone = ap (without_rowid id) it.1 ∙ ap (λ b. cond (not b) (it.0 ∷ []) []) found

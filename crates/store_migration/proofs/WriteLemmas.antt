@@ -3,7 +3,7 @@ use Rattle.std.proofs.Common.{◌≡◌, inl, inr, ℤ, false, true≢false, Lis
 use Rattle.sqlite.specs.declared.error.Error.{Error}
 use Rattle.sqlite.specs.Effect.{Database}
 use Rattle.sqlite.specs.Order.{Row}
-use Rattle.sqlite.specs.State.{State, IsRolledBack, KeepsCommit, KeepsCounts, Shows}
+use Rattle.sqlite.specs.State.{State, KeepsCommit, KeepsCounts, Shows}
 use Rattle.sqlite.specs.Steps.{FailsToCommit}
 use Rattle.sqlite.specs.Tree.{Trees}
 use Rattle.sqlite_trees.proofs.ListLemmas.{all_weaker}
@@ -11,6 +11,7 @@ use Rattle.store_tables.specs.Keeps.{AddsKeep, KeepRow}
 use Rattle.store_tables.specs.SchemaCreation.{HoldsInTx}
 use Rattle.store_tables.specs.StatementEffects.{KeepsOtherTables, WritesOnly}
 use Rattle.store_tables.proofs.KeyedRows.{turned}
+use Rattle.store_tables.proofs.TransactionLemmas.{rollback_restores}
 use Rattle.store_migration.specs.internal.MigrationWrites.{CommitsKeeps, WroteKeeps}
 use Rattle.store_migration.specs.InitialKeeps.{cells_of_keep}
 
@@ -45,15 +46,9 @@ one_kept a b c k ks book keep book_is keep_is before added wrote =
 
 -- ---- the transaction
 
--- it was rolled back
-rolled_back : (begun mid end : State) → KeepsCommit begun mid → IsRolledBack mid end → (IsTrue begun.is_open → begun.now ≡ begun.committed) → IsTrue end.is_open → (end.now ≡ begun.now) × (end.now ≡ end.committed)
-rolled_back begun mid end kept undone settled up =
-    let open_mid = undone.was_open up in
-    ((undone.undone up).0 ∙ kept.committed open_mid ∙ sym (settled (kept.was_open open_mid)), (undone.undone up).0 ∙ sym (undone.undone up).1)
-
 -- its commit succeeded, or failed
 pub commits : (begun mid end : State) (r : Result (Unit {0}) Error) (P : Database → Type 0) → KeepsCommit begun mid → HoldsInTx mid P → (IsTrue begun.is_open → begun.now ≡ begun.committed)
     → OnOk r (IsTrue mid.in_transaction × Shows mid end mid.now mid.now false × KeepsCounts mid end × (end.marks ≡ [])) → IfErr r (FailsToCommit mid end) → CommitsKeeps begun end r P
 commits begun mid end (Ok done) P kept left settled ok err = (subst P (sym ok.1.now_is) left.holds, ok.1.now_is ∙ sym ok.1.committed_is)
-commits begun mid end (Err e) P kept left settled ok (inl h) = λ up. rolled_back begun mid end kept h.3 settled up
+commits begun mid end (Err e) P kept left settled ok (inl h) = λ up. rollback_restores begun mid end kept h.3 settled up
 commits begun mid end (Err e) P kept left settled ok (inr h) = absurd (true≢false (sym left.inside ∙ h.1))

@@ -1,3 +1,4 @@
 pub mod InitialKeeps
 pub mod Migration
+pub mod OnConnections
 pub mod internal

@@ -1,6 +1,9 @@
 -- The contract of the migration from the first schema to the second. This project's own.
-use Rattle.std.specs.Prelude.{◌≡◌, ⊤, List, Err}
+use Rattle.std.specs.Prelude.{◌≡◌, ⊤, ℕ, List, length, Err}
 use Rattle.sqlite.specs.Effect.{Database}
+use Rattle.sqlite.specs.Recovery.{Image}
+use Rattle.sqlite.specs.Start.{FindsIn}
+use Rattle.sqlite.specs.State.{State, Survives}
 use Rattle.sqlite.specs.Tree.{Trees}
 use Rattle.book_model.specs.Bounds.{Bounds}
 use Rattle.store_tables.specs.Keeps.{KeepRow, HoldKeeps}
@@ -8,6 +11,7 @@ use Rattle.store_tables.specs.Meta.{schema_number}
 use Rattle.store_tables.specs.Tables.{book_schema}
 use Rattle.store_rows.specs.SoundTables.{HoldsWellFormed}
 use Rattle.store_rows.specs.TableRows.{rows_in}
+use Rattle.store_check.specs.OpenResults.{max_limits}
 use Rattle.store_migration.specs.InitialKeeps.{initial_keeps}
 use Rattle.store_schema.specs.FirstSchema.{IsFirstSchema, ClassifiesFirstSchema}
 use Rattle.store_schema.specs.StoredSchema.{HasSchemaNumber}
@@ -38,6 +42,23 @@ pub record CommitsMigration (limits : Bounds) (old : Database) (trees : Trees) :
   pub first : IsFirstSchema old
   pub migrated : IsMigrated old (record { schema = book_schema; trees = trees })
   pub well_formed : HoldsWellFormed limits (record { schema = book_schema; trees = trees })
+
+-- The files held tables of the first schema when they were opened. Now they hold those of the
+-- migration, committed, and the count is the number of books. A crash leaves what it could leave at
+-- the start, or the whole migration.
+pub record MigratesFrom
+    {Connection : Type 0} (state_of : Connection → State) (image : Image) (count : ℕ)
+    (new : Connection) : Type 0 where
+  pub start : Connection
+  pub found : FindsIn image (state_of start)
+  pub was_committed : (state_of start).now ≡ (state_of start).committed
+  pub first : IsFirstSchema (state_of start).now
+  pub migrated : IsMigrated (state_of start).now (state_of new).now
+  pub well_formed : HoldsWellFormed max_limits (state_of new).now
+  pub committed : (state_of new).now ≡ (state_of new).committed
+  pub count_is : count ≡ length ((state_of start).now.trees 2)
+  pub crash : Survives (state_of start) (state_of new)
+      (CommitsMigration max_limits (state_of start).now)
 
 -- ---- why tables are not migrated
 

@@ -1,3 +1,4 @@
 pub mod FirstRows
 pub mod MigrationPlans
 pub mod MigrationWrites
+pub mod OnConnections

@@ -1,11 +1,22 @@
 //! Migrates the tables of a connection from the first schema to the second.
 ghost use Rattle.store_check.specs.OpenResults.{max_limits};
-ghost use Rattle.store_migration.specs.Migration.{CommitsMigration, IsMigrationRefusal, IsMigrated};
 ghost use Rattle.store_rows.specs.SoundTables.{HoldsWellFormed};
-ghost use Rattle.store_schema.specs.FirstSchema.{IsFirstSchema};
-ghost use Rattle.sqlite.specs.Held.{state};
-ghost use Rattle.sqlite.specs.State.{HasCleanDisk, Survives};
-ghost use Rattle.std.specs.Prelude.{◌≡◌, IfErr, IfOk, IsTrue, OnErr, OnOk, false, length};
+ghost use Rattle.store_migration.specs.OnConnections.{
+  CommitsMigration,
+  IsMigrated,
+  IsMigrationRefusal,
+};
+ghost use Rattle.store_schema.specs.OnConnections.{IsFirstSchema};
+ghost use Rattle.store_tables.specs.OnConnections.{
+  HasCleanDisk,
+  HoldsNow,
+  IsCommitted,
+  IsOpen,
+  ShowsTheSame,
+  Survives,
+  table_rows,
+};
+ghost use Rattle.std.specs.Prelude.{◌≡◌, IfErr, IfOk, OnErr, OnOk, false, length};
 
 use crate::planning::plan_migration;
 use crate::writing::commit_keeps;
@@ -13,6 +24,7 @@ use book_model::Limits;
 use sqlite::{Alter, Connection};
 use std::alloc::Global;
 use store_schema::{OpenFault, open_fault_of};
+use store_tables::settled::assert_settled;
 
 /// Migrates the tables of the connection from the first schema to the second in one transaction,
 /// and returns the number of books. The connection must be outside a transaction. Books, members
@@ -31,28 +43,25 @@ pub fn migrate_connection<S: Alter>(
     conn: &mut Connection<S>,
 ) -> Result<u64, OpenFault>
     requires { conn.old.in_transaction ≡ false }
-    ensures first { HasCleanDisk (state S.Store conn.new)
-        → OnOk result (IsFirstSchema (state S.Store conn.old).now) }
-    ensures migrated { HasCleanDisk (state S.Store conn.new) → OnOk result
-        (IsMigrated (state S.Store conn.old).now (state S.Store conn.new).now) }
-    ensures well_formed { HasCleanDisk (state S.Store conn.new)
-        → OnOk result (HoldsWellFormed max_limits (state S.Store conn.new).now) }
-    ensures committed { HasCleanDisk (state S.Store conn.new) → OnOk result
-        ((state S.Store conn.new).now ≡ (state S.Store conn.new).committed) }
-    ensures books { HasCleanDisk (state S.Store conn.new)
-        → IfOk result (λ count. count ≡ length ((state S.Store conn.old).now.trees 2)) }
-    ensures refusal { HasCleanDisk (state S.Store conn.new)
-        → IfErr result (IsMigrationRefusal max_limits (state S.Store conn.old).now) }
-    ensures unchanged_on_error { HasCleanDisk (state S.Store conn.new)
-        → IsTrue (state S.Store conn.new).is_open → OnErr result
-        ((state S.Store conn.new).now ≡ (state S.Store conn.old).now) }
+    ensures first { HasCleanDisk S.Store conn.new → OnOk result (IsFirstSchema S.Store conn.old) }
+    ensures migrated { HasCleanDisk S.Store conn.new
+        → OnOk result (IsMigrated S.Store conn.old conn.new) }
+    ensures well_formed { HasCleanDisk S.Store conn.new
+        → OnOk result (HoldsNow S.Store conn.new (HoldsWellFormed max_limits)) }
+    ensures committed { HasCleanDisk S.Store conn.new → OnOk result (IsCommitted S.Store conn.new) }
+    ensures books { HasCleanDisk S.Store conn.new
+        → IfOk result (λ count. count ≡ length (table_rows S.Store conn.old 2)) }
+    ensures refusal { HasCleanDisk S.Store conn.new
+        → IfErr result (IsMigrationRefusal S.Store conn.old max_limits) }
+    ensures unchanged_on_error { HasCleanDisk S.Store conn.new → IsOpen S.Store conn.new
+        → OnErr result (ShowsTheSame S.Store conn.old conn.new) }
     ensures settled { conn.new.in_transaction ≡ false }
 
     // A crash leaves what it could leave before the call, or the one commit.
-    ensures crash { Survives (state S.Store conn.old) (state S.Store conn.new)
-        (CommitsMigration max_limits (state S.Store conn.old).now) }
+    ensures crash { Survives S.Store conn.old conn.new
+        (CommitsMigration S.Store conn.old max_limits) }
 {
-    let _settled = conn.is_autocommit();
+    assert_settled(conn);
     let keeps = plan_migration(alloc, conn, Limits::standard())?;
     match commit_keeps(conn, keeps.as_slice()) {
         Ok(()) => Ok(keeps.len() as u64),

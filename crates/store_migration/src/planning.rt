@@ -1,16 +1,19 @@
 //! Tests the tables before anything is written, and computes the keeps.
 ghost use Rattle.store_check.specs.RowChecks.{HasNumber};
-ghost use Rattle.store_migration.specs.internal.FirstRows.{AreListedFirstRows, GivenFirstSchema};
-ghost use Rattle.store_migration.specs.internal.FirstRows.{OnlyReadsFirstSchema};
-ghost use Rattle.store_migration.specs.Migration.{IsMigrationRefusal};
-ghost use Rattle.store_migration.specs.internal.MigrationPlans.{HasMetaId, IsMigrationPlan};
 ghost use Rattle.store_migration.specs.internal.MigrationPlans.{IsKeepsCheckResult};
-ghost use Rattle.store_schema.specs.FirstSchema.{IsFirstSchema};
 ghost use Rattle.store_schema.specs.OpenFaults.{IsErrorFault};
-ghost use Rattle.store_schema.specs.StoredSchema.{ChangesNothing};
-ghost use Rattle.sqlite.specs.Held.{state};
+ghost use Rattle.store_migration.specs.OnConnections.{IsMigrationRefusal};
+ghost use Rattle.store_migration.specs.internal.OnConnections.{
+  AreListedFirstRows,
+  GivenFirstSchema,
+  HasMetaId,
+  IsMigrationPlan,
+  OnlyReadsFirstSchema,
+  UnchangedOnOkFirstSchema,
+};
+ghost use Rattle.store_schema.specs.OnConnections.{ChangesNothing, IsFirstSchema};
+ghost use Rattle.store_tables.specs.OnConnections.{HasCleanDisk, IsUnchanged};
 ghost use Rattle.sqlite.specs.Order.{Row as Values};
-ghost use Rattle.sqlite.specs.State.{HasCleanDisk, IsUnchanged};
 ghost use Rattle.std.specs.Prelude.{[], ◌∷◌, ◌≡◌, IfErr, IfOk, IsTrue, OnOk};
 
 use crate::first_rows::{list_books, list_imports, list_members, list_meta_ids};
@@ -70,13 +73,11 @@ fn has_one_id(rows: &[Row]) -> bool
 
 /// Tests that the table `meta` has one row with an id, under which it can be updated.
 fn check_meta_id<S: Alter>(conn: &mut Connection<S>) -> Result<(), OpenFault>
-    ensures has_id { GivenFirstSchema (state S.Store conn.old) (state S.Store conn.new)
-        (IsFirstSchema (state S.Store conn.old).now
-        → OnOk result (HasMetaId (state S.Store conn.old).now)) }
+    ensures has_id { GivenFirstSchema S.Store conn.old conn.new (IsFirstSchema S.Store conn.old
+        → OnOk result (HasMetaId S.Store conn.old)) }
     ensures fault { IfErr result IsErrorFault }
-    ensures unchanged { GivenFirstSchema (state S.Store conn.old) (state S.Store conn.new)
-        (OnOk result (IsUnchanged (state S.Store conn.old) (state S.Store conn.new))) }
-    ensures reads_only { OnlyReadsFirstSchema (state S.Store conn.old) (state S.Store conn.new) }
+    ensures unchanged { UnchangedOnOkFirstSchema S.Store conn.old conn.new result }
+    ensures reads_only { OnlyReadsFirstSchema S.Store conn.old conn.new }
 {
     match list_meta_ids(conn) {
         Ok(rows) => {
@@ -92,12 +93,11 @@ fn check_meta_id<S: Alter>(conn: &mut Connection<S>) -> Result<(), OpenFault>
 
 /// Reads all rows of the three tables, whatever their contents.
 fn list_first_rows<S: Alter>(conn: &mut Connection<S>) -> Result<FirstRows, Error>
-    ensures lists { GivenFirstSchema (state S.Store conn.old) (state S.Store conn.new)
-        (IfOk result (λ rows. AreListedFirstRows (state S.Store conn.old).now rows.books.items
-        rows.members.items rows.imports.items)) }
-    ensures unchanged { GivenFirstSchema (state S.Store conn.old) (state S.Store conn.new)
-        (OnOk result (IsUnchanged (state S.Store conn.old) (state S.Store conn.new))) }
-    ensures reads_only { OnlyReadsFirstSchema (state S.Store conn.old) (state S.Store conn.new) }
+    ensures lists { GivenFirstSchema S.Store conn.old conn.new (IfOk result
+        (λ rows. AreListedFirstRows S.Store conn.old rows.books.items rows.members.items
+        rows.imports.items)) }
+    ensures unchanged { UnchangedOnOkFirstSchema S.Store conn.old conn.new result }
+    ensures reads_only { OnlyReadsFirstSchema S.Store conn.old conn.new }
 {
     let books = list_books(conn)?;
     let members = list_members(conn)?;
@@ -115,15 +115,12 @@ fn plan_keeps<S: Alter>(
     conn: &mut Connection<S>,
     limits: Limits,
 ) -> Result<Vec<Row>, OpenFault>
-    ensures planned { HasCleanDisk (state S.Store conn.new)
-        → IsFirstSchema (state S.Store conn.old).now
-        → IfOk result (λ keeps. IsMigrationPlan limits (state S.Store conn.old).now keeps.items) }
-    ensures refusal { HasCleanDisk (state S.Store conn.new)
-        → IsFirstSchema (state S.Store conn.old).now
-        → IfErr result (IsMigrationRefusal limits (state S.Store conn.old).now) }
-    ensures unchanged { GivenFirstSchema (state S.Store conn.old) (state S.Store conn.new)
-        (OnOk result (IsUnchanged (state S.Store conn.old) (state S.Store conn.new))) }
-    ensures reads_only { OnlyReadsFirstSchema (state S.Store conn.old) (state S.Store conn.new) }
+    ensures planned { HasCleanDisk S.Store conn.new → IsFirstSchema S.Store conn.old
+        → IfOk result (λ keeps. IsMigrationPlan S.Store conn.old limits keeps.items) }
+    ensures refusal { HasCleanDisk S.Store conn.new → IsFirstSchema S.Store conn.old
+        → IfErr result (IsMigrationRefusal S.Store conn.old limits) }
+    ensures unchanged { UnchangedOnOkFirstSchema S.Store conn.old conn.new result }
+    ensures reads_only { OnlyReadsFirstSchema S.Store conn.old conn.new }
 {
     check_meta_id(conn)?;
     match list_first_rows(conn) {
@@ -139,13 +136,13 @@ pub(crate) fn plan_migration<S: Alter>(
     conn: &mut Connection<S>,
     limits: Limits,
 ) -> Result<Vec<Row>, OpenFault>
-    ensures planned { HasCleanDisk (state S.Store conn.new)
-        → IfOk result (λ keeps. IsMigrationPlan limits (state S.Store conn.old).now keeps.items) }
-    ensures refusal { HasCleanDisk (state S.Store conn.new)
-        → IfErr result (IsMigrationRefusal limits (state S.Store conn.old).now) }
-    ensures unchanged { HasCleanDisk (state S.Store conn.new)
-        → OnOk result (IsUnchanged (state S.Store conn.old) (state S.Store conn.new)) }
-    ensures changes_nothing { ChangesNothing (state S.Store conn.old) (state S.Store conn.new) }
+    ensures planned { HasCleanDisk S.Store conn.new
+        → IfOk result (λ keeps. IsMigrationPlan S.Store conn.old limits keeps.items) }
+    ensures refusal { HasCleanDisk S.Store conn.new
+        → IfErr result (IsMigrationRefusal S.Store conn.old limits) }
+    ensures unchanged { HasCleanDisk S.Store conn.new
+        → OnOk result (IsUnchanged S.Store conn.old conn.new) }
+    ensures changes_nothing { ChangesNothing S.Store conn.old conn.new }
 {
     test_first_schema(conn)?;
     plan_keeps(alloc, conn, limits)

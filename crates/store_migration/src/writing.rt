@@ -1,42 +1,52 @@
 //! Writes the tables of the second schema over those of the first, in one transaction.
 ghost use Rattle.store_migration.specs.internal.FirstRows.{HasOneSchemaNumber};
-ghost use Rattle.store_migration.specs.Migration.{AddsKeeps};
-ghost use Rattle.store_migration.specs.internal.MigrationWrites.{CommitsKeeps, WroteKeeps};
-ghost use Rattle.store_migration.specs.internal.MigrationWrites.{IsFirstWithId, TreesAddKeeps};
 ghost use Rattle.store_tables.specs.Keeps.{KeepRow};
-ghost use Rattle.store_tables.specs.SchemaCreation.{HoldsInTx};
-ghost use Rattle.store_tables.specs.StatementEffects.{InsideTx, WritesOnly};
 ghost use Rattle.store_tables.specs.Tables.{book_schema};
 ghost use Rattle.store_schema.specs.FirstSchema.{first_number};
 ghost use Rattle.store_schema.specs.StoredSchema.{HasSchemaNumber};
-ghost use Rattle.sqlite.specs.Held.{state};
-ghost use Rattle.sqlite.specs.State.{HasCleanDisk, KeepsCommit, Survives};
-ghost use Rattle.std.specs.Prelude.{◌≡◌, ℤ, List, OnOk, [], false, map, ⊤};
+ghost use Rattle.std.specs.Prelude.{◌≡◌, ℤ, List, OnOk, [], false, map};
 ghost use Rattle.store_migration.specs.InitialKeeps.{cells_of_keep};
+ghost use Rattle.store_migration.specs.internal.OnConnections.{
+  AddsKeeps,
+  CommitsKeeps,
+  IsFirstWithId,
+  TreesAddKeeps,
+  WroteKeeps,
+};
+ghost use Rattle.store_tables.specs.OnConnections.{
+  CountsFaults,
+  HasCleanDisk,
+  HoldsInTx,
+  HoldsNow,
+  InsideTx,
+  KeepsCommit,
+  KeepsCommitInTx,
+  Survives,
+  SurvivesAsBefore,
+  WritesOnly,
+  table_rows,
+};
 
 use sqlite::{Alter, Connection, Error, Row, Transaction, params};
 use store_check::cells::number_at;
 use store_tables::creation::create_keeps;
 use store_tables::keeps::insert_keep;
 use store_tables::meta::SCHEMA_NUMBER;
+use store_tables::settled::assert_settled;
 
 /// Updates the schema number in the one row of the table `meta`, which held that of the first.
 fn update_schema_number<S: Alter>(tx: &mut Transaction<'_, S>, number: i64) -> Result<usize, Error>
     ensures same_reference { tx.new.conn.ghost_name ≡ tx.old.conn.ghost_name }
     ensures updates { (id : ℤ)
-        → InsideTx (state S.Store tx.old.conn.now) (state S.Store tx.new.conn.now)
-        ((state S.Store tx.old.conn.now).now.schema ≡ book_schema
-        → HasOneSchemaNumber id first_number (state S.Store tx.old.conn.now).now
-        → OnOk result (HasSchemaNumber number (state S.Store tx.new.conn.now).now)) }
+        → InsideTx S.Store tx.old.conn.now tx.new.conn.now (tx.old.conn.now.schema ≡ book_schema
+        → HoldsNow S.Store tx.old.conn.now (HasOneSchemaNumber id first_number)
+        → OnOk result (HoldsNow S.Store tx.new.conn.now (HasSchemaNumber number))) }
     ensures writes { (id : ℤ)
-        → InsideTx (state S.Store tx.old.conn.now) (state S.Store tx.new.conn.now)
-        ((state S.Store tx.old.conn.now).now.schema ≡ book_schema
-        → HasOneSchemaNumber id first_number (state S.Store tx.old.conn.now).now → OnOk result
-        (WritesOnly 0 (state S.Store tx.old.conn.now) (state S.Store tx.new.conn.now))) }
-    ensures keeps_commit { InsideTx (state S.Store tx.old.conn.now) (state S.Store tx.new.conn.now)
-        (KeepsCommit (state S.Store tx.old.conn.now) (state S.Store tx.new.conn.now)) }
-    ensures survives { Survives (state S.Store tx.old.conn.now) (state S.Store tx.new.conn.now)
-        (λ _. ⊥) }
+        → InsideTx S.Store tx.old.conn.now tx.new.conn.now (tx.old.conn.now.schema ≡ book_schema
+        → HoldsNow S.Store tx.old.conn.now (HasOneSchemaNumber id first_number)
+        → OnOk result (WritesOnly S.Store tx.old.conn.now tx.new.conn.now 0)) }
+    ensures keeps_commit { KeepsCommitInTx S.Store tx.old.conn.now tx.new.conn.now }
+    ensures survives { SurvivesAsBefore S.Store tx.old.conn.now tx.new.conn.now }
 {
     tx.execute("UPDATE meta SET val = ?1", params![number])
 }
@@ -46,18 +56,14 @@ fn update_schema_number<S: Alter>(tx: &mut Transaction<'_, S>, number: i64) -> R
 fn insert_keeps<S: Alter>(tx: &mut Transaction<'_, S>, keeps: &[Row]) -> Result<(), Error>
     ensures same_reference { tx.new.conn.ghost_name ≡ tx.old.conn.ghost_name }
     ensures holds { (keep_rows : List KeepRow)
-        → InsideTx (state S.Store tx.old.conn.now) (state S.Store tx.new.conn.now)
-        ((state S.Store tx.old.conn.now).now.schema ≡ book_schema
-        → (state S.Store tx.old.conn.now).now.trees 9 ≡ [] → keeps.now ≡ map cells_of_keep keep_rows
-        → OnOk result
-        (WroteKeeps keep_rows (state S.Store tx.old.conn.now) (state S.Store tx.new.conn.now))) }
+        → InsideTx S.Store tx.old.conn.now tx.new.conn.now (tx.old.conn.now.schema ≡ book_schema
+        → table_rows S.Store tx.old.conn.now 9 ≡ [] → keeps.now ≡ map cells_of_keep keep_rows
+        → OnOk result (WroteKeeps S.Store tx.old.conn.now tx.new.conn.now keep_rows)) }
     ensures kept { (keep_rows : List KeepRow)
-        → InsideTx (state S.Store tx.old.conn.now) (state S.Store tx.new.conn.now)
-        ((state S.Store tx.old.conn.now).now.schema ≡ book_schema
-        → (state S.Store tx.old.conn.now).now.trees 9 ≡ [] → keeps.now ≡ map cells_of_keep keep_rows
-        → KeepsCommit (state S.Store tx.old.conn.now) (state S.Store tx.new.conn.now)) }
-    ensures survives { Survives (state S.Store tx.old.conn.now) (state S.Store tx.new.conn.now)
-        (λ _. ⊥) }
+        → InsideTx S.Store tx.old.conn.now tx.new.conn.now (tx.old.conn.now.schema ≡ book_schema
+        → table_rows S.Store tx.old.conn.now 9 ≡ [] → keeps.now ≡ map cells_of_keep keep_rows
+        → KeepsCommit S.Store tx.old.conn.now tx.new.conn.now) }
+    ensures survives { SurvivesAsBefore S.Store tx.old.conn.now tx.new.conn.now }
 {
     let Some((keep, others)) = keeps.split_first() else {
         return Ok(());
@@ -71,18 +77,15 @@ fn insert_keeps<S: Alter>(tx: &mut Transaction<'_, S>, keeps: &[Row]) -> Result<
 fn write_keeps<S: Alter>(tx: &mut Transaction<'_, S>, keeps: &[Row]) -> Result<(), Error>
     ensures same_reference { tx.new.conn.ghost_name ≡ tx.old.conn.ghost_name }
     ensures writes { (id : ℤ) (keep_rows : List KeepRow)
-        → InsideTx (state S.Store tx.old.conn.now) (state S.Store tx.new.conn.now)
-        (IsFirstWithId id (state S.Store tx.old.conn.now).now → keeps.now
-        ≡ map cells_of_keep keep_rows
-        → OnOk result (HoldsInTx (state S.Store tx.new.conn.now)
-        (AddsKeeps keep_rows (state S.Store tx.old.conn.now).now))) }
+        → InsideTx S.Store tx.old.conn.now tx.new.conn.now (IsFirstWithId S.Store tx.old.conn.now id
+        → keeps.now ≡ map cells_of_keep keep_rows
+        → OnOk result
+        (HoldsInTx S.Store tx.new.conn.now (AddsKeeps S.Store tx.old.conn.now keep_rows))) }
     ensures keeps_commit { (id : ℤ) (keep_rows : List KeepRow)
-        → InsideTx (state S.Store tx.old.conn.now) (state S.Store tx.new.conn.now)
-        (IsFirstWithId id (state S.Store tx.old.conn.now).now → keeps.now
-        ≡ map cells_of_keep keep_rows
-        → KeepsCommit (state S.Store tx.old.conn.now) (state S.Store tx.new.conn.now)) }
-    ensures survives { Survives (state S.Store tx.old.conn.now) (state S.Store tx.new.conn.now)
-        (λ _. ⊥) }
+        → InsideTx S.Store tx.old.conn.now tx.new.conn.now (IsFirstWithId S.Store tx.old.conn.now id
+        → keeps.now ≡ map cells_of_keep keep_rows
+        → KeepsCommit S.Store tx.old.conn.now tx.new.conn.now) }
+    ensures survives { SurvivesAsBefore S.Store tx.old.conn.now tx.new.conn.now }
 {
     create_keeps(tx)?;
     insert_keeps(tx, keeps)?;
@@ -93,18 +96,16 @@ fn write_keeps<S: Alter>(tx: &mut Transaction<'_, S>, keeps: &[Row]) -> Result<(
 /// Writes the second schema, with the keeps, in one transaction.
 pub(crate) fn commit_keeps<S: Alter>(conn: &mut Connection<S>, keeps: &[Row]) -> Result<(), Error>
     requires { conn.old.in_transaction ≡ false }
-    ensures atomic { (id : ℤ) (keep_rows : List KeepRow) → HasCleanDisk (state S.Store conn.new)
-        → IsFirstWithId id (state S.Store conn.old).now → keeps.now ≡ map cells_of_keep keep_rows
-        → CommitsKeeps (state S.Store conn.old) (state S.Store conn.new) result
-        (AddsKeeps keep_rows (state S.Store conn.old).now) }
+    ensures atomic { (id : ℤ) (keep_rows : List KeepRow) → HasCleanDisk S.Store conn.new
+        → IsFirstWithId S.Store conn.old id → keeps.now ≡ map cells_of_keep keep_rows
+        → CommitsKeeps S.Store conn.old conn.new result (AddsKeeps S.Store conn.old keep_rows) }
     ensures settled { conn.new.in_transaction ≡ false }
-    ensures survives { Survives (state S.Store conn.old) (state S.Store conn.new) (λ _. ⊤) }
-    ensures crash { (id : ℤ) (keep_rows : List KeepRow)
-        → IsFirstWithId id (state S.Store conn.old).now → keeps.now ≡ map cells_of_keep keep_rows
-        → Survives (state S.Store conn.old) (state S.Store conn.new)
-        (TreesAddKeeps keep_rows (state S.Store conn.old).now) }
+    ensures survives { CountsFaults S.Store conn.old conn.new }
+    ensures crash { (id : ℤ) (keep_rows : List KeepRow) → IsFirstWithId S.Store conn.old id
+        → keeps.now ≡ map cells_of_keep keep_rows
+        → Survives S.Store conn.old conn.new (TreesAddKeeps S.Store conn.old keep_rows) }
 {
-    let _settled = conn.is_autocommit();
+    assert_settled(conn);
     let mut tx = conn.transaction();
     write_keeps(&mut tx, keeps)?;
     tx.commit()

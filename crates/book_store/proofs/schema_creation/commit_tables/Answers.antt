@@ -1,14 +1,17 @@
-use Rattle.std.proofs.Common.{rules, ◌≡◌, IsTrue, true, not, sym, ap, subst, ◌∙◌}
+use Rattle.std.proofs.Common.{rules, ◌≡◌, IsTrue, true, sym, subst}
 use Rattle.std.specs.Prelude.{OnErr, OnOk}
+use Rattle.std.proofs.lemmas.Result.{on_ok_weaker}
 use Rattle.sqlite.specs.Held.{state}
 use Rattle.sqlite.specs.State.{HasCleanDisk, KeepsCommit, Survives}
 use Rattle.sqlite.proofs.StateLemmas.{survives_then}
 use Rattle.sqlite.proofs.Callers.{survives_begin}
+use Rattle.base_types.proofs.TextMapLemmas.{on_err_from}
 use Rattle.store_tables.specs.SchemaCreation.{empty_schema}
 use Rattle.store_tables.proofs.SchemaCreationLemmas.{clean_before}
-use Rattle.store_tables.proofs.ReturningLemmas.{failed_commit, on_ok_map}
+use Rattle.store_tables.proofs.ReturningLemmas.{failed_commit}
+use Rattle.store_tables.proofs.TransactionLemmas.{rollback_restores}
 use Rattle.book_store.specs.OpenOutcomes.{AreNewStoreTrees, IsNewStoreCommitted}
-use Rattle.book_store.proofs.SchemaLemmas.{on_err_of, new_store_trees, new_store_committed, rolled_open, rolled_back, committed_open}
+use Rattle.book_store.proofs.SchemaLemmas.{new_store_trees, new_store_committed, rolled_open, committed_open}
 use Rattle.book_store.proofs.schema_creation.commit_tables.Goals as goal
 
 pub returns-in_err-create_tables-clause-unchanged_on_error : goal.returns-in_err-create_tables-clause-unchanged_on_error
@@ -23,9 +26,8 @@ returns-in_err-create_tables-clause-unchanged_on_error g c clean up bare =
     let begun = c.transaction-tx.ensures.begun in
     let inside : IsTrue (state g.S.Store c.transaction-tx.result.conn.now).in_transaction = rw begun in
     let kept : KeepsCommit (state g.S.Store (record old { in_transaction = true })) mid = rw begun at (c.create_tables.ensures.no_commit.kept first inside) in
-    let settled : IsTrue (state g.S.Store old).is_open → (state g.S.Store old).now ≡ (state g.S.Store old).committed = c.is_autocommit-settled.ensures.settled (c.is_autocommit-settled.ensures.value ∙ ap not c.requires) in
-    on_err_of c.from_residual.result (subst (λ k. (state g.S.Store k).now ≡ (state g.S.Store old).now) same
-    (rolled_back (state g.S.Store (record old { in_transaction = true })) mid (state g.S.Store end) kept (c.drop-tx.ensures.undone late) settled top))
+    on_err_from c.from_residual.result (subst (λ k. (state g.S.Store k).now ≡ (state g.S.Store old).now) same
+    (rollback_restores (state g.S.Store (record old { in_transaction = true })) mid (state g.S.Store end) kept (c.drop-tx.ensures.undone late) c.assert_settled.ensures top).0)
 
 pub returns-in_err-create_tables-clause-was_open : goal.returns-in_err-create_tables-clause-was_open
 returns-in_err-create_tables-clause-was_open g c clean up =
@@ -62,7 +64,7 @@ returns-clause-creates_tables g c clean bare =
     let schema : (state g.S.Store c.transaction-tx.result.conn.now).now.schema ≡ empty_schema = rw begun bare in
     let created = c.in_ok-create_tables.ensures.creates first inside schema in
     subst (λ k. OnOk c.commit.result (IsNewStoreCommitted (state g.S.Store k))) same
-    (on_ok_map c.commit.result (λ shows. new_store_committed mid (state g.S.Store end) created.holds shows.1) (c.commit.ensures.ok late))
+    (on_ok_weaker c.commit.result (λ shows. new_store_committed mid (state g.S.Store end) created.holds shows.1) (c.commit.ensures.ok late))
 
 pub returns-clause-unchanged_on_error : goal.returns-clause-unchanged_on_error
 returns-clause-unchanged_on_error g c clean up bare =
@@ -78,9 +80,8 @@ returns-clause-unchanged_on_error g c clean up bare =
     let kept : KeepsCommit (state g.S.Store (record old { in_transaction = true })) mid = rw begun at (c.create_tables.ensures.no_commit.kept first inside) in
     let schema : (state g.S.Store c.transaction-tx.result.conn.now).now.schema ≡ empty_schema = rw begun bare in
     let created = c.in_ok-create_tables.ensures.creates first inside schema in
-    let settled : IsTrue (state g.S.Store old).is_open → (state g.S.Store old).now ≡ (state g.S.Store old).committed = c.is_autocommit-settled.ensures.settled (c.is_autocommit-settled.ensures.value ∙ ap not c.requires) in
     subst (λ k. OnErr c.commit.result ((state g.S.Store k).now ≡ (state g.S.Store old).now)) same
-    (failed_commit (state g.S.Store (record old { in_transaction = true })) mid (state g.S.Store end) c.commit.result kept created.inside settled (c.commit.ensures.err late) top)
+    (failed_commit (state g.S.Store (record old { in_transaction = true })) mid (state g.S.Store end) c.commit.result kept created.inside c.assert_settled.ensures (c.commit.ensures.err late) top)
 
 pub returns-clause-was_open : goal.returns-clause-was_open
 returns-clause-was_open g c clean up =

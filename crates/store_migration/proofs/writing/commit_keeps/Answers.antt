@@ -1,4 +1,4 @@
-use Rattle.std.proofs.Common.{rules, ◌≡◌, IsTrue, true, not, sym, ap, subst, ◌∙◌}
+use Rattle.std.proofs.Common.{rules, ◌≡◌, IsTrue, true, sym, subst}
 use Rattle.sqlite.specs.Held.{state}
 use Rattle.sqlite.specs.State.{HasCleanDisk, KeepsCommit}
 use Rattle.store_tables.proofs.SchemaCreationLemmas.{clean_before}
@@ -20,6 +20,5 @@ returns-clause-atomic g c id keep_rows clean first returned =
     let there : IsFirstWithId id (state g.S.Store c.transaction-tx.result.conn.now).now = rw begun first in
     let left = rw begun at (c.in_ok-write_keeps.ensures.writes id keep_rows early inside there returned) in
     let kept : KeepsCommit (state g.S.Store (record old { in_transaction = true })) mid = rw begun at (c.write_keeps.ensures.keeps_commit id keep_rows early inside there returned) in
-    let settled : IsTrue (state g.S.Store old).is_open → (state g.S.Store old).now ≡ (state g.S.Store old).committed = c.is_autocommit-settled.ensures.settled (c.is_autocommit-settled.ensures.value ∙ ap not c.requires) in
     subst (λ k. CommitsKeeps (state g.S.Store old) (state g.S.Store k) c.commit.result (AddsKeeps keep_rows (state g.S.Store old).now)) same
-    (commits (state g.S.Store (record old { in_transaction = true })) mid (state g.S.Store end) c.commit.result (AddsKeeps keep_rows (state g.S.Store old).now) kept left settled (c.commit.ensures.ok late) (c.commit.ensures.err late))
+    (commits (state g.S.Store (record old { in_transaction = true })) mid (state g.S.Store end) c.commit.result (AddsKeeps keep_rows (state g.S.Store old).now) kept left c.assert_settled.ensures (c.commit.ensures.ok late) (c.commit.ensures.err late))

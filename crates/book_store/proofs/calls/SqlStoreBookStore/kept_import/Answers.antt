@@ -1,15 +1,18 @@
-use Rattle.std.proofs.Common.{subst}
-use Rattle.sqlite.specs.Held.{state}
+use Rattle.std.proofs.Common.{refl, subst}
 use Rattle.book_model.specs.Books.{Books}
+use Rattle.book_model.specs.Bounds.{Bounds}
 use Rattle.book_model.specs.Importing.{kept_import_step}
-use Rattle.book_model.specs.CallOutcomes.{MatchesQuery}
 use Rattle.store_lookups.specs.CallResults.{IsExactly}
-use Rattle.book_store.specs.StoreViews.{StoreView}
-use Rattle.store_writes.specs.StoredBooks.{IsOpenOnHonestDisk, stored_books}
-use Rattle.book_store.proofs.StoreLemmas.{reads_store}
+use Rattle.book_store.specs.StoreViews.{ReadsStore, StoreView}
+use Rattle.book_store.proofs.StoreLemmas.{only_reads_store}
 use Rattle.book_store.proofs.calls.SqlStoreBookStore.kept_import.Goals as goal
 
-pub returns-clause-step : goal.returns-clause-step
-returns-clause-step g c =
-    subst (λ (v : StoreView _). IsOpenOnHonestDisk (state g.S.Store c.import_of_book.new.conn) → MatchesQuery IsExactly c.import_of_book.result (kept_import_step (stored_books (state g.S.Store v.conn)) c.args.book.now c.args.key.now) (stored_books (state g.S.Store v.conn)) (stored_books (state g.S.Store c.import_of_book.new.conn))) c.self.view_is
-    (reads_store IsExactly c.import_of_book.result (λ (books : Books). kept_import_step books c.args.book.now c.args.key.now) (state g.S.Store c.self.inside.conn) (state g.S.Store c.import_of_book.new.conn) c.self.inside.limits c.self.invariant c.import_of_book.ensures.reads_only c.import_of_book.ensures.answers)
+pub returns : goal.returns
+returns g c =
+    let new : StoreView _ = record { conn = c.import_of_book.new.conn; limits = c.self.inside.limits } in
+    let old : StoreView _ = record { conn = c.self.inside.conn; limits = c.self.inside.limits } in
+    let query = λ (limits : Bounds) (books : Books). kept_import_step books c.args.book.now c.args.key.now in
+    record {
+      reads = subst (λ (v : StoreView _). ReadsStore g.S.Store IsExactly v new c.import_of_book.result query) c.self.view_is
+          (only_reads_store g.S.Store IsExactly old new c.import_of_book.result query c.self.invariant refl c.import_of_book.ensures.reads_only c.import_of_book.ensures.answers);
+    }

@@ -1,14 +1,17 @@
-use Rattle.std.proofs.Common.{subst}
-use Rattle.sqlite.specs.Held.{state}
+use Rattle.std.proofs.Common.{refl, subst}
 use Rattle.book_model.specs.Books.{Books}
-use Rattle.book_model.specs.CallOutcomes.{MatchesQuery}
+use Rattle.book_model.specs.Bounds.{Bounds}
 use Rattle.book_model.specs.Pages.{IsReport, report_step}
-use Rattle.book_store.specs.StoreViews.{StoreView}
-use Rattle.store_writes.specs.StoredBooks.{IsOpenOnHonestDisk, stored_books}
-use Rattle.book_store.proofs.StoreLemmas.{reads_store}
+use Rattle.book_store.specs.StoreViews.{ReadsStore, StoreView}
+use Rattle.book_store.proofs.StoreLemmas.{only_reads_store}
 use Rattle.book_store.proofs.calls.SqlStoreBookStore.report.Goals as goal
 
-pub returns-clause-step : goal.returns-clause-step
-returns-clause-step g c =
-    subst (λ (v : StoreView _). IsOpenOnHonestDisk (state g.S.Store c.page_of_book.new.conn) → MatchesQuery IsReport c.page_of_book.result (report_step v.limits (stored_books (state g.S.Store v.conn)) c.args.book.now c.args.token c.args.limit) (stored_books (state g.S.Store v.conn)) (stored_books (state g.S.Store c.page_of_book.new.conn))) c.self.view_is
-    (reads_store IsReport c.page_of_book.result (λ (books : Books). report_step c.self.inside.limits books c.args.book.now c.args.token c.args.limit) (state g.S.Store c.self.inside.conn) (state g.S.Store c.page_of_book.new.conn) c.self.inside.limits c.self.invariant c.page_of_book.ensures.reads_only c.page_of_book.ensures.answers)
+pub returns : goal.returns
+returns g c =
+    let new : StoreView _ = record { conn = c.page_of_book.new.conn; limits = c.self.inside.limits } in
+    let old : StoreView _ = record { conn = c.self.inside.conn; limits = c.self.inside.limits } in
+    let query = λ (limits : Bounds) (books : Books). report_step limits books c.args.book.now c.args.token c.args.limit in
+    record {
+      reads = subst (λ (v : StoreView _). ReadsStore g.S.Store IsReport v new c.page_of_book.result query) c.self.view_is
+          (only_reads_store g.S.Store IsReport old new c.page_of_book.result query c.self.invariant refl c.page_of_book.ensures.reads_only c.page_of_book.ensures.answers);
+    }

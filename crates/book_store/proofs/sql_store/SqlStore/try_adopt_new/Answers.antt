@@ -2,7 +2,7 @@ use Rattle.std.proofs.Common.{rules, ◌≡◌, sym, ◌∙◌}
 use Rattle.store_tables.specs.SchemaCreation.{empty_schema}
 use Rattle.sqlite.specs.Held.{state}
 use Rattle.book_store.proofs.StoreLemmas.{new_store_is_sound}
-use Rattle.book_store.proofs.sql_store.SqlStore.adopt_new.Goals as goal
+use Rattle.book_store.proofs.sql_store.SqlStore.try_adopt_new.Goals as goal
 
 pub invariant_of-result : goal.invariant_of-result
 invariant_of-result g c =
