@@ -1,4 +1,4 @@
-pub mod OrderCommands
+pub mod OrderWork
 pub mod PrintedOutputs
 pub mod Hosts
 pub mod OrdersOnHost

@@ -2,23 +2,27 @@
 -- prints. This project's own.
 use Rattle.std.specs.Prelude.{◌≡◌, ◌⊎◌, ℕ, List, Option, Ok, Err}
 use Rattle.std.specs.Io.KnownBytes.{Appends, Keeps}
+use Rattle.book_commands.specs.declared.command.Command.TheVariants.{Import as ImportRows}
+use Rattle.book_http.specs.ConnectionModels.{ConnectionModel}
 use Rattle.book_http.specs.OctetPromise.{ServiceStep}
-use Rattle.book_model.specs.Bounds.{Bounds}
-use Rattle.book_model.specs.Books.{Books}
-use Rattle.book_model.specs.declared.denied.Fault.{Fault as FaultKind}
 use Rattle.cli_args.specs.declared.order.Order.{Order}
-use Rattle.cli_args.specs.declared.order.Order.TheVariants.{Try, Init, Serve, Migrate}
 use Rattle.http_replies.specs.Replies.{head_fault_octets}
 use Rattle.cli_orders.specs.OrderOutputs.{made_output, migrate_output}
-use Rattle.cli_host.specs.OrderCommands.{RunsOrder, StopsOrder}
+use Rattle.cli_orders.specs.CommandRuns.{PrintsCommand, PrintsMirror, StopsCommand, StopsMirror}
 use Rattle.cli_orders.specs.declared.stop.Stop.{Stop}
 use Rattle.cli_orders.specs.declared.stop.Stop.TheVariants.{Open, Device}
 use Rattle.cli_host.specs.Hosts.{HostEffects}
-use Rattle.cli_host.specs.PrintedOutputs.{IsFileOf}
-use Rattle.cli_orders.specs.Announcements.{Announces, StopsServing}
+use Rattle.cli_host.specs.OrderWork.{work_of}
+use Rattle.cli_host.specs.declared.work.StoreWork.{StoreWork}
+use Rattle.cli_host.specs.declared.work.StoreWork.TheVariants.{Perform, ImportFile, MirrorBook}
+use Rattle.cli_host.specs.declared.work.Work.{Work}
+use Rattle.cli_host.specs.declared.work.Work.TheVariants.{Nothing, CreateFile, MigrateFile}
+use Rattle.cli_host.specs.declared.work.Work.TheVariants.{ServeFile, UseFile}
+use Rattle.cli_orders.specs.Announcements.{AnnouncesAndServes, StopsServing}
 use Rattle.cli_orders.specs.Stops.{out_of_memory}
 use Rattle.cli_orders.specs.Streams.{WritesPrefix}
 use Rattle.store_schema.specs.declared.open_fault.OpenFault.{OpenFault}
+use Rattle.sync_core.specs.StoreModels.{StoreModel}
 
 -- the file couldn't be used, as this fault says, and nothing is written
 pub record StopsUnopened (fault : OpenFault) (stop : Stop) (before after : Option (List ℕ))
@@ -76,10 +80,84 @@ module _ {S L : Type 0} (effects : HostEffects S L) where
       × (StopsForMemory stop before after
       ⊎ StopsOverText (migrate_output count) stop before after))
 
+-- A store is represented by its books.
+module _ {S L : Type 0} (model : StoreModel S) (effects : HostEffects S L) where
+  -- ---- an import
+
+  -- all octets of the file of rows were imported into the book, and the counts are printed
+  pub record ImportsRows
+      (old : S) (book key csv : List ℕ) (before after : Option (List ℕ)) (new : S) : Type 0 where
+    pub rows : List ℕ
+    pub read : effects.holds csv rows
+    pub prints : PrintsCommand model old (ImportRows book key rows) before after new
+
+  -- the import of all octets of the file of rows is why the order stops
+  pub record StopsOnImport
+      (old : S) (book key csv : List ℕ) (stop : Stop) (before after : Option (List ℕ)) (new : S)
+      : Type 0 where
+    pub rows : List ℕ
+    pub read : effects.holds csv rows
+    pub stops : StopsCommand model old (ImportRows book key rows) stop before after new
+
+  -- the file of rows couldn't be read: nothing was performed or written
+  pub record StopsReadingRows (old : S) (stop : Stop) (before after : Option (List ℕ)) (new : S)
+      : Type 0 where
+    pub unchanged : new ≡ old
+    pub unwritten : Keeps before after
+    pub stop_is : (stop ≡ out_of_memory) ⊎ (stop ≡ Device)
+
+  -- ---- a store
+
+  -- the work was done on the store, and its result is printed
+  abbrev pub DoesStoreWork :
+      S → StoreWork → Option (List ℕ) → Option (List ℕ) → S → Type 0
+  DoesStoreWork old (Perform command) before after new =
+      PrintsCommand model old command before after new
+  DoesStoreWork old (ImportFile book key csv) before after new =
+      ImportsRows old book key csv before after new
+  DoesStoreWork old (MirrorBook book limit pages) before after new =
+      PrintsMirror model old book limit pages before after new
+
+  -- why the work wasn't done on the store, or its result wasn't printed
+  abbrev pub StopsStoreWork :
+      S → StoreWork → Stop → Option (List ℕ) → Option (List ℕ) → S → Type 0
+  StopsStoreWork old (Perform command) stop before after new =
+      StopsCommand model old command stop before after new
+  StopsStoreWork old (ImportFile book key csv) stop before after new =
+      StopsReadingRows old stop before after new
+      ⊎ StopsOnImport old book key csv stop before after new
+  StopsStoreWork old (MirrorBook book limit pages) stop before after new =
+      StopsMirror model old book limit pages stop before after new
+
+  -- ---- the store in a file
+
+  -- the file's store was opened, and the work was done on it
+  pub record DoesInFile (file : List ℕ) (work : StoreWork) (before after : Option (List ℕ))
+      : Type 0 where
+    pub store : S
+    pub opened : effects.opens file (Ok store)
+    pub store_after : S
+    pub does : DoesStoreWork store work before after store_after
+
+  -- the file's store was opened, and this is why the work stopped
+  pub record StopsOnFile
+      (file : List ℕ) (work : StoreWork) (stop : Stop) (before after : Option (List ℕ))
+      : Type 0 where
+    pub store : S
+    pub opened : effects.opens file (Ok store)
+    pub store_after : S
+    pub stops : StopsStoreWork store work stop before after store_after
+
+  -- the file wasn't opened, or it was and the work stopped
+  abbrev pub StopsInFile :
+      List ℕ → StoreWork → Stop → Option (List ℕ) → Option (List ℕ) → Type 0
+  StopsInFile file work stop before after =
+      ((fault : OpenFault) × effects.opens file (Err fault)
+      × StopsUnopened fault stop before after)
+      ⊎ StopsOnFile file work stop before after
+
 -- A store is represented by its books, a connection by its octets, and a listener by its arrivals.
-module _ {S Connection L : Type 0} (books : S → Books) (limits : S → Bounds)
-    (premise : S → Type 0) (may_fault : FaultKind → Type 0)
-    (remaining contents : Connection → Option (List ℕ))
+module _ {S Connection L : Type 0} (model : StoreModel S) (stream : ConnectionModel Connection)
     (coming : L → Option (List (Option Connection))) (effects : HostEffects S L) where
   -- ---- serving a file
 
@@ -94,9 +172,9 @@ module _ {S Connection L : Type 0} (books : S → Books) (limits : S → Bounds)
     pub port : ℕ
     pub bound : effects.binds requested listener port
     pub store_after : S
-    pub announces : Announces (ServiceStep books limits premise may_fault) head_fault_octets
-        remaining contents port connections (coming listener) (record { store = store })
-        before after (Ok tt) (record { store = store_after })
+    pub announces : AnnouncesAndServes (ServiceStep model) head_fault_octets
+        stream port connections (coming listener)
+        (record { store = store }) before after (record { store = store_after })
 
   -- the same up to where serving stopped
   pub record StopsServingFile
@@ -108,8 +186,8 @@ module _ {S Connection L : Type 0} (books : S → Books) (limits : S → Bounds)
     pub port : ℕ
     pub bound : effects.binds requested listener port
     pub store_after : S
-    pub stops : StopsServing (ServiceStep books limits premise may_fault) head_fault_octets
-        remaining contents port connections (coming listener) (record { store = store })
+    pub stops : StopsServing (ServiceStep model) head_fault_octets
+        stream port connections (coming listener) (record { store = store })
         before after stop (record { store = store_after })
 
   -- the file wasn't opened, or it was and no listener was bound, or serving stopped
@@ -120,60 +198,32 @@ module _ {S Connection L : Type 0} (books : S → Books) (limits : S → Bounds)
       ⊎ (((store : S) × effects.opens file (Ok store) × StopsAtDevice stop before after)
       ⊎ StopsServingFile file requested connections stop before after)
 
-  -- ---- an order on a store
-
-  -- the store of the file that the order names was opened, and the order run on it
-  pub record RunsInFile (order : Order) (before after : Option (List ℕ)) : Type 0 where
-    pub file : List ℕ
-    pub is_named : IsFileOf order file
-    pub store : S
-    pub opened : effects.opens file (Ok store)
-    pub store_after : S
-    pub runs : RunsOrder books limits premise may_fault effects.holds order store
-        before after store_after
-
-  -- that store wasn't opened
-  pub record StopsAtFile (order : Order) (stop : Stop) (before after : Option (List ℕ))
-      : Type 0 where
-    pub file : List ℕ
-    pub is_named : IsFileOf order file
-    pub fault : OpenFault
-    pub refused : effects.opens file (Err fault)
-    pub stops : StopsUnopened fault stop before after
-
-  -- it was opened, and the order wasn't run on it, or its output wasn't printed
-  pub record StopsOnFile (order : Order) (stop : Stop) (before after : Option (List ℕ))
-      : Type 0 where
-    pub file : List ℕ
-    pub is_named : IsFileOf order file
-    pub store : S
-    pub opened : effects.opens file (Ok store)
-    pub store_after : S
-    pub stops : StopsOrder books limits premise may_fault effects.holds order store stop
-        before after store_after
-
-  -- one of these, or the order is `Try`, which names no file
-  abbrev pub StopsInFile : Order → Stop → Option (List ℕ) → Option (List ℕ) → Type 0
-  StopsInFile order stop before after =
-      StopsAtFile order stop before after
-      ⊎ (StopsOnFile order stop before after ⊎ ((order ≡ Try) × StopsAtDevice stop before after))
-
   -- ---- all orders
 
-  -- the order succeeded, and its output is printed
-  abbrev pub RunsOnHost : Order → Option (List ℕ) → Option (List ℕ) → Type 0
-  RunsOnHost Try before after = ⊥
-  RunsOnHost (Init file) before after = MakesStore effects file before after
-  RunsOnHost (Serve file port connections) before after =
+  -- the work was done, and its output is printed
+  abbrev pub DoesWork : Work → Option (List ℕ) → Option (List ℕ) → Type 0
+  DoesWork Nothing before after = ⊥
+  DoesWork (CreateFile file) before after = MakesStore effects file before after
+  DoesWork (MigrateFile file) before after = MigratesFile effects file before after
+  DoesWork (ServeFile file port connections) before after =
       ServesFile file port connections before after
-  RunsOnHost (Migrate file) before after = MigratesFile effects file before after
-  RunsOnHost order before after = RunsInFile order before after
+  DoesWork (UseFile file work) before after = DoesInFile model effects file work before after
 
-  -- Why an order didn't succeed, or its output wasn't printed. `Try` can't be run here.
-  abbrev pub StopsOnHost : Order → Stop → Option (List ℕ) → Option (List ℕ) → Type 0
-  StopsOnHost Try stop before after = StopsAtDevice stop before after
-  StopsOnHost (Init file) stop before after = StopsMaking effects file stop before after
-  StopsOnHost (Serve file port connections) stop before after =
+  -- Why the work wasn't done, or its output wasn't printed. `try` has no work here, since it needs
+  -- standard input.
+  abbrev pub StopsWork : Work → Stop → Option (List ℕ) → Option (List ℕ) → Type 0
+  StopsWork Nothing stop before after = StopsAtDevice stop before after
+  StopsWork (CreateFile file) stop before after = StopsMaking effects file stop before after
+  StopsWork (MigrateFile file) stop before after = StopsMigrating effects file stop before after
+  StopsWork (ServeFile file port connections) stop before after =
       StopsServe file port connections stop before after
-  StopsOnHost (Migrate file) stop before after = StopsMigrating effects file stop before after
-  StopsOnHost order stop before after = StopsInFile order stop before after
+  StopsWork (UseFile file work) stop before after =
+      StopsInFile model effects file work stop before after
+
+  -- the work of the order was done, and its output is printed
+  abbrev pub RunsOnHost : Order → Option (List ℕ) → Option (List ℕ) → Type 0
+  RunsOnHost order before after = DoesWork (work_of order) before after
+
+  -- why it wasn't
+  abbrev pub StopsOnHost : Order → Stop → Option (List ℕ) → Option (List ℕ) → Type 0
+  StopsOnHost order stop before after = StopsWork (work_of order) stop before after

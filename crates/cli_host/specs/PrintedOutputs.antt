@@ -4,25 +4,10 @@ use Rattle.std.specs.Io.KnownBytes.{Appends}
 use Rattle.book_service.specs.declared.mirrored.Mirrored.{Mirrored}
 use Rattle.book_commands.specs.declared.reply.Reply.{Reply}
 use Rattle.cli_args.specs.declared.order.Order.{Order}
-use Rattle.cli_args.specs.declared.order.Order.TheVariants.{Try, Init, Book, Serve, Import, Export}
-use Rattle.cli_args.specs.declared.order.Order.TheVariants.{Tally, Forget, Mirror, Expand, Migrate}
+use Rattle.cli_args.specs.declared.order.Order.TheVariants.{Try, Init, Serve, Mirror, Migrate}
 use Rattle.cli_orders.specs.OrderOutputs.{made_output, migrate_output, mirror_lines}
 use Rattle.cli_orders.specs.Announcements.{listening_line}
 use Rattle.cli_orders.specs.ReplyTexts.{PrintsReplyText}
-
--- the order names this file
-abbrev pub IsFileOf : Order → List ℕ → Type 0
-IsFileOf Try name = ⊥
-IsFileOf (Init file) name = name ≡ file
-IsFileOf (Book file book) name = name ≡ file
-IsFileOf (Serve file port connections) name = name ≡ file
-IsFileOf (Import file book key csv) name = name ≡ file
-IsFileOf (Export file book form) name = name ≡ file
-IsFileOf (Tally file book) name = name ≡ file
-IsFileOf (Forget file book upto) name = name ≡ file
-IsFileOf (Mirror file book limit pages) name = name ≡ file
-IsFileOf (Expand file book uid) name = name ≡ file
-IsFileOf (Migrate file) name = name ≡ file
 
 -- the text of some reply
 pub record PrintsReply (before after : Option (List ℕ)) : Type 0 where

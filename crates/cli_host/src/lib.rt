@@ -4,10 +4,11 @@
 mod args;
 mod exit;
 mod host;
-mod order_command;
 mod running;
+mod work;
 
 pub use args::read_args;
 pub use exit::run;
 pub use host::Host;
-pub use running::{run_on_host, run_on_store, run_order};
+pub use running::{run_on_host, run_order};
+pub use work::{StoreWork, Work, work_of};

@@ -1,17 +1,18 @@
-//! Runs orders on a store and on a host.
-ghost use Rattle.std.specs.Prelude.{◌≡◌, None, IfErr, IfSome, OnOk};
-ghost use Rattle.cli_args.specs.declared.order.Order.{Order as TheOrder};
-ghost use Rattle.cli_host.specs.OrderCommands.{RunsOrder, StopsOrder};
-ghost use Rattle.cli_host.specs.PrintedOutputs.{IsFileOf, PrintsOrder};
-ghost use Rattle.cli_host.specs.OrdersOnHost.{MigratesFile, RunsInFile, RunsOnHost, StopsOnHost};
-ghost use Rattle.cli_host.specs.OrdersOnHost.{MakesStore, ServesFile, StopsMigrating, StopsInFile};
-ghost use Rattle.cli_host.specs.OrdersOnHost.{StopsMaking, StopsServe};
+//! Runs orders on a host.
+ghost use Rattle.std.specs.Prelude.{◌⊎◌, IfErr, OnOk};
+ghost use Rattle.cli_host.specs.PrintedOutputs.{PrintsOrder};
+ghost use Rattle.cli_host.specs.OrdersOnHost.{DoesInFile, DoesStoreWork, DoesWork, ImportsRows};
+ghost use Rattle.cli_host.specs.OrdersOnHost.{MakesStore, MigratesFile, RunsOnHost, ServesFile};
+ghost use Rattle.cli_host.specs.OrdersOnHost.{StopsInFile, StopsMaking, StopsMigrating};
+ghost use Rattle.cli_host.specs.OrdersOnHost.{StopsOnHost, StopsOnImport, StopsReadingRows};
+ghost use Rattle.cli_host.specs.OrdersOnHost.{StopsServe, StopsStoreWork, StopsWork};
 ghost use Rattle.cli_orders.specs.ReplyTexts.{KeepsOutput};
 
 use crate::host::Host;
-use crate::order_command::command_of;
-use base_types::Text;
+use crate::work::{StoreWork, Work, work_of};
+use base_types::{Items, Text};
 use book_http::{Listener, Service};
+use book_service::Command;
 use cli_args::Order;
 use cli_orders::{
     Stop, announce_and_serve, made_text, migrate_text, run_command, run_mirror, write_out,
@@ -20,61 +21,6 @@ use std::alloc::Global;
 use std::io::Write;
 use std::rt::HostRuntime;
 use sync_core::BookStore;
-
-/// Runs an order that is a single command, or a mirror, on a store of books, and prints its output.
-/// For an import it reads the file of rows first.
-///
-/// Stops as `run_command` and `run_mirror` do, and with `Device` if the rows can't be read or
-/// have more than 8,388,608 octets, and for every other order.
-pub fn run_on_store<S: BookStore, B, L, M: Host<B, L>, W: Write>(
-    alloc: Global,
-    host: &M,
-    store: &mut S,
-    order: Order,
-    writer: &mut W,
-) -> Result<(), Stop>
-    ensures done { OnOk result (RunsOrder S.books S.limits S.premise S.may_fault
-        (M.effects host.now).holds order
-        store.old (W.contents writer.old) (W.contents writer.new) store.new) }
-    ensures stopped { IfErr result (λ stop. StopsOrder S.books S.limits S.premise S.may_fault
-        (M.effects host.now).holds order
-        store.old stop (W.contents writer.old) (W.contents writer.new) store.new) }
-    ensures output_kept { IfErr result (λ stop.
-        KeepsOutput stop (W.contents writer.old) (W.contents writer.new)) }
-{
-    match order {
-        Order::Mirror {
-            file: _,
-            book,
-            limit,
-            pages,
-        } => run_mirror(alloc, store, book.as_str(), limit, pages, writer),
-        order => {
-            let command = command_of(alloc, host, order)?;
-            run_command(alloc, store, &command, writer)
-        }
-    }
-}
-
-/// The file that an order names.
-fn file_of(order: &Order) -> Option<&str>
-    ensures named { IfSome result (λ name. IsFileOf order.now name.now) }
-    ensures unnamed { result ≡ None → order.now ≡ TheOrder.Try }
-{
-    match order {
-        Order::Try => None,
-        Order::Init { file }
-        | Order::Book { file, .. }
-        | Order::Serve { file, .. }
-        | Order::Import { file, .. }
-        | Order::Export { file, .. }
-        | Order::Tally { file, .. }
-        | Order::Forget { file, .. }
-        | Order::Mirror { file, .. }
-        | Order::Expand { file, .. }
-        | Order::Migrate { file } => Some(file.as_str()),
-    }
-}
 
 /// Creates a store without books in the file, and prints `made`.
 fn run_init<S: Drop, L, M: Host<S, L>, W: Write>(
@@ -118,11 +64,11 @@ fn run_serve<S: BookStore + Drop, L: Listener + Drop, M: Host<S, L>, W: Write>(
     connections: u64,
     writer: &mut W,
 ) -> Result<(), Stop>
-    ensures done { OnOk result (ServesFile S.books S.limits S.premise S.may_fault
-        L.Stream.remaining L.Stream.contents L.coming (M.effects host.now)
+    ensures done { OnOk result (ServesFile S.model
+        L.Stream.model L.coming (M.effects host.now)
         file port connections (W.contents writer.old) (W.contents writer.new)) }
-    ensures stopped { IfErr result (λ stop. StopsServe S.books S.limits S.premise S.may_fault
-        L.Stream.remaining L.Stream.contents L.coming (M.effects host.now)
+    ensures stopped { IfErr result (λ stop. StopsServe S.model
+        L.Stream.model L.coming (M.effects host.now)
         file port connections stop (W.contents writer.old) (W.contents writer.new)) }
 {
     let store = host.open(file.as_str())?;
@@ -131,25 +77,96 @@ fn run_serve<S: BookStore + Drop, L: Listener + Drop, M: Host<S, L>, W: Write>(
     announce_and_serve(alloc, &mut service, listener, port, connections, writer)
 }
 
-/// Runs an order on the books in its file, as `run_on_store` does.
-fn run_in_file<S: BookStore + Drop, L: Listener + Drop, M: Host<S, L>, W: Write>(
+/// Imports a file of rows into a book of the store, and prints the counts.
+fn import_rows<S: BookStore, L, M: Host<S, L>, W: Write>(
     alloc: Global,
     host: &M,
-    order: Order,
+    store: &mut S,
+    book: Text,
+    key: Text,
+    csv: &str,
     writer: &mut W,
 ) -> Result<(), Stop>
-    ensures done { OnOk result (RunsInFile S.books S.limits S.premise S.may_fault
-        L.Stream.remaining L.Stream.contents L.coming (M.effects host.now)
-        order (W.contents writer.old) (W.contents writer.new)) }
-    ensures stopped { IfErr result (λ stop. StopsInFile S.books S.limits S.premise S.may_fault
-        L.Stream.remaining L.Stream.contents L.coming (M.effects host.now)
-        order stop (W.contents writer.old) (W.contents writer.new)) }
+    ensures done { OnOk result (ImportsRows S.model (M.effects host.now)
+        store.old book key csv.now (W.contents writer.old) (W.contents writer.new) store.new) }
+    ensures stopped { IfErr result (λ stop.
+        StopsReadingRows S.model (M.effects host.now)
+        store.old stop (W.contents writer.old) (W.contents writer.new) store.new
+        ⊎ StopsOnImport S.model (M.effects host.now)
+        store.old book key csv.now stop
+        (W.contents writer.old) (W.contents writer.new) store.new) }
 {
-    let Some(file) = file_of(&order) else {
-        return Err(Stop::Device);
-    };
-    let mut store = host.open(file)?;
-    run_on_store(alloc, host, &mut store, order, writer)
+    let rows = host.read_rows(alloc, csv)?;
+    let body = Items::from_vec(rows);
+    let command = Command::Import { book, key, body };
+    run_command(alloc, store, &command, writer)
+}
+
+/// Does an order's work on a store, and prints the result.
+fn do_store_work<S: BookStore, L, M: Host<S, L>, W: Write>(
+    alloc: Global,
+    host: &M,
+    store: &mut S,
+    work: StoreWork,
+    writer: &mut W,
+) -> Result<(), Stop>
+    ensures done { OnOk result (DoesStoreWork S.model (M.effects host.now)
+        store.old work (W.contents writer.old) (W.contents writer.new) store.new) }
+    ensures stopped { IfErr result (λ stop. StopsStoreWork S.model (M.effects host.now)
+        store.old work stop (W.contents writer.old) (W.contents writer.new) store.new) }
+{
+    match work {
+        StoreWork::Perform(command) => run_command(alloc, store, &command, writer),
+        StoreWork::ImportFile { book, key, csv } => {
+            import_rows(alloc, host, store, book, key, csv.as_str(), writer)
+        }
+        StoreWork::MirrorBook { book, limit, pages } => {
+            run_mirror(alloc, store, book.as_str(), limit, pages, writer)
+        }
+    }
+}
+
+/// Does an order's work on the store in the file, which is opened first.
+fn use_file<S: BookStore + Drop, L, M: Host<S, L>, W: Write>(
+    alloc: Global,
+    host: &M,
+    file: Text,
+    work: StoreWork,
+    writer: &mut W,
+) -> Result<(), Stop>
+    ensures done { OnOk result (DoesInFile S.model (M.effects host.now)
+        file work (W.contents writer.old) (W.contents writer.new)) }
+    ensures stopped { IfErr result (λ stop. StopsInFile S.model (M.effects host.now)
+        file work stop (W.contents writer.old) (W.contents writer.new)) }
+{
+    let mut store = host.open(file.as_str())?;
+    do_store_work(alloc, host, &mut store, work, writer)
+}
+
+/// Does an order's work on a host, and prints its output.
+fn do_work<S: BookStore + Drop, L: Listener + Drop, M: Host<S, L>, W: Write>(
+    alloc: Global,
+    host: &M,
+    work: Work,
+    writer: &mut W,
+) -> Result<(), Stop>
+    ensures done { OnOk result (DoesWork S.model L.Stream.model L.coming (M.effects host.now)
+        work (W.contents writer.old) (W.contents writer.new)) }
+    ensures stopped { IfErr result (λ stop.
+        StopsWork S.model L.Stream.model L.coming (M.effects host.now)
+        work stop (W.contents writer.old) (W.contents writer.new)) }
+{
+    match work {
+        Work::Nothing => Err(Stop::Device),
+        Work::CreateFile { file } => run_init(host, file, writer),
+        Work::MigrateFile { file } => run_migrate(alloc, host, file, writer),
+        Work::ServeFile {
+            file,
+            port,
+            connections,
+        } => run_serve(alloc, host, file, port, connections, writer),
+        Work::UseFile { file, work } => use_file(alloc, host, file, work, writer),
+    }
 }
 
 /// Runs an order on a host and prints its output. It opens the file, then reads the rows or binds
@@ -166,28 +183,17 @@ pub fn run_on_host<S: BookStore + Drop, L: Listener + Drop, M: Host<S, L>, W: Wr
     order: Order,
     writer: &mut W,
 ) -> Result<(), Stop>
-    ensures done { OnOk result (RunsOnHost S.books S.limits S.premise S.may_fault
-        L.Stream.remaining L.Stream.contents L.coming (M.effects host.now)
+    ensures done { OnOk result (RunsOnHost S.model L.Stream.model L.coming (M.effects host.now)
         order (W.contents writer.old) (W.contents writer.new)) }
-    ensures stopped { IfErr result (λ stop. StopsOnHost S.books S.limits S.premise S.may_fault
-        L.Stream.remaining L.Stream.contents L.coming (M.effects host.now)
+    ensures stopped { IfErr result (λ stop.
+        StopsOnHost S.model L.Stream.model L.coming (M.effects host.now)
         order stop (W.contents writer.old) (W.contents writer.new)) }
 
     // Nothing is written on a refusal, on a fault, or if the file can't be opened.
     ensures output_kept { IfErr result (λ stop.
         KeepsOutput stop (W.contents writer.old) (W.contents writer.new)) }
 {
-    match order {
-        Order::Try => Err(Stop::Device),
-        Order::Init { file } => run_init(host, file, writer),
-        Order::Serve {
-            file,
-            port,
-            connections,
-        } => run_serve(alloc, host, file, port, connections, writer),
-        Order::Migrate { file } => run_migrate(alloc, host, file, writer),
-        order => run_in_file(alloc, host, order, writer),
-    }
+    do_work(alloc, host, work_of(order), writer)
 }
 
 /// `run_on_host`, on the host that the program runs on.

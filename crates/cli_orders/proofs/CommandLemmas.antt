@@ -2,9 +2,6 @@
 use Rattle.std.proofs.Common.{◌≡◌, ℕ, List, Option, Result, Ok, Err, OnOk, IfErr, inl, inr}
 use Rattle.std.specs.Io.KnownBytes.{Appends}
 use Rattle.book_http.specs.StoreCommands.{PerformsOnStore}
-use Rattle.book_model.specs.Bounds.{Bounds}
-use Rattle.book_model.specs.Books.{Books}
-use Rattle.book_model.specs.declared.denied.Fault.{Fault as FaultKind}
 use Rattle.book_commands.specs.declared.command.Command.{Command}
 use Rattle.book_commands.specs.declared.reply.Reply.{Reply}
 use Rattle.book_service.specs.declared.mirrored.Mirrored.{Mirrored}
@@ -17,13 +14,14 @@ use Rattle.cli_orders.specs.CommandRuns.{PrintsCommand, PrintsMirror, StopsComma
 use Rattle.cli_orders.specs.Streams.{WritesPrefix}
 use Rattle.cli_orders.specs.ReplyTexts.{IsReplyStop, IsReplyText, KeepsOutput}
 use Rattle.cli_orders.proofs.StopLemmas.{kept_same, stop_leaves}
+use Rattle.sync_core.specs.StoreModels.{StoreModel}
 
-module _ {S : Type 0} (books : S → Books) (limits : S → Bounds) (premise : S → Type 0) (may_fault : FaultKind → Type 0) where
+module _ {S : Type 0} (model : StoreModel S) where
   abbrev Did : S → Command → Reply → S → Type 0
-  Did old command r new = PerformsOnStore books limits premise may_fault old command r new
+  Did old command r new = PerformsOnStore model old command r new
 
   abbrev Halts : S → Command → Stop → Option (List ℕ) → Option (List ℕ) → S → Type 0
-  Halts old command stop before after new = StopsCommand books limits premise may_fault old command stop before after new
+  Halts old command stop before after new = StopsCommand model old command stop before after new
 
   -- its reply has no text
   pub command_without_text : (old new : S) (command : Command) (r : Reply) (stop : Stop) (w : Option (List ℕ)) → Did old command r new → IsReplyStop r stop → Halts old command stop w w new
@@ -31,7 +29,7 @@ module _ {S : Type 0} (books : S → Books) (limits : S → Bounds) (premise : S
 
   -- its reply's text was written
   pub command_printed : (result : Result (Unit {0}) Stop) (old new : S) (command : Command) (r : Reply) (before after : Option (List ℕ)) (text : List ℕ) → Did old command r new → IsReplyText r text
-      → OnOk result (Appends before after text) → OnOk result (PrintsCommand books limits premise may_fault old command before after new)
+      → OnOk result (Appends before after text) → OnOk result (PrintsCommand model old command before after new)
   command_printed (Ok done) old new command r before after text did agrees written = record {
     reply = r;
     performed = did;
@@ -56,8 +54,8 @@ module _ {S : Type 0} (books : S → Books) (limits : S → Bounds) (premise : S
 
   -- a mirror's text was written
   pub mirror_printed : (result : Result (Unit {0}) Stop) (old new : S) (book : List ℕ) (limit pages : ℕ) (before after : Option (List ℕ)) (mirrored : Mirrored)
-      → (premise new → (now : SystemState) → MatchesRows now (limits old) (books old) → IsMirrorRun now book limit pages mirrored)
-      → (premise new → (now : SystemState) → MatchesRows now (limits old) (books old) → HasExactPageCount now book limit pages mirrored) → (premise new → books new ≡ books old) → OnOk result (Appends before after (mirror_lines mirrored))
-      → OnOk result (PrintsMirror books limits premise may_fault old book limit pages before after new)
+      → (model.premise new → (now : SystemState) → MatchesRows now (model.limits old) (model.books old) → IsMirrorRun now book limit pages mirrored)
+      → (model.premise new → (now : SystemState) → MatchesRows now (model.limits old) (model.books old) → HasExactPageCount now book limit pages mirrored) → (model.premise new → model.books new ≡ model.books old) → OnOk result (Appends before after (mirror_lines mirrored))
+      → OnOk result (PrintsMirror model old book limit pages before after new)
   mirror_printed (Ok done) old new book limit pages before after mirrored mirrors few_pages kept written = record { mirrored = mirrored; mirrors = mirrors; few_pages = few_pages; kept = kept; written = written }
   mirror_printed (Err stop) old new book limit pages before after mirrored mirrors few_pages kept written = tt

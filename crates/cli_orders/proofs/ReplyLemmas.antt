@@ -19,7 +19,7 @@ use Rattle.book_service.specs.Replies.{RepliesReturned}
 use Rattle.book_commands.specs.declared.command.Command.{Command}
 use Rattle.book_commands.specs.declared.command.Command.TheVariants.{CreateBook, Books, Get, Put, Remove, MoveCard, Report, Import, Forget, TallyOf, Export, People}
 use Rattle.book_commands.specs.declared.reply.Reply.{Reply}
-use Rattle.cli_orders.specs.OrderReplies.{IsOrderCommand, IsReplyToOrder, OrdersAreReplied}
+use Rattle.cli_orders.specs.OrderReplies.{IsCommandOfOrder, IsReplyToOrder, OrdersAreReplied}
 
 -- the value that this command returns has such a reply
 abbrev RepliesToOrder : Command → CallAnswer → Type 0
@@ -61,7 +61,7 @@ of_people model book uid (Ok stored) new r c = of_group (is_group (kind_of store
     of_group false c = refused (People book uid) model.books new NotGroup r c
 
 -- by the command
-of_command : (model : StoreHistory) (command : Command) (outcome : Outcome) (new : BookHistories) (r : Reply) → IsOrderCommand command → HasOutcome model command outcome → DeliversOutcome command model.books outcome r new → IsReplyToOrder r
+of_command : (model : StoreHistory) (command : Command) (outcome : Outcome) (new : BookHistories) (r : Reply) → IsCommandOfOrder command → HasOutcome model command outcome → DeliversOutcome command model.books outcome r new → IsReplyToOrder r
 of_command model (CreateBook book) outcome new r h has_outcome c =
     of_answer (CreateBook book) ReturnedId (create_on_histories model.limits model.books book) model.books new r (λ id s is. subst IsReplyToOrder (sym is) tt) (subst (λ (m : Outcome). DeliversOutcome (CreateBook book) model.books m r new) has_outcome c)
 of_command model (Import book key body) outcome new r h has_outcome c = of_import model book key body (kept_import_on_histories model.books book key) outcome new r has_outcome c

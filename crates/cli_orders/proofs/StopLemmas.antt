@@ -1,7 +1,8 @@
 -- Why an order stops, and what is written then.
-use Rattle.std.proofs.Common.{◌≡◌, ℕ, List, Option, Some, None, Err, inl, inr, refl, subst, sym}
+use Rattle.std.proofs.Common.{◌≡◌, ℕ, List, Option, Some, None, inl, inr, refl, subst, sym}
 use Rattle.std.specs.Io.KnownBytes.{Appends, Keeps}
-use Rattle.book_http.specs.Listening.{ServesListener}
+use Rattle.book_http.specs.ConnectionModels.{ConnectionModel}
+use Rattle.book_http.specs.Listening.{AbortsSome, FailsToWait, IfAborted, IfWaitFailed}
 use Rattle.book_http.specs.declared.listen_fault.ListenFault.{ListenFault}
 use Rattle.book_http.specs.declared.listen_fault.ListenFault.TheVariants.{Serve as Aborted, Device as ListenerFailed}
 use Rattle.book_commands.specs.declared.reply.Reply.{Reply}
@@ -40,9 +41,9 @@ stop_leaves r stop before after (inr cut) = output_kept_by_device stop before af
 
 -- ---- of connections
 
-module _ {State Connection : Type 0} (does : HandlerRelation State) (fault_reply : FaultReplies) (remaining contents : Connection → Option (List ℕ)) where
+module _ {State Connection : Type 0} (does : HandlerRelation State) (fault_reply : FaultReplies) (stream : ConnectionModel Connection) where
   abbrev Stopped : ℕ → ℕ → Option (List (Option Connection)) → State → Option (List ℕ) → Option (List ℕ) → Stop → State → Type 0
-  Stopped port connections coming old before after stop new = StopsServing does fault_reply remaining contents port connections coming old before after stop new
+  Stopped port connections coming old before after stop new = StopsServing does fault_reply stream port connections coming old before after stop new
 
   pub stops_unannounced : (port connections : ℕ) (coming : Option (List (Option Connection))) (old : State) (w : Option (List ℕ)) (stop : Stop) → stop ≡ out_of_memory → Stopped port connections coming old w w stop old
   stops_unannounced port connections coming old w stop is = subst (λ (s : Stop). Stopped port connections coming old w w s old) (sym is) (refl, kept_same w, refl)
@@ -52,9 +53,10 @@ module _ {State Connection : Type 0} (does : HandlerRelation State) (fault_reply
   stops_mute port connections coming old before after stop is front = subst (λ (s : Stop). Stopped port connections coming old before after s old) (sym is) (inr (record { front = front; kept = refl }))
 
   pub stops_listening : (port connections : ℕ) (coming : Option (List (Option Connection))) (old new : State) (before after : Option (List ℕ)) (fault : ListenFault) → Appends before after (listening_line port)
-      → ServesListener does fault_reply remaining contents connections coming old (Err fault) new → Stopped port connections coming old before after (stop_of_listening fault) new
-  stops_listening port connections coming old new before after (Aborted fault) written listens = record { written = written; listens = listens }
-  stops_listening port connections coming old new before after ListenerFailed written listens = inl (record { written = written; listens = listens })
+      → IfAborted (λ f. AbortsSome does fault_reply stream f connections coming old new) fault → IfWaitFailed (FailsToWait does fault_reply stream connections coming old new) fault
+      → Stopped port connections coming old before after (stop_of_listening fault) new
+  stops_listening port connections coming old new before after (Aborted fault) written aborted failed = record { written = written; serves = aborted }
+  stops_listening port connections coming old new before after ListenerFailed written aborted failed = inl (record { written = written; serves = failed })
 
   pub serving_stop_leaves : (port connections : ℕ) (coming : Option (List (Option Connection))) (old new : State) (before after : Option (List ℕ)) (stop : Stop) → Stopped port connections coming old before after stop new → KeepsOutput stop before after
   serving_stop_leaves port connections coming old new before after (Refused refusal) s = absurd s

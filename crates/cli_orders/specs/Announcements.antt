@@ -1,11 +1,9 @@
 -- Serving connections after a line that announces the port. This project's own.
-use Rattle.std.specs.Prelude.{◌≡◌, ◌⊎◌, ℕ, List, [], ◌∷◌, ◌++◌, codes, decimal, Option, Result, Err}
+use Rattle.std.specs.Prelude.{◌≡◌, ◌⊎◌, ℕ, List, [], ◌∷◌, ◌++◌, codes, decimal, Option}
 use Rattle.std.specs.Io.KnownBytes.{Appends, Keeps}
 use Rattle.base_types.specs.Octets.{line_feed}
-use Rattle.book_http.specs.declared.listen_fault.ListenFault.{ListenFault}
-use Rattle.book_http.specs.declared.listen_fault.ListenFault.TheVariants.{Serve as Aborted}
-use Rattle.book_http.specs.declared.listen_fault.ListenFault.TheVariants.{Device as ListenerFailed}
-use Rattle.book_http.specs.Listening.{ServesListener}
+use Rattle.book_http.specs.ConnectionModels.{ConnectionModel}
+use Rattle.book_http.specs.Listening.{AbortsSome, FailsToWait, ServesEach}
 use Rattle.http_requests.specs.HandlerRuns.{HandlerRelation, FaultReplies}
 use Rattle.cli_orders.specs.declared.stop.Stop.{Stop}
 use Rattle.cli_orders.specs.declared.stop.Stop.TheVariants.{Refused, Fault, Open, Serve, Device}
@@ -16,15 +14,19 @@ use Rattle.cli_orders.specs.Streams.{WritesPrefix}
 abbrev pub listening_line : ℕ → List ℕ
 listening_line port = codes "listening 127.0.0.1:" ++ (decimal port ++ line_feed ∷ [])
 
+-- the whole line was written, and this was done
+pub record Announces (port : ℕ) (before after : Option (List ℕ)) (Serves : Type 0) : Type 0 where
+  pub written : Appends before after (listening_line port)
+  pub serves : Serves
+
 module _ {State Connection : Type 0} (does : HandlerRelation State) (fault_reply : FaultReplies)
-    (remaining contents : Connection → Option (List ℕ)) where
-  -- the whole line was written, and this is the result of serving the connections
-  pub record Announces
-      (port connections : ℕ) (coming : Option (List (Option Connection))) (old : State)
-      (before after : Option (List ℕ)) (end : Result (Unit {0}) ListenFault) (new : State)
-      : Type 0 where
-    pub written : Appends before after (listening_line port)
-    pub listens : ServesListener does fault_reply remaining contents connections coming old end new
+    (stream : ConnectionModel Connection) where
+  -- the port was announced, and the requested number of connections served, each to its end
+  abbrev pub AnnouncesAndServes : ℕ → ℕ → Option (List (Option Connection)) → State
+      → Option (List ℕ) → Option (List ℕ) → State → Type 0
+  AnnouncesAndServes port connections coming old before after new =
+      Announces port before after
+      (ServesEach does fault_reply stream connections coming old new)
 
   -- the line wasn't written completely, and no connection was accepted
   pub record FailsToAnnounce (port : ℕ) (old : State) (before after : Option (List ℕ)) (new : State)
@@ -36,9 +38,11 @@ module _ {State Connection : Type 0} (does : HandlerRelation State) (fault_reply
   abbrev pub StopsServing : ℕ → ℕ → Option (List (Option Connection)) → State
       → Option (List ℕ) → Option (List ℕ) → Stop → State → Type 0
   StopsServing port connections coming old before after (Serve fault) new =
-      Announces port connections coming old before after (Err (Aborted fault)) new
+      Announces port before after
+      (AbortsSome does fault_reply stream fault connections coming old new)
   StopsServing port connections coming old before after Device new =
-      Announces port connections coming old before after (Err ListenerFailed) new
+      Announces port before after
+      (FailsToWait does fault_reply stream connections coming old new)
       ⊎ FailsToAnnounce port old before after new
   StopsServing port connections coming old before after (Fault fault) new =
       (Fault fault ≡ out_of_memory) × Keeps before after × (new ≡ old)

@@ -5,6 +5,7 @@ use Rattle.std.specs.FinMap as finite
 use Rattle.base_types.specs.Octets.{line_feed, space}
 use Rattle.sync_core.specs.TokenTexts.{token_octets}
 use Rattle.book_model.specs.Books.{LiveCards}
+use Rattle.book_model.specs.BookQueries.{tally_numbers}
 use Rattle.book_model.specs.declared.answers.ImportTally.{ImportTally}
 use Rattle.book_model.specs.declared.answers.Tally.{Tally}
 use Rattle.book_model.specs.declared.token.Token.{Token}
@@ -41,25 +42,14 @@ migrate_output books = codes "migrated " ++ (decimal books ++ line_feed ∷ [])
 
 -- ---- tallies
 
--- a padded name and its number
+-- a line: the padded name and its number
 abbrev pub tally_row : List ℕ → ℕ → List ℕ
 tally_row name number =
     left_aligned 14 name ++ (right_aligned 13 (decimal number) ++ line_feed ∷ [])
 
--- the output of `tally`, in byte order of name
+-- the output of `tally`: a line for each of its numbers
 abbrev pub tally_lines : Tally → List ℕ
-tally_lines tally =
-    tally_row (codes "cards") tally.cards
-    ++ tally_row (codes "created") tally.created
-    ++ tally_row (codes "deleted") tally.deleted
-    ++ tally_row (codes "edited") tally.edited
-    ++ tally_row (codes "horizon") tally.horizon
-    ++ tally_row (codes "import_edited") tally.import_edited
-    ++ tally_row (codes "imported") tally.imported
-    ++ tally_row (codes "moved_in") tally.moved_in
-    ++ tally_row (codes "moved_out") tally.moved_out
-    ++ tally_row (codes "number") tally.number
-    ++ tally_row (codes "remembered") tally.remembered
+tally_lines tally = flat_map (λ row. tally_row row.0 row.1) (tally_numbers tally)
 
 -- ---- mirrors
 

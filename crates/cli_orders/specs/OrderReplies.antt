@@ -9,14 +9,14 @@ use Rattle.book_commands.specs.declared.reply.Reply.TheVariants as reply
 use Rattle.book_service.specs.Runs.{SystemState, Step}
 
 -- the command is that of some order
-abbrev pub IsOrderCommand : Command → Type 0
-IsOrderCommand (CreateBook book) = ⊤
-IsOrderCommand (Import book key body) = ⊤
-IsOrderCommand (Forget book upto) = ⊤
-IsOrderCommand (TallyOf book) = ⊤
-IsOrderCommand (Export book form) = ⊤
-IsOrderCommand (People book uid) = ⊤
-IsOrderCommand command = ⊥
+abbrev pub IsCommandOfOrder : Command → Type 0
+IsCommandOfOrder (CreateBook book) = ⊤
+IsCommandOfOrder (Import book key body) = ⊤
+IsCommandOfOrder (Forget book upto) = ⊤
+IsCommandOfOrder (TallyOf book) = ⊤
+IsCommandOfOrder (Export book form) = ⊤
+IsCommandOfOrder (People book uid) = ⊤
+IsCommandOfOrder command = ⊥
 
 -- the reply has a text, or it is a refusal or a fault
 abbrev pub IsReplyToOrder : Reply → Type 0
@@ -33,4 +33,4 @@ IsReplyToOrder r = ⊥
 -- in each state an order's command gets such a reply
 abbrev pub OrdersAreReplied : Type 0
 OrdersAreReplied = (now : SystemState) (command : Command) (r : Reply) (next : SystemState) →
-    IsOrderCommand command → Step now (Do command) r next → IsReplyToOrder r
+    IsCommandOfOrder command → Step now (Do command) r next → IsReplyToOrder r

@@ -26,7 +26,7 @@ fn reply_text(alloc: Global, reply: Reply) -> Result<Vec<u8>, Stop>
         Reply::People(expansion) => Ok(expand_text(alloc, &expansion)?),
         Reply::Refused(refusal) => Err(Stop::Refused(refusal)),
         Reply::Fault(fault) => Err(Stop::Fault(fault)),
-        // no order's command has such a reply
+        // No order's command has such a reply: see the law `orders_are_replied`.
         Reply::Books(_)
         | Reply::Card { .. }
         | Reply::Put(_)
@@ -48,10 +48,10 @@ pub fn run_command<S: BookStore, W: Write>(
     command: &Command,
     writer: &mut W,
 ) -> Result<(), Stop>
-    ensures printed { OnOk result (PrintsCommand S.books S.limits S.premise S.may_fault
-        store.old command.now (W.contents writer.old) (W.contents writer.new) store.new) }
-    ensures stopped { IfErr result (λ stop. StopsCommand S.books S.limits S.premise S.may_fault
-        store.old command.now stop (W.contents writer.old) (W.contents writer.new) store.new) }
+    ensures printed { OnOk result (PrintsCommand S.model store.old command.now
+        (W.contents writer.old) (W.contents writer.new) store.new) }
+    ensures stopped { IfErr result (λ stop. StopsCommand S.model store.old command.now stop
+        (W.contents writer.old) (W.contents writer.new) store.new) }
 {
     let reply = perform(alloc, store, command);
     let text = reply_text(alloc, reply)?;
@@ -71,11 +71,11 @@ pub fn run_mirror<S: BookStore, W: Write>(
     pages: u64,
     writer: &mut W,
 ) -> Result<(), Stop>
-    ensures printed { OnOk result (PrintsMirror S.books S.limits S.premise S.may_fault
-        store.old book.now limit pages (W.contents writer.old) (W.contents writer.new) store.new) }
+    ensures printed { OnOk result (PrintsMirror S.model store.old book.now limit pages
+        (W.contents writer.old) (W.contents writer.new) store.new) }
 
-    ensures stopped { IfErr result (λ stop. StopsMirror S.books S.limits S.premise S.may_fault
-        store.old book.now limit pages stop
+    ensures stopped { IfErr result (λ stop.
+        StopsMirror S.model store.old book.now limit pages stop
         (W.contents writer.old) (W.contents writer.new) store.new) }
 {
     let mirrored = mirror(alloc, store, book, limit, pages)?;

@@ -1,6 +1,6 @@
 //! Announces the port and serves connections.
-ghost use Rattle.std.specs.Prelude.{◌≡◌, IfErr, IfOk, Ok};
-ghost use Rattle.cli_orders.specs.Announcements.{Announces, StopsServing, listening_line};
+ghost use Rattle.std.specs.Prelude.{◌≡◌, IfErr, IfOk, OnOk};
+ghost use Rattle.cli_orders.specs.Announcements.{AnnouncesAndServes, StopsServing, listening_line};
 
 use crate::stop::Stop;
 use crate::writing::write_out;
@@ -30,11 +30,11 @@ pub fn announce_and_serve<H: Handler, L: Listener + Drop, W: Write>(
     connections: u64,
     writer: &mut W,
 ) -> Result<(), Stop>
-    ensures served { IfOk result (λ done. Announces H.does H.fault_reply
-        L.Stream.remaining L.Stream.contents port connections (L.coming listener)
-        handler.old (W.contents writer.old) (W.contents writer.new) (Ok done) handler.new) }
+    ensures served { OnOk result (AnnouncesAndServes H.does H.fault_reply
+        L.Stream.model port connections (L.coming listener)
+        handler.old (W.contents writer.old) (W.contents writer.new) handler.new) }
     ensures stopped { IfErr result (λ stop. StopsServing H.does H.fault_reply
-        L.Stream.remaining L.Stream.contents port connections (L.coming listener)
+        L.Stream.model port connections (L.coming listener)
         handler.old (W.contents writer.old) (W.contents writer.new) stop handler.new) }
 {
     let line = listening_text(alloc, port)?;

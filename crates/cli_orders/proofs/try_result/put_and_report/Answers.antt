@@ -37,7 +37,7 @@ put_did : (c : After-put) (r : Result PutAnswer Denied) → MatchesStep r (put_s
     → Did r (Created 1) (with_card c.args.card.now) c.put.new.self.books
 put_did c r does sound = card_put c.new-store.result.limits (standard (goal.at.After-put c).After-create_book) c.put_refines_histories.ensures c.args.card.now r _ _
     (with_book_made (goal.at.After-put c).In_ok-create_book)
-    (subst (λ (l : Bounds). MatchesStep r (put_step l c.create_book.new.self.books (codes "try") c.args.card.now None) c.create_book.new.self.books c.put.new.self.books) c.in_ok-create_book.ensures.limits does)
+    (subst (λ (l : Bounds). MatchesStep r (put_step l c.create_book.new.self.books (codes "try") c.args.card.now None) c.create_book.new.self.books c.put.new.self.books) c.in_ok-create_book.ensures.terms.limits does)
     sound
 
 pub returns-in_err-put-clause-only_memory : goal.returns-in_err-put-clause-only_memory
@@ -49,7 +49,7 @@ report_gave : (c : After-report) (r : Result Page Denied) → MatchesQuery IsRep
     → MatchResult r (λ p. p ≡ first_page c.args.card.now) (λ denied. denied ≡ denied_no_memory)
 report_gave c r reads sound = page_given c.new-store.result.limits (standard (goal.at.After-report c).After-create_book) c.reports_refine_histories.ensures c.args.card.now r _ _
     (put_did (goal.at.After-report c).After-put (Ok c.in_ok-put.put) c.in_ok-put.ensures.step tt).1
-    (subst (λ (l : Bounds). MatchesQuery IsReport r (report_step l c.put.new.self.books (codes "try") None None) c.put.new.self.books c.report.new.self.books) (c.in_ok-put.ensures.limits ∙ c.in_ok-create_book.ensures.limits) reads)
+    (subst (λ (l : Bounds). MatchesQuery IsReport r (report_step l c.put.new.self.books (codes "try") None None) c.put.new.self.books c.report.new.self.books) (c.in_ok-put.ensures.terms.limits ∙ c.in_ok-create_book.ensures.terms.limits) reads)
     sound
 
 pub returns-in_err-page-clause-only_memory : goal.returns-in_err-page-clause-only_memory

@@ -1,0 +1,123 @@
+//! What an order does.
+ghost use Rattle.cli_host.specs.OrderWork.{work_of};
+ghost use Rattle.std.specs.Prelude.{◌≡◌};
+
+use base_types::Text;
+use book_service::Command;
+use cli_args::Order;
+
+/// What an order does on a host.
+#[derive(Drop)]
+pub enum Work {
+    /// Nothing that needs a file or a port.
+    Nothing,
+    /// Creates a store in the file.
+    CreateFile {
+        /// The file's name.
+        file: Text,
+    },
+    /// Migrates the file to the current schema.
+    MigrateFile {
+        /// The file's name.
+        file: Text,
+    },
+    /// Serves the store in the file.
+    ServeFile {
+        /// The file's name.
+        file: Text,
+        /// The port, or 0 for any free one.
+        port: u16,
+        /// The number of connections.
+        connections: u64,
+    },
+    /// Uses the store in the file.
+    UseFile {
+        /// The file's name.
+        file: Text,
+        /// What it does to the store.
+        work: StoreWork,
+    },
+}
+
+/// What an order does to a store.
+#[derive(Drop)]
+pub enum StoreWork {
+    /// Performs a command.
+    Perform(Command),
+    /// Imports a file of rows into a book, under a key.
+    ImportFile {
+        /// The book's name.
+        book: Text,
+        /// The import's key.
+        key: Text,
+        /// The name of the file of rows.
+        csv: Text,
+    },
+    /// Mirrors a book.
+    MirrorBook {
+        /// The book's name.
+        book: Text,
+        /// The most entries of a page, at least 1.
+        limit: u64,
+        /// The most pages.
+        pages: u64,
+    },
+}
+
+/// What the order does, with its arguments in their places.
+pub fn work_of(order: Order) -> Work
+    ensures { result ≡ work_of order }
+{
+    match order {
+        Order::Try => Work::Nothing,
+        Order::Init { file } => Work::CreateFile { file },
+        Order::Migrate { file } => Work::MigrateFile { file },
+        Order::Serve {
+            file,
+            port,
+            connections,
+        } => Work::ServeFile {
+            file,
+            port,
+            connections,
+        },
+        Order::Book { file, book } => Work::UseFile {
+            file,
+            work: StoreWork::Perform(Command::CreateBook { book }),
+        },
+        Order::Import {
+            file,
+            book,
+            key,
+            csv,
+        } => Work::UseFile {
+            file,
+            work: StoreWork::ImportFile { book, key, csv },
+        },
+        Order::Export { file, book, form } => Work::UseFile {
+            file,
+            work: StoreWork::Perform(Command::Export { book, form }),
+        },
+        Order::Tally { file, book } => Work::UseFile {
+            file,
+            work: StoreWork::Perform(Command::TallyOf { book }),
+        },
+        Order::Forget { file, book, upto } => Work::UseFile {
+            file,
+            work: StoreWork::Perform(Command::Forget { book, upto }),
+        },
+        Order::Mirror {
+            file,
+            book,
+            limit,
+            pages,
+        } => Work::UseFile {
+            file,
+            work: StoreWork::MirrorBook { book, limit, pages },
+        },
+        Order::Expand { file, book, uid } => Work::UseFile {
+            file,
+            work: StoreWork::Perform(Command::People { book, uid }),
+        },
+    }
+}
