@@ -7,11 +7,12 @@ use Rattle.std.proofs.lemmas.Bool.{or_cases, not-true, not_from_true, not_from_f
 use Rattle.std.proofs.lemmas.List.{length-append}
 use Rattle.vcard_lines.specs.declared.line.Line.{Line}
 use Rattle.base_types.specs.TextMaps.{text_cmp}
+use Rattle.base_types.proofs.TextLemmas.{same-equal}
 use Rattle.card_core.specs.declared.walk.Walk.{Walk}
 use Rattle.card_core.specs.Groups.{Cards}
 use Rattle.card_core.specs.internal.TextSets.{GainsText}
 use Rattle.card_core.specs.internal.Walks.{waiting_cards, SameGroups, AddsGroup, found_before, found_first, RecordsMember, value_names_none, value_names_person, value_names_group, cards_not_found, groups_left}
-use Rattle.card_core.proofs.TextSetLemmas.{same_text, found, finds}
+use Rattle.card_core.proofs.TextSetLemmas.{found, finds}
 
 -- ---- a test that fewer texts pass
 
@@ -45,7 +46,7 @@ module _ (p q : List ℕ → Bool) (narrower : (text : List ℕ) → q text ≡ 
   pub one_fewer : (lost : List ℕ) → p lost ≡ true → q lost ≡ false → (texts : List (List ℕ)) → list_any (eq_by_cmp text_cmp lost) texts ≡ true → length (filter q texts) + 1 ≤ length (filter p texts)
   one_fewer lost was is [] none = absurd (cc)
   one_fewer lost was is (text ∷ texts) there = ⊎_elim
-      (λ e. lost_here lost was is text texts (same_text lost text e))
+      (λ e. lost_here lost was is text texts (same-equal lost text e))
       (λ later. lost_later text texts (one_fewer lost was is texts later))
       (or_cases (eq_by_cmp text_cmp lost text) (list_any (eq_by_cmp text_cmp lost) texts) there)
 

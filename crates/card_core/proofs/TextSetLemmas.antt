@@ -9,19 +9,17 @@ use Rattle.std.specs.List.Sorted.{IsStrictlySortedBy}
 use Rattle.std.specs.Ordering.{is_eq, eq_by_cmp}
 use Rattle.std.specs.declared.cmp.Ordering.TheVariants.{Less}
 use Rattle.std.proofs.lemmas.Bool.{cases_Bool, cond-true, cond-false}
-use Rattle.std.proofs.lemmas.Map.Text.{is_eq-slice_cmp, btree_set_updates_text}
+use Rattle.std.proofs.lemmas.Map.Text.{btree_set_updates_text}
 use Rattle.std.proofs.lemmas.Map.Views.{Contains-from_any, list_any-from_Contains}
 use Rattle.std.proofs.lemmas.Slice.Eq.{bytes_eq-Decides}
 use Rattle.base_types.specs.TextMaps.{text_cmp}
+use Rattle.base_types.proofs.TextLemmas.{same-equal}
 use Rattle.card_core.specs.internal.TextSets.{GainsText}
 
 -- ---- whether a list of texts has a text
 
-pub same_text : (a b : List ℕ) → eq_by_cmp text_cmp a b ≡ true → a ≡ b
-same_text a b e = (bytes_eq-Decides a b).0 (sym (is_eq-slice_cmp a b) ∙ e)
-
 pub found : (text : List ℕ) (texts : List (List ℕ)) → list_any (eq_by_cmp text_cmp text) texts ≡ true → Contains texts text
-found text texts e = Contains-from_any same_text text texts e
+found text texts e = Contains-from_any same-equal text texts e
 
 pub finds : (text : List ℕ) (texts : List (List ℕ)) → Contains texts text → list_any (eq_by_cmp text_cmp text) texts ≡ true
 finds text texts c = list_any-from_Contains (eq_by_cmp_equiv nat_list_cmp_total) text texts c

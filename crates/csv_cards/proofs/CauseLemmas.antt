@@ -1,5 +1,5 @@
 -- Causes: the cause that reports a card's fault, and the least of those that apply.
-use Rattle.std.proofs.Common.{[], Result, Ok, Err, IfErr, ◌≡◌, ◌≢◌, ◌≤◌, ◌+◌, ◌⊎◌, ◌↔◌, ℕ, List, length, Some, refl, sym, ap, subst, ◌∙◌, arith, inl, inr}
+use Rattle.std.proofs.Common.{[], ◌≡◌, ◌≢◌, ◌≤◌, ◌+◌, ◌⊎◌, ◌↔◌, ℕ, List, length, Some, refl, sym, ap, subst, ◌∙◌, arith, inl, inr}
 use Rattle.csv.specs.Records.{AllText}
 use Rattle.vcard_lines.specs.declared.fault.CardFault.{CardFault}
 use Rattle.vcard_lines.specs.declared.fault.CardFault.TheVariants as card
@@ -19,10 +19,6 @@ use Rattle.vcard_text.specs.MakingSteps.{first_fault_of_lines}
 use Rattle.vcard_text.specs.Spelling.{Spells}
 use Rattle.csv_cards.specs.Reading.{CauseApplies, RowHasCardFault, RowHasOtherUid, IsLeastCause, RowRepresents, RowRepeatsUid}
 use Rattle.csv_cards.specs.internal.RowCauses.{IsTextCause, IsColumnsCause}
-
-pub err_map : {T E : Type 0} {P Q : E → Type 0} (r : Result T E) → ((e : E) → P e → Q e) → IfErr r P → IfErr r Q
-err_map (Ok x) f p = tt
-err_map (Err e) f p = f e p
 
 -- ---- a card's fault
 

@@ -1,14 +1,14 @@
 -- The lines that columns describe are UTF-8 if the fields are.
-use Rattle.std.proofs.Common.{◌≡◌, ◌==◌, ◌||◌, ◌&&◌, ◌++◌, ◌∷◌, [], ℕ, zero, suc, Bool, true, false, if◌then◌else◌, List, flat_map, IsUtf8, chars, codes, nat_lt, IsAscii, refl}
-use Rattle.std.specs.List.{AllByRecursion, list_all}
+use Rattle.std.proofs.Common.{◌≡◌, ◌==◌, ◌||◌, ◌&&◌, ◌++◌, ◌∷◌, [], ℕ, zero, suc, Bool, true, false, if◌then◌else◌, List, flat_map, IsUtf8, chars, codes, refl}
 use Rattle.std.proofs.Math.Utf8.{scalar, scalars}
-use Rattle.std.proofs.lemmas.Bool.{and_parts, ltb-true}
-use Rattle.std.proofs.lemmas.Str.{scalars-chars, IsUtf8-nil, IsUtf8-append, IsUtf8-from_ascii}
-use Rattle.std.proofs.lemmas.Str.Ascii.{IsAscii-nil, IsAscii-cons}
+use Rattle.std.proofs.lemmas.Bool.{and_parts}
+use Rattle.std.proofs.lemmas.Str.{scalars-chars, IsUtf8-nil, IsUtf8-append}
 use Rattle.csv.specs.Records.{AllText}
 use Rattle.vcard_lines.specs.declared.line.Line.{Line}
 use Rattle.vcard_lines.specs.Grammar.{line_text}
+use Rattle.vcard_lines.proofs.FrontLemmas.{ascii_utf8}
 use Rattle.vcard_values.specs.TextValues.{Plain, Escaped, written_chars, escaped_value, text_char_of}
+use Rattle.vcard_text.proofs.MakingLemmas.{AllUtf8}
 use Rattle.csv_cards.specs.Rows.{Row, row_field}
 use Rattle.csv_cards.specs.Columns.{begins_with_line_feed, column, column_lines, email_in, family_in, given_in, is_empty, nonempty_line, name_in, nonempty_name_line, name_value, note_in, organization_in, plain_line, telephone_in, uid_in, with_lf_line_ends}
 
@@ -45,13 +45,6 @@ guarded_scalars (c ∷ cs) s =
 
 -- ---- texts
 
-are_ascii : (octets : List ℕ) → list_all (λ b. nat_lt b 128) octets ≡ true → IsAscii octets
-are_ascii [] e = IsAscii-nil
-are_ascii (b ∷ bs) e = let p = and_parts (nat_lt b 128) (list_all (λ c. nat_lt c 128) bs) e in IsAscii-cons b bs (ltb-true b 128 p.0) (are_ascii bs p.1)
-
-ascii_utf8 : (octets : List ℕ) → list_all (λ b. nat_lt b 128) octets ≡ true → IsUtf8 octets
-ascii_utf8 octets e = IsUtf8-from_ascii octets (are_ascii octets e)
-
 field_utf8 : (row : Row) (place : ℕ) → AllText row → IsUtf8 (row_field row place)
 unfolding AllText
 field_utf8 [] place all = IsUtf8-nil
@@ -66,21 +59,18 @@ escaped_utf8 text u = (flat_map (λ c. written_chars (text_char_of c)) (chars te
 
 -- ---- lines
 
-abbrev pub AreUtf8 : List Line → Type 0
-AreUtf8 lines = AllByRecursion (λ line. IsUtf8 (line_text line)) lines
-
 line_utf8 : (name value : List ℕ) → IsUtf8 name → IsUtf8 value → IsUtf8 (line_text (plain_line name value))
 line_utf8 name value n v = IsUtf8-append name (58 ∷ value) n (IsUtf8-append (58 ∷ []) value (ascii_utf8 (58 ∷ []) refl) v)
 
-append_utf8 : (a b : List Line) → AreUtf8 a → AreUtf8 b → AreUtf8 (a ++ b)
+append_utf8 : (a b : List Line) → AllUtf8 a → AllUtf8 b → AllUtf8 (a ++ b)
 append_utf8 [] b x y = y
 append_utf8 (line ∷ lines) b x y = (x.0, append_utf8 lines b x.1 y)
 
-one_or_none : (none : Bool) (line : Line) → IsUtf8 (line_text line) → AreUtf8 (if none then [] else line ∷ [])
+one_or_none : (none : Bool) (line : Line) → IsUtf8 (line_text line) → AllUtf8 (if none then [] else line ∷ [])
 one_or_none true line u = tt
 one_or_none false line u = (u, tt)
 
-if_any_utf8 : (name text : List ℕ) → IsUtf8 name → IsUtf8 text → AreUtf8 (nonempty_line name text)
+if_any_utf8 : (name text : List ℕ) → IsUtf8 name → IsUtf8 text → AllUtf8 (nonempty_line name text)
 if_any_utf8 name text n u = one_or_none (is_empty text) (plain_line name (escaped_value text)) (line_utf8 name (escaped_value text) n (escaped_utf8 text u))
 
 name_value_utf8 : (family given : List ℕ) → IsUtf8 family → IsUtf8 given → IsUtf8 (name_value family given)
@@ -90,10 +80,10 @@ name_value_utf8 family given f g =
     (IsUtf8-append (escaped_value family) (codes ";") (escaped_utf8 family f) (ascii_utf8 (codes ";") refl)) (escaped_utf8 given g))
     (ascii_utf8 (codes ";;;") refl)
 
-name_line_utf8 : (family given : List ℕ) → IsUtf8 family → IsUtf8 given → AreUtf8 (nonempty_name_line family given)
+name_line_utf8 : (family given : List ℕ) → IsUtf8 family → IsUtf8 given → AllUtf8 (nonempty_name_line family given)
 name_line_utf8 family given f g = one_or_none (is_empty family && is_empty given) (plain_line (codes "N") (name_value family given)) (line_utf8 (codes "N") (name_value family given) (ascii_utf8 (codes "N") refl) (name_value_utf8 family given f g))
 
-pub columns_utf8 : (row : Row) → AllText row → AreUtf8 (column_lines row)
+pub columns_utf8 : (row : Row) → AllText row → AllUtf8 (column_lines row)
 columns_utf8 row all = (
   line_utf8 (codes "UID") (uid_in row) (ascii_utf8 (codes "UID") refl) (column_utf8 row 0 all),
   (

@@ -12,6 +12,7 @@ use Rattle.vcard_text.specs.Cards.{IsCard, uid_of}
 use Rattle.vcard_text.specs.FirstFaults.{IsFirstFaultOfText as IsFirstCardFault}
 use Rattle.vcard_text.specs.Making.{IsFirstFaultOfLines, upper_lines}
 use Rattle.vcard_text.specs.Spelling.{Spells}
+use Rattle.vcard_text.proofs.MakingLemmas.{AllUtf8}
 use Rattle.csv_cards.specs.declared.form.Form.{Form}
 use Rattle.csv_cards.specs.declared.form.Form.TheVariants as form
 use Rattle.csv_cards.specs.declared.cause.CsvCause.{CsvCause}
@@ -23,7 +24,7 @@ use Rattle.csv_cards.specs.Reading.{TextHasCards, IsFirstRowFault, IsLeastCause,
 use Rattle.csv_cards.proofs.AllRowLemmas.{has_rows, begin_with}
 use Rattle.csv_cards.proofs.CauseLemmas.{FaultsAreOne, columns_least, utf8_least, repeated_least, text_least, columns_cause_least}
 use Rattle.csv_cards.proofs.ColumnLemmas.{upper_columns}
-use Rattle.csv_cards.proofs.ColumnTextLemmas.{AreUtf8, columns_utf8}
+use Rattle.csv_cards.proofs.ColumnTextLemmas.{columns_utf8}
 use Rattle.csv_cards.proofs.ReaderLemmas.{none_represent, one_more_represents}
 
 -- ---- tests
@@ -86,7 +87,7 @@ pub record CardsOrFaults : Type 0 where
   pub one_card : (text : List ℕ) (a b : List Line) → Spells text a → Spells text b → a ≡ b
   pub either : (text : List ℕ) → ((lines : List Line) × Spells text lines) ⊎ ((fault : CardFault) × IsFirstCardFault text fault)
   pub not_both : (text : List ℕ) (lines : List Line) (fault : CardFault) → Spells text lines → IsFirstCardFault text fault → ⊥
-  pub made_either : (lines : List Line) → AreUtf8 (upper_lines lines) → IsCard (upper_lines lines) ⊎ ((fault : CardFault) × IsFirstFaultOfLines lines fault)
+  pub made_either : (lines : List Line) → AllUtf8 (upper_lines lines) → IsCard (upper_lines lines) ⊎ ((fault : CardFault) × IsFirstFaultOfLines lines fault)
   pub made_not_both : (lines : List Line) (fault : CardFault) → IsCard (upper_lines lines) → IsFirstFaultOfLines lines fault → ⊥
   pub one_fault : FaultsAreOne
 
@@ -132,7 +133,7 @@ module _ (laws : CardsOrFaults) where
 
   -- the lines of columns make a card, or have a first fault
   card_or_made_fault : (row : Row) → AllText row → IsCard (column_lines row) ⊎ ((fault : CardFault) × ColumnsMislistCard row fault)
-  card_or_made_fault row all = by (laws.made_either (column_lines row) (subst AreUtf8 (sym (upper_columns row)) (columns_utf8 row all)))
+  card_or_made_fault row all = by (laws.made_either (column_lines row) (subst AllUtf8 (sym (upper_columns row)) (columns_utf8 row all)))
     where
       by : IsCard (upper_lines (column_lines row)) ⊎ ((fault : CardFault) × IsFirstFaultOfLines (column_lines row) fault) → IsCard (column_lines row) ⊎ ((fault : CardFault) × ColumnsMislistCard row fault)
       by (inl card) = inl (subst IsCard (upper_columns row) card)

@@ -21,6 +21,7 @@ use Rattle.std.proofs.lemmas.List.Quantifiers.{all_pairs_push}
 use Rattle.std.proofs.lemmas.List.{length-append, map-append}
 use Rattle.std.proofs.lemmas.List.Elements.{Contains-get_or, Contains-append_left, Contains-append_right, Contains-append_cases}
 use Rattle.base_types.specs.TextMaps.{text_cmp}
+use Rattle.base_types.proofs.TextLemmas.{same-equal}
 use Rattle.vcard_lines.specs.declared.line.Line.{Line}
 use Rattle.vcard_text.specs.Cards.{uid_of}
 
@@ -44,9 +45,6 @@ module _ (a b : Reader (Bor (List ℕ))) (fields : Row) (text : List ℕ) (rows 
 
 -- ---- the UIDs so far
 
-same_text : (a b : List ℕ) → eq_by_cmp text_cmp a b ≡ true → a ≡ b
-same_text a b e = (bytes_eq-Decides a b).0 (sym (is_eq-slice_cmp a b) ∙ e)
-
 text_same : (a b : List ℕ) → a ≡ b → eq_by_cmp text_cmp a b ≡ true
 text_same a b e = is_eq-slice_cmp a b ∙ (bytes_eq-Decides a b).1 e
 
@@ -67,7 +65,7 @@ module _ (uids : finite.FinMap text_cmp (Unit {0})) (cards : List (List Line)) (
   pub one_more_uid : HasUids (finite.insert uids (uid_of card) tt) (cards ++ card ∷ [])
   one_more_uid q = elim (cases_Bool (eq_by_cmp text_cmp q (uid_of card))) [
     | inl here ↦
-        let is : q ≡ uid_of card = same_text q (uid_of card) here in (
+        let is : q ≡ uid_of card = same-equal q (uid_of card) here in (
           λ some. subst (λ all. Contains all q) (sym uids_of_more) (Contains-append_right (map uid_of cards) (uid_of card ∷ []) q (subst (Contains (uid_of card ∷ [])) (sym is) (one_has (uid_of card)))),
           λ had. subst IsSome (sym (got q ∙ cond-true _ _ _ here)) refl,
         )

@@ -12,9 +12,9 @@ pub record Message : Type 0 where
   pub allow : Option (List ℕ)
   pub body : List ℕ
 
--- a line with its end
-abbrev pub crlf_line : List ℕ → List ℕ
-crlf_line text = text ++ codes "\r\n"
+-- a line of the head, with its end
+abbrev pub head_line : List ℕ → List ℕ
+head_line text = text ++ codes "\r\n"
 
 -- the reason phrase of a status, or the empty text if it has none (RFC 9110, section 15)
 unfoldable pub phrase_of : ℕ → List ℕ
@@ -31,7 +31,7 @@ header_field name value = name ++ codes ": " ++ value
 -- the Allow field of a reply to a wrong method (RFC 9110, sections 10.2.1 and 15.5.6)
 abbrev pub allow_line : Option (List ℕ) → List ℕ
 allow_line None = []
-allow_line (Some methods) = crlf_line (header_field (codes "Allow") methods)
+allow_line (Some methods) = head_line (header_field (codes "Allow") methods)
 
 -- the value of the Connection field (RFC 9110, section 7.6.1; RFC 9112, section 9.3)
 abbrev pub connection_option : Bool → List ℕ
@@ -41,12 +41,12 @@ connection_option close = if close then codes "close" else codes "keep-alive"
 -- octets (RFC 9110, section 8.6).
 unfoldable pub head_octets : Message → Bool → List ℕ
 head_octets message close =
-    crlf_line (status_line message.status)
-    ++ crlf_line (header_field (codes "Content-Type") message.media_type)
+    head_line (status_line message.status)
+    ++ head_line (header_field (codes "Content-Type") message.media_type)
     ++ allow_line message.allow
-    ++ crlf_line (header_field (codes "Content-Length") (decimal (length message.body)))
-    ++ crlf_line (header_field (codes "Connection") (connection_option close))
-    ++ crlf_line []
+    ++ head_line (header_field (codes "Content-Length") (decimal (length message.body)))
+    ++ head_line (header_field (codes "Connection") (connection_option close))
+    ++ head_line []
 
 -- the octets of the whole reply
 abbrev pub message_octets : Message → Bool → List ℕ

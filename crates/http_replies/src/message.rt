@@ -2,7 +2,7 @@
 ghost use Rattle.std.specs.Prelude.{◌≡◌, ◌++◌, IfOk, OnOk, decimal, length, option_map};
 ghost use Rattle.std.specs.Prelude.{string_bytes};
 ghost use Rattle.http_replies.specs.Messages.{allow_line, connection_option, header_field};
-ghost use Rattle.http_replies.specs.Messages.{head_octets, crlf_line, message_octets, phrase_of};
+ghost use Rattle.http_replies.specs.Messages.{head_octets, head_line, message_octets, phrase_of};
 ghost use Rattle.http_replies.specs.Messages.{status_line, message_value};
 
 use base_types::NoMemory;
@@ -28,7 +28,7 @@ fn phrase_of(status: StatusCode) -> &'static str
 /// Appends the status line (RFC 9112, section 4).
 fn push_status(head: &mut String, status: StatusCode) -> Result<(), NoMemory>
     ensures { OnOk result (string_bytes head.new
-        ≡ string_bytes head.old ++ crlf_line (status_line status)) }
+        ≡ string_bytes head.old ++ head_line (status_line status)) }
 {
     head.push_str("HTTP/1.1 ")?;
     head.push_str(status.as_str())?;
@@ -41,7 +41,7 @@ fn push_status(head: &mut String, status: StatusCode) -> Result<(), NoMemory>
 /// Appends a field (RFC 9112, section 5).
 fn push_field(head: &mut String, name: &str, value: &str) -> Result<(), NoMemory>
     ensures { OnOk result (string_bytes head.new
-        ≡ string_bytes head.old ++ crlf_line (header_field name.now value.now)) }
+        ≡ string_bytes head.old ++ head_line (header_field name.now value.now)) }
 {
     head.push_str(name)?;
     head.push_str(": ")?;

@@ -1,8 +1,9 @@
 -- A path is its parts with slashes between them, and one of a route's form leads to that route.
-use Rattle.std.proofs.Common.{◌≡◌, ◌<◌, ◌∙◌, ℕ, ◌==◌, ◌&&◌, Bool, true, false, cond, List, [], ◌∷◌, ◌++◌, Option, Some, None, codes, bytes_eq, find, nat_lt, option_map, refl, ap, sym, subst}
+use Rattle.std.proofs.Common.{◌≡◌, ◌<◌, ◌∙◌, ℕ, ◌==◌, Bool, true, false, cond, List, [], ◌∷◌, ◌++◌, Option, Some, None, codes, bytes_eq, find, nat_lt, option_map, refl, ap, sym, subst}
 use Rattle.std.specs.List.{AllByRecursion, join_with_byte, onto_first}
 use Rattle.std.proofs.lemmas.List.Splits.{join_with_byte-slice_split}
 use Rattle.std.proofs.lemmas.Slice.Eq.{bytes_eq-Decides}
+use Rattle.std.proofs.lemmas.Bool.{and_parts}
 use Rattle.matchit.specs.Seek.{has_slash, slash}
 use Rattle.http_routes.proofs.RouterLemmas.{book-is, books-is, card_in_book, first-in_book, export_in_book, forget_in_book, import_in_book, move_in_book, people_in_book, route_in_book, sync_in_book, tally_in_book}
 use Rattle.http_routes.specs.Paths.{fits_part, fits_parts, is_placeholder, is_path_of, parts_of, route_of, routes}
@@ -39,13 +40,6 @@ parts-are (b ∷ path) small = by (b == slash) refl (parts-are path small.1)
     by true is are = (tt, are)
     by false is are = onto-part b (parts_of path) small.0 is are
 
-both_true : (a b : Bool) → (a && b) ≡ true → (a ≡ true) × (b ≡ true)
-both_true true b is = (refl, is)
-both_true false b is = absurd (not_true is)
-  where
-    not_true : false ≡ true → ⊥
-    not_true e = cc
-
 -- the parts at a fixed part of a route, at a name, and at its end
 fits-word : (own : List ℕ) (others parts : List (List ℕ)) → is_placeholder own ≡ false → fits_parts (own ∷ others) parts ≡ true → (rest : List (List ℕ)) × (parts ≡ own ∷ rest) × (fits_parts others rest ≡ true)
 fits-word own others [] plain fits = absurd (never fits)
@@ -53,7 +47,7 @@ fits-word own others [] plain fits = absurd (never fits)
     never : false ≡ true → ⊥
     never e = cc
 fits-word own others (part ∷ rest) plain fits =
-    let both = both_true (fits_part own part) (fits_parts others rest) fits in
+    let both = and_parts (fits_part own part) (fits_parts others rest) fits in
     let word : bytes_eq own part ≡ true = rw plain at both.0 in
     (rest, ap (λ one. one ∷ rest) (sym ((bytes_eq-Decides own part).0 word)), both.1)
 
@@ -63,14 +57,14 @@ fits-name own others [] named fits = absurd (never fits)
     never : false ≡ true → ⊥
     never e = cc
 fits-name own others ([] ∷ rest) named fits =
-    let both = both_true (fits_part own []) (fits_parts others rest) fits in
+    let both = and_parts (fits_part own []) (fits_parts others rest) fits in
     let some : nat_lt 0 0 ≡ true = rw named at both.0 in
     absurd (never some)
   where
     never : false ≡ true → ⊥
     never e = cc
 fits-name own others ((b ∷ part) ∷ rest) named fits =
-    let both = both_true (fits_part own (b ∷ part)) (fits_parts others rest) fits in
+    let both = and_parts (fits_part own (b ∷ part)) (fits_parts others rest) fits in
     (b, part, rest, refl, both.1)
 
 fits-end : (parts : List (List ℕ)) → fits_parts [] parts ≡ true → parts ≡ []

@@ -5,6 +5,7 @@ use Rattle.std.specs.List.{list_all, list_any}
 use Rattle.std.specs.Str.Parse.{ParsesUnsigned, digits_value}
 use Rattle.std.proofs.lemmas.Simd.{map-map}
 use Rattle.std.proofs.lemmas.Str.Parse.{IsNumeralModel, digits_value_short, numerals_by_value, parse_gives}
+use Rattle.std.proofs.Math.Bool.{and-false}
 use Rattle.form_urlencoded.specs.Form.{pair_text, raw_pairs}
 use Rattle.http_routes.specs.Actions.{optional_names, required_names}
 use Rattle.http_routes.specs.Queries.{Pair, count_pairs_named, has_valid_names, pair_is_named, parse_number, pairs_of, decode_text, query_value, value_or_empty}
@@ -115,10 +116,6 @@ number-empty text none =
     let more : nat_lt 0 (length text) ≡ false = grind arith in
     rw more refl
 
-no_more : (a : Bool) → (a && false) ≡ false
-no_more true = refl
-no_more false = refl
-
 pub number-long : (text : List ℕ) → 15 < length text → parse_number text ≡ Err BadQuery
 number-long text long =
     let less : nat_le (length text) 15 ≡ false = grind arith in
@@ -126,7 +123,7 @@ number-long text long =
     rw (more, less) refl
 
 pub number-other : (text : List ℕ) → list_all is_ascii_digit text ≡ false → parse_number text ≡ Err BadQuery
-number-other text other = simp (other, no_more) refl
+number-other text other = simp (other, and-false) refl
 
 pub not_empty : (n : ℕ) → (n == 0) ≡ false → 0 < n
 not_empty zero is = absurd (never is)

@@ -1,6 +1,6 @@
-use Rattle.std.proofs.lemmas.Result.{err_from_is_err_and}
+use Rattle.std.proofs.lemmas.Result.{err_from_is_err_and, IfErr-weaker}
 use Rattle.csv.specs.Records.{fields_of}
-use Rattle.csv_cards.proofs.CauseLemmas.{repeated_least, err_map}
+use Rattle.csv_cards.proofs.CauseLemmas.{repeated_least}
 use Rattle.csv_cards.proofs.reading.push_row.Goals as goal
 
 pub returns-in_err-card-clause-cause : goal.returns-in_err-card-clause-cause
@@ -11,6 +11,6 @@ returns-in_err-card-clause-cause c =
 pub returns-clause-cause : goal.returns-clause-cause
 returns-clause-cause c =
     let represents = c.in_ok-card.ensures.card in
-    err_map c.push_card.result (λ why is n.
+    IfErr-weaker c.push_card.result _ _ (λ why is n.
     let repeated = is n in
     rw repeated.0 (repeated_least c.args.form c.args.cards.now.items (fields_of c.args.row.now) represents.fields represents.utf8 c.card_is_unique.ensures (record { card = c.in_ok-card.card; represents = represents; repeated = repeated.1 }))) c.push_card.ensures.repeated
