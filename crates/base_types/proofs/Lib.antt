@@ -1,2 +1,3 @@
+pub mod BoolLemmas
 pub mod TextLemmas
 pub mod TextMapLemmas

@@ -12,8 +12,8 @@ use std::alloc::Global;
 use vcard_text::Card;
 
 /// Expands the group with this UID: follows its members, and those of each group among them (RFC
-/// 6350, section 6.6.5). Groups may be nested to any depth and form cycles. Each key of the map is
-/// its card's UID.
+/// 6350, section 6.6.5). Groups may be nested to any depth and form cycles. A card's UID is the
+/// one under which `cards` has it.
 ///
 /// A member's value names the card with that UID. If there is none and the value begins with
 /// `urn:uuid:` in any case, it names the card whose UID is the rest.

@@ -13,7 +13,7 @@ pub trait CardsByUid {
     /// The lines of each card, by UID.
     ghost cards: { Self → Cards };
 
-    /// The card with the UID.
+    /// The card with the UID, or `None` if no card has it.
     fn card_of(&self, uid: &str) -> Option<&Card>
         ensures { option_copied result ≡ finite.get (cards self.now) uid.now };
 }

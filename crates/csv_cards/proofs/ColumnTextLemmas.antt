@@ -1,5 +1,5 @@
 -- The lines that columns describe are UTF-8 if the fields are.
-use Rattle.std.proofs.Common.{◌≡◌, ◌==◌, ◌||◌, ◌&&◌, ◌++◌, ◌∷◌, [], ℕ, zero, suc, Bool, true, false, if◌then◌else◌, List, flat_map, IsUtf8, chars, codes, refl}
+use Rattle.std.proofs.Common.{◌≡◌, ◌==◌, ◌&&◌, ◌++◌, ◌∷◌, [], ℕ, zero, suc, Bool, true, false, if◌then◌else◌, List, flat_map, IsUtf8, chars, codes, refl}
 use Rattle.std.proofs.Math.Utf8.{scalar, scalars}
 use Rattle.std.proofs.lemmas.Bool.{and_parts}
 use Rattle.std.proofs.lemmas.Str.{scalars-chars, IsUtf8-nil, IsUtf8-append}
@@ -7,16 +7,13 @@ use Rattle.csv.specs.Records.{AllText}
 use Rattle.vcard_lines.specs.declared.line.Line.{Line}
 use Rattle.vcard_lines.specs.Grammar.{line_text}
 use Rattle.vcard_lines.proofs.FrontLemmas.{ascii_utf8}
-use Rattle.vcard_values.specs.TextValues.{Plain, Escaped, written_chars, escaped_value, text_char_of}
+use Rattle.vcard_values.specs.TextValues.{written_chars, escaped_value, text_char_of}
 use Rattle.vcard_text.proofs.MakingLemmas.{AllUtf8}
 use Rattle.csv_cards.specs.Rows.{Row, row_field}
 use Rattle.csv_cards.specs.Columns.{begins_with_line_feed, column, column_lines, email_in, family_in, given_in, is_empty, nonempty_line, name_in, nonempty_name_line, name_value, note_in, organization_in, plain_line, telephone_in, uid_in, with_lf_line_ends}
+use Rattle.vcard_values.proofs.TextValueLemmas.{scalars_written}
 
 -- ---- characters
-
-append_scalars : (a b : List ℕ) → scalars a ≡ true → scalars b ≡ true → scalars (a ++ b) ≡ true
-append_scalars [] b s t = t
-append_scalars (c ∷ cs) b s t = let p = and_parts (scalar c) (scalars cs) s in rw (p.0, append_scalars cs b p.1 t) refl
 
 plain_scalars : (cs : List ℕ) → scalars cs ≡ true → scalars (with_lf_line_ends cs) ≡ true
 unfolding with_lf_line_ends
@@ -28,20 +25,6 @@ plain_scalars (c ∷ cs) s =
     kept_or_not : (b : Bool) (c : ℕ) (more : List ℕ) → scalar c ≡ true → scalars more ≡ true → scalars (if b then more else c ∷ more) ≡ true
     kept_or_not true c more one all = all
     kept_or_not false c more one all = rw (one, all) refl
-
-guarded_scalar : (c : ℕ) → scalar c ≡ true → scalars (written_chars (text_char_of c)) ≡ true
-guarded_scalar c s = by (c == 10) (c == 92 || c == 44 || c == 59)
-  where
-    by : (feed guarded : Bool) → scalars (written_chars (if feed then Escaped 110 else (if guarded then Escaped c else Plain c))) ≡ true
-    by true guarded = refl
-    by false true = rw s refl
-    by false false = rw s refl
-
-guarded_scalars : (cs : List ℕ) → scalars cs ≡ true → scalars (flat_map (λ c. written_chars (text_char_of c)) cs) ≡ true
-guarded_scalars [] s = refl
-guarded_scalars (c ∷ cs) s =
-    let p = and_parts (scalar c) (scalars cs) s in
-    append_scalars (written_chars (text_char_of c)) (flat_map (λ d. written_chars (text_char_of d)) cs) (guarded_scalar c p.0) (guarded_scalars cs p.1)
 
 -- ---- texts
 
@@ -55,7 +38,7 @@ column_utf8 : (row : Row) (place : ℕ) → AllText row → IsUtf8 (column row p
 column_utf8 row place all = (with_lf_line_ends (chars (row_field row place)), (plain_scalars (chars (row_field row place)) (scalars-chars (row_field row place) (field_utf8 row place all)), refl))
 
 escaped_utf8 : (text : List ℕ) → IsUtf8 text → IsUtf8 (escaped_value text)
-escaped_utf8 text u = (flat_map (λ c. written_chars (text_char_of c)) (chars text), (guarded_scalars (chars text) (scalars-chars text u), refl))
+escaped_utf8 text u = (flat_map (λ c. written_chars (text_char_of c)) (chars text), (scalars_written (chars text) (scalars-chars text u), refl))
 
 -- ---- lines
 

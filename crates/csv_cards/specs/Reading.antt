@@ -116,7 +116,8 @@ abbrev pub HasBadHeader : List ℕ → Type 0
 HasBadHeader text =
     AreRows text [] ⊎ ((row : Row) × RowsBeginWith text (row ∷ []) × ((f : Form) → row ≢ header f))
 
--- All rows before this one represent cards. Rows are counted from 1, after the header.
+-- The fault is that of this row, and all rows before it represent cards. Rows are counted from 1,
+-- after the header.
 pub record IsFirstFaultyRow (text : List ℕ) (fault : CsvFault) : Type 0 where
   pub kind : Form
   pub before : List Row

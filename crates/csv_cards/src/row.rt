@@ -79,8 +79,8 @@ fn card_of_column_row(alloc: Global, row: &ByteRecord) -> Result<Card, CsvCause>
     Ok(card_of_lines(alloc, lines)?)
 }
 
-/// The card of the row, regardless of the rows before it, or the least-numbered cause why it has
-/// none.
+/// The card of the row, regardless of the rows before it, or the least-numbered cause for which it
+/// has none.
 pub(crate) fn card_of_row(alloc: Global, form: Form, row: &ByteRecord) -> Result<Card, CsvCause>
     ensures card { IfOk result (λ card. RowRepresents form (fields_of row.now) card) }
     ensures cause { IfErr result (λ cause. cause ≢ Memory → (earlier : List (List Line))

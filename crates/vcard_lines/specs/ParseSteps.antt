@@ -1,5 +1,5 @@
--- Combinators for reading from left to right, up to the first fault. Of these a public contract,
--- that of `read_line`, cites only `ResultIs`. This project's own.
+-- Combinators for reading from left to right, up to the first fault. Only one public contract, that
+-- of `read_line`, cites any of them: `ResultIs`. This project's own.
 use Rattle.std.specs.Prelude.{◌≡◌, ℕ, zero, suc, List, [], ◌∷◌, Option, Some, None, Result, Ok, Err}
 use Rattle.std.specs.Prelude.{◌==◌, if◌then◌else◌}
 use Rattle.vcard_lines.specs.declared.fault.CardFault.{CardFault}
@@ -16,7 +16,7 @@ abbrev pub ResultIs : {X Y : Type 0} → (X → Y) → Result X CardFault → Re
 ResultIs view (Ok x) reading = reading ≡ Ok (view x)
 ResultIs view (Err fault) reading = (fault ≡ Memory → ⊥) → reading ≡ Err fault
 
--- the text after a leading octet, or none if it begins with another one
+-- the text after a leading octet, or none if the text doesn't begin with it
 abbrev pub strip_byte : ℕ → List ℕ → Option (List ℕ)
 strip_byte octet [] = None
 strip_byte octet (first ∷ rest) = if first == octet then Some rest else None

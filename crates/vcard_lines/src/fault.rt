@@ -24,15 +24,15 @@ pub enum CardFault {
     /// The second line isn't `VERSION:4.0`, there is none, or a later line before END is named
     /// VERSION.
     BadVersion,
-    /// The text ends after its second line without `END:VCARD`.
+    /// The text begins with BEGIN and VERSION, but has no `END:VCARD`.
     NoEnd,
     /// No line is named FN.
     NoName,
     /// No line is named UID.
     NoUid,
-    /// A UID hasn't 1 to 255 octets, or has a tab.
+    /// A UID doesn't have 1 to 255 octets, or has a tab.
     BadUid,
-    /// A second line is named UID or KIND.
+    /// More than one line is named UID, or more than one is named KIND.
     Twice,
     /// A line is named MEMBER, but the card's kind isn't group.
     MemberOutsideGroup,

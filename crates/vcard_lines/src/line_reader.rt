@@ -12,7 +12,7 @@ use crate::line::{Line, Param, ParamValue};
 use base_types::{Items, Text};
 use std::alloc::Global;
 
-/// The text after a leading octet, or `None` if it begins with another one.
+/// The text after a leading octet, or `None` if the text doesn't begin with it.
 fn strip_byte(text: &str, octet: u8) -> Option<&str>
     requires { octet < 128 }
     ensures { option_map (λ rest. rest.now) result ≡ strip_byte octet text.now }
@@ -23,7 +23,7 @@ fn strip_byte(text: &str, octet: u8) -> Option<&str>
     }
 }
 
-/// The text after a required leading octet. `BadLine` if it begins with another one.
+/// The text after a required leading octet. `BadLine` if the text doesn't begin with it.
 fn expect_byte(text: &str, octet: u8) -> Result<&str, CardFault>
     requires { octet < 128 }
     ensures { ResultIs (λ rest. rest.now) result (or_bad_line (strip_byte octet text.now)) }
@@ -58,8 +58,8 @@ fn is_permitted(octet: u8) -> bool
     !(octet < 32 && octet != b'\t' || octet == 127)
 }
 
-/// Whether a text has no forbidden character. The loop doesn't stop at the first one, so that many
-/// octets can be tested at once.
+/// Whether a text has no control character except the tab. The loop doesn't stop at the first such
+/// character, so that many octets can be tested at once.
 pub fn is_permitted_text(text: &str) -> bool
     ensures { result ≡ list_all is_permitted text.now }
 {
@@ -242,7 +242,11 @@ fn read_parts(alloc: Global, text: &str) -> Result<Line, CardFault>
     })
 }
 
-/// Reads the property line that a logical line spells, or returns its first fault.
+/// Reads the property line that a logical line spells, with its name in upper case.
+///
+/// An `Err` is the first fault: `BadChar` if the text has a control character other than the tab,
+/// and otherwise `BadLine` if it doesn't match the grammar. `Memory` replaces any result if an
+/// allocation fails.
 #[tactic(auto, unfolding(crate::specs::Parsing::parse_line))]
 pub fn read_line(alloc: Global, text: &str) -> Result<Line, CardFault>
     ensures { ResultIs (λ line. line) result (parse_line text.now) }

@@ -21,6 +21,7 @@ use Rattle.vcard_lines.proofs.FrontLemmas.{of_class, all_of_class}
 use Rattle.vcard_lines.proofs.LineLemmas.{line_again, one_line}
 use Rattle.vcard_lines.proofs.FailLemmas.{line_fails}
 use Rattle.vcard_text.proofs.LeastLemmas.{least_of, found_or_none, least_found, none_passes, least_again, least_along}
+use Rattle.base_types.proofs.BoolLemmas.{or_false}
 
 -- ---- names
 
@@ -58,10 +59,6 @@ and_false false = refl
 and_true : (b : Bool) → (b && true) ≡ b
 and_true true = refl
 and_true false = refl
-
-or_false : (b : Bool) → (b || false) ≡ b
-or_false true = refl
-or_false false = refl
 
 -- a line that is neither named UID nor KIND is no second one
 not_repeated : (before : List Line) (line : Line) → line_is_named (codes "UID") line ≡ false → line_is_named (codes "KIND") line ≡ false → repeats_uid_or_kind before line ≡ false

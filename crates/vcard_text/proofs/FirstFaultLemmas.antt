@@ -30,16 +30,13 @@ use Rattle.vcard_text.proofs.CardLemmas.{card_found, card_again}
 use Rattle.vcard_text.proofs.TextLemmas.{of_short_text, of_no_utf8, of_long_text, spells_without_fault}
 use Rattle.vcard_text.proofs.LeastLemmas.{least_of, found_or_none, least_found, least_again, one_least}
 use Rattle.vcard_text.proofs.FaultyLineLemmas.{AreBefore, AreBeforeLast, IsScanPlace, other_name, bracket_name, version_name, end_after, named_after, any_append, has_ended, same_fault, at_next_place, least_of_spelled, spelled_least, spelled_none, none_spelled, least_of_unread}
+use Rattle.base_types.proofs.BoolLemmas.{or_false}
 
 -- ---- the whole
 
 find_append : (p : Line → Bool) (xs : List Line) (x : Line) → p x ≡ false → find p (xs ++ x ∷ []) ≡ find p xs
 find_append p [] x e = ap (λ b. cond b (Some x) None) e
 find_append p (y ∷ ys) x e = ap (λ o. cond (p y) (Some y) o) (find_append p ys x e)
-
-or_false : (b : Bool) → (b || false) ≡ b
-or_false true = refl
-or_false false = refl
 
 module _ (lines before : List Line) (a : AreBeforeLast lines before) where
   named_within : (name : List ℕ) → bytes_eq (codes "BEGIN") name ≡ false → bytes_eq (codes "VERSION") name ≡ false → bytes_eq (codes "END") name ≡ false → has_line_named name before ≡ has_line_named name lines

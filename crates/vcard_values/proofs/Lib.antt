@@ -1,1 +1,1 @@
-mod TextValueLemmas
+pub mod TextValueLemmas

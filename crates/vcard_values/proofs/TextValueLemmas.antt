@@ -12,6 +12,7 @@ use Rattle.std.proofs.lemmas.List.Sums.{sum_by-cons}
 use Rattle.std.proofs.lemmas.Str.{scalars-chars, chars-encodes, encodes-chars, encodes-append}
 use Rattle.vcard_values.specs.TextValues.{TextChar, Plain, Escaped, TrailingBackslash, written_chars, decoded_char, is_plain, AreLegalTextChars, AreTextChars, text_chars_from, text_chars, decoded_text, unescaped_text, text_char_of, escaped_value, IsFullyEscaped, joined_pieces, IsSplitAtSemicolons, prepend_to_first, split_at_semicolons, components, joined_by_semicolons}
 use Rattle.vcard_values.specs.internal.UnescapeLoop.{unescape_state, unescape_char, finished_text, split_state, split_char, finished_parts}
+use Rattle.base_types.proofs.BoolLemmas.{both_false}
 
 -- ---- the characters of a value
 
@@ -112,11 +113,11 @@ scalar_written c s =
       ]
     ]
 
-scalars_append : (cs ds : List ℕ) → scalars cs ≡ true → scalars ds ≡ true → scalars (cs ++ ds) ≡ true
+pub scalars_append : (cs ds : List ℕ) → scalars cs ≡ true → scalars ds ≡ true → scalars (cs ++ ds) ≡ true
 scalars_append [] ds a b = b
 scalars_append (c ∷ cs) ds a b = let p = and_parts (scalar c) (scalars cs) a in rw (p.0, scalars_append cs ds p.1 b) refl
 
-scalars_written : (cs : List ℕ) → scalars cs ≡ true → scalars (flat_map (λ c. written_chars (text_char_of c)) cs) ≡ true
+pub scalars_written : (cs : List ℕ) → scalars cs ≡ true → scalars (flat_map (λ c. written_chars (text_char_of c)) cs) ≡ true
 scalars_written [] s = refl
 scalars_written (c ∷ cs) s =
     let p = and_parts (scalar c) (scalars cs) s in
@@ -316,19 +317,15 @@ cut_has_none (c ∷ cs) =
       | false ↦ λ e. none_before c (split_at_semicolons cs) e (cut_has_none cs)
     ] refl
 
-no_first : (a b : Bool) → (a || b) ≡ false → (a ≡ false) × (b ≡ false)
-no_first true b e = absurd (cc)
-no_first false b e = (refl, e)
-
 cut_last : (piece : List TextChar) → list_any (is_plain 59) piece ≡ false → split_at_semicolons piece ≡ piece ∷ []
 unfolding split_at_semicolons
 cut_last [] e = refl
-cut_last (c ∷ cs) e = let p = no_first (is_plain 59 c) (list_any (is_plain 59) cs) e in cond-false _ _ _ p.0 ∙ ap (prepend_to_first c) (cut_last cs p.1)
+cut_last (c ∷ cs) e = let p = both_false (is_plain 59 c) (list_any (is_plain 59) cs) e in cond-false _ _ _ p.0 ∙ ap (prepend_to_first c) (cut_last cs p.1)
 
 cut_first : (piece rest : List TextChar) → list_any (is_plain 59) piece ≡ false → split_at_semicolons (piece ++ Plain 59 ∷ rest) ≡ piece ∷ split_at_semicolons rest
 unfolding split_at_semicolons
 cut_first [] rest e = refl
-cut_first (c ∷ cs) rest e = let p = no_first (is_plain 59 c) (list_any (is_plain 59) cs) e in cond-false _ _ _ p.0 ∙ ap (prepend_to_first c) (cut_first cs rest p.1)
+cut_first (c ∷ cs) rest e = let p = both_false (is_plain 59 c) (list_any (is_plain 59) cs) e in cond-false _ _ _ p.0 ∙ ap (prepend_to_first c) (cut_first cs rest p.1)
 
 cut_again : (pieces : List (List TextChar)) → 0 < length pieces → NoSemicolon pieces → split_at_semicolons (joined_pieces pieces) ≡ pieces
 cut_again [] l a = absurd (omega arith)

@@ -32,7 +32,7 @@ is_plain d TrailingBackslash = false
 
 -- ---- the characters of a value
 
--- no plain backslash, and one that escapes nothing only at the end
+-- no backslash is plain, and one that escapes nothing is the last character
 abbrev pub AreLegalTextChars : List TextChar → Type 0
 AreLegalTextChars [] = Unit {0}
 AreLegalTextChars (Plain c ∷ others) = ((c == backslash) ≡ false) × AreLegalTextChars others
@@ -44,7 +44,8 @@ pub record AreTextChars (value : List ℕ) (text_chars : List TextChar) : Type 0
   pub concatenation : value ≡ flat_map written_chars text_chars
   pub legal : AreLegalTextChars text_chars
 
--- the same, read from left to right; the flag says whether an escaping backslash was just read
+-- the characters of a value, read from left to right; the flag says whether an escaping backslash
+-- was just read
 unfoldable pub text_chars_from : Bool → List ℕ → List TextChar
 text_chars_from true [] = TrailingBackslash ∷ []
 text_chars_from true (c ∷ cs) = Escaped c ∷ text_chars_from false cs
@@ -93,7 +94,7 @@ joined_pieces (piece ∷ []) = piece
 joined_pieces (piece ∷ next ∷ pieces) =
     piece ++ Plain semicolon ∷ joined_pieces (next ∷ pieces)
 
--- The text characters are split at each plain semicolon.
+-- The text characters are split into these pieces at each plain semicolon.
 pub record IsSplitAtSemicolons (text_chars : List TextChar) (pieces : List (List TextChar)) : Type 0
   where
     pub nonempty : 0 < length pieces
@@ -105,7 +106,7 @@ abbrev pub prepend_to_first : TextChar → List (List TextChar) → List (List T
 prepend_to_first c [] = (c ∷ []) ∷ []
 prepend_to_first c (piece ∷ pieces) = (c ∷ piece) ∷ pieces
 
--- the same pieces, computed from left to right
+-- the pieces between plain semicolons, computed from left to right
 unfoldable pub split_at_semicolons : List TextChar → List (List TextChar)
 split_at_semicolons [] = [] ∷ []
 split_at_semicolons (c ∷ cs) =

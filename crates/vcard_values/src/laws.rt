@@ -13,14 +13,15 @@ pub fn text_characters_are_unique()
         ↔ (characters ≡ text_chars value) }
 {}
 
-/// A text value is split in exactly one way, with a plain semicolon between each two pieces and
+/// A text value is split in exactly one way, with a plain semicolon between adjacent pieces and
 /// none inside a piece.
 pub fn semicolon_split_is_unique()
     ensures { (characters : List TextChar) (pieces : List (List TextChar))
         → IsSplitAtSemicolons characters pieces ↔ (pieces ≡ split_at_semicolons characters) }
 {}
 
-/// The components of texts that were escaped and joined by semicolons are those texts.
+/// If one or more UTF-8 texts are escaped and joined by semicolons, the components of the value are
+/// those texts.
 pub fn joined_texts_are_components()
     ensures { (texts : List (List ℕ)) → AllByRecursion IsUtf8 texts → 0 < length texts
         → components (joined_by_semicolons (map escaped_value texts)) ≡ texts }

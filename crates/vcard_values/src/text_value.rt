@@ -14,8 +14,8 @@ use base_types::NoMemory;
 use std::alloc::Global;
 use std::mem;
 
-/// Appends a character in escaped form: a newline as `\n`; a backslash, a comma and a semicolon
-/// with a backslash before it.
+/// Appends a character in escaped form: a newline as `\n`; a backslash, a comma or a semicolon with
+/// a backslash before it.
 fn push_escaped(value: &mut String, c: char) -> Result<(), NoMemory>
     ensures { OnOk result (string_bytes value.new ≡ string_bytes value.old
         ++ encode_utf8_all (written_chars (text_char_of c))) }

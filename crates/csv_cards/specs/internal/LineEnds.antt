@@ -17,7 +17,7 @@ line_end_state text is_held = record { text = text; is_held = is_held }
 abbrev pub flushed_text : LineEndState → List ℕ
 flushed_text state = if state.is_held then state.text ++ carriage_return ∷ [] else state.text
 
--- the same, unless a line feed follows
+-- the text, with the carriage return that was held back unless this next character is a line feed
 abbrev pub flush_return : LineEndState → ℕ → List ℕ
 flush_return state c =
     if state.is_held && not (c == line_feed) then state.text ++ carriage_return ∷ []
