@@ -13,7 +13,7 @@ use Rattle.book_model.specs.declared.change.StoreReason.{StoreReason}
 use Rattle.book_model.specs.declared.change.StoreReason.TheVariants.{Creation, Edit, Import, ImportEdit, MoveIn}
 use Rattle.book_model.specs.declared.change.RemovalReason.TheVariants.{Deletion, MoveOut}
 use Rattle.book_model.specs.declared.counts.Counts.{Counts}
-use Rattle.book_model.specs.Counting.{counts_after_change, total_changes, arrived_cards, departed_cards, live_count}
+use Rattle.book_model.specs.Counting.{counts_after_change, arrived_cards, departed_cards, live_count}
 use Rattle.book_laws.specs.LogCounts.{counts_of_log}
 use Rattle.book_laws.specs.CountLaws.{EventsAreCounted, LiveCardsAreCounted, ReasonsAreCounted}
 use Rattle.book_laws.specs.Reasons.{is_stored_for, is_removed_for}
@@ -21,15 +21,7 @@ use Rattle.book_laws.specs.EventLogs.{BookEvent, cards_after_change, live}
 use Rattle.book_model.specs.Books.{LiveCards}
 use Rattle.book_laws.specs.ValidLogs.{IsPossibleChange, IsValidLog}
 use Rattle.base_types.proofs.TextLemmas.{text_total}
-
-pub total-counted : (change : Change) (c : Counts) → total_changes (counts_after_change change c) ≡ total_changes c + 1
-total-counted (Stores card Creation) c = omega arith
-total-counted (Stores card Edit) c = omega arith
-total-counted (Stores card Import) c = omega arith
-total-counted (Stores card ImportEdit) c = omega arith
-total-counted (Stores card MoveIn) c = omega arith
-total-counted (TakesAway Deletion) c = omega arith
-total-counted (TakesAway MoveOut) c = omega arith
+use Rattle.book_model.proofs.ChangeCountLemmas.{total-counted}
 
 pub events_are_counted : EventsAreCounted
 events_are_counted [] = refl

@@ -32,6 +32,7 @@ use Rattle.book_model.proofs.BasicLemmas.{both, is_some-false}
 use Rattle.base_types.proofs.TextLemmas.{text_total, same-equal}
 use Rattle.book_laws.proofs.HistoryLemmas.{has, last-le, last_here, last_other, last_event, event-le, Rises, get-changed}
 use Rattle.book_laws.proofs.DueLemmas.{has-due, due_have_events, above_first, due-rises}
+use Rattle.base_types.proofs.BoolLemmas.{same_branches}
 
 -- ---- events
 
@@ -94,10 +95,6 @@ get-applied copy h (v ∷ uids) uid =
     get-applied (copy_after_entry copy (entry_of h v)) h uids uid
     ∙ ap (cond (has uids uid) (finite.get (live h) uid)) (get-applied_one copy h v uid)
     ∙ later_wins (same_uid uid v) (has uids uid) _ _ _ (λ here. ap (finite.get (live h)) (sym (same-equal uid v here)))
-
-same_branches : {A : Type 0} (b : Bool) (x : A) → cond b x x ≡ x
-same_branches true x = refl
-same_branches false x = refl
 
 -- entries of any members, each as it is now, keep a consistent copy consistent
 some_applied : (copy : LiveCards) (mark : Mark) (h : List BookEvent) (uids : List (List ℕ)) → Agrees copy mark h → Agrees (copy_after_entries copy (map (entry_of h) uids)) mark h

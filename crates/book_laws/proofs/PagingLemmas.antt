@@ -17,11 +17,12 @@ use Rattle.book_laws.specs.StoreHistories.{BookHistory}
 use Rattle.book_model.specs.Devices.{copy_after_entries, copy_before_page, device_after_page}
 use Rattle.book_laws.specs.DeviceConsistency.{Agrees}
 use Rattle.book_laws.specs.DeviceLaws.{DueMembersAreInOrder, EntriesAreFirstDue, PageSizesAreExact}
-use Rattle.book_laws.specs.Paging.{SyncState, mark_of_token, page_for_device, sync_after_events, next_report, sync_after_turn, due_count, one_if_true, truncated_page_count, events_until_last_truncated, device_after_pages}
+use Rattle.book_laws.specs.Paging.{SyncState, mark_of_token, page_for_device, sync_after_events, next_report, sync_after_turn, due_count, truncated_page_count, events_until_last_truncated, device_after_pages}
 use Rattle.book_laws.specs.PagingLaws.{EventsAddAtMostOneDue, TruncatedPagesLeaveRest, TruncatedPagesLeaveFewer, LastPagesLeaveNoneDue, TruncatedPagesAreBounded, QuietBooksSyncFully, QuietDevicesCatchUp}
 use Rattle.book_laws.proofs.HistoryLemmas.{Rises, last-le, last_other, get-changed}
 use Rattle.book_laws.proofs.DueLemmas.{due-rises}
 use Rattle.book_laws.proofs.DeviceLemmas.{whole_page_keeps_copy, nobody_due_is_complete, ready}
+use Rattle.book_model.specs.Counting.{one_if}
 
 -- ---- which members a report has
 
@@ -93,7 +94,7 @@ events_add_at_most_one h e mark =
         ap (λ n. nat_lt mark.at n && (is_some (finite.get (live (e ∷ h)) v) || nat_lt mark.base n)) (last_other h e v other)
         ∙ ap (λ o. nat_lt mark.at (last_number h v) && (is_some o || nat_lt mark.base (last_number h v))) (get-changed (live h) e.uid v e.change (length h + 1) other)
 
-events_add : (h : List BookEvent) (events : List BookEvent) (mark : Mark) → length (due (events ++ h) mark) ≤ length (due h mark) + length events
+pub events_add : (h : List BookEvent) (events : List BookEvent) (mark : Mark) → length (due (events ++ h) mark) ≤ length (due h mark) + length events
 events_add h [] mark = omega arith
 events_add h (e ∷ events) mark = let one = events_add_at_most_one (events ++ h) e mark in let rest = events_add h events mark in omega (arith, one, rest)
 
@@ -200,7 +201,7 @@ module _ (k : ℕ) (some : 0 < k) where
       → 0 < truncated_page_count k state (events ∷ turns)
       → truncated_page_count k state (events ∷ turns) * k < due_count (sync_after_events state events) + events_until_last_truncated k (sync_after_turn k state events) turns
   first_bounded state events turns later =
-      elim (next_report k (sync_after_events state events)).truncated as (λ b. (next_report k (sync_after_events state events)).truncated ≡ b → 0 < one_if_true b + t → (one_if_true b + t) * k < due_count (sync_after_events state events) + w) [
+      elim (next_report k (sync_after_events state events)).truncated as (λ b. (next_report k (sync_after_events state events)).truncated ≡ b → 0 < one_if b + t → (one_if b + t) * k < due_count (sync_after_events state events) + w) [
         | true ↦ λ cut _. one_more k t (due_count (sync_after_events state events)) (due_count (sync_after_turn k state events)) w
             (truncated_pages_leave_fewer (events ++ state.log) state.mark k some cut) (cut_where (events ++ state.log) state.mark k cut) later
         | false ↦ λ all more.

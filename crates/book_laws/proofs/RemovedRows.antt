@@ -15,16 +15,13 @@ use Rattle.base_types.proofs.TextLemmas.{text_total}
 use Rattle.book_laws.proofs.DropLemmas.{numbers}
 use Rattle.book_laws.proofs.FilterLemmas.{IsAmong, filter_both, filter_fewer}
 use Rattle.book_laws.proofs.PassingRows.{entries-retained}
+use Rattle.book_model.specs.Counting.{one_if}
 
 abbrev Rows : Type 0
 Rows = finite.FinMap text_cmp Row
 
 abbrev passing : (Row → Bool) → Members → ℕ
 passing test es = length (filter (λ (e : List ℕ × Row). test e.1) es)
-
--- how many one row counts
-abbrev one_if_true : Bool → ℕ
-one_if_true b = cond b 1 0
 
 one_first : (test : Row → Bool) (e : List ℕ × Row) (es : Members) → passing test (e ∷ es) ≡ cond (test e.1) 1 0 + passing test es
 one_first test e es = elim (test e.1) as (λ b. length (cond b (e ∷ filter (λ (d : List ℕ × Row). test d.1) es) (filter (λ (d : List ℕ × Row). test d.1) es)) ≡ cond b 1 0 + passing test es) [ true ↦ omega arith | false ↦ omega arith ]
@@ -100,12 +97,12 @@ one_less horizon n rises (e ∷ es) among =
         → passing (is_tombstone_after n) (e ∷ es) + 1 ≤ passing (is_tombstone_after horizon) (e ∷ es)
     by rest was now fewer true passes among = ⊎_elim
         (λ first.
-        let a = ap one_if_true (removed_up_to_base first) in
-        let c = ap one_if_true passes in
+        let a = ap one_if (removed_up_to_base first) in
+        let c = ap one_if passes in
         omega (arith, was, now, fewer, a, c))
         (λ later.
         let r = rest later in
-        let c = ap one_if_true passes in
+        let c = ap one_if passes in
         let a = at_most_one (is_tombstone_after n e.1) in
         omega (arith, was, now, r, c, a))
         among
@@ -115,8 +112,8 @@ one_less horizon n rises (e ∷ es) among =
         at_most_one false = omega arith
     by rest was now fewer false fails among =
         let r = rest among in
-        let c = ap one_if_true fails in
-        let a = ap one_if_true (false_from_ne_true (is_tombstone_after n e.1) (λ p. none (sym (removed_sooner horizon n rises e.1 p) ∙ fails))) in
+        let c = ap one_if fails in
+        let a = ap one_if (false_from_ne_true (is_tombstone_after n e.1) (λ p. none (sym (removed_sooner horizon n rises e.1 p) ∙ fails))) in
         omega (arith, was, now, r, c, a)
       where
         none : ◌≡◌ {A = Bool} true false → ⊥

@@ -1,6 +1,5 @@
 -- The due rows of a history's rows, in the order of their numbers, are its due members, and their page is its report.
-use Rattle.std.proofs.Common.{◌≡◌, ℕ, suc, ◌-◌, ◌<◌, ◌≤◌, max, Bool, true, false, cond, T, List, [], ◌∷◌, length, filter, take, map, get_or, Some, None, nat_lt, refl, sym, ap, ◌∙◌, subst, ⊎_elim, arith, is_eq, Ordering, Less, Equal, Greater}
-use Rattle.std.specs.Ordering.{is_lt}
+use Rattle.std.proofs.Common.{◌≡◌, ℕ, suc, ◌-◌, ◌<◌, ◌≤◌, max, Bool, true, false, cond, T, List, [], ◌∷◌, length, filter, take, map, get_or, Some, None, nat_lt, refl, sym, ap, ◌∙◌, subst, ⊎_elim, arith}
 use Rattle.std.specs.Option.{option_map, option_map_or}
 use Rattle.std.specs.List.{All, AllByRecursion, list_any, IsDistinct}
 use Rattle.std.specs.List.Sorted.{IsPermutation, IsNonDecreasingBy}
@@ -27,7 +26,7 @@ use Rattle.book_model.specs.Pages.{MemberWithRow, ReportRequest, is_due_row, due
 use Rattle.book_laws.specs.Reports.{is_due_member, due, entry_of, truncated_log_page, complete_log_page, report}
 use Rattle.book_laws.specs.LogRows.{rows_of_log}
 use Rattle.book_laws.specs.StoreHistories.{BookHistory, book_of_history}
-use Rattle.book_model.proofs.BasicLemmas.{T_parts}
+use Rattle.book_model.proofs.BasicLemmas.{T_parts, less_differs}
 use Rattle.base_types.proofs.TextLemmas.{same_equiv, same-equal}
 use Rattle.book_laws.proofs.HistoryLemmas.{has, last-le, last_here, last_other, Rises, version_is}
 use Rattle.book_laws.proofs.DueLemmas.{has-due, any_passes, due-rises, same_rising}
@@ -50,14 +49,9 @@ last_apart (e ∷ h) u v p same = ⊎_elim
 
 -- ---- the entries of a map have distinct keys
 
-less_apart : (o : Ordering) → T (is_lt o) → is_eq o ≡ false
-less_apart Less h = refl
-less_apart Equal h = absurd h
-less_apart Greater h = absurd h
-
 apart_below : (x : List ℕ) (es : List MemberWithRow) → T (below_all text_cmp x es) → AllByRecursion (λ y. same_uid x y ≡ false) (keys_of es)
 apart_below x [] h = tt
-apart_below x (e ∷ es) h = let parts = T_parts _ _ h in (less_apart _ parts.0, apart_below x es parts.1)
+apart_below x (e ∷ es) h = let parts = T_parts _ _ h in (less_differs _ parts.0, apart_below x es parts.1)
 
 distinct_from_sorted : (es : List MemberWithRow) → T (is_sorted text_cmp es) → IsDistinct same_uid (keys_of es)
 unfolding IsDistinct

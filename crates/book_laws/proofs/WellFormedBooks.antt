@@ -30,7 +30,8 @@ use Rattle.book_model.specs.BookQueries.{is_tombstone_after, live_cards, tombsto
 use Rattle.book_model.specs.WellFormed.{IsWellFormedRow, IsWellFormedImport, IsWellFormedBook, IsWellFormed}
 use Rattle.book_model.proofs.LiveCardLemmas.{Members, find_live}
 use Rattle.base_types.proofs.TextLemmas.{text_total, same-equal}
-use Rattle.book_laws.proofs.CountLemmas.{total-counted, len-removed}
+use Rattle.book_laws.proofs.CountLemmas.{len-removed}
+use Rattle.book_model.proofs.ChangeCountLemmas.{total-counted}
 use Rattle.book_laws.proofs.DropLemmas.{numbers}
 use Rattle.book_laws.proofs.FilterLemmas.{least_among, none_least}
 use Rattle.book_laws.proofs.RememberLemmas.{not_below}

@@ -38,11 +38,15 @@ pub data Call : Type 0 where
   ReportCall : List ℕ → Option Token → Option ℕ → Call
   -- look up the book's import under this key
   KeptImportCall : List ℕ → List ℕ → Call
+  -- list all books
   BooksCall : Call
+  -- look up the book's line: its name, id, number and horizon
   BookLineCall : List ℕ → Call
   -- get the book's card of this UID
   GetCall : List ℕ → List ℕ → Call
+  -- get all live cards of the book
   CardsCall : List ℕ → Call
+  -- get the book's tally
   TallyCall : List ℕ → Call
 
 -- the answer of a call

@@ -63,7 +63,7 @@ abbrev pub DevicesStartConsistent : Type 0
 DevicesStartConsistent = (histories : BookHistories) (device : DeviceState) →
     device.token ≡ None → IsConsistentDevice histories device
 
--- an event in any book keeps each consistent device consistent, whether it is possible or not
+-- any event in any book, possible or not, keeps each consistent device consistent
 abbrev pub EventsKeepDevicesConsistent : Type 0
 EventsKeepDevicesConsistent =
     (histories : BookHistories) (name : List ℕ) (history : BookHistory) (e : BookEvent)
@@ -71,7 +71,7 @@ EventsKeepDevicesConsistent =
     → IsConsistentDevice histories device →
     IsConsistentDevice (finite.insert histories name (with_event history e)) device
 
--- and so does creating a book, since no device has a token of it yet
+-- and so does creating a book, since no consistent device has a token of it yet
 abbrev pub NewBooksKeepDevicesConsistent : Type 0
 NewBooksKeepDevicesConsistent =
     (histories : BookHistories) (name : List ℕ) (id keep : ℕ) (device : DeviceState) →

@@ -1,6 +1,5 @@
 -- The event log of a book: the changes of a collection's members (RFC 6578, sections 3.1 and 3.5).
--- A log lists events newest first, so the number of an event is the length of the log up to and
--- including it.
+-- A log lists events newest first; the oldest event has the number 1.
 use Rattle.std.specs.Prelude.{ℕ, ◌+◌, ◌≡◌, ◌<◌, Bool, not, List, [], ◌∷◌, ◌++◌, length, filter}
 use Rattle.std.specs.Prelude.{if◌then◌else◌}
 use Rattle.std.specs.Ordering.{eq_by_cmp}

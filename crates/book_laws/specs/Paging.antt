@@ -1,7 +1,8 @@
 -- How many pages of a book's report are truncated while events are added and pages are applied (RFC
 -- 6578, section 3.6). The bound is this project's own.
-use Rattle.std.specs.Prelude.{ℕ, zero, suc, ◌+◌, Bool, nat_lt, List, [], ◌∷◌, ◌++◌, length, fold}
+use Rattle.std.specs.Prelude.{ℕ, zero, suc, ◌+◌, nat_lt, List, [], ◌∷◌, ◌++◌, length, fold}
 use Rattle.std.specs.Prelude.{Option, Some, None, if◌then◌else◌}
+use Rattle.book_model.specs.Counting.{one_if}
 use Rattle.book_model.specs.declared.page.Page.{Page}
 use Rattle.book_model.specs.declared.token.Mark.{Mark}
 use Rattle.book_model.specs.declared.token.Token.{Token}
@@ -44,14 +45,11 @@ sync_after_turns k state turns = fold (sync_after_turn k) state turns
 abbrev pub due_count : SyncState → ℕ
 due_count state = length (due state.log state.mark)
 
-abbrev pub one_if_true : Bool → ℕ
-one_if_true holds = if holds then 1 else 0
-
 -- how many pages of these turns are truncated
 abbrev pub truncated_page_count : ℕ → SyncState → List (List BookEvent) → ℕ
 truncated_page_count k state [] = 0
 truncated_page_count k state (events ∷ turns) =
-    one_if_true (next_report k (sync_after_events state events)).truncated
+    one_if (next_report k (sync_after_events state events)).truncated
     + truncated_page_count k (sync_after_turn k state events) turns
 
 -- how many events are added up to the last truncated page

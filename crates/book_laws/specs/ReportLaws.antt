@@ -5,8 +5,8 @@ use Rattle.book_model.specs.declared.token.Mark.{Mark}
 use Rattle.book_laws.specs.EventLogs.{BookEvent, HasEventAbove, live}
 use Rattle.book_laws.specs.Reports.{due}
 
--- the tests on last events decide this: the due members are those that have an event above `at`,
--- and are live or have one above `base`
+-- the due members, which are defined by their last events, are exactly those that have any event
+-- above `at`, and are live or have any event above `base`
 abbrev pub DueMembersHaveEvents : Type 0
 DueMembersHaveEvents = (h : List BookEvent) (mark : Mark) (uid : List ℕ) →
     Contains (due h mark) uid ↔ (HasEventAbove h mark.at uid

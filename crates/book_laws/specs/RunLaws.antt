@@ -27,14 +27,15 @@ RowsMatchHistoriesAfterCalls = (store : StoreHistory) (calls : List Call) → Is
     rows_after_calls store.limits (rows_of store.books) calls
     ≡ rows_of (histories_after_calls store.limits store.books calls)
 
--- Two stores with the same limits and rows answer every list of calls alike, and have the same rows
--- afterwards: the rows hold everything that a later call needs.
+-- Two stores answer these calls alike, and have the same rows afterwards.
 pub record AreIndistinguishable (a b : StoreHistory) (calls : List Call) : Type 0 where
   pub answers_are : answers_to_calls a.limits a.books calls
       ≡ answers_to_calls b.limits b.books calls
   pub rows_are : rows_of (histories_after_calls a.limits a.books calls)
       ≡ rows_of (histories_after_calls b.limits b.books calls)
 
+-- Two stores with sound histories and the same limits and rows are indistinguishable by any calls:
+-- the rows hold everything that a later call needs.
 abbrev pub RowsDetermineAnswers : Type 0
 RowsDetermineAnswers = (a b : StoreHistory) (calls : List Call) → IsInRange a.limits →
     AreSoundHistories a.books → AreSoundHistories b.books →

@@ -40,7 +40,7 @@ TokensStayValid =
     × (ForgotAbove store.limits store.books calls name page.mark.base
     ⊎ RemovalsExceedKeep (histories_after_calls store.limits store.books calls) name page.mark.base)
 
--- and it accepts the token as long as the book has no further event
+-- and it accepts the token on the histories that returned the page
 abbrev pub FreshTokensAreAccepted : Type 0
 FreshTokensAreAccepted = (store : StoreHistory) (name : List ℕ) (token : Option Token)
     (limit again : Option ℕ) (page : Page) (cause : TokenCause) → AreSoundHistories store.books →

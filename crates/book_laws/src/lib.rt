@@ -1,6 +1,6 @@
 //! Histories of books, how a store's rows refine them, and the laws of all histories. Each law is a
-//! public function with an empty body: its clause is what is proved, and a caller gets the clause
-//! by calling it.
+//! public function that does nothing: its clause is what is proved, and a caller gets the clause by
+//! calling it.
 #![tactic(auto)]
 
 pub mod devices;

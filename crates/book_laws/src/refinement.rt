@@ -14,7 +14,8 @@ pub fn rows_are_per_book()
     ensures { RowsArePerBook }
 {}
 
-/// No histories are sound, and their rows are no books (`specs/ChangeRefinement.antt`).
+/// A store without histories is sound, and its rows are those of a store without books
+/// (`specs/ChangeRefinement.antt`).
 pub fn empty_stores_have_no_histories()
     ensures { EmptyStoresHaveNoHistories }
 {}

@@ -6,7 +6,7 @@ ghost use Rattle.book_laws.specs.WellFormedLaws.{ForgetKeepsWellFormed, CallsKee
 ghost use Rattle.book_laws.specs.WellFormedLaws.{PagesFitBooks, PagesHaveShortNumbers};
 ghost use Rattle.book_laws.specs.WellFormedLaws.{OtherBooksTokensAreRefused};
 
-/// No books are well formed, under any limits.
+/// A store without books is well formed, under any limits.
 pub fn new_stores_are_well_formed()
     ensures { EmptyStoresAreWellFormed }
 {}

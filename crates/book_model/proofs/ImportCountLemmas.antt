@@ -12,14 +12,11 @@ use Rattle.book_model.specs.declared.answers.Stored.{Stored}
 use Rattle.book_model.specs.declared.change.StoreReason.{StoreReason}
 use Rattle.book_model.specs.declared.change.StoreReason.TheVariants.{Import, ImportEdit}
 use Rattle.book_model.specs.Books.{Book, same_name, stored_in_row, live_at}
-use Rattle.book_model.specs.Counting.{arrived_cards, departed_cards}
+use Rattle.book_model.specs.Counting.{arrived_cards, departed_cards, one_if}
 use Rattle.book_model.specs.Importing.{Importing, import_state, import_card, import_cards, book_after_store, import_with_reason, import_reason}
 use Rattle.book_model.specs.ImportLaws.{is_edit_of_live, is_same_as_live, HaveDistinctUids, CountsImportedCards, ImportsCountCards, ImportsTakeNumbers}
 use Rattle.book_model.specs.SameCards.{same_card}
 use Rattle.base_types.proofs.TextLemmas.{text_total, same_self, same-equal}
-
-abbrev one_if : Bool → ℕ
-one_if b = cond b 1 0
 
 count_by-more : (p : List Line → Bool) (card : List Line) (cards : List (List Line)) → count_by p (card ∷ cards) ≡ one_if (p card) + count_by p cards
 count_by-more p card cards = sum_by-cons (λ y. cond (p y) 1 0) card cards
@@ -113,7 +110,7 @@ module _ {S : Type 0} (live_in : S → List ℕ → Option Stored) (storing : S 
 
 -- ---- the rows
 
-row_apart : (book : Book) (card : List Line) (why : StoreReason) (uid : List ℕ) → same_name (uid_of card) uid ≡ false → live_at (book_after_store book card why) uid ≡ live_at book uid
+pub row_apart : (book : Book) (card : List Line) (why : StoreReason) (uid : List ℕ) → same_name (uid_of card) uid ≡ false → live_at (book_after_store book card why) uid ≡ live_at book uid
 row_apart book card why uid e = ap (option_and_then stored_in_row) (get-insert text_total book.members (uid_of card) (record { changed = book.number + 1; card = Some card }) uid ∙ cond-false _ _ _ (apart_turned (uid_of card) uid e))
 
 pub imports_count_cards : ImportsCountCards

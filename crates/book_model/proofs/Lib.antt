@@ -4,3 +4,4 @@ pub mod PutLemmas
 pub mod LiveCardLemmas
 pub mod AnswerLemmas
 pub mod ImportCountLemmas
+pub mod ChangeCountLemmas

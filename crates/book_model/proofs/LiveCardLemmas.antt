@@ -1,24 +1,21 @@
 -- The live cards among the rows of a book, collected one by one.
-use Rattle.std.proofs.Common.{◌≡◌, ℕ, true, false, cond, T, List, [], ◌∷◌, ◌++◌, flat_map, fold, Option, Some, None, Ordering, Less, Equal, Greater, refl, sym, ap, ◌∙◌, subst}
-use Rattle.std.specs.Option.{option_map_or, option_and_then, option_or}
+use Rattle.std.proofs.Common.{◌≡◌, ℕ, true, false, cond, T, List, [], ◌∷◌, ◌++◌, flat_map, Option, Some, None, refl, sym, ◌∙◌, subst}
+use Rattle.std.specs.Option.{option_map_or, option_and_then}
 use Rattle.std.specs.FinMap as finite
-use Rattle.std.specs.FinMap.{get-empty, get-insert, get-from_entries, same_map}
 use Rattle.std.specs.FinMap.Entries.{find, below_all, is_sorted}
-use Rattle.std.specs.Ordering.{is_lt, is_eq}
 use Rattle.std.proofs.lemmas.Bool.{cond-true, cond-false}
-use Rattle.std.proofs.lemmas.Map.Lookups.{exact_bytes}
 use Rattle.base_types.specs.TextMaps.{text_cmp}
 use Rattle.book_model.specs.declared.answers.Stored.{Stored}
 use Rattle.book_model.specs.declared.row.Row.{Row}
-use Rattle.book_model.specs.Books.{stored_in_row, LiveCards}
+use Rattle.book_model.specs.Books.{stored_in_row}
 use Rattle.book_model.specs.BookQueries.{live_card_entry}
-use Rattle.book_model.proofs.BasicLemmas.{T_parts}
-use Rattle.base_types.proofs.TextLemmas.{text_total, same-equal, same}
+use Rattle.book_model.proofs.BasicLemmas.{T_parts, less_differs}
+use Rattle.base_types.proofs.TextLemmas.{same-equal, same}
 
 abbrev pub Members : Type 0
 Members = List (List ℕ × Row)
 
-no_live_below : (q : List ℕ) (es : Members) → T (below_all text_cmp q es) → find text_cmp q (flat_map live_card_entry es) ≡ None
+pub no_live_below : (q : List ℕ) (es : Members) → T (below_all text_cmp q es) → find text_cmp q (flat_map live_card_entry es) ≡ None
 no_live_below q [] h = refl
 no_live_below q (e ∷ es) h =
     let parts = T_parts _ _ h in
@@ -27,11 +24,6 @@ no_live_below q (e ∷ es) h =
       | Some s ↦ cond-false (same q e.0) (Some s) _ (less_differs (text_cmp q e.0) parts.0) ∙ rest
       | None ↦ rest
     ]
-  where
-    less_differs : (o : Ordering) → T (is_lt o) → is_eq o ≡ false
-    less_differs Less h = refl
-    less_differs Equal h = absurd h
-    less_differs Greater h = absurd h
 
 pub find_live : (q : List ℕ) (es : Members) → T (is_sorted text_cmp es) → find text_cmp q (flat_map live_card_entry es) ≡ option_and_then stored_in_row (find text_cmp q es)
 find_live q [] h = refl

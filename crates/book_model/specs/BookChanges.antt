@@ -64,7 +64,7 @@ book_after_drop book drop = record book {
   members = rows_after_drop book.members drop;
 }
 
--- ---- both
+-- ---- the change, and the drop that it forces
 
 -- the book after a change of the UID's member
 abbrev pub book_after_change : Book → List ℕ → Change → Book

@@ -50,7 +50,7 @@ live_card_entry member =
 abbrev pub live_cards : Book → LiveCards
 live_cards book = finite.from_entries (flat_map live_card_entry (finite.entries book.members))
 
--- the cards with a member's added, if it is live: the step of loops that collect live cards
+-- the cards with a member's card added, if it is live: the step of loops that collect live cards
 abbrev pub with_live : LiveCards → List ℕ × Row → LiveCards
 with_live cards member =
     option_map_or (λ stored. finite.insert cards member.0 stored) (stored_in_row member.1) cards

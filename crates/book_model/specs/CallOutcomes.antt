@@ -28,8 +28,8 @@ denied_card_fault NoRoom = denied_no_memory
 denied_card_fault fault = Refused (BadCard fault)
 
 -- A call that changes state matches its step: it returned the step's answer and left the step's
--- next state, or it returned the step's refusal and left the old state. Instead of either it may
--- return a fault, and leaves the old state.
+-- next state, or it returned the step's refusal and left the old state. Instead of either, it may
+-- have returned a fault and left the old state.
 abbrev pub MatchesStep : {A S : Type 0} → Result A Denied → Result (A × S) Refusal → S → S → Type 0
 MatchesStep (Ok answer) (Ok done) old new = (answer ≡ done.0) × (new ≡ done.1)
 MatchesStep (Ok answer) (Err refusal) old new = ⊥

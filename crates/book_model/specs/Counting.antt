@@ -1,5 +1,5 @@
 -- Changes counted by reason. This project's own.
-use Rattle.std.specs.Prelude.{ℕ, ◌+◌, ◌-◌}
+use Rattle.std.specs.Prelude.{ℕ, Bool, ◌+◌, ◌-◌, if◌then◌else◌}
 use Rattle.book_model.specs.declared.counts.Counts.{Counts}
 use Rattle.book_model.specs.declared.change.Change.{Change}
 use Rattle.book_model.specs.declared.change.Change.TheVariants.{Stores, TakesAway}
@@ -42,3 +42,7 @@ departed_cards c = c.deleted + c.moved_out
 -- how many cards are live, by the counts alone
 abbrev pub live_count : Counts → ℕ
 live_count c = arrived_cards c - departed_cards c
+
+-- what one test adds to a count
+abbrev pub one_if : Bool → ℕ
+one_if holds = if holds then 1 else 0

@@ -9,7 +9,7 @@ use Rattle.book_model.specs.BookNames.{is_legal_name}
 use Rattle.book_model.specs.Books.{Books, fresh_book}
 use Rattle.book_model.specs.CallOutcomes.{◌>>=◌, refuse_unless}
 
--- the id of a new book, where a store with this number of books may have one of this name
+-- the id of a new book of this name in a store with this number of books, or why there can't be one
 abbrev pub new_id : Bounds → List ℕ → Bool → ℕ → Result ℕ Refusal
 new_id limits name name_exists books = do
   legal ← refuse_unless (is_legal_name name) BadBookName

@@ -13,8 +13,8 @@ use Rattle.book_model.specs.Counting.{total_changes, arrived_cards, departed_car
 use Rattle.book_model.specs.Importing.{is_legal_key}
 use Rattle.book_model.specs.BookQueries.{live_cards, tombstone_count}
 
--- The row was written by one of the book's changes. The card of a live member has the member's UID,
--- and a row without a card is a tombstone: the member was removed after the horizon.
+-- The row has the number of one of the book's changes. The card of a live member has the member's
+-- UID, and a row without a card is a tombstone: the member was removed after the horizon.
 pub record IsWellFormedRow (book : Book) (uid : List ℕ) (row : Row) : Type 0 where
   pub first : 1 ≤ row.changed
   pub known : row.changed ≤ book.number

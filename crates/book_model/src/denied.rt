@@ -8,7 +8,7 @@ use std::error::Error;
 use std::fmt;
 use vcard_text::{CardFault, NoMemory};
 
-/// Why a call failed, whatever it asked for. After a fault the books are unchanged.
+/// A failure of the store or of an allocation. After a fault the books are unchanged.
 #[derive(Clone, Copy, Debug, PartialEq, Eq)]
 pub enum Fault {
     /// The database reported an error, or a row read from it isn't well formed.
@@ -57,7 +57,7 @@ impl Error for Fault {}
 pub enum Denied {
     /// The call isn't allowed, given its arguments and the books.
     Refused(Refusal),
-    /// The call failed, whatever it asked for.
+    /// The store or an allocation failed.
     Fault(Fault),
 }
 

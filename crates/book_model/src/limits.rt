@@ -46,9 +46,9 @@ impl Model for Limits {
 }
 
 impl Limits {
-    /// These limits, where each is at least 1, a page has at most 1,000 entries, a book at most
-    /// 10,000 live cards and 1,000,000,000,000 changes, and the store at most 100 books. Else
-    /// `None`. It allocates nothing.
+    /// These limits, and at most 10,000 tombstones of a new book. `None` unless each limit is at
+    /// least 1, a page has at most 1,000 entries, a book at most 10,000 live cards and
+    /// 1,000,000,000,000 changes, and the store at most 100 books. It allocates nothing.
     pub fn new(page_max: u64, cards_max: u64, changes_max: u64, books_max: u64) -> Option<Limits>
         ensures some { IfSome result (λ limits. limits ≡ bounds_of page_max cards_max changes_max
             books_max) }
@@ -72,7 +72,7 @@ impl Limits {
     }
 
     /// The same limits with another `keep`: the most tombstones of a book that is created from now
-    /// on, from 1 to 10,000. Else `None`. It allocates nothing.
+    /// on. `None` unless it is from 1 to 10,000. It allocates nothing.
     pub fn with_keep(self, keep: u64) -> Option<Limits>
         ensures some { IfSome result (λ limits. limits ≡ with_keep self keep) }
         ensures range { IsSome result ↔ ((1 ≤ keep) × (keep ≤ 10000)) }

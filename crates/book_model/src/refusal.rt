@@ -62,15 +62,15 @@ pub enum Refusal {
     /// The limit of a report is 0 (RFC 6578, section 3.7:
     /// `number-of-matches-within-limits`).
     BadLimit,
-    /// The book has as many live cards as its limit.
+    /// The book has as many live cards as its limit, or an import would exceed it.
     BookFull,
-    /// The book has had as many changes as its limit.
+    /// The book has had as many changes as its limit, or an import would exceed it.
     ChangesSpent,
     /// The body of an import has a bad row.
     BadImport {
         /// The first bad row, counted from 1 after the header, which is row 0.
         row: u64,
-        /// The number of what is wrong with the row.
+        /// The number of the cause, as `CsvCause::number` of `csv_cards` returns it.
         cause: u8,
     },
     /// An import's key isn't 1 to 64 of letters, digits, dot, underscore and hyphen.

@@ -21,7 +21,7 @@ use Rattle.book_laws.specs.Paging.{mark_of_token, page_for_device}
 use Rattle.book_laws.specs.EventLogs.{BookEvent, touched_uids, live, last_number}
 use Rattle.book_model.specs.CallOutcomes.{◌>>=◌, refuse_unless}
 use Rattle.book_model.specs.Pages.{requested_mark, page_size, ReportAnswer, page_of}
-use Rattle.book_laws.specs.PagingLaws.{EventsAddAtMostOneDue, TruncatedPagesLeaveFewer, LastPagesLeaveNoneDue}
+use Rattle.book_laws.specs.PagingLaws.{TruncatedPagesLeaveFewer, LastPagesLeaveNoneDue}
 use Rattle.book_laws.specs.Reports.{initial_mark, is_due_member, due, truncated_log_page, complete_log_page, report}
 use Rattle.book_laws.specs.HistoryExtension.{Extends}
 use Rattle.book_laws.specs.RunLaws.{CallsExtendHistories}
@@ -37,6 +37,7 @@ use Rattle.book_service.specs.PageCounts.{DeviceHasBook, due_count_for, IsAnswer
 use Rattle.book_service.specs.Promise.{TruncatedPagesAreFew}
 use Rattle.book_service.specs.Runs.{SystemState, Step, TraceStep, Run, end_of, events_of, replies_of}
 use Rattle.book_service.proofs.StepLemmas.{place_set, step_leads, step_limits}
+use Rattle.book_laws.proofs.PagingLemmas.{events_add}
 
 -- ---- members that are due
 
@@ -60,24 +61,19 @@ base_rises h at b c le =
     fewer_pass (is_due_member h (record { at = at; base = c })) (is_due_member h (record { at = at; base = b }))
     (λ uid. lower (nat_lt at (last_number h uid)) (is_some (finite.get (live h) uid)) b c (last_number h uid) le) (touched_uids h)
 
-module _ (one_more : EventsAddAtMostOneDue) where
-  events_add : (h later : List BookEvent) (mark : Mark) → length (due (later ++ h) mark) ≤ length (due h mark) + length later
-  events_add h [] mark = omega arith
-  events_add h (e ∷ later) mark = let one = one_more (later ++ h) e mark in let rest = events_add h later mark in omega (arith, one, rest)
+under_token : (h later : List BookEvent) (token : Option Token) → length (due (later ++ h) (mark_of_token (later ++ h) token)) ≤ length (due h (mark_of_token h token)) + length later
+under_token h later None =
+    let longer = length-append later h in
+    let fewer = base_rises (later ++ h) 0 (length h) (length (later ++ h)) (omega (arith, longer)) in
+    let more = events_add h later (initial_mark h) in
+    omega (arith, fewer, more)
+under_token h later (Some token) = events_add h later token.mark
 
-  under_token : (h later : List BookEvent) (token : Option Token) → length (due (later ++ h) (mark_of_token (later ++ h) token)) ≤ length (due h (mark_of_token h token)) + length later
-  under_token h later None =
-      let longer = length-append later h in
-      let fewer = base_rises (later ++ h) 0 (length h) (length (later ++ h)) (omega (arith, longer)) in
-      let more = events_add h later (initial_mark h) in
-      omega (arith, fewer, more)
-  under_token h later (Some token) = events_add h later token.mark
-
-  goes_on_due : (old new : BookHistory) (device : DeviceState) → Extends old new → due_count_for new device + length old.log ≤ due_count_for old device + length new.log
-  goes_on_due old new device g =
-      let more = under_token old.log g.later device.token in
-      let longer = length-append g.later old.log in
-      subst (λ (h : List BookEvent). length (due h (mark_of_token h device.token)) + length old.log ≤ due_count_for old device + length h) (sym g.log) (omega (arith, more, longer))
+goes_on_due : (old new : BookHistory) (device : DeviceState) → Extends old new → due_count_for new device + length old.log ≤ due_count_for old device + length new.log
+goes_on_due old new device g =
+    let more = under_token old.log g.later device.token in
+    let longer = length-append g.later old.log in
+    subst (λ (h : List BookEvent). length (due h (mark_of_token h device.token)) + length old.log ≤ due_count_for old device + length h) (sym g.log) (omega (arith, more, longer))
 
 -- ---- a page
 
@@ -160,12 +156,12 @@ record Counted (now : SystemState) (i k : ℕ) (run : List TraceStep) (old : Dev
   pub bound : 0 < truncated_pages i (events_of run) (replies_of run)
       → truncated_pages i (events_of run) (replies_of run) * k + length history.log < due_count_for history old + length later.log
 
-module _ (go : CallsExtendHistories) (one_more : EventsAddAtMostOneDue) (fewer : TruncatedPagesLeaveFewer) (nobody : LastPagesLeaveNoneDue) (k : ℕ) (some : 0 < k) (i : ℕ) where
+module _ (go : CallsExtendHistories) (fewer : TruncatedPagesLeaveFewer) (nobody : LastPagesLeaveNoneDue) (k : ℕ) (some : 0 < k) (i : ℕ) where
   step_goes : (now next : SystemState) (event : Event) (r : Reply) (old : DeviceState) (history : BookHistory) → Step now event r next → IsAnsweredByPage now.model.limits.page_max i k (event, r) → DeviceHasBook now i old history → Goes next i k event r old history
   step_goes now next (Do command) r old history s pages at =
       let leads = step_leads now next (Do command) r s in
       let on = go now.model.limits now.model.books leads.calls old.book history at.found in
-      let due = goes_on_due one_more history on.0 old on.2 in
+      let due = goes_on_due history on.0 old on.2 in
       record {
         device = old;
         later = on.0;
@@ -274,9 +270,9 @@ number_of law books name later book found there =
     let same : book_of_history later ≡ book = same_Some (book_of_history later) book (sym (ap (option_map book_of_history) found) ∙ sym (law books name) ∙ there) in
     sym (ap (λ (b : Book). b.number) same)
 
-pub truncated_pages_are_few : CallsExtendHistories → EventsAddAtMostOneDue → TruncatedPagesLeaveFewer → LastPagesLeaveNoneDue → RowsArePerBook → TruncatedPagesAreFew
-truncated_pages_are_few go one_more fewer nobody law now run steps i k device history book at there some pages some_cut =
-    let count = counted go one_more fewer nobody k some i run now.model.limits now device history refl steps pages at in
+pub truncated_pages_are_few : CallsExtendHistories → TruncatedPagesLeaveFewer → LastPagesLeaveNoneDue → RowsArePerBook → TruncatedPagesAreFew
+truncated_pages_are_few go fewer nobody law now run steps i k device history book at there some pages some_cut =
+    let count = counted go fewer nobody k some i run now.model.limits now device history refl steps pages at in
     let number = number_of law (end_of now run).model.books device.book count.later book count.found there in
     let bound = count.bound some_cut in
     omega (arith, number, bound)

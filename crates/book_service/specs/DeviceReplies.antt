@@ -25,8 +25,9 @@ pub record FailsApplying (outcome : Result Page Refusal) (fault : Fault)
     pub applied_part : AppliesEntryPrefix old page new
     pub fault_is : fault ≡ Memory
 
--- The device goes from the old state to the new by this reply, where the model's report is given:
--- it applied the whole page, or was refused, or a fault came before or while the page was applied.
+-- The reply led the device from the old state to the new; `outcome` is the report of its book, or
+-- the refusal. The device applied the whole page, or was refused, or a fault came before or while
+-- it applied the page.
 abbrev pub HandlesReply : Reply → Result Page Refusal → DeviceState → DeviceState → Type 0
 HandlesReply (reply.Page page) outcome old new =
     (outcome ≡ Ok page) × (new ≡ device_after_page old page)

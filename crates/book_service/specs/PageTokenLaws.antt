@@ -8,7 +8,7 @@ use Rattle.book_model.specs.Pages.{ReportRequest, IsReport, report_step, token_o
 use Rattle.book_model.specs.WellFormed.{IsWellFormed}
 use Rattle.sync_core.specs.TokenTexts.{token_octets, IsTokenText}
 
--- the text written for a page's token is a valid token text, and is read as that token
+-- the text written for a page's token is a valid text of that token
 abbrev pub PageTokensHaveTexts : Type 0
 PageTokensHaveTexts =
     (limits : Bounds) (books : Books) (name : List ℕ) (token : Option Token) (limit : Option ℕ) →

@@ -14,7 +14,7 @@ use Rattle.book_model.specs.declared.row.Row.{Row}
 use Rattle.book_model.specs.BookChanges.{least}
 use Rattle.book_model.specs.Pages.{MemberWithRow}
 use Rattle.book_model.specs.BookQueries.{is_tombstone_after, tombstone_count_after}
-use Rattle.memory_book.specs.BookInvariants.{one_if}
+use Rattle.book_model.specs.Counting.{one_if}
 use Rattle.memory_book.proofs.RowLemmas.{Rows, nat_lt-false}
 
 -- the least of some numbers and one more

@@ -17,7 +17,7 @@ use Rattle.book_model.specs.declared.row.Row.{Row}
 use Rattle.book_model.specs.Forgetting.{is_row_kept, dropped_row_count, rows_after_forget}
 use Rattle.book_model.specs.Pages.{MemberWithRow}
 use Rattle.memory_book.specs.BookInvariants.{HasSoundNumbers}
-use Rattle.memory_book.proofs.LiveCardLemmas.{T_parts, less_differs}
+use Rattle.book_model.proofs.BasicLemmas.{T_parts, less_differs}
 use Rattle.memory_book.proofs.PageLemmas.{filter-map}
 use Rattle.memory_book.proofs.RowLemmas.{Rows, AllUpTo}
 

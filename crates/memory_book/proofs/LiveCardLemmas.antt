@@ -1,11 +1,9 @@
 -- The live cards among the rows of a book, put together one by one.
-use Rattle.std.proofs.Common.{◌≡◌, ℕ, Bool, ◌&&◌, true, false, cond, T, List, [], ◌∷◌, ◌++◌, flat_map, fold, Option, Some, None, Ordering, Less, Equal, Greater, refl, sym, ap, ◌∙◌, subst}
+use Rattle.std.proofs.Common.{◌≡◌, ℕ, true, false, cond, T, List, [], ◌∷◌, ◌++◌, flat_map, fold, Option, Some, None, refl, sym, ap, ◌∙◌, subst}
 use Rattle.std.specs.Option.{option_map_or, option_or}
 use Rattle.std.specs.FinMap as finite
 use Rattle.std.specs.FinMap.{get-empty, get-insert, get-from_entries, same_map}
 use Rattle.std.specs.FinMap.Entries.{find, below_all, is_sorted}
-use Rattle.std.specs.Ordering.{is_lt, is_eq}
-use Rattle.std.proofs.lemmas.Bool.{cond-false}
 use Rattle.std.proofs.lemmas.Map.Lookups.{exact_bytes}
 use Rattle.base_types.specs.TextMaps.{text_cmp}
 use Rattle.book_model.specs.declared.answers.Stored.{Stored}
@@ -13,29 +11,11 @@ use Rattle.book_model.specs.declared.row.Row.{Row}
 use Rattle.book_model.specs.Books.{stored_in_row, LiveCards}
 use Rattle.book_model.specs.BookQueries.{live_card_entry, with_live}
 use Rattle.base_types.proofs.TextLemmas.{text_total, same-equal, same}
+use Rattle.book_model.proofs.BasicLemmas.{T_parts}
+use Rattle.book_model.proofs.LiveCardLemmas.{no_live_below}
 
 abbrev Members : Type 0
 Members = List (List ℕ × Row)
-
-pub T_parts : (a b : Bool) → T (a && b) → T a × T b
-T_parts true b h = (tt, h)
-T_parts false b h = absurd h
-
-pub less_differs : (o : Ordering) → T (is_lt o) → is_eq o ≡ false
-less_differs Less h = refl
-less_differs Equal h = absurd h
-less_differs Greater h = absurd h
-
--- no card is live at a UID below those of the rows
-no_live_below : (q : List ℕ) (es : Members) → T (below_all text_cmp q es) → find text_cmp q (flat_map live_card_entry es) ≡ None
-no_live_below q [] h = refl
-no_live_below q (e ∷ es) h =
-    let parts = T_parts _ _ h in
-    let rest = no_live_below q es parts.1 in
-    elim (stored_in_row e.1) as (λ (o : Option Stored). find text_cmp q (option_map_or (λ (s : Stored). (e.0, s) ∷ []) o [] ++ flat_map live_card_entry es) ≡ None) [
-      | Some s ↦ cond-false (same q e.0) (Some s) _ (less_differs (text_cmp q e.0) parts.0) ∙ rest
-      | None ↦ rest
-    ]
 
 -- cards that are put in one after another
 folded : (q : List ℕ) (es : Members) → T (is_sorted text_cmp es) → (cards : LiveCards) → finite.get (fold with_live cards es) q ≡ option_or (find text_cmp q (flat_map live_card_entry es)) (finite.get cards q)

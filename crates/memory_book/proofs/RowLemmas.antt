@@ -8,9 +8,6 @@ use Rattle.std.proofs.lemmas.List.{nil_from_length}
 use Rattle.std.specs.FinMap.Entries.{put, by_order}
 use Rattle.base_types.specs.TextMaps.{text_cmp}
 use Rattle.book_model.specs.declared.change.Change.{Change}
-use Rattle.book_model.specs.declared.change.Change.TheVariants.{Stores, TakesAway}
-use Rattle.book_model.specs.declared.change.StoreReason.TheVariants.{Creation, Edit, Import, ImportEdit, MoveIn}
-use Rattle.book_model.specs.declared.change.RemovalReason.TheVariants.{Deletion, MoveOut}
 use Rattle.book_model.specs.declared.counts.Counts.{Counts}
 use Rattle.book_model.specs.declared.row.Row.{Row}
 use Rattle.book_model.specs.declared.token.Mark.{Mark}
@@ -24,21 +21,13 @@ use Rattle.vcard_lines.specs.declared.line.Line.{Line}
 use Rattle.book_model.specs.Books.{stored_in_row}
 use Rattle.book_model.specs.declared.answers.Stored.{Stored}
 use Rattle.memory_book.specs.BookInvariants.{HasSoundNumbers}
+use Rattle.book_model.proofs.ChangeCountLemmas.{total-counted}
 
 abbrev pub Rows : Type 0
 Rows = finite.FinMap text_cmp Row
 
 abbrev pub AllUpTo : ℕ → List MemberWithRow → Type 0
 AllUpTo n ms = AllByRecursion (λ (m : MemberWithRow). m.1.changed ≤ n) ms
-
-total-counted : (change : Change) (c : Counts) → total_changes (counts_after_change change c) ≡ total_changes c + 1
-total-counted (Stores card Creation) c = omega arith
-total-counted (Stores card Edit) c = omega arith
-total-counted (Stores card Import) c = omega arith
-total-counted (Stores card ImportEdit) c = omega arith
-total-counted (Stores card MoveIn) c = omega arith
-total-counted (TakesAway Deletion) c = omega arith
-total-counted (TakesAway MoveOut) c = omega arith
 
 later : (n k : ℕ) (ms : List MemberWithRow) → n ≤ k → AllUpTo n ms → AllUpTo k ms
 later n k [] le all = tt

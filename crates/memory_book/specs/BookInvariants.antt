@@ -1,5 +1,5 @@
 -- The invariant of a book in memory. This project's own.
-use Rattle.std.specs.Prelude.{ℕ, ◌≡◌, ◌≤◌, Bool, List, map, filter, Option, if◌then◌else◌}
+use Rattle.std.specs.Prelude.{ℕ, ◌≡◌, ◌≤◌, List, map, filter, Option}
 use Rattle.std.specs.Option.{option_and_then}
 use Rattle.std.specs.List.{AllByRecursion}
 use Rattle.std.specs.FinMap as finite
@@ -12,7 +12,7 @@ use Rattle.book_model.specs.Counting.{total_changes}
 use Rattle.book_model.specs.Pages.{MemberWithRow}
 use Rattle.book_model.specs.BookQueries.{is_tombstone_after}
 
--- the counts sum to the number, and no row has a greater one
+-- the counts sum to the number, and no row has a greater number
 pub record HasSoundNumbers (number : ℕ) (counts : Counts)
     (members : finite.FinMap text_cmp Row) : Type 0 where
   pub sum : total_changes counts ≡ number
@@ -26,6 +26,3 @@ card_at book uid = option_and_then (λ row. row.card) (finite.get book.members u
 abbrev pub removal_numbers : finite.FinMap text_cmp Row → ℕ → List ℕ
 removal_numbers members horizon = map (λ member. member.1.changed)
     (filter (λ member. is_tombstone_after horizon member.1) (finite.entries members))
-
-abbrev pub one_if : Bool → ℕ
-one_if holds = if holds then 1 else 0

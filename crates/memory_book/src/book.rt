@@ -18,7 +18,8 @@ ghost use Rattle.book_model.specs.Pages.{due_rows};
 ghost use Rattle.book_model.specs.Putting.{as_found_member, found_in_book};
 ghost use Rattle.book_model.specs.BookQueries.{is_tombstone_after, tombstone_count_after};
 ghost use Rattle.book_model.specs.BookQueries.{book_tally, live_cards, with_live};
-ghost use Rattle.memory_book.specs.BookInvariants.{card_at, one_if, removal_numbers};
+ghost use Rattle.book_model.specs.Counting.{one_if};
+ghost use Rattle.memory_book.specs.BookInvariants.{card_at, removal_numbers};
 ghost use Rattle.base_types.specs.TextMaps.{octet_map};
 
 mod importing;
@@ -313,7 +314,8 @@ impl PlainBook {
     }
 
     /// Removes the card of the UID from its row and returns it, then drops the oldest tombstone if
-    /// there are more than the book keeps. Allocates nothing and can't fail.
+    /// there are more than the book keeps. Allocates nothing and can't fail. Call it only for a UID
+    /// with a row: without one the result is `None`, and nothing is said of the book.
     pub fn remove_card(&mut self, alloc: Global, uid: &str, why: RemovalReason) -> Option<Card>
         requires { self.old.number < 2 ^ 63 }
         ensures written { IsSome (finite.get self.old.members uid.now) →

@@ -46,12 +46,12 @@ pub fn reason_to_import(live: Option<(u64, &Card)>, card: &Card) -> Option<Store
     Some(StoreReason::ImportEdit)
 }
 
-/// The answer of an import with these counts, given the live cards and the number of the book
-/// after it.
+/// The answer of an import with these counts, given how many cards are live in the book after it,
+/// and the book's number after it.
 ///
-/// Refused, by the first that applies, with `BookFull` where cards were added and there are more
-/// than the limit; `ChangesSpent` where cards were stored and the number is above the limit. So
-/// where a card was stored, the returned number is within the limit.
+/// Refused, by the first that applies, with `BookFull` where cards were added and more cards are
+/// live than the limit; `ChangesSpent` where cards were added or edited and the number is above the
+/// limit. So where a card was added or edited, the returned number is within the limit.
 pub fn tally_of_import(
     limits: Limits,
     added: u64,

@@ -249,8 +249,8 @@ impl PlainBook {
     /// Stores the cards in order and stores the result under the key. On `Err` the book is
     /// unchanged.
     ///
-    /// Each card costs one copy, three look-ups of its UID and a write. The earlier rows are held
-    /// until all cards are stored, so that they can be restored.
+    /// Each stored card costs one copy, three look-ups of its UID and a write. The earlier rows are
+    /// held until all cards are stored, so that they can be restored.
     pub fn import(
         &mut self,
         alloc: Global,
