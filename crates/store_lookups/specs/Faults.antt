@@ -10,12 +10,12 @@ use Rattle.book_model.specs.declared.denied.Denied.TheVariants as denied
 use Rattle.book_model.specs.declared.denied.Fault.{Fault}
 use Rattle.book_model.specs.declared.denied.Fault.TheVariants.{Memory, Store}
 
--- an error of the database is out of memory, or a fault of the store
+-- the fault of an error of the database: `Memory` if it is out of memory, otherwise `Store`
 abbrev pub error_fault : Error → Fault
 error_fault (SqliteFailure OutOfMemory) = Memory
 error_fault error = Store
 
--- so is a stored text that is not a card
+-- the fault of reading a stored card: `Memory` if reading ran out of memory, otherwise `Store`
 abbrev pub card_fault : CardFault → Fault
 card_fault NoRoom = Memory
 card_fault fault = Store

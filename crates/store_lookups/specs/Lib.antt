@@ -1,4 +1,5 @@
 pub mod Faults
+pub mod StoreFaults
 pub mod RowChecks
 pub mod CallResults
 pub mod OnConnections

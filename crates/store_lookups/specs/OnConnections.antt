@@ -1,10 +1,13 @@
--- The words of contracts, over connections, as in `store_tables`. This project's own.
+-- Definitions over connections, for contracts, as in `store_tables`. This project's own.
+use Rattle.std.specs.Prelude.{Result}
 use Rattle.sqlite.specs.Held.{Held, state}
 use Rattle.book_model.specs.Books.{Book}
+use Rattle.book_model.specs.declared.denied.Denied.{Denied}
 use Rattle.store_tables.specs.OnConnections.{Ghosts}
 use Rattle.store_rows.specs.TableBooks.{HeaderRow}
 use Rattle.store_rows.specs.TableRows.{TableRows}
 use Rattle.store_lookups.specs.CallResults as calls
+use Rattle.store_lookups.specs.StoreFaults as faults
 
 module _ {S : Type 0} (store : Ghosts S) (old new : Held S) where
   abbrev pub GivenSoundRows : (TableRows → Type 0) → Type 0
@@ -12,3 +15,9 @@ module _ {S : Type 0} (store : Ghosts S) (old new : Held S) where
 
   abbrev pub GivenBook : HeaderRow → (Book → Type 0) → Type 0
   GivenBook = calls.GivenBook (state store old) (state store new)
+
+  abbrev pub FaultsFromOutside : {A : Type 0} → Result A Denied → Type 0
+  FaultsFromOutside = faults.FaultsFromOutside (state store old) (state store new)
+
+  abbrev pub FaultsFromOutsideInBook : {A : Type 0} → HeaderRow → Result A Denied → Type 0
+  FaultsFromOutsideInBook = faults.FaultsFromOutsideInBook (state store old) (state store new)

@@ -1,7 +1,7 @@
 //! Converts errors to faults.
 ghost use Rattle.store_lookups.specs.Faults.{IsDeniedFault, card_fault, error_fault};
 ghost use Rattle.store_lookups.specs.Faults.{denied_by_fault};
-ghost use Rattle.std.specs.Prelude.{◌≡◌, ◌<◌, ◌^◌, IfErr, IfOk, OnOk, pos};
+ghost use Rattle.std.specs.Prelude.{◌≡◌, ◌<◌, ◌≤◌, ◌^◌, IfErr, IfOk, OnErr, OnOk, pos};
 
 use book_model::{Denied, Fault};
 use sqlite::{Error, ErrorCode};
@@ -36,6 +36,7 @@ pub fn column_of(number: u64) -> Result<i64, Denied>
     ensures ok { IfOk result (λ n. n ≡ pos number) }
     ensures fits { OnOk result (number < 2 ^ 63) }
     ensures fault { IfErr result IsDeniedFault }
+    ensures too_great { OnErr result (2 ^ 63 ≤ number) }
 {
     match i64::try_from(number) {
         Ok(column) => Ok(column),

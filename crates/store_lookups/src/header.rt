@@ -4,7 +4,9 @@ ghost use Rattle.book_model.specs.declared.change.Change.TheVariants.{Stores};
 ghost use Rattle.store_rows.specs.ChangeLaws.{header_after};
 ghost use Rattle.store_rows.specs.ShownRows.{ShowsHeader, ShowsCounts};
 ghost use Rattle.store_lookups.specs.Faults.{IsDeniedFault};
-ghost use Rattle.std.specs.Prelude.{◌≡◌, ◌≤◌, ◌+◌, ◌<◌, ◌^◌, IfErr, IfOk, IfSome, List};
+ghost use Rattle.store_lookups.specs.StoreFaults.{FailsOnlyForMemory, IsFaultlessBook};
+ghost use Rattle.store_tables.specs.Books.{BookRow, numbers_shown};
+ghost use Rattle.std.specs.Prelude.{◌≡◌, ◌≤◌, ◌+◌, ◌<◌, ◌^◌, IfErr, IfOk, IfSome, List, None};
 ghost use Rattle.vcard_lines.specs.declared.line.Line.{Line};
 
 use crate::columns::number_in;
@@ -94,7 +96,8 @@ impl BookHeader {
 
 /// Returns the sum of the counts; `None` if it is 2^64 or more.
 fn total_of(counts: Counts) -> Option<u64>
-    ensures { IfSome result (λ sum. sum ≡ total_changes counts) }
+    ensures sum { IfSome result (λ sum. sum ≡ total_changes counts) }
+    ensures overflow { result ≡ None → 2 ^ 64 ≤ total_changes counts }
 {
     counts
         .created
@@ -109,6 +112,8 @@ fn total_of(counts: Counts) -> Option<u64>
 fn counts_in(row: &Row) -> Result<Counts, Denied>
     ensures counts { IfOk result (ShowsCounts 3 row.now) }
     ensures fault { IfErr result IsDeniedFault }
+    ensures memory { (b : BookRow) → IsFaultlessBook b → row.now ≡ numbers_shown b
+        → FailsOnlyForMemory result }
 {
     Ok(Counts {
         created: number_in(row, 3)?,
@@ -127,6 +132,8 @@ fn counts_in(row: &Row) -> Result<Counts, Denied>
 pub(crate) fn header_in(row: &Row) -> Result<BookHeader, Denied>
     ensures figures { IfOk result (ShowsHeader row.now) }
     ensures fault { IfErr result IsDeniedFault }
+    ensures memory { (b : BookRow) → IsFaultlessBook b → row.now ≡ numbers_shown b
+        → FailsOnlyForMemory result }
 {
     let id = number_in(row, 0)?;
     let number = number_in(row, 1)?;

@@ -1,11 +1,17 @@
 //! Look-ups by key: the book with a name, and its member with a UID, its import with a key, its
-//! keep and its number of remembered removals. Each reads one row, or counts rows, and leaves the
-//! connection unchanged. A malformed row is `Store`.
+//! keep and its number of remembered removals. Each reads one row, or counts rows, and writes
+//! nothing. A malformed row is `Store`; an error of the database is `Memory` if it is out of
+//! memory, otherwise `Store`.
 ghost use Rattle.book_model.specs.Books.{live_at};
 ghost use Rattle.book_model.specs.BookQueries.{tombstone_count};
 ghost use Rattle.store_lookups.specs.CallResults.{FindsHeader};
 ghost use Rattle.store_lookups.specs.Faults.{IsDeniedFault};
-ghost use Rattle.store_lookups.specs.OnConnections.{GivenBook, GivenSoundRows};
+ghost use Rattle.store_lookups.specs.OnConnections.{
+  FaultsFromOutside,
+  FaultsFromOutsideInBook,
+  GivenBook,
+  GivenSoundRows,
+};
 ghost use Rattle.store_tables.specs.OnConnections.{OnlyReads, UnchangedOnOk};
 ghost use Rattle.std.specs.FinMap as finite;
 ghost use Rattle.std.specs.Prelude.{◌≡◌, IfErr, IfOk};
@@ -27,6 +33,7 @@ use store_tables::members::{count_removed, find_member};
 pub fn find_header<S: Alter>(conn: &mut Connection<S>, name: &str) -> Result<BookHeader, Denied>
     ensures finds { GivenSoundRows S.Store conn.old conn.new
         (λ rows. FindsHeader rows name.now result) }
+    ensures store_fault { FaultsFromOutside S.Store conn.old conn.new result }
     ensures unchanged { UnchangedOnOk S.Store conn.old conn.new result }
     ensures reads_only { OnlyReads S.Store conn.old conn.new }
 {
@@ -49,6 +56,7 @@ pub fn find_live<S: Alter>(
     ensures live { GivenBook S.Store conn.old conn.new header
         (λ book. IfOk result (λ live. live_at book uid.now ≡ live)) }
     ensures fault { IfErr result IsDeniedFault }
+    ensures store_fault { FaultsFromOutsideInBook S.Store conn.old conn.new header result }
     ensures unchanged { UnchangedOnOk S.Store conn.old conn.new result }
     ensures reads_only { OnlyReads S.Store conn.old conn.new }
 {
@@ -70,6 +78,7 @@ pub fn find_import_tally<S: Alter>(
     ensures tally { GivenBook S.Store conn.old conn.new header
         (λ book. IfOk result (λ kept. finite.get book.imports key.now ≡ kept)) }
     ensures fault { IfErr result IsDeniedFault }
+    ensures store_fault { FaultsFromOutsideInBook S.Store conn.old conn.new header result }
     ensures unchanged { UnchangedOnOk S.Store conn.old conn.new result }
     ensures reads_only { OnlyReads S.Store conn.old conn.new }
 {
@@ -105,6 +114,7 @@ pub fn count_removals<S: Alter>(conn: &mut Connection<S>, header: BookHeader) ->
     ensures remembered { GivenBook S.Store conn.old conn.new header
         (λ book. IfOk result (λ count. tombstone_count book ≡ count)) }
     ensures fault { IfErr result IsDeniedFault }
+    ensures store_fault { FaultsFromOutsideInBook S.Store conn.old conn.new header result }
     ensures unchanged { UnchangedOnOk S.Store conn.old conn.new result }
     ensures reads_only { OnlyReads S.Store conn.old conn.new }
 {

@@ -1,8 +1,17 @@
 //! Reads the values in the result rows of `store_tables`.
 ghost use Rattle.store_rows.specs.ReadLaws.{ShowsLine};
 ghost use Rattle.store_rows.specs.ShownRows.{ShowsCount, ShowsLive, ShowsMember, ShowsTally};
+ghost use Rattle.store_rows.specs.SoundTables.{IsReadableImport, IsReadableMember};
+ghost use Rattle.store_tables.specs.Imports.{ImportRow, import_shown};
+ghost use Rattle.store_tables.specs.Members.{MemberRow, number_card_shown};
+ghost use Rattle.store_tables.specs.QueryResults.{count_value};
 ghost use Rattle.store_lookups.specs.Faults.{IsDeniedFault};
-ghost use Rattle.std.specs.Prelude.{IfErr, IfOk};
+ghost use Rattle.store_lookups.specs.StoreFaults.{
+  FailsOnlyForMemory,
+  ShowsFaultlessBook,
+  ShowsFaultlessMember,
+};
+ghost use Rattle.std.specs.Prelude.{[], ◌∷◌, ◌≡◌, ◌<◌, ℕ, IfErr, IfOk};
 
 use crate::columns::{card_in, number_in, text_in};
 use book_model::{BookLine, Denied, Fault, ImportTally, Row as Kept, Stored};
@@ -18,6 +27,8 @@ const COUNT_LIMIT: u64 = 9_223_372_036_854_775_807;
 pub(crate) fn live_in(alloc: Global, row: &Row) -> Result<Option<Stored>, Denied>
     ensures live { IfOk result (ShowsLive row.now) }
     ensures fault { IfErr result IsDeniedFault }
+    ensures memory { (m : MemberRow) → IsReadableMember m → row.now ≡ number_card_shown m
+        → FailsOnlyForMemory result }
 {
     let version = number_in(row, 0)?;
     match card_in(alloc, row, 1)? {
@@ -32,6 +43,7 @@ pub(crate) fn live_in(alloc: Global, row: &Row) -> Result<Option<Stored>, Denied
 pub fn member_in(alloc: Global, row: &Row) -> Result<(Text, Kept), Denied>
     ensures member { IfOk result (ShowsMember row.now) }
     ensures fault { IfErr result IsDeniedFault }
+    ensures memory { ShowsFaultlessMember row.now → FailsOnlyForMemory result }
 {
     let uid = Text::new(text_in(row, 0)?);
     let changed = number_in(row, 1)?;
@@ -44,6 +56,8 @@ pub fn member_in(alloc: Global, row: &Row) -> Result<(Text, Kept), Denied>
 pub(crate) fn tally_in(row: &Row) -> Result<ImportTally, Denied>
     ensures tally { IfOk result (ShowsTally row.now) }
     ensures fault { IfErr result IsDeniedFault }
+    ensures memory { (i : ImportRow) → IsReadableImport i → row.now ≡ import_shown i
+        → FailsOnlyForMemory result }
 {
     Ok(ImportTally {
         added: number_in(row, 0)?,
@@ -58,6 +72,8 @@ pub(crate) fn tally_in(row: &Row) -> Result<ImportTally, Denied>
 pub fn count_in(row: &Row) -> Result<u64, Denied>
     ensures count { IfOk result (ShowsCount row.now) }
     ensures fault { IfErr result IsDeniedFault }
+    ensures memory { (n : ℕ) → n < 9223372036854775807 → row.now ≡ count_value n ∷ []
+        → FailsOnlyForMemory result }
 {
     let count = number_in(row, 0)?;
     if count >= COUNT_LIMIT {
@@ -71,6 +87,7 @@ pub fn count_in(row: &Row) -> Result<u64, Denied>
 pub fn line_in(row: &Row) -> Result<BookLine, Denied>
     ensures line { IfOk result (ShowsLine row.now) }
     ensures fault { IfErr result IsDeniedFault }
+    ensures memory { ShowsFaultlessBook row.now → FailsOnlyForMemory result }
 {
     let name = Text::new(text_in(row, 1)?);
     Ok(BookLine {

@@ -1,3 +1,4 @@
 pub mod RowListLemmas
 pub mod ResultLemmas
 pub mod ListQueryLemmas
+pub mod QueryFaultLemmas

@@ -1,7 +1,7 @@
 //! Queries of one book: each call looks up the name, and then reads at most one more row.
 //!
-//! The connection is left unchanged, on success and on error. A malformed row is `Store`; no other
-//! row is read.
+//! Nothing is written, on success and on error. A malformed row among those read is `Store`; an
+//! error of the database is `Memory` if it is out of memory, otherwise `Store`.
 ghost use Rattle.book_model.specs.Books.{live_at, live_or_no_such_card};
 ghost use Rattle.book_model.specs.Importing.{kept_import_step};
 ghost use Rattle.book_model.specs.BookQueries.{
@@ -16,8 +16,14 @@ ghost use Rattle.book_model.specs.Counting.{live_count};
 ghost use Rattle.store_rows.specs.TableBooks.{books_of};
 ghost use Rattle.store_lookups.specs.CallResults.{FollowsStep, IsExactly};
 ghost use Rattle.store_lookups.specs.Faults.{IsDeniedFault};
+ghost use Rattle.store_lookups.specs.StoreFaults.{FailsOnlyForMemory};
 ghost use Rattle.store_queries.specs.internal.QuerySteps.{import_tally_step};
-ghost use Rattle.store_lookups.specs.OnConnections.{GivenBook, GivenSoundRows};
+ghost use Rattle.store_lookups.specs.OnConnections.{
+  FaultsFromOutside,
+  FaultsFromOutsideInBook,
+  GivenBook,
+  GivenSoundRows,
+};
 ghost use Rattle.store_tables.specs.OnConnections.{OnlyReads};
 ghost use Rattle.std.specs.Prelude.{◌≡◌, IfErr, IfOk, Ok};
 
@@ -32,6 +38,7 @@ fn line_with(alloc: Global, name: &str, header: BookHeader) -> Result<BookLine, 
     ensures line { IfOk result (λ line.
         line ≡ book_line_with name.now header.id header.number header.horizon) }
     ensures fault { IfErr result IsDeniedFault }
+    ensures memory { FailsOnlyForMemory result }
 {
     Ok(BookLine {
         name: Text::copy_of(alloc, name)?,
@@ -49,6 +56,7 @@ pub fn line_of_book<S: Alter>(
 ) -> Result<BookLine, Denied>
     ensures answers { GivenSoundRows S.Store conn.old conn.new
         (λ rows. FollowsStep IsExactly result (book_line_step (books_of rows) name.now)) }
+    ensures store_fault { FaultsFromOutside S.Store conn.old conn.new result }
     ensures reads_only { OnlyReads S.Store conn.old conn.new }
 {
     let header = find_header(conn, name)?;
@@ -63,6 +71,7 @@ fn stored_at<S: Alter>(
 ) -> Result<Stored, Denied>
     ensures answers { GivenBook S.Store conn.old conn.new header
         (λ book. FollowsStep IsExactly result (live_or_no_such_card (live_at book uid.now))) }
+    ensures store_fault { FaultsFromOutsideInBook S.Store conn.old conn.new header result }
     ensures reads_only { OnlyReads S.Store conn.old conn.new }
 {
     match find_live(alloc, conn, header, uid)? {
@@ -81,6 +90,7 @@ pub fn stored_of_book<S: Alter>(
 ) -> Result<Stored, Denied>
     ensures answers { GivenSoundRows S.Store conn.old conn.new
         (λ rows. FollowsStep IsExactly result (get_step (books_of rows) name.now uid.now)) }
+    ensures store_fault { FaultsFromOutside S.Store conn.old conn.new result }
     ensures reads_only { OnlyReads S.Store conn.old conn.new }
 {
     let header = find_header(conn, name)?;
@@ -94,6 +104,7 @@ fn import_at<S: Alter>(
 ) -> Result<Option<ImportTally>, Denied>
     ensures answers { GivenBook S.Store conn.old conn.new header
         (λ book. FollowsStep IsExactly result (import_tally_step key.now book)) }
+    ensures store_fault { FaultsFromOutsideInBook S.Store conn.old conn.new header result }
     ensures reads_only { OnlyReads S.Store conn.old conn.new }
 {
     if !is_import_key(key) {
@@ -112,6 +123,7 @@ pub fn import_of_book<S: Alter>(
 ) -> Result<Option<ImportTally>, Denied>
     ensures answers { GivenSoundRows S.Store conn.old conn.new
         (λ rows. FollowsStep IsExactly result (kept_import_step (books_of rows) name.now key.now)) }
+    ensures store_fault { FaultsFromOutside S.Store conn.old conn.new result }
     ensures reads_only { OnlyReads S.Store conn.old conn.new }
 {
     let header = find_header(conn, name)?;
@@ -123,6 +135,7 @@ fn tally_at<S: Alter>(conn: &mut Connection<S>, header: BookHeader) -> Result<Ta
         (λ book. FollowsStep IsExactly result
         (Ok (tally_with header.number header.horizon (live_count header.counts) header.counts
         (tombstone_count book)))) }
+    ensures store_fault { FaultsFromOutsideInBook S.Store conn.old conn.new header result }
     ensures reads_only { OnlyReads S.Store conn.old conn.new }
 {
     let remembered = count_removals(conn, header)?;
@@ -139,6 +152,7 @@ fn tally_at<S: Alter>(conn: &mut Connection<S>, header: BookHeader) -> Result<Ta
 pub fn tally_of_book<S: Alter>(conn: &mut Connection<S>, name: &str) -> Result<Tally, Denied>
     ensures answers { GivenSoundRows S.Store conn.old conn.new
         (λ rows. FollowsStep IsExactly result (tally_step (books_of rows) name.now)) }
+    ensures store_fault { FaultsFromOutside S.Store conn.old conn.new result }
     ensures reads_only { OnlyReads S.Store conn.old conn.new }
 {
     let header = find_header(conn, name)?;

@@ -1,7 +1,8 @@
 //! The page of a sync report. One sorted query reads the due rows one at a time, at most one more
 //! than the page may have, outside a transaction.
 //!
-//! The connection is left unchanged, on success and on error. A malformed row is `Store`.
+//! Nothing is written, on success and on error. A malformed row is `Store`; running out of memory
+//! is `Memory`, and any other error of the database is `Store`.
 ghost use Rattle.book_model.specs.Pages.{IsReport, report_step};
 ghost use Rattle.store_rows.specs.ReadLaws.{AreFirstDue, request_of};
 ghost use Rattle.store_rows.specs.SoundTables.{AreSoundRows};
@@ -9,10 +10,17 @@ ghost use Rattle.store_rows.specs.TableBooks.{books_of};
 ghost use Rattle.store_rows.specs.TableRows.{TableRows};
 ghost use Rattle.store_lookups.specs.CallResults.{FollowsStep};
 ghost use Rattle.store_lookups.specs.Faults.{IsDeniedFault};
+ghost use Rattle.store_lookups.specs.StoreFaults.{FailsOnlyForMemory, ShowsFaultlessMember};
 ghost use Rattle.store_queries.specs.internal.QuerySteps.{request_for, page_step};
-ghost use Rattle.store_lookups.specs.OnConnections.{GivenBook, GivenSoundRows};
+ghost use Rattle.store_lookups.specs.OnConnections.{
+  FaultsFromOutside,
+  FaultsFromOutsideInBook,
+  GivenBook,
+  GivenSoundRows,
+};
 ghost use Rattle.store_tables.specs.OnConnections.{OnlyReads};
-ghost use Rattle.std.specs.Prelude.{◌≤◌, IfErr, IfOk, List, Ok, ℕ};
+ghost use Rattle.std.specs.List.{AllByRecursion};
+ghost use Rattle.std.specs.Prelude.{◌<◌, ◌≤◌, ◌^◌, IfErr, IfOk, List, Ok, ℕ};
 
 use crate::row_lists::entries_in;
 use book_model::decisions::{mark_of, size_of_page, truncated_page, whole_page};
@@ -36,6 +44,7 @@ fn page_of_rows(
         → AreFirstDue held header mark size rows.now
         → IfOk result (IsReport (request_of held name header mark size)) }
     ensures fault { IfErr result IsDeniedFault }
+    ensures memory { AllByRecursion ShowsFaultlessMember rows.now → FailsOnlyForMemory result }
 {
     if rows.len() <= size {
         let all = entries_in(alloc, rows)?;
@@ -57,6 +66,8 @@ fn page_at<S: Alter>(
     requires within { size ≤ 1000 }
     ensures answers { GivenBook S.Store conn.old conn.new header
         (λ book. FollowsStep IsReport result (Ok (request_for book mark size))) }
+    ensures store_fault { mark.at < 2 ^ 63 → mark.base < 2 ^ 63
+        → FaultsFromOutsideInBook S.Store conn.old conn.new header result }
     ensures reads_only { OnlyReads S.Store conn.old conn.new }
 {
     let id = column_of(header.id())?;
@@ -80,6 +91,7 @@ fn page_in<S: Alter>(
 ) -> Result<Page, Denied>
     ensures answers { GivenBook S.Store conn.old conn.new header
         (λ book. FollowsStep IsReport result (page_step limits token limit book)) }
+    ensures store_fault { FaultsFromOutsideInBook S.Store conn.old conn.new header result }
     ensures reads_only { OnlyReads S.Store conn.old conn.new }
 {
     let mark = mark_of(header.id(), header.number(), header.horizon(), token)?;
@@ -104,6 +116,7 @@ pub fn page_of_book<S: Alter>(
     ensures answers { GivenSoundRows S.Store conn.old conn.new
         (λ rows. FollowsStep IsReport result
         (report_step limits (books_of rows) name.now token limit)) }
+    ensures store_fault { FaultsFromOutside S.Store conn.old conn.new result }
     ensures reads_only { OnlyReads S.Store conn.old conn.new }
 {
     let header = find_header(conn, name)?;

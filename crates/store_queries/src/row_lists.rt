@@ -3,7 +3,13 @@ ghost use Rattle.book_model.specs.Pages.{entry_of_row};
 ghost use Rattle.book_model.specs.BookQueries.{with_live};
 ghost use Rattle.store_rows.specs.ReadLaws.{ShowLines};
 ghost use Rattle.store_lookups.specs.Faults.{IsDeniedFault};
+ghost use Rattle.store_lookups.specs.StoreFaults.{
+  FailsOnlyForMemory,
+  ShowsFaultlessBook,
+  ShowsFaultlessMember,
+};
 ghost use Rattle.store_queries.specs.internal.RowLists.{ShowCards, ShowEntries};
+ghost use Rattle.std.specs.List.{AllByRecursion};
 ghost use Rattle.std.specs.Prelude.{◌≡◌, IfErr, IfOk, OnOk};
 
 use book_model::{BookLine, Denied, Entry, Row as Kept, Stored};
@@ -16,6 +22,7 @@ use vcard_text::{Items, Text, TextMap};
 pub(crate) fn lines_in(alloc: Global, rows: &[Row]) -> Result<Vec<BookLine>, Denied>
     ensures lines { IfOk result (λ lines. ShowLines rows.now lines.items) }
     ensures fault { IfErr result IsDeniedFault }
+    ensures memory { AllByRecursion ShowsFaultlessBook rows.now → FailsOnlyForMemory result }
 {
     let mut lines = Vec::new(alloc);
     for row in rows {
@@ -28,6 +35,7 @@ pub(crate) fn lines_in(alloc: Global, rows: &[Row]) -> Result<Vec<BookLine>, Den
 fn insert_live(cards: &mut TextMap<Stored>, member: (Text, Kept)) -> Result<(), Denied>
     ensures ok { OnOk result (cards.new ≡ with_live cards.old member) }
     ensures fault { IfErr result IsDeniedFault }
+    ensures memory { FailsOnlyForMemory result }
 {
     let (uid, kept) = member;
     let Kept { changed, card } = kept;
@@ -46,6 +54,7 @@ fn insert_live(cards: &mut TextMap<Stored>, member: (Text, Kept)) -> Result<(), 
 pub(crate) fn cards_in(alloc: Global, rows: &[Row]) -> Result<TextMap<Stored>, Denied>
     ensures cards { IfOk result (ShowCards rows.now) }
     ensures fault { IfErr result IsDeniedFault }
+    ensures memory { AllByRecursion ShowsFaultlessMember rows.now → FailsOnlyForMemory result }
 {
     let mut cards = TextMap::new(alloc);
     for row in rows {
@@ -75,6 +84,7 @@ fn entry_of(member: (Text, Kept)) -> Entry
 pub fn entries_in(alloc: Global, rows: &[Row]) -> Result<(Items<Entry>, u64), Denied>
     ensures entries { IfOk result (λ pair. ShowEntries rows.now pair.0 pair.1) }
     ensures fault { IfErr result IsDeniedFault }
+    ensures memory { AllByRecursion ShowsFaultlessMember rows.now → FailsOnlyForMemory result }
 {
     let mut entries = Vec::new(alloc);
     let mut last = 0;

@@ -1,4 +1,4 @@
--- One book is renumbered.
+-- One book is with_book_numbers.
 use Rattle.std.proofs.Common.{◌≡◌, inl, inr, ℕ, ℤ, Bool, true, false, ◌||◌, cond, List, [], ◌∷◌, map, find, Option, Some, None, bytes_eq, int_eq, refl, sym, ap, ap₂, subst, ◌∙◌, true≢false}
 use Rattle.std.specs.List.{AllByRecursion, list_any}
 use Rattle.std.specs.Option.{option_map}
@@ -9,7 +9,7 @@ use Rattle.sqlite_rules.specs.Lists.{Has}
 use Rattle.sqlite_trees.proofs.ListLemmas.{all_weaker}
 use Rattle.base_types.specs.TextMaps.{text_cmp}
 use Rattle.base_types.proofs.TextLemmas.{text_total, same_text}
-use Rattle.store_tables.specs.Books.{BookRow, Numbers, AreBooks, has_name, has_id, renumbered}
+use Rattle.store_tables.specs.Books.{BookRow, Numbers, AreBooks, has_name, has_id, with_book_numbers}
 use Rattle.store_tables.specs.Members.{HoldMembers}
 use Rattle.store_tables.specs.Imports.{HoldImports}
 use Rattle.store_tables.specs.Keeps.{HoldKeeps}
@@ -30,7 +30,7 @@ with_numbers id numbers b = cond (has_id id b) (record b { numbers = numbers }) 
 abbrev Apart : BookRow → BookRow → Type 0
 Apart a b = (int_eq a.id b.id ≡ false) × (has_name a.name b ≡ false)
 
-all_renumbered : (id : ℤ) (numbers : Numbers) (b : BookRow) (bs : List BookRow) → AllByRecursion (Apart b) bs → AllByRecursion (Apart b) (renumbered id numbers bs)
+all_renumbered : (id : ℤ) (numbers : Numbers) (b : BookRow) (bs : List BookRow) → AllByRecursion (Apart b) bs → AllByRecursion (Apart b) (with_book_numbers id numbers bs)
 all_renumbered id numbers b [] h = tt
 all_renumbered id numbers b (x ∷ xs) h = (step (has_id id x) refl, all_renumbered id numbers b xs h.1)
   where
@@ -38,15 +38,15 @@ all_renumbered id numbers b (x ∷ xs) h = (step (has_id id x) refl, all_renumbe
     step true e = rw e h.0
     step false e = rw e h.0
 
-pub renumbered_kept : (id : ℤ) (numbers : Numbers) (bs : List BookRow) → AreBooks bs → AreBooks (renumbered id numbers bs)
+pub renumbered_kept : (id : ℤ) (numbers : Numbers) (bs : List BookRow) → AreBooks bs → AreBooks (with_book_numbers id numbers bs)
 renumbered_kept id numbers [] h = tt
 renumbered_kept id numbers (b ∷ bs) h = step (has_id id b) refl (all_renumbered id numbers b bs h.0) (renumbered_kept id numbers bs h.1)
   where
-    step : (t : Bool) → has_id id b ≡ t → AllByRecursion (Apart b) (renumbered id numbers bs) → AreBooks (renumbered id numbers bs) → AreBooks (renumbered id numbers (b ∷ bs))
+    step : (t : Bool) → has_id id b ≡ t → AllByRecursion (Apart b) (with_book_numbers id numbers bs) → AreBooks (with_book_numbers id numbers bs) → AreBooks (with_book_numbers id numbers (b ∷ bs))
     step true e all more = rw e (all, more)
     step false e all more = rw e (all, more)
 
-same_listed : (id : ℤ) (numbers : Numbers) (bs : List BookRow) (book : ℤ) → list_any (has_id book) (renumbered id numbers bs) ≡ list_any (has_id book) bs
+same_listed : (id : ℤ) (numbers : Numbers) (bs : List BookRow) (book : ℤ) → list_any (has_id book) (with_book_numbers id numbers bs) ≡ list_any (has_id book) bs
 same_listed id numbers [] book = refl
 same_listed id numbers (b ∷ bs) book = ap₂ (λ s t. s || t) (step (has_id id b) refl) (same_listed id numbers bs book)
   where
@@ -56,7 +56,7 @@ same_listed id numbers (b ∷ bs) book = ap₂ (λ s t. s || t) (step (has_id id
 
 pub renumbered_sound : (id : ℤ) (numbers : Numbers) (rows : TableRows) → AreSoundRows rows → AreSoundRows (renumbered_rows id numbers rows)
 renumbered_sound id numbers rows sound =
-    let still : (book : ℤ) → HasBookId rows.books book → HasBookId (renumbered id numbers rows.books) book = λ book h. same_listed id numbers rows.books book ∙ h in
+    let still : (book : ℤ) → HasBookId rows.books book → HasBookId (with_book_numbers id numbers rows.books) book = λ book h. same_listed id numbers rows.books book ∙ h in
     record {
       books = renumbered_kept id numbers rows.books sound.books;
       members = sound.members;
@@ -82,12 +82,12 @@ renumbering_held old new rows id numbers h sound books w = record {
 
 -- ---- the books
 
-pub find_renumbered : (q : List ℕ) (id : ℤ) (numbers : Numbers) (bs : List BookRow) → find (has_name q) (renumbered id numbers bs) ≡ option_map (with_numbers id numbers) (find (has_name q) bs)
+pub find_renumbered : (q : List ℕ) (id : ℤ) (numbers : Numbers) (bs : List BookRow) → find (has_name q) (with_book_numbers id numbers bs) ≡ option_map (with_numbers id numbers) (find (has_name q) bs)
 find_renumbered q id numbers [] = refl
 find_renumbered q id numbers (b ∷ bs) = step (has_id id b) (has_name q b) refl refl (find_renumbered q id numbers bs)
   where
-    step : (a t : Bool) → has_id id b ≡ a → has_name q b ≡ t → find (has_name q) (renumbered id numbers bs) ≡ option_map (with_numbers id numbers) (find (has_name q) bs)
-        → find (has_name q) (renumbered id numbers (b ∷ bs)) ≡ option_map (with_numbers id numbers) (find (has_name q) (b ∷ bs))
+    step : (a t : Bool) → has_id id b ≡ a → has_name q b ≡ t → find (has_name q) (with_book_numbers id numbers bs) ≡ option_map (with_numbers id numbers) (find (has_name q) bs)
+        → find (has_name q) (with_book_numbers id numbers (b ∷ bs)) ≡ option_map (with_numbers id numbers) (find (has_name q) (b ∷ bs))
     step true true e k more = rw (e, k, e)
     step true false e k more = rw (e, k) more
     step false true e k more = rw (e, k, e)

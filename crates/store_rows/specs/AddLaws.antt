@@ -8,7 +8,7 @@ use Rattle.book_model.specs.Books.{fresh_book}
 use Rattle.book_model.specs.Importing.{book_with_kept_import}
 use Rattle.store_tables.specs.QueryResults.{AddsRow}
 use Rattle.store_tables.specs.Books.{BookRow, HoldBooks, has_name, blank_book as new_book}
-use Rattle.store_tables.specs.Imports.{ImportRow, HoldImports, imported, has_key}
+use Rattle.store_tables.specs.Imports.{ImportRow, HoldImports, new_import_row, has_key}
 use Rattle.store_tables.specs.Keeps.{HoldKeeps, keep_row_of}
 use Rattle.store_rows.specs.ChangeLaws.{WritesWithin}
 use Rattle.store_rows.specs.SoundTables.{AreSoundRows}
@@ -64,8 +64,8 @@ ImportsAreAdded = (old new : Database) (rows : TableRows) (b : BookRow) (row : I
 
 -- the row of an import with this result
 abbrev pub import_tally_row : ℤ → ℕ → List ℕ → ImportTally → ImportRow
-import_tally_row id book key tally = imported id (pos book) key (pos tally.added) (pos tally.edited)
-    (pos tally.same) (pos tally.number)
+import_tally_row id book key tally = new_import_row id (pos book) key (pos tally.added)
+    (pos tally.edited) (pos tally.same) (pos tally.number)
 
 -- the book has the result under the key
 abbrev pub ImportsAreKept : Type 0

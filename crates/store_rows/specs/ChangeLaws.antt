@@ -11,7 +11,7 @@ use Rattle.vcard_lines.specs.declared.line.Line.{Line as CardLine}
 use Rattle.book_model.specs.declared.change.Change.{Change}
 use Rattle.book_model.specs.BookChanges.{card_after, book_with_row}
 use Rattle.book_model.specs.Counting.{counts_after_change}
-use Rattle.store_tables.specs.Books.{BookRow, Numbers, HoldBooks, renumbered}
+use Rattle.store_tables.specs.Books.{BookRow, Numbers, HoldBooks, with_book_numbers}
 use Rattle.store_tables.specs.Members.{PutsRow}
 use Rattle.store_rows.specs.Values.{text_card, IsCanonical}
 use Rattle.store_rows.specs.TableRows.{TableRows, HoldsRows, WritesTable, put_rows, renumbered_rows}
@@ -92,7 +92,7 @@ pub record HoldsRenumbered (db : Database) (rows : TableRows) (id : ℤ) (number
 abbrev pub RenumberingIsHeld : Type 0
 RenumberingIsHeld = (old new : Database) (rows : TableRows) (id : ℤ) (numbers : Numbers) →
     HoldsRows old rows → AreSoundRows rows →
-    HoldBooks (new.trees 2) (renumbered id numbers rows.books) → WritesTable 2 old new →
+    HoldBooks (new.trees 2) (with_book_numbers id numbers rows.books) → WritesTable 2 old new →
     HoldsRenumbered new rows id numbers
 
 -- Writes within one book and then its new numbers replace the book with its name; the others are

@@ -67,15 +67,15 @@ pub record IsReadableImport (i : ImportRow) : Type 0 where
 abbrev pub IsReadableKeep : KeepRow → Type 0
 IsReadableKeep k = IsNatural k.keep
 
--- no number is negative, and the text of each card is canonical: no value is read by a default
+-- no number is negative, and the text of each card is canonical: no default replaces a value
 pub record AreReadable (rows : TableRows) : Type 0 where
   pub books : AllByRecursion IsReadableBook rows.books
   pub members : AllByRecursion IsReadableMember rows.members
   pub imports : AllByRecursion IsReadableImport rows.imports
   pub keeps : AllByRecursion IsReadableKeep rows.keeps
 
--- The rows are sound and readable, and their books are well formed. A book without a keep would
--- remember 0 members, so each book has one.
+-- The rows are sound and readable, and their books are well formed. A book without a row
+-- of its keep has the keep 0, which no well-formed book has, so each book has such a row.
 pub record AreWellFormed (limits : Bounds) (rows : TableRows) : Type 0 where
   pub sound : AreSoundRows rows
   pub readable : AreReadable rows

@@ -5,9 +5,10 @@ use Rattle.sqlite.specs.Order.{Row, column}
 use Rattle.sqlite.specs.Tree.{Trees}
 use Rattle.sqlite_rules.specs.Edit.{id_in}
 use Rattle.store_tables.specs.Tables.{book_schema}
-use Rattle.store_tables.specs.Books.{BookRow, numbers, HoldBooks, renumbered, Numbers, blank_book}
+use Rattle.store_tables.specs.Books.{BookRow, HoldBooks, Numbers}
+use Rattle.store_tables.specs.Books.{numbers, with_book_numbers, blank_book}
 use Rattle.store_tables.specs.Members.{MemberRow, HoldMembers, upsert_member, without_removed}
-use Rattle.store_tables.specs.Imports.{ImportRow, HoldImports, imported}
+use Rattle.store_tables.specs.Imports.{ImportRow, HoldImports, new_import_row}
 use Rattle.store_tables.specs.Keeps.{KeepRow, HoldKeeps, keep_row_of}
 use Rattle.store_tables.specs.Meta.{meta_listed, schema_row, schema_number}
 use Rattle.store_tables.specs.StatementEffects.{KeepsOtherTables}
@@ -43,8 +44,9 @@ load_member r = record {
 }
 
 abbrev pub load_import : Row → ImportRow
-load_import r = imported (id_in (column r 0)) (id_in (column r 1)) (text_or_empty (column r 2))
-    (id_in (column r 3)) (id_in (column r 4)) (id_in (column r 5)) (id_in (column r 6))
+load_import r = new_import_row (id_in (column r 0)) (id_in (column r 1))
+    (text_or_empty (column r 2)) (id_in (column r 3)) (id_in (column r 4))
+    (id_in (column r 5)) (id_in (column r 6))
 
 abbrev pub load_keep : Row → KeepRow
 load_keep r = keep_row_of (id_in (column r 0)) (id_in (column r 2))
@@ -88,7 +90,7 @@ forgotten_rows book upto rows =
 
 -- a book gets new numbers
 abbrev pub renumbered_rows : ℤ → Numbers → TableRows → TableRows
-renumbered_rows id numbers rows = record rows { books = renumbered id numbers rows.books }
+renumbered_rows id numbers rows = record rows { books = with_book_numbers id numbers rows.books }
 
 -- an import is added
 abbrev pub import_rows : ImportRow → TableRows → TableRows

@@ -9,8 +9,8 @@ use vcard_text::laws::{canonical_text_spells, card_is_computed};
 
 /// After a write within a book the rows are sound, and the rows of `book` and all other books are
 /// unchanged.
-/// - `composes`: two writes within one book, one after the other, are one.
-/// - `none`: no write at all, over sound rows, is one.
+/// - `composes`: two writes within one book, one after the other, are a write within it.
+/// - `none`: no write at all, over sound rows, is a write within any book.
 pub fn writes_within_compose()
     ensures composes { WritesCompose }
     ensures none { NoWriteIsWithin }

@@ -5,8 +5,8 @@ ghost use Rattle.store_rows.specs.ForgetLaws.{NoneIsNoRemoval, ForgettingIsHeld,
 ghost use Rattle.store_rows.specs.ForgetLaws.{DeletionsAreDropped, DropsForget};
 ghost use Rattle.store_rows.specs.ForgetLaws.{RemovalsAreRemembered};
 
-/// In sound rows, the count of a book's removed members above its horizon is its number of
-/// tombstones.
+/// In sound rows, the count of a book's removed members above its horizon, if it is below 2^63 - 1,
+/// is its number of tombstones.
 pub fn count_removed_is_remembered()
     ensures { CountsAreRemembered }
 {}

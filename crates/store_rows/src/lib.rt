@@ -1,5 +1,5 @@
 //! Laws that relate the rows of the tables to the books of the model. Each law is a public function
-//! with an empty body: its clause is the law, and a caller gets it by calling the function.
+//! that does nothing: its clause is the law, and a caller gets it by calling the function.
 #![tactic(auto)]
 
 pub mod adding;

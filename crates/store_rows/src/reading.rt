@@ -21,7 +21,7 @@ pub fn members_of_is_cards()
 
 /// The queries for all books, in sound rows.
 /// - `lines`: the rows, in the order of names, give the lines of the books.
-/// - `count`: the count of the rows is the number of books.
+/// - `count`: the count of the rows, if it is below 2^63 - 1, is the number of books.
 pub fn all_books_are_lines()
     ensures lines { AllBooksAreListed }
     ensures count { AllBooksAreCounted }

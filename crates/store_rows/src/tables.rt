@@ -10,7 +10,7 @@ pub fn books_ignore_row_order()
     ensures order { OrderIsIrrelevant }
 {}
 
-/// No rows are sound, and tables that hold no rows have no books.
+/// Tables that hold no rows have no books, and an empty list of rows is sound.
 pub fn empty_tables_hold_no_books()
     ensures { EmptyTablesHoldNoBooks }
 {}

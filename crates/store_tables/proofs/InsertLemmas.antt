@@ -22,7 +22,7 @@ use Rattle.sqlite_rules.specs.Edit.{is_taken, next_rowid, with_rowid}
 use Rattle.sqlite_schema.specs.declared.schema.Keys.TheVariants.{Enforced}
 use Rattle.sqlite_trees.specs.Tree.{rowid, put_row}
 use Rattle.store_tables.specs.QueryResults.{AddsRow}
-use Rattle.store_tables.specs.Imports.{ImportRow, import_row, import_cells, HoldImports, AddsImport, imported}
+use Rattle.store_tables.specs.Imports.{ImportRow, import_row, import_cells, HoldImports, AddsImport, new_import_row}
 use Rattle.store_tables.specs.Books.{BookRow, book_row, book_cells, HoldBooks, AddsBook, blank_book}
 use Rattle.store_tables.specs.Keeps.{KeepRow, keep_row, keep_cells, HoldKeeps, AddsKeep, keep_row_of}
 use Rattle.store_tables.specs.StatementEffects.{KeepsOtherTables}
@@ -65,10 +65,10 @@ module _ (limit : Option ℕ) (book : ℤ) (key : List ℕ) (added_cards edited 
   task = record { limit = limit; keys = Enforced; schema = book_schema; table = import_key; params = params }
 
   abbrev new : ImportRow
-  new = imported (next_rowid (db 7)) book key added_cards edited same number
+  new = new_import_row (next_rowid (db 7)) book key added_cards edited same number
 
   pub adds_import : (w : Written) → Inserts task (Values add_import_terms 7) db (Ok w)
-      → ((id : ℤ) × AddsRow HoldImports (λ i. i.id) (imported id book key added_cards edited same number) imports (w.trees 7)) × KeepsOtherTables 7 db w.trees
+      → ((id : ℤ) × AddsRow HoldImports (λ i. i.id) (new_import_row id book key added_cards edited same number) imports (w.trees 7)) × KeepsOtherTables 7 db w.trees
   adds_import w h =
       let given = went_on h in
       let counter = went_on given.2 in
@@ -100,7 +100,7 @@ adds_import_inside old new book key added_cards edited same number imports (Ok c
     let now = ap (λ (p : Tally × Database). p.1) (same_value returned.2) in
     let ends = adds_import old.step_limit book key added_cards edited same number imports old.now.trees has done.0 done.1 in (
       ap (λ (d : Database). d.schema) now,
-      (ends.0.0, subst (AddsRow HoldImports (λ i. i.id) (imported ends.0.0 book key added_cards edited same number) imports) (ap (λ (d : Database). d.trees 7) (sym now)) ends.0.1),
+      (ends.0.0, subst (AddsRow HoldImports (λ i. i.id) (new_import_row ends.0.0 book key added_cards edited same number) imports) (ap (λ (d : Database). d.trees 7) (sym now)) ends.0.1),
       subst (KeepsOtherTables 7 old.now.trees) (ap (λ (d : Database). d.trees) (sym now)) ends.1,
     )
 

@@ -19,3 +19,5 @@ pub mod MetaLemmas
 pub mod CreateTableLemmas
 pub mod SchemaCreationLemmas
 pub mod TransactionLemmas
+pub mod FailureLemmas
+pub mod QueryFailures

@@ -1,5 +1,5 @@
 -- The effect of the upsert on the members.
-use Rattle.std.proofs.Common.{Bor, option_copied, ◌≡◌, ◌⊎◌, inl, inr, ℕ, ℤ, Bool, true, false, ◌||◌, cond, List, [], ◌∷◌, ◌++◌, map, filter, Option, Some, None, Ok, Err, Result, refl, sym, ap, subst, ◌∙◌}
+use Rattle.std.proofs.Common.{Bor, option_copied, ◌≡◌, ◌⊎◌, inl, inr, ℕ, ℤ, Bool, true, false, ◌||◌, List, [], ◌∷◌, ◌++◌, map, filter, Option, Some, None, Ok, Err, Result, refl, sym, ap, subst, ◌∙◌}
 use Rattle.std.specs.List.{AllByRecursion}
 use Rattle.std.specs.List.Sorted.{IsPermutation}
 use Rattle.std.proofs.lemmas.Map.Text.{is_eq-slice_cmp}
@@ -53,18 +53,15 @@ use Rattle.sqlite.proofs.Callers.{statement_of}
 use Rattle.store_tables.proofs.Queries.{put_text, put_command, put_shows}
 use Rattle.store_tables.proofs.Texts.{put_is, put_returns}
 use Rattle.store_tables.proofs.ReturningLemmas.{writes_as}
-
-either : {X : Type 0} (b : Bool) (x : X) → cond b x x ≡ x
-either true x = refl
-either false x = refl
+use Rattle.base_types.proofs.BoolLemmas.{same_branches}
 
 pub cast_int : (n : ℤ) → cast kind.Integer (Int n) ≡ Int n
 unfolding unary
-cast_int n = either _ (Int n)
+cast_int n = same_branches _ (Int n)
 
 pub cast_null : cast kind.Integer Null ≡ Null
 unfolding unary
-cast_null = either _ Null
+cast_null = same_branches _ Null
 
 cast_card : (card : Option (List ℕ)) → cast kind.Text (or_null Text card) ≡ or_null Text card
 cast_card None = refl

@@ -28,7 +28,7 @@ use Rattle.sqlite_sql.specs.declared.ops.CompareOp.TheVariants.{Eq}
 use Rattle.sqlite_typed.proofs.TestLemmas.{at_ints, last_term}
 use Rattle.store_tables.specs.Tables.{book_schema, book}
 use Rattle.store_tables.proofs.Queries.{update_text, update_query, update_shows}
-use Rattle.store_tables.specs.Books.{Numbers, number_cells, BookRow, book_row, book_cells, HoldBooks, AreBooks, renumbered}
+use Rattle.store_tables.specs.Books.{Numbers, number_cells, BookRow, book_row, book_cells, HoldBooks, AreBooks, with_book_numbers}
 use Rattle.store_tables.specs.StatementEffects.{KeepsOtherTables}
 use Rattle.store_tables.proofs.Texts.{update_is, update_returns}
 use Rattle.store_tables.proofs.Picks.{passes, shows, picked}
@@ -98,12 +98,12 @@ module _ (limit : Option ℕ) (numbers : Numbers) (bs : List BookRow) (kept : Ar
 
 -- the row with the id is the book itself
 same_rows : (numbers : Numbers) (all bs : List BookRow) (b : BookRow) → ((x : BookRow) → Has bs x → Has all x) → ((x : BookRow) → Has all x → x.id ≡ b.id → x ≡ b)
-    → map (with_new book_id book_row (λ _. refl) (record b { numbers = numbers })) bs ≡ renumbered b.id numbers bs
+    → map (with_new book_id book_row (λ _. refl) (record b { numbers = numbers })) bs ≡ with_book_numbers b.id numbers bs
 same_rows numbers all [] b sub same = refl
 same_rows numbers all (x ∷ xs) b sub same = step (int_eq x.id b.id) refl (same_rows numbers all xs b (λ y h. sub y (inr h)) same)
   where
-    step : (t : Bool) → int_eq x.id b.id ≡ t → map (with_new book_id book_row (λ _. refl) (record b { numbers = numbers })) xs ≡ renumbered b.id numbers xs
-        → map (with_new book_id book_row (λ _. refl) (record b { numbers = numbers })) (x ∷ xs) ≡ renumbered b.id numbers (x ∷ xs)
+    step : (t : Bool) → int_eq x.id b.id ≡ t → map (with_new book_id book_row (λ _. refl) (record b { numbers = numbers })) xs ≡ with_book_numbers b.id numbers xs
+        → map (with_new book_id book_row (λ _. refl) (record b { numbers = numbers })) (x ∷ xs) ≡ with_book_numbers b.id numbers (x ∷ xs)
     step true e more = rw e (ap (λ (y : BookRow). record y { numbers = numbers } ∷ map (with_new book_id book_row (λ _. refl) (record b { numbers = numbers })) xs) (sym (same x (sub x (inl refl)) (same_int x.id b.id e))) ∙ ap (λ l. record x { numbers = numbers } ∷ l) more)
     step false e more = rw e (ap (λ l. x ∷ l) more)
 
@@ -124,7 +124,7 @@ updates_book old new numbers bs b rows schema kept there has h =
 
 pub updates_rows : (old new : State) (numbers : Numbers) (bs : List BookRow) (b : BookRow) (r : Result (Vec Row Global) Error) → old.now.schema ≡ book_schema → AreBooks bs → Has bs b → HoldBooks (old.now.trees 2) bs
     → IfOk r (λ rows. Shown update_text (Int b.id ∷ number_cells numbers) old new rows.items)
-    → OnOk r ((new.now.schema ≡ book_schema) × HoldBooks (new.now.trees 2) (renumbered b.id numbers bs) × KeepsOtherTables 2 old.now.trees new.now.trees)
+    → OnOk r ((new.now.schema ≡ book_schema) × HoldBooks (new.now.trees 2) (with_book_numbers b.id numbers bs) × KeepsOtherTables 2 old.now.trees new.now.trees)
 updates_rows old new numbers bs b (Ok rows) schema kept there has h =
     let it = updates_book old new numbers bs b rows.items schema kept there has h in
     (it.0, subst (λ l. HoldBooks (new.now.trees 2) l) (same_rows numbers bs bs b (λ x h. h) (λ x h e. Rattle.store_tables.proofs.KeyedRows.same_item book_id book_row (λ _. refl) bs x b (apart_books bs kept) h there e)) it.1, it.2)

@@ -123,8 +123,8 @@ by_name a b = text_cmp a.name b.name
 -- ---- the effect of a statement
 
 -- the book with the id gets these numbers; the others are unchanged
-abbrev pub renumbered : ℤ → Numbers → List BookRow → List BookRow
-renumbered id numbers = map (λ b. if has_id id b then record b { numbers = numbers } else b)
+abbrev pub with_book_numbers : ℤ → Numbers → List BookRow → List BookRow
+with_book_numbers id numbers = map (λ b. if has_id id b then record b { numbers = numbers } else b)
 
 -- a book without changes
 abbrev pub blank_book : ℤ → List ℕ → BookRow

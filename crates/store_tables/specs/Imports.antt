@@ -59,8 +59,8 @@ import_shown i = Int i.added ∷ Int i.edited ∷ Int i.same ∷ Int i.number �
 
 -- ---- the effect of a statement
 
-abbrev pub imported : ℤ → ℤ → List ℕ → ℤ → ℤ → ℤ → ℤ → ImportRow
-imported id book key added edited same number = record {
+abbrev pub new_import_row : ℤ → ℤ → List ℕ → ℤ → ℤ → ℤ → ℤ → ImportRow
+new_import_row id book key added edited same number = record {
   id = id;
   book = book;
   key = key;
@@ -73,5 +73,5 @@ imported id book key added edited same number = record {
 -- the table holds the old imports and the new one, under an unused id
 abbrev pub AddsImport : State → ℤ → List ℕ → ℤ → ℤ → ℤ → ℤ → List ImportRow → Type 0
 AddsImport new book key added edited same number imports = (id : ℤ) ×
-    AddsRow HoldImports (λ i. i.id) (imported id book key added edited same number) imports
+    AddsRow HoldImports (λ i. i.id) (new_import_row id book key added edited same number) imports
     (new.now.trees 7)

@@ -1,5 +1,6 @@
 pub mod Tables
 pub mod StatementEffects
+pub mod Failures
 pub mod QueryResults
 pub mod Members
 pub mod Books

@@ -1,6 +1,7 @@
--- The words of contracts, over connections. A word here takes the store's ghosts and a connection,
--- or the connection before and after a call. It says of what the connection shows what the word of
--- the same name says of states and databases. This project's own.
+-- Definitions over connections, for contracts. Their parameters are the store's ghosts and a
+-- connection, or the connection before and after a call. Most apply the definition of the same name
+-- over states or databases to the state of the connection; the others combine such definitions.
+-- This project's own.
 use Rattle.std.specs.Prelude.{◌≡◌, ℕ, ℤ, List, map, Option, Result, IfOk, OnErr, OnOk, IsTrue, ⊤}
 use Rattle.std.specs.Prelude.{Vec}
 use Rattle.std.specs.declared.alloc.Global.{Global}
@@ -14,6 +15,7 @@ use Rattle.sqlite.specs.State as states
 use Rattle.sqlite.specs.Tree.{Trees}
 pub use Rattle.sqlite_trees.specs.declared.store.Store.{Ghosts}
 use Rattle.store_tables.specs.Books as books
+use Rattle.store_tables.specs.Failures as failures
 use Rattle.store_tables.specs.Imports as imports
 use Rattle.store_tables.specs.Keeps as keeps
 use Rattle.store_tables.specs.Members as members
@@ -26,8 +28,8 @@ use Rattle.store_tables.specs.StatementEffects as effects
 
 module _ {S : Type 0} (store : Ghosts S) (conn : Held S) where
   -- the connection is open
-  abbrev pub IsOpen : Type 0
-  IsOpen = IsTrue (state store conn).is_open
+  abbrev pub IsConnectionOpen : Type 0
+  IsConnectionOpen = IsTrue (state store conn).is_open
 
   abbrev pub HasCleanDisk : Type 0
   HasCleanDisk = states.HasCleanDisk (state store conn)
@@ -44,9 +46,9 @@ module _ {S : Type 0} (store : Ghosts S) (conn : Held S) where
   table_rows = (state store conn).now.trees
 
   -- on success, the result is every row of this table, as `show` returns it, in any order
-  abbrev pub ListsRows :
+  abbrev pub ListsTable :
       {E : Type 0} → ℕ → (Row → Row) → Result (Vec Row Global) E → Type 0
-  ListsRows tree show result =
+  ListsTable tree show result =
       IfOk result (λ rows. IsPermutation (map show (table_rows tree)) rows.items)
 
   -- the fact holds of the database that the connection shows
@@ -148,6 +150,18 @@ module _ {S : Type 0} (store : Ghosts S) (old new : Held S) where
   -- the same, also for a read that finds no row
   abbrev pub UnchangedIfAnswered : Result Row Error → Type 0
   UnchangedIfAnswered result = GivenTables (IfAnswered result IsUnchanged)
+
+  -- the cause of an error lies outside the tables
+  abbrev pub HasOutsideCause : Type 0
+  HasOutsideCause = failures.HasOutsideCause (state store old) (state store new)
+
+  -- a query of the declared tables fails only for want of memory or for an outside cause
+  abbrev pub FailsFromOutside : {T : Type 0} → Result T Error → Type 0
+  FailsFromOutside = failures.FailsFromOutside (state store old) (state store new)
+
+  -- the same for a look-up, which may also find no row
+  abbrev pub MissesOrFailsFromOutside : {T : Type 0} → Result T Error → Type 0
+  MissesOrFailsFromOutside = failures.MissesOrFailsFromOutside (state store old) (state store new)
 
   -- only an open connection succeeds
   abbrev pub WasOpenOnOk : {T E : Type 0} → Result T E → Type 0

@@ -12,7 +12,8 @@ use Rattle.sqlite.specs.declared.error.Error.{Error}
 use Rattle.sqlite.specs.declared.error.Error.TheVariants.{QueryReturnedNoRows}
 use Rattle.sqlite_rules.specs.Lists.{Has}
 
--- the result is the row of an item that passes the test, or no item passes
+-- The result is the row of an item that passes the test. If no row was found, no item passes. After
+-- any other error nothing is required.
 abbrev pub FindsRow : {X : Type 0} → (X → Bool) → (X → Row) → List X → Result Row Error → Type 0
 FindsRow {X} test show xs (Ok row) = (x : X) × Has (filter test xs) x × (row ≡ show x)
 FindsRow test show xs (Err e) = e ≡ QueryReturnedNoRows → filter test xs ≡ []
@@ -42,7 +43,8 @@ pub record AreFirstRowsInOrder {X : Type 0} (compare : X → X → Ordering) (sh
   pub rises : IsSorted compare ordered
   pub first : rows ≡ take most (map show ordered)
 
--- the result is the row of a least item, or there is no item
+-- The result is the row of a least item. If no row was found, there is no item. After any other
+-- error nothing is required.
 abbrev pub FindsFirstRow : {X : Type 0} → (X → X → Ordering) → (X → Row) → List X → Result Row Error
     → Type 0
 FindsFirstRow compare show xs (Ok row) = AreFirstRowsInOrder compare show 1 xs (row ∷ [])

@@ -35,7 +35,7 @@ GivenRowsTx {X} AreSound Hold tree old new Then = (xs : List X) →
 
 -- ---- reads
 
--- the connection shows the committed state: no write is pending
+-- if the connection is open, it shows the committed state: no write is pending
 abbrev pub HasNoPendingWrites : State → Type 0
 HasNoPendingWrites s = IsTrue s.is_open → s.now ≡ s.committed
 
@@ -46,8 +46,8 @@ pub record KeepsState (old new : State) : Type 0 where
   pub committed_is : new.committed ≡ old.committed
 
 -- The effect of a read, on success and on error. It begins no transaction. Over the declared tables
--- it commits nothing, so a crash leaves what it could leave before. Outside a transaction every
--- table is unchanged.
+-- it commits nothing, so a crash leaves what it could leave before. If no write was pending and the
+-- connection is still open, its state is unchanged.
 pub record OnlyReads (old new : State) : Type 0 where
   pub mode : old.in_transaction ≡ false → new.in_transaction ≡ false
   pub was_open : HasCleanDisk new → IsTrue new.is_open → IsTrue old.is_open

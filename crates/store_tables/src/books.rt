@@ -10,15 +10,17 @@ ghost use Rattle.store_tables.specs.Books.{
   numbers,
   numbers_of,
   numbers_shown,
-  renumbered,
+  with_book_numbers,
 };
 ghost use Rattle.store_tables.specs.OnConnections.{
   AddsBook,
+  FailsFromOutside,
   GivenBooks,
   GivenBooksTx,
   GivenTables,
   HasBooks,
-  ListsRows,
+  ListsTable,
+  MissesOrFailsFromOutside,
   NoCommit,
   OnlyReads,
   UnchangedIfAnswered,
@@ -61,6 +63,7 @@ pub fn find_book<S: Alter>(conn: &mut Connection<S>, name: &str) -> Result<Row, 
     ensures finds { GivenBooks S.Store conn.old conn.new
         (λ bs. FindsRow (has_name name.now) numbers_shown bs result) }
     ensures unchanged { UnchangedIfAnswered S.Store conn.old conn.new result }
+    ensures fails_from_outside { MissesOrFailsFromOutside S.Store conn.old conn.new result }
     ensures reads_only { OnlyReads S.Store conn.old conn.new }
 {
     conn.query_row(
@@ -75,6 +78,7 @@ pub fn count_books<S: Alter>(conn: &mut Connection<S>) -> Result<Row, Error>
     ensures counts { GivenBooks S.Store conn.old conn.new
         (λ bs. IfOk result (λ row. row ≡ count_value (length bs) ∷ [])) }
     ensures unchanged { UnchangedIfAnswered S.Store conn.old conn.new result }
+    ensures fails_from_outside { FailsFromOutside S.Store conn.old conn.new result }
     ensures reads_only { OnlyReads S.Store conn.old conn.new }
 {
     conn.query_row("SELECT COUNT(*) FROM book", params![])
@@ -119,7 +123,7 @@ fn renumber<S: Alter>(
     ensures same_reference { tx.new.conn.ghost_name ≡ tx.old.conn.ghost_name }
     ensures renumbers { GivenBooksTx S.Store tx.old.conn.now tx.new.conn.now
         (λ bs. (b : BookRow) → Has bs b → id ≡ b.id
-        → OnOk result (HasBooks S.Store tx.new.conn.now (renumbered id
+        → OnOk result (HasBooks S.Store tx.new.conn.now (with_book_numbers id
         (numbers number horizon created edited imported import_edited moved_in deleted moved_out)
         bs))) }
     ensures writes { GivenBooksTx S.Store tx.old.conn.now tx.new.conn.now
@@ -149,7 +153,7 @@ fn renumber<S: Alter>(
 }
 
 /// Sets the nine numbers of the book with this id; its name stays. Returns the row of the new
-/// numbers.
+/// numbers. The clauses on success assume that a book has the id.
 pub fn renumber_book<S: Alter>(
     tx: &mut Transaction<'_, S>,
     id: i64,
@@ -158,7 +162,8 @@ pub fn renumber_book<S: Alter>(
     ensures same_reference { tx.new.conn.ghost_name ≡ tx.old.conn.ghost_name }
     ensures renumbers { GivenBooksTx S.Store tx.old.conn.now tx.new.conn.now
         (λ bs. (b : BookRow) → Has bs b → id ≡ b.id
-        → OnOk result (HasBooks S.Store tx.new.conn.now (renumbered id (numbers_of numbers) bs))) }
+        → OnOk result (HasBooks S.Store tx.new.conn.now
+        (with_book_numbers id (numbers_of numbers) bs))) }
     ensures writes { GivenBooksTx S.Store tx.old.conn.now tx.new.conn.now
         (λ bs. (b : BookRow) → Has bs b → id ≡ b.id
         → OnOk result (WritesOnly S.Store tx.old.conn.now tx.new.conn.now 2)) }
@@ -186,8 +191,9 @@ pub fn all_books<S: Alter>(conn: &mut Connection<S>) -> Result<Vec<Row>, Error>
     ensures ordered { GivenBooks S.Store conn.old conn.new
         (λ bs. IfOk result (λ rows. AreRowsInOrder by_name book_shown bs rows.items)) }
     ensures lists { GivenTables S.Store conn.old conn.new
-        (ListsRows S.Store conn.old 2 book_listed result) }
+        (ListsTable S.Store conn.old 2 book_listed result) }
     ensures unchanged { UnchangedOnOk S.Store conn.old conn.new result }
+    ensures fails_from_outside { FailsFromOutside S.Store conn.old conn.new result }
     ensures reads_only { OnlyReads S.Store conn.old conn.new }
 {
     conn.query_all(

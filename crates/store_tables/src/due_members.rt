@@ -1,7 +1,12 @@
 //! The query for the due members of a sync report. Its rows are read one at a time.
 ghost use Rattle.store_tables.specs.QueryResults.{AreFirstRowsInOrder};
 ghost use Rattle.store_tables.specs.Members.{by_changed, member_shown, is_member_due};
-ghost use Rattle.store_tables.specs.OnConnections.{GivenMembers, OnlyReads, UnchangedOnOk};
+ghost use Rattle.store_tables.specs.OnConnections.{
+  FailsFromOutside,
+  GivenMembers,
+  OnlyReads,
+  UnchangedOnOk,
+};
 ghost use Rattle.std.specs.Prelude.{IfOk, filter};
 
 use sqlite::{Alter, Connection, Error, Row, params};
@@ -26,6 +31,7 @@ pub fn first_due<S: Alter>(
         (λ rows. AreFirstRowsInOrder by_changed member_shown most
         (filter (is_member_due book at base) ms) rows.items)) }
     ensures unchanged { UnchangedOnOk S.Store conn.old conn.new result }
+    ensures fails_from_outside { FailsFromOutside S.Store conn.old conn.new result }
     ensures reads_only { OnlyReads S.Store conn.old conn.new }
 {
     let mut first = Vec::new(alloc);

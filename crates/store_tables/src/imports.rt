@@ -3,10 +3,12 @@ ghost use Rattle.store_tables.specs.QueryResults.{FindsRow};
 ghost use Rattle.store_tables.specs.Imports.{import_cells, import_shown, has_key};
 ghost use Rattle.store_tables.specs.OnConnections.{
   AddsImport,
+  FailsFromOutside,
   GivenImports,
   GivenImportsTx,
   GivenTables,
-  ListsRows,
+  ListsTable,
+  MissesOrFailsFromOutside,
   NoCommit,
   OnlyReads,
   UnchangedIfAnswered,
@@ -26,6 +28,7 @@ pub fn find_import<S: Alter>(conn: &mut Connection<S>, book: i64, key: &str) -> 
     ensures finds { GivenImports S.Store conn.old conn.new
         (λ imports. FindsRow (has_key book key.now) import_shown imports result) }
     ensures unchanged { UnchangedIfAnswered S.Store conn.old conn.new result }
+    ensures fails_from_outside { MissesOrFailsFromOutside S.Store conn.old conn.new result }
     ensures reads_only { OnlyReads S.Store conn.old conn.new }
 {
     conn.query_row(
@@ -68,8 +71,9 @@ pub fn insert_import<S: Alter>(
 /// cards added, edited and unchanged, and the number of the last change.
 pub fn all_imports<S: Alter>(conn: &mut Connection<S>) -> Result<Vec<Row>, Error>
     ensures lists { GivenTables S.Store conn.old conn.new
-        (ListsRows S.Store conn.old 7 import_cells result) }
+        (ListsTable S.Store conn.old 7 import_cells result) }
     ensures unchanged { UnchangedOnOk S.Store conn.old conn.new result }
+    ensures fails_from_outside { FailsFromOutside S.Store conn.old conn.new result }
     ensures reads_only { OnlyReads S.Store conn.old conn.new }
 {
     conn.query_all(

@@ -4,10 +4,12 @@ ghost use Rattle.store_tables.specs.QueryResults.{FindsRow};
 ghost use Rattle.store_tables.specs.Keeps.{is_keep_of, keep_listed, keep_shown};
 ghost use Rattle.store_tables.specs.OnConnections.{
   AddsKeep,
+  FailsFromOutside,
   GivenKeeps,
   GivenKeepsTx,
   GivenTables,
-  ListsRows,
+  ListsTable,
+  MissesOrFailsFromOutside,
   NoCommit,
   OnlyReads,
   UnchangedIfAnswered,
@@ -26,6 +28,7 @@ pub fn find_keep<S: Alter>(conn: &mut Connection<S>, book: i64) -> Result<Row, E
     ensures finds { GivenKeeps S.Store conn.old conn.new
         (λ keeps. FindsRow (is_keep_of book) keep_shown keeps result) }
     ensures unchanged { UnchangedIfAnswered S.Store conn.old conn.new result }
+    ensures fails_from_outside { MissesOrFailsFromOutside S.Store conn.old conn.new result }
     ensures reads_only { OnlyReads S.Store conn.old conn.new }
 {
     conn.query_row("SELECT keep FROM keeping WHERE book = ?1", params![book])
@@ -56,8 +59,9 @@ pub fn insert_keep<S: Alter>(
 /// Returns every row of the table, whatever its columns hold: the book and its keep.
 pub fn all_keeps<S: Alter>(conn: &mut Connection<S>) -> Result<Vec<Row>, Error>
     ensures lists { GivenTables S.Store conn.old conn.new
-        (ListsRows S.Store conn.old 9 keep_listed result) }
+        (ListsTable S.Store conn.old 9 keep_listed result) }
     ensures unchanged { UnchangedOnOk S.Store conn.old conn.new result }
+    ensures fails_from_outside { FailsFromOutside S.Store conn.old conn.new result }
     ensures reads_only { OnlyReads S.Store conn.old conn.new }
 {
     conn.query_all("SELECT book, keep FROM keeping", params![])

@@ -15,11 +15,13 @@ ghost use Rattle.store_tables.specs.Members.{
   without_removed,
 };
 ghost use Rattle.store_tables.specs.OnConnections.{
+  FailsFromOutside,
   GivenMembers,
   GivenMembersTx,
   GivenTables,
   HasMembers,
-  ListsRows,
+  ListsTable,
+  MissesOrFailsFromOutside,
   NoCommit,
   OnlyReads,
   PutsRow,
@@ -40,6 +42,7 @@ pub fn find_member<S: Alter>(conn: &mut Connection<S>, book: i64, uid: &str) -> 
     ensures finds { GivenMembers S.Store conn.old conn.new
         (λ ms. FindsRow (has_uid book uid.now) number_card_shown ms result) }
     ensures unchanged { UnchangedIfAnswered S.Store conn.old conn.new result }
+    ensures fails_from_outside { MissesOrFailsFromOutside S.Store conn.old conn.new result }
     ensures reads_only { OnlyReads S.Store conn.old conn.new }
 {
     conn.query_row(
@@ -60,6 +63,7 @@ pub fn count_removed<S: Alter>(
         (λ ms. IfOk result
         (λ row. row ≡ count_value (length (filter (is_removed_above book horizon) ms)) ∷ [])) }
     ensures unchanged { UnchangedIfAnswered S.Store conn.old conn.new result }
+    ensures fails_from_outside { FailsFromOutside S.Store conn.old conn.new result }
     ensures reads_only { OnlyReads S.Store conn.old conn.new }
 {
     conn.query_row(
@@ -82,6 +86,7 @@ pub fn first_removed<S: Alter>(
         (λ ms. FindsFirstRow by_changed number_shown (filter (is_removed_above book horizon) ms)
         result) }
     ensures unchanged { UnchangedIfAnswered S.Store conn.old conn.new result }
+    ensures fails_from_outside { MissesOrFailsFromOutside S.Store conn.old conn.new result }
     ensures reads_only { OnlyReads S.Store conn.old conn.new }
 {
     conn.query_row(
@@ -98,6 +103,7 @@ pub fn members_of<S: Alter>(conn: &mut Connection<S>, book: i64) -> Result<Vec<R
         (λ ms. IfOk result
         (λ rows. AreRowsInOrder by_changed member_shown (filter (is_in_book book) ms) rows.items)) }
     ensures unchanged { UnchangedOnOk S.Store conn.old conn.new result }
+    ensures fails_from_outside { FailsFromOutside S.Store conn.old conn.new result }
     ensures reads_only { OnlyReads S.Store conn.old conn.new }
 {
     conn.query_all(
@@ -107,7 +113,8 @@ pub fn members_of<S: Alter>(conn: &mut Connection<S>, book: i64) -> Result<Vec<R
 }
 
 /// Inserts or updates the member with this UID in the book with this id: it gets the number
-/// `changed` and the card. Returns the row of the new number and card.
+/// `changed` and the card; without a card it is a removed member. Returns the row of the new number
+/// and card.
 ///
 /// Fails with a constraint error if another member of the book has the number, or if no book has
 /// the id.
@@ -162,8 +169,9 @@ pub fn forget_members<S: Alter>(
 /// number and the card.
 pub fn all_members<S: Alter>(conn: &mut Connection<S>) -> Result<Vec<Row>, Error>
     ensures lists { GivenTables S.Store conn.old conn.new
-        (ListsRows S.Store conn.old 4 member_cells result) }
+        (ListsTable S.Store conn.old 4 member_cells result) }
     ensures unchanged { UnchangedOnOk S.Store conn.old conn.new result }
+    ensures fails_from_outside { FailsFromOutside S.Store conn.old conn.new result }
     ensures reads_only { OnlyReads S.Store conn.old conn.new }
 {
     conn.query_all(

@@ -1,4 +1,4 @@
-//! The statement over the table `meta`, which holds the schema number.
+//! The statement that writes the table `meta`, which holds the schema number.
 ghost use Rattle.store_tables.specs.Tables.{book_schema};
 ghost use Rattle.store_tables.specs.OnConnections.{
   AddsSchema,

@@ -4,12 +4,12 @@ ghost use Rattle.std.specs.Prelude.{◌≡◌, false};
 
 use sqlite::{Alter, Connection};
 
-/// Gives the proof of its caller the fact that a connection outside a transaction shows what is
-/// committed. Has no other effect.
+/// Proves for its caller that a connection outside a transaction, if it is open, shows what is
+/// committed. It has no other effect.
 ///
 /// A connection keeps this fact true, but a proof learns it only from a call, and
 /// `Connection::is_autocommit` is the call that ensures it.
-pub fn assert_settled<S: Alter>(conn: &Connection<S>)
+pub fn assert_no_pending_writes<S: Alter>(conn: &Connection<S>)
     requires { conn.now.in_transaction ≡ false }
     ensures { HasNoPendingWrites S.Store conn.now }
 {

@@ -12,7 +12,7 @@ use Rattle.book_model.specs.Importing.{is_legal_key}
 use Rattle.book_model.specs.CallOutcomes.{◌>>=◌, refuse_unless}
 use Rattle.book_model.specs.Pages.{ReportRequest, requested_mark, page_size}
 
--- the result of the import with a key
+-- the stored result of the import with the key, if any; refused if the key is not legal
 abbrev pub import_tally_step : List ℕ → Book → Result (Option ImportTally) Refusal
 import_tally_step key book = do
   legal ← refuse_unless (is_legal_key key) BadKey
@@ -21,7 +21,7 @@ import_tally_step key book = do
 abbrev pub request_for : Book → Mark → ℕ → ReportRequest
 request_for book mark size = record { book = book; mark = mark; size = size }
 
--- a page
+-- the request of a page for the token and the limit, or the refusal of one of these
 abbrev pub page_step : Bounds → Option Token → Option ℕ → Book → Result ReportRequest Refusal
 page_step limits token limit book = do
   mark ← requested_mark book.id book.number book.horizon token

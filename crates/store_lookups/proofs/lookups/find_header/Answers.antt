@@ -1,4 +1,8 @@
 use Rattle.store_lookups.proofs.ReadLemmas.{named_found, named_missing}
+use Rattle.store_tables.proofs.KeyedRows.{all_has}
+use Rattle.store_rows.proofs.KeyedEntries.{has_filtered}
+use Rattle.store_lookups.specs.StoreFaults.{IsFaultlessBook}
+use Rattle.store_lookups.proofs.StoreFaultLemmas.{only_memory}
 use Rattle.store_lookups.proofs.lookups.find_header.Goals as goal
 
 pub returns-clause-finds : goal.returns-clause-finds
@@ -8,3 +12,8 @@ returns-clause-finds g c rows clean holds sound =
 pub returns-in-Err-QueryReturnedNoRows-clause-finds : goal.returns-in-Err-QueryReturnedNoRows-clause-finds
 returns-in-Err-QueryReturnedNoRows-clause-finds g c rows clean holds sound =
     named_missing rows c.args.name.now (λ _. (c.in-Err-QueryReturnedNoRows.ensures.finds rows.books clean holds.schema holds.books) c.in-Err-QueryReturnedNoRows.field-0-is)
+
+pub returns-clause-store_fault : goal.returns-clause-store_fault
+returns-clause-store_fault g c rows clean holds faultless =
+    let found = c.in-Ok.ensures.finds rows.books clean holds.schema holds.books in
+    only_memory c.header_in.result _ (c.header_in.ensures.memory found.0 (all_has IsFaultlessBook rows.books found.0 faultless.books (has_filtered _ rows.books found.0 found.1).0) found.2)

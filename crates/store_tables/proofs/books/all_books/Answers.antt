@@ -3,6 +3,7 @@ use Rattle.store_tables.proofs.Queries.{books_text}
 use Rattle.store_tables.proofs.Texts.{books_is}
 use Rattle.store_tables.proofs.ListLemmas.{books_in_order, books_listed}
 use Rattle.store_tables.proofs.Lookups.{all_reads, all_unchanged}
+use Rattle.store_tables.proofs.QueryFailures.{all_books_fails}
 use Rattle.store_tables.proofs.books.all_books.Goals as goal
 
 pub returns-clause-ordered : goal.returns-clause-ordered
@@ -16,3 +17,6 @@ returns-clause-unchanged g c clean has = all_unchanged books_text _ (state g.S.S
 
 pub returns-clause-lists : goal.returns-clause-lists
 returns-clause-lists g c clean has = books_listed (state g.S.Store c.args.conn.now) (state g.S.Store c.query_all.new.self) c.query_all.result has (c.query_all.ensures.ok clean)
+
+pub returns-clause-fails_from_outside : goal.returns-clause-fails_from_outside
+returns-clause-fails_from_outside g c clean has = all_books_fails (state g.S.Store c.args.conn.now) (state g.S.Store c.query_all.new.self) c.query_all.result has (c.query_all.ensures.err clean)

@@ -3,6 +3,7 @@ use Rattle.store_tables.proofs.Queries.{books_count_text}
 use Rattle.store_tables.proofs.Texts.{books_count_is}
 use Rattle.store_tables.proofs.CountLemmas.{counts_books}
 use Rattle.store_tables.proofs.Lookups.{only_reads, ok_unchanged}
+use Rattle.store_tables.proofs.QueryFailures.{count_books_fails}
 use Rattle.store_tables.proofs.books.count_books.Goals as goal
 
 pub returns-clause-counts : goal.returns-clause-counts
@@ -14,3 +15,6 @@ returns-clause-reads_only g c = only_reads books_count_text _ (state g.S.Store c
 
 pub returns-clause-unchanged : goal.returns-clause-unchanged
 returns-clause-unchanged g c clean has = ok_unchanged books_count_text _ (state g.S.Store c.args.conn.now) (state g.S.Store c.query_row.new.self) c.query_row.result _ _ books_count_is.0 books_count_is.2 has (c.query_row.ensures.row clean)
+
+pub returns-clause-fails_from_outside : goal.returns-clause-fails_from_outside
+returns-clause-fails_from_outside g c clean has = count_books_fails (state g.S.Store c.args.conn.now) (state g.S.Store c.query_row.new.self) c.query_row.result has (c.query_row.ensures.row clean)

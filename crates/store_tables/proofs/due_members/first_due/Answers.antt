@@ -1,6 +1,7 @@
 use Rattle.std.proofs.Common.{rules, inl, inr, arith, refl, sym, ap, subst, ◌∙◌, ◌≡◌, [], ◌∷◌, length, ◌++◌, ◌+◌, ◌≤◌}
 use Rattle.std.proofs.lemmas.List.{length-append}
 use Rattle.std.proofs.Math.Facts.{to_z-of_z}
+use Rattle.std.proofs.lemmas.Result.{err_from_is_err_and}
 use Rattle.sqlite.specs.declared.types.Value.TheVariants.{Int}
 use Rattle.sqlite.specs.Effect.{Database}
 use Rattle.sqlite.specs.Held.{state}
@@ -15,6 +16,8 @@ use Rattle.store_tables.proofs.Texts.{due_is}
 use Rattle.store_tables.proofs.DueLemmas.{due_first, due_whole}
 use Rattle.store_tables.proofs.Lookups.{plain_under, reads_on, moved_leaves, refused_reads, begun_reads}
 use Rattle.store_tables.proofs.ReturningLemmas.{shown_open}
+use Rattle.store_tables.proofs.FailureLemmas.{outside_later}
+use Rattle.store_tables.proofs.QueryFailures.{first_due_fails}
 use Rattle.store_tables.proofs.due_members.first_due.Goals as goal
 
 pub returns-in_err-rows-clause-reads_only : goal.returns-in_err-rows-clause-reads_only
@@ -105,3 +108,23 @@ returns-clause-first g c ms clean has rows =
     due_first (state g.S.Store c.rows.rows.conn.now) c.args.book c.args.at c.args.base ms (ap (λ (d : Database). d.schema) was.1.0.now_is ∙ has)
     (subst (λ (d : Database). HoldMembers (d.trees 4) ms) (sym was.1.0.now_is) rows) c.args.most c.rows.first.items count
     (rw (to_z-of_z c.ranges.book, to_z-of_z c.ranges.at, to_z-of_z c.ranges.base) at (given_begin g.S.Store due_text _ c.rows.rows.conn.now c.rows.first.items was.0))
+
+pub returns-in_err-rows-clause-fails_from_outside : goal.returns-in_err-rows-clause-fails_from_outside
+returns-in_err-rows-clause-fails_from_outside g c clean has =
+    let held = rw c.in_err-rows.was at c.query.follows.holds-at-none in
+    let p = err_from_is_err_and c.from_residual.result c.from_residual.ensures.1 in
+    let failed = rw (c.params-to_sql.ensures, c.params-to_sql-2.ensures, c.params-to_sql-3.ensures, to_z-of_z c.ranges.book, to_z-of_z c.ranges.at, to_z-of_z c.ranges.base) at (held.err clean) in
+    rw (p.1, p.2) (first_due_fails (state g.S.Store c.args.conn.now) (state g.S.Store c.query.follows.lender-at-none) c.args.book c.args.at c.args.base c.in_err-rows.field-0.0 has failed)
+
+pub returns-in_err-row-clause-fails_from_outside : goal.returns-in_err-row-clause-fails_from_outside
+returns-in_err-row-clause-fails_from_outside g c clean has =
+    let moved = c.next.follows.holds-at-none in
+    let same : c.next.follows.lender-at-none.conn.now ≡ c.conn-in_err-row-1.given.0 = search rules in
+    let late : HasCleanDisk (state g.S.Store c.next.follows.lender-at-none.conn.now) = subst (λ h. HasCleanDisk (state g.S.Store h)) (sym same) clean in
+    let early : HasCleanDisk (state g.S.Store c.rows.rows.conn.now) = omega (arith, late, moved.survives.clean) in
+    let was = c.rows.invariant.3 early has in
+    let p = err_from_is_err_and c.from_residual-in_err-row.result c.from_residual-in_err-row.ensures.1 in
+    let failed = (rw c.in_err-row.was at (moved.err late)) due_text _ c.rows.first.items was.0 in
+    rw (p.1, p.2, ← same) (λ room. outside_later (state g.S.Store c.args.conn.now) (state g.S.Store c.rows.rows.conn.now) (state g.S.Store c.next.follows.lender-at-none.conn.now) _ _ c.rows.invariant.2.survives early moved.survives
+    (first_due_fails (state g.S.Store c.rows.rows.conn.now) (state g.S.Store c.next.follows.lender-at-none.conn.now) c.args.book c.args.at c.args.base c.in_err-row.field-0.0 (ap (λ (d : Database). d.schema) was.1.0.now_is ∙ has)
+    (rw (to_z-of_z c.ranges.book, to_z-of_z c.ranges.at, to_z-of_z c.ranges.base) at failed) room))

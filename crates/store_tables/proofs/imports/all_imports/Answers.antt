@@ -4,6 +4,7 @@ use Rattle.store_tables.proofs.Queries.{all_imports_text, all_imports_terms}
 use Rattle.store_tables.proofs.Texts.{all_imports_is}
 use Rattle.store_tables.proofs.ListLemmas.{lists_rows}
 use Rattle.store_tables.proofs.Lookups.{all_reads, all_unchanged}
+use Rattle.store_tables.proofs.QueryFailures.{all_imports_fails}
 use Rattle.store_tables.proofs.imports.all_imports.Goals as goal
 
 pub returns-clause-lists : goal.returns-clause-lists
@@ -14,3 +15,6 @@ returns-clause-reads_only g c = all_reads all_imports_text _ (state g.S.Store c.
 
 pub returns-clause-unchanged : goal.returns-clause-unchanged
 returns-clause-unchanged g c clean has = all_unchanged all_imports_text _ (state g.S.Store c.args.conn.now) (state g.S.Store c.query_all.new.self) c.query_all.result all_imports_is.2 has (c.query_all.ensures.ok clean)
+
+pub returns-clause-fails_from_outside : goal.returns-clause-fails_from_outside
+returns-clause-fails_from_outside g c clean has = all_imports_fails (state g.S.Store c.args.conn.now) (state g.S.Store c.query_all.new.self) c.query_all.result has (c.query_all.ensures.err clean)

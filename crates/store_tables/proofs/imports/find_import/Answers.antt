@@ -4,6 +4,7 @@ use Rattle.store_tables.proofs.Queries.{import_text}
 use Rattle.store_tables.proofs.Texts.{import_is}
 use Rattle.store_tables.proofs.FindLemmas.{finds_import}
 use Rattle.store_tables.proofs.Lookups.{only_reads, ok_unchanged}
+use Rattle.store_tables.proofs.QueryFailures.{find_import_fails}
 use Rattle.store_tables.proofs.imports.find_import.Goals as goal
 
 pub returns-clause-finds : goal.returns-clause-finds
@@ -15,3 +16,6 @@ returns-clause-reads_only g c = only_reads import_text _ (state g.S.Store c.args
 
 pub returns-clause-unchanged : goal.returns-clause-unchanged
 returns-clause-unchanged g c clean has = ok_unchanged import_text _ (state g.S.Store c.args.conn.now) (state g.S.Store c.query_row.new.self) c.query_row.result _ _ import_is.0 import_is.2 has (c.query_row.ensures.row clean)
+
+pub returns-clause-fails_from_outside : goal.returns-clause-fails_from_outside
+returns-clause-fails_from_outside g c clean has = find_import_fails (state g.S.Store c.args.conn.now) (state g.S.Store c.query_row.new.self) c.args.book c.args.key.now c.query_row.result has (rw (c.params-to_sql.ensures, c.params-to_sql-2.ensures, to_z-of_z c.ranges.book) at (c.query_row.ensures.row clean))

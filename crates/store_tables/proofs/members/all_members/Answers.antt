@@ -4,6 +4,7 @@ use Rattle.store_tables.proofs.Queries.{all_members_text, all_members_terms}
 use Rattle.store_tables.proofs.Texts.{all_members_is}
 use Rattle.store_tables.proofs.ListLemmas.{lists_rows}
 use Rattle.store_tables.proofs.Lookups.{all_reads, all_unchanged}
+use Rattle.store_tables.proofs.QueryFailures.{all_members_fails}
 use Rattle.store_tables.proofs.members.all_members.Goals as goal
 
 pub returns-clause-lists : goal.returns-clause-lists
@@ -14,3 +15,6 @@ returns-clause-reads_only g c = all_reads all_members_text _ (state g.S.Store c.
 
 pub returns-clause-unchanged : goal.returns-clause-unchanged
 returns-clause-unchanged g c clean has = all_unchanged all_members_text _ (state g.S.Store c.args.conn.now) (state g.S.Store c.query_all.new.self) c.query_all.result all_members_is.2 has (c.query_all.ensures.ok clean)
+
+pub returns-clause-fails_from_outside : goal.returns-clause-fails_from_outside
+returns-clause-fails_from_outside g c clean has = all_members_fails (state g.S.Store c.args.conn.now) (state g.S.Store c.query_all.new.self) c.query_all.result has (c.query_all.ensures.err clean)

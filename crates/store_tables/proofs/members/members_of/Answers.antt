@@ -4,6 +4,7 @@ use Rattle.store_tables.proofs.Queries.{members_text}
 use Rattle.store_tables.proofs.Texts.{members_is}
 use Rattle.store_tables.proofs.DueLemmas.{members_in_order}
 use Rattle.store_tables.proofs.Lookups.{all_reads, all_unchanged}
+use Rattle.store_tables.proofs.QueryFailures.{members_of_fails}
 use Rattle.store_tables.proofs.members.members_of.Goals as goal
 
 pub returns-clause-lists : goal.returns-clause-lists
@@ -15,3 +16,6 @@ returns-clause-reads_only g c = all_reads members_text _ (state g.S.Store c.args
 
 pub returns-clause-unchanged : goal.returns-clause-unchanged
 returns-clause-unchanged g c clean has = all_unchanged members_text _ (state g.S.Store c.args.conn.now) (state g.S.Store c.query_all.new.self) c.query_all.result members_is.2 has (c.query_all.ensures.ok clean)
+
+pub returns-clause-fails_from_outside : goal.returns-clause-fails_from_outside
+returns-clause-fails_from_outside g c clean has = members_of_fails (state g.S.Store c.args.conn.now) (state g.S.Store c.query_all.new.self) c.args.book c.query_all.result has (rw (c.params-to_sql.ensures, to_z-of_z c.ranges.book) at (c.query_all.ensures.err clean))
