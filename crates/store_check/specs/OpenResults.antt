@@ -36,6 +36,7 @@ IsOpenResult limits db (Err Damaged) = IsCurrentSchema db × ¬ HoldsWellFormed 
 IsOpenResult limits db (Err NotEmpty) = ⊥
 IsOpenResult limits db (Err Memory) = ⊤
 
--- the limits that rows are tested against: the greatest of cards, changes and books
+-- the limits that rows are tested against: the greatest on cards, changes and books that a store
+-- may have
 abbrev pub max_limits : Bounds
 max_limits = bounds_of 100 10000 1000000000000 100

@@ -2,13 +2,10 @@
 use Rattle.std.proofs.Common.{◌≡◌, ℕ, ◌+◌, false, List, [], ◌∷◌, ◌<◌, get_or, length, map, fold, take, Option, Some, None, Result, Ok, Err, refl, sym, ap, subst, ◌∙◌, arith}
 use Rattle.std.specs.List.{AllByRecursion, IsDistinct}
 use Rattle.std.specs.FinMap as finite
-use Rattle.std.specs.Option.{option_and_then, option_map_or}
-use Rattle.std.specs.FinMap.{get-insert}
-use Rattle.std.proofs.lemmas.Bool.{cond-false}
+use Rattle.std.specs.Option.{option_map_or}
 use Rattle.std.proofs.lemmas.List.Sums.{fold-append, fold_more}
 use Rattle.vcard_lines.specs.declared.line.Line.{Line}
 use Rattle.vcard_text.specs.Cards.{uid_of}
-use Rattle.base_types.proofs.TextLemmas.{text_total}
 use Rattle.book_model.specs.declared.answers.ImportTally.{ImportTally}
 use Rattle.book_model.specs.declared.change.StoreReason.{StoreReason}
 use Rattle.book_model.specs.declared.change.StoreReason.TheVariants.{Creation, Edit, Import, ImportEdit, MoveIn}
@@ -20,12 +17,12 @@ use Rattle.store_rows.specs.LookupLaws.{IsBookNamed}
 use Rattle.store_rows.specs.SoundTables.{AreSoundRows}
 use Rattle.sqlite.specs.Effect.{Database}
 use Rattle.book_model.specs.Bounds.{Bounds}
-use Rattle.book_model.specs.Books.{Book, Books, same_name, stored_in_row, live_at}
+use Rattle.book_model.specs.Books.{Book, Books, same_name, live_at}
 use Rattle.book_model.specs.CallOutcomes.{MatchesStep, ◌>>=◌, refuse_unless}
 use Rattle.book_model.specs.Counting.{live_count}
 use Rattle.book_model.specs.Importing.{Importing, import_card, import_cards, import_with_reason, import_reason, import_state, import_step, import_tally, import_under_key, imported_so_far, is_legal_key, book_after_store, book_import_tally, book_with_kept_import}
 use Rattle.book_model.specs.ImportLaws.{HaveDistinctUids}
-use Rattle.book_model.proofs.ImportCountLemmas.{apart_turned, imports_take_numbers}
+use Rattle.book_model.proofs.ImportCountLemmas.{imports_take_numbers, row_apart}
 use Rattle.book_model.specs.declared.denied.Denied.{Denied}
 use Rattle.book_model.specs.declared.denied.Denied.TheVariants.{Refused, Fault}
 use Rattle.store_lookups.specs.CallResults.{FollowsStep, IsExactly}
@@ -55,16 +52,13 @@ tally_of_planned book plan card (Some ImportEdit) = ap (λ (b : Book). import_st
 tally_of_planned book plan card (Some MoveIn) = ap (λ (b : Book). import_state b plan.added (plan.edited + 1) plan.same) (one_more book plan.book card MoveIn)
 
 -- the live card of another UID stays
-keys_stay_distinct : (book : Book) (card : List Line) (why : StoreReason) (uid : List ℕ) → same_name (uid_of card) uid ≡ false → live_at (book_after_store book card why) uid ≡ live_at book uid
-keys_stay_distinct book card why uid e = ap (option_and_then stored_in_row) (get-insert text_total book.members (uid_of card) (record { changed = book.number + 1; card = Some card }) uid ∙ cond-false _ _ _ (apart_turned (uid_of card) uid e))
-
 other_card_stays : (state : Importing Book) (card : List Line) (why : Option StoreReason) (uid : List ℕ) → same_name (uid_of card) uid ≡ false → live_at (import_with_reason book_after_store state card why).book uid ≡ live_at state.book uid
 other_card_stays state card None uid e = refl
-other_card_stays state card (Some Creation) uid e = keys_stay_distinct state.book card Creation uid e
-other_card_stays state card (Some Edit) uid e = keys_stay_distinct state.book card Edit uid e
-other_card_stays state card (Some Import) uid e = keys_stay_distinct state.book card Import uid e
-other_card_stays state card (Some ImportEdit) uid e = keys_stay_distinct state.book card ImportEdit uid e
-other_card_stays state card (Some MoveIn) uid e = keys_stay_distinct state.book card MoveIn uid e
+other_card_stays state card (Some Creation) uid e = row_apart state.book card Creation uid e
+other_card_stays state card (Some Edit) uid e = row_apart state.book card Edit uid e
+other_card_stays state card (Some Import) uid e = row_apart state.book card Import uid e
+other_card_stays state card (Some ImportEdit) uid e = row_apart state.book card ImportEdit uid e
+other_card_stays state card (Some MoveIn) uid e = row_apart state.book card MoveIn uid e
 
 -- the live cards of these UIDs are those from before the import
 abbrev IsLiveAsAtFirst : Book → Book → List (List Line) → Type 0

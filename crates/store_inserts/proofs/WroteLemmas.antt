@@ -10,7 +10,7 @@ use Rattle.book_model.specs.declared.change.Change.{Change}
 use Rattle.book_model.specs.Books.{Book}
 use Rattle.book_model.specs.BookChanges.{book_with_row}
 use Rattle.book_model.specs.Importing.{book_with_kept_import}
-use Rattle.store_tables.specs.Books.{HasBooks, renumbered}
+use Rattle.store_tables.specs.Books.{HasBooks, with_book_numbers}
 use Rattle.store_tables.specs.Imports.{ImportRow, AddsImport, has_key}
 use Rattle.store_tables.specs.SchemaCreation.{HoldsInTx}
 use Rattle.store_tables.specs.Members.{PutsRow}
@@ -119,7 +119,7 @@ module _ (old new : State) (rows : TableRows) (name : List ℕ) (header : Header
 
 -- its own row was written
 module _ (old new : State) (rows : TableRows) (name : List ℕ) (header : HeaderRow) (book : Book) (wrote : WritesBook old.now rows name header book) where
-  pub line_wrote : HasBooks new (renumbered (pos header.id) (numbers_row header.number header.horizon header.counts) wrote.now.books) → WritesOnly 2 old new
+  pub line_wrote : HasBooks new (with_book_numbers (pos header.id) (numbers_row header.number header.horizon header.counts) wrote.now.books) → WritesOnly 2 old new
       → HoldsInTx new (λ db. HoldsBooks db (finite.insert (books_of rows) name book))
   line_wrote books writes =
       let numbers = numbers_row header.number header.horizon header.counts in

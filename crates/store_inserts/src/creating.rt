@@ -30,7 +30,7 @@ use sqlite::{Alter, Connection, Error, Transaction};
 use store_lookups::{column_of, count_in, fault_of};
 use store_tables::books::{count_books, find_book, insert_book};
 use store_tables::keeps::insert_keep;
-use store_tables::settled::assert_settled;
+use store_tables::settled::assert_no_pending_writes;
 use store_writes::lookups::check_open;
 
 /// Inserts the row of the empty book and the row of its keep.
@@ -68,7 +68,7 @@ fn commit_create<S: Alter>(
     ensures crash { (book most : ℕ) → id ≡ pos book → keep ≡ pos most
         → CommitsNewBookOnce S.Store conn.old conn.new name.now (fresh_book book most) }
 {
-    assert_settled(conn);
+    assert_no_pending_writes(conn);
     let mut tx = conn.transaction();
     insert_book_rows(&mut tx, id, name, keep)?;
     tx.commit()?;
@@ -89,7 +89,7 @@ fn write_create<S: Alter>(
     ensures survives { CountsFaults S.Store conn.old conn.new }
     ensures crash { CommitsNewBookOnce S.Store conn.old conn.new name.now (fresh_book id keep) }
 {
-    assert_settled(conn);
+    assert_no_pending_writes(conn);
     let book = column_of(id)?;
     let most = column_of(keep)?;
     match commit_create(conn, book, name, most) {
@@ -141,7 +141,7 @@ fn name_and_count<S: Alter>(conn: &mut Connection<S>, name: &str) -> Result<(boo
     Ok((has_name_already, books))
 }
 
-/// The id that a new book of the name gets.
+/// The id that a new book with this name gets.
 fn plan_create<S: Alter>(
     conn: &mut Connection<S>,
     limits: Limits,
@@ -159,7 +159,10 @@ fn plan_create<S: Alter>(
     Ok(id)
 }
 
-/// Creates an empty book of the name and returns its id.
+/// Creates an empty book with this name, which keeps at most `limits.keep()` tombstones, and
+/// returns its id. The connection must be outside a transaction.
+///
+/// Refused, in this order, with `BadBookName`; `BookExists`; `TooManyBooks`.
 pub fn create_in_tables<S: Alter>(
     conn: &mut Connection<S>,
     limits: Limits,
@@ -171,7 +174,7 @@ pub fn create_in_tables<S: Alter>(
     ensures crash { CommitsOnce S.Store conn.old conn.new
         (λ books. create_step limits books name.now) }
 {
-    assert_settled(conn);
+    assert_no_pending_writes(conn);
     let id = plan_create(conn, limits, name)?;
     write_create(conn, id, name, limits.keep())?;
     Ok(id)

@@ -63,7 +63,7 @@ fn empty_plan<'a>(alloc: Global) -> ImportPlan<'a>
 }
 
 impl<'a> ImportPlan<'a> {
-    /// Adds a card to the plan. The import stores it if there is a reason, else it is unchanged.
+    /// Adds a card to the plan: one to store if there is a reason, otherwise an unchanged one.
     fn take(&mut self, card: &'a Card, why: Option<StoreReason>) -> Result<(), NoMemory>
         requires { card_count self.old < 2 ^ 63 }
         ensures plan { OnOk result

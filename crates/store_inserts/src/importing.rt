@@ -42,7 +42,7 @@ use store_lookups::{BookHeader, column_of, fault_of};
 use store_tables::books::renumber_book;
 use store_tables::imports::insert_import;
 use store_tables::members::put_member;
-use store_tables::settled::assert_settled;
+use store_tables::settled::assert_no_pending_writes;
 use store_writes::columns::{columns_of, text_of_card};
 use vcard_text::Card;
 
@@ -198,7 +198,7 @@ fn commit_import<S: Alter>(
         → Survives S.Store conn.old conn.new (TreesHold (with_book_after rows name header
         (λ book. book_with_import book stored.now key.now tally))) }
 {
-    assert_settled(conn);
+    assert_no_pending_writes(conn);
     let mut tx = conn.transaction();
     import_rows(alloc, &mut tx, header, key, stored, tally)?;
     match tx.commit() {
@@ -207,7 +207,12 @@ fn commit_import<S: Alter>(
     }
 }
 
-/// Imports the cards into the named book. If the key is kept, returns the kept answer.
+/// Imports the cards, which have distinct UIDs, into the named book, and keeps the answer under the
+/// key. If the book already keeps an answer under the key, returns that one and changes nothing.
+/// The connection must be outside a transaction.
+///
+/// Refused, in this order, with `NoSuchBook`; `BadKey`; and if no answer is kept under the key,
+/// `BookFull`; `ChangesSpent`.
 pub fn import_in_book<S: Alter>(
     alloc: Global,
     conn: &mut Connection<S>,
@@ -223,7 +228,7 @@ pub fn import_in_book<S: Alter>(
     ensures crash { CommitsOnce S.Store conn.old conn.new
         (λ books. import_step limits books name.now key.now cards.now) }
 {
-    assert_settled(conn);
+    assert_no_pending_writes(conn);
     let (header, order) = plan_import(alloc, conn, limits, name, key, cards)?;
     let (plan, tally) = match order {
         ImportDecision::Kept(tally) => return Ok(tally),

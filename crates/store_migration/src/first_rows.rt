@@ -9,14 +9,14 @@ ghost use Rattle.store_migration.specs.internal.OnConnections.{
   OnlyReadsFirstSchema,
   UnchangedOnOkFirstSchema,
 };
-ghost use Rattle.store_tables.specs.OnConnections.{ListsRows};
+ghost use Rattle.store_tables.specs.OnConnections.{ListsTable};
 
 use sqlite::{Alter, Connection, Error, Row, params};
 
 /// The id of each row of the table `meta`.
 pub(crate) fn list_meta_ids<S: Alter>(conn: &mut Connection<S>) -> Result<Vec<Row>, Error>
     ensures lists { GivenFirstSchema S.Store conn.old conn.new
-        (ListsRows S.Store conn.old 0 id_cell result) }
+        (ListsTable S.Store conn.old 0 id_cell result) }
     ensures unchanged { UnchangedOnOkFirstSchema S.Store conn.old conn.new result }
     ensures reads_only { OnlyReadsFirstSchema S.Store conn.old conn.new }
 {
@@ -26,7 +26,7 @@ pub(crate) fn list_meta_ids<S: Alter>(conn: &mut Connection<S>) -> Result<Vec<Ro
 /// All rows of the table `book`, whatever their contents: the id, the name and the nine numbers.
 pub(crate) fn list_books<S: Alter>(conn: &mut Connection<S>) -> Result<Vec<Row>, Error>
     ensures lists { GivenFirstSchema S.Store conn.old conn.new
-        (ListsRows S.Store conn.old 2 book_listed result) }
+        (ListsTable S.Store conn.old 2 book_listed result) }
     ensures unchanged { UnchangedOnOkFirstSchema S.Store conn.old conn.new result }
     ensures reads_only { OnlyReadsFirstSchema S.Store conn.old conn.new }
 {
@@ -41,7 +41,7 @@ pub(crate) fn list_books<S: Alter>(conn: &mut Connection<S>) -> Result<Vec<Row>,
 /// number and the card.
 pub(crate) fn list_members<S: Alter>(conn: &mut Connection<S>) -> Result<Vec<Row>, Error>
     ensures lists { GivenFirstSchema S.Store conn.old conn.new
-        (ListsRows S.Store conn.old 4 member_cells result) }
+        (ListsTable S.Store conn.old 4 member_cells result) }
     ensures unchanged { UnchangedOnOkFirstSchema S.Store conn.old conn.new result }
     ensures reads_only { OnlyReadsFirstSchema S.Store conn.old conn.new }
 {
@@ -55,7 +55,7 @@ pub(crate) fn list_members<S: Alter>(conn: &mut Connection<S>) -> Result<Vec<Row
 /// the numbers of added, edited and unchanged cards, and the number of the last change.
 pub(crate) fn list_imports<S: Alter>(conn: &mut Connection<S>) -> Result<Vec<Row>, Error>
     ensures lists { GivenFirstSchema S.Store conn.old conn.new
-        (ListsRows S.Store conn.old 7 import_cells result) }
+        (ListsTable S.Store conn.old 7 import_cells result) }
     ensures unchanged { UnchangedOnOkFirstSchema S.Store conn.old conn.new result }
     ensures reads_only { OnlyReadsFirstSchema S.Store conn.old conn.new }
 {

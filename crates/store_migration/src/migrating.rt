@@ -11,7 +11,7 @@ ghost use Rattle.store_tables.specs.OnConnections.{
   HasCleanDisk,
   HoldsNow,
   IsCommitted,
-  IsOpen,
+  IsConnectionOpen,
   ShowsTheSame,
   Survives,
   table_rows,
@@ -24,7 +24,7 @@ use book_model::Limits;
 use sqlite::{Alter, Connection};
 use std::alloc::Global;
 use store_schema::{OpenFault, open_fault_of};
-use store_tables::settled::assert_settled;
+use store_tables::settled::assert_no_pending_writes;
 
 /// Migrates the tables of the connection from the first schema to the second in one transaction,
 /// and returns the number of books. The connection must be outside a transaction. Books, members
@@ -53,7 +53,7 @@ pub fn migrate_connection<S: Alter>(
         → IfOk result (λ count. count ≡ length (table_rows S.Store conn.old 2)) }
     ensures refusal { HasCleanDisk S.Store conn.new
         → IfErr result (IsMigrationRefusal S.Store conn.old max_limits) }
-    ensures unchanged_on_error { HasCleanDisk S.Store conn.new → IsOpen S.Store conn.new
+    ensures unchanged_on_error { HasCleanDisk S.Store conn.new → IsConnectionOpen S.Store conn.new
         → OnErr result (ShowsTheSame S.Store conn.old conn.new) }
     ensures settled { conn.new.in_transaction ≡ false }
 
@@ -61,7 +61,7 @@ pub fn migrate_connection<S: Alter>(
     ensures crash { Survives S.Store conn.old conn.new
         (CommitsMigration S.Store conn.old max_limits) }
 {
-    assert_settled(conn);
+    assert_no_pending_writes(conn);
     let keeps = plan_migration(alloc, conn, Limits::standard())?;
     match commit_keeps(conn, keeps.as_slice()) {
         Ok(()) => Ok(keeps.len() as u64),

@@ -32,7 +32,7 @@ use store_check::cells::number_at;
 use store_tables::creation::create_keeps;
 use store_tables::keeps::insert_keep;
 use store_tables::meta::SCHEMA_NUMBER;
-use store_tables::settled::assert_settled;
+use store_tables::settled::assert_no_pending_writes;
 
 /// Updates the schema number in the one row of the table `meta`, which held that of the first.
 fn update_schema_number<S: Alter>(tx: &mut Transaction<'_, S>, number: i64) -> Result<usize, Error>
@@ -105,7 +105,7 @@ pub(crate) fn commit_keeps<S: Alter>(conn: &mut Connection<S>, keeps: &[Row]) ->
         → keeps.now ≡ map cells_of_keep keep_rows
         → Survives S.Store conn.old conn.new (TreesAddKeeps S.Store conn.old keep_rows) }
 {
-    assert_settled(conn);
+    assert_no_pending_writes(conn);
     let mut tx = conn.transaction();
     write_keeps(&mut tx, keeps)?;
     tx.commit()

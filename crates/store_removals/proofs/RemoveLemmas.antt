@@ -25,7 +25,7 @@ use Rattle.book_model.specs.CallOutcomes.{MatchesStep, ◌>>=◌}
 use Rattle.book_model.specs.BookQueries.{tombstone_count}
 use Rattle.book_model.specs.Removing.{remove_number}
 use Rattle.store_tables.specs.QueryResults.{FindsFirstRow}
-use Rattle.store_tables.specs.Books.{HasBooks, renumbered}
+use Rattle.store_tables.specs.Books.{HasBooks, with_book_numbers}
 use Rattle.store_tables.specs.SchemaCreation.{HoldsInTx}
 use Rattle.store_tables.specs.Members.{HasMembers, by_changed, number_shown, is_removed_above, upsert_member, without_removed}
 use Rattle.store_tables.specs.StatementEffects.{GivenTables, WritesOnly}
@@ -54,7 +54,7 @@ use Rattle.store_writes.proofs.PlanLemmas.{lookup_of}
 module _ (old a b new : State) (rows : TableRows) (name : List ℕ) (header : HeaderRow) (uid : List ℕ) (why : RemovalReason) (upto : ℕ) where
   pub row_dropped : HasBookRow old.now rows name header → (one : HoldsPut a.now rows (line_row name header) uid (pos (header.number + 1)) None)
       → HasMembers b (without_removed (pos header.id) (pos upto) (upsert_member one.id (pos header.id) uid (pos (header.number + 1)) None rows.members)) → WritesOnly 4 a b
-      → HasBooks new (renumbered (pos header.id) (numbers_row (header.number + 1) upto (counts_after_change (TakesAway why) header.counts)) rows.books) → WritesOnly 2 b new
+      → HasBooks new (with_book_numbers (pos header.id) (numbers_row (header.number + 1) upto (counts_after_change (TakesAway why) header.counts)) rows.books) → WritesOnly 2 b new
       → HoldsInTx new (λ db. HoldsChange db rows (pos header.id) (finite.insert (books_of rows) name (book_after_forget (book_with_row (row_book rows (line_row name header)) uid (TakesAway why)) upto)))
   row_dropped line one members second books third =
       let with_it = put_rows one.id (pos header.id) uid (pos (header.number + 1)) None rows in

@@ -18,7 +18,7 @@ use book_model::{Denied, Limits, Moved, Refusal, Stored};
 use sqlite::{Alter, Connection};
 use std::alloc::Global;
 use store_lookups::{BookHeader, find_header, find_live};
-use store_tables::settled::assert_settled;
+use store_tables::settled::assert_no_pending_writes;
 use store_writes::lookups::{as_version_and_card, open_header};
 use vcard_text::Card;
 
@@ -133,7 +133,7 @@ fn plan_move<S: Alter>(
         return Err(Denied::Refused(Refusal::SameBook));
     }
 
-    // `plan_drop` needs that the horizon is at most the number.
+    // The proof needs the horizon to be at most the number, which this call ensures.
     let _low = source.horizon();
     let (card, moved) = decide_move(alloc, conn, limits, source, target, uid, expect)?;
     let drop = plan_drop(conn, source)?;
@@ -146,7 +146,12 @@ fn plan_move<S: Alter>(
     })
 }
 
-/// Moves the card that has the UID from one book to the other.
+/// Moves the live card of the UID from the book `from` to the book `to`, and returns the number of
+/// the change in each. `expect` is the version that the card must have in the source, and `None`
+/// for no check. The connection must be outside a transaction.
+///
+/// Refused, in this order, with `NoSuchBook` for the source and then the target; `SameBook`;
+/// `NoSuchCard`; `UidTaken`; `VersionMismatch`; `BookFull`; `ChangesSpent`.
 pub fn move_in_tables<S: Alter>(
     alloc: Global,
     conn: &mut Connection<S>,
@@ -162,7 +167,7 @@ pub fn move_in_tables<S: Alter>(
     ensures crash { CommitsOnce S.Store conn.old conn.new
         (λ books. move_step limits books from.now to.now uid.now expect) }
 {
-    assert_settled(conn);
+    assert_no_pending_writes(conn);
     let plan = plan_move(alloc, conn, limits, from, to, uid, expect)?;
     write_move(
         alloc,

@@ -31,7 +31,7 @@ use sqlite::{Alter, Connection, Transaction};
 use std::alloc::Global;
 use store_lookups::{BookHeader, column_of, fault_of};
 use store_tables::books::BookNumbers;
-use store_tables::settled::assert_settled;
+use store_tables::settled::assert_no_pending_writes;
 use store_writes::columns::{columns_of, text_of_card};
 use store_writes::putting::{columns_after, write_member};
 use vcard_text::Card;
@@ -195,7 +195,7 @@ fn commit_move<S: Alter>(
     ensures crash { text_card text.now ≡ card.now
         → CommitsMoveOnce S.Store conn.old conn.new source target uid.now card.now drop }
 {
-    assert_settled(conn);
+    assert_no_pending_writes(conn);
     let mut tx = conn.transaction();
     move_rows(&mut tx, source, target, uid, card, text, drop)?;
     match tx.commit() {
@@ -224,7 +224,7 @@ pub(crate) fn write_move<S: Alter>(
     ensures survives { CountsFaults S.Store conn.old conn.new }
     ensures crash { CommitsMoveOnce S.Store conn.old conn.new source target uid.now card.now drop }
 {
-    assert_settled(conn);
+    assert_no_pending_writes(conn);
     let text = text_of_card(alloc, card)?;
     commit_move(conn, source, target, uid, card, text.as_str(), drop)
 }

@@ -21,7 +21,7 @@ use store_lookups::{
     BookHeader, column_of, count_removals, fault_of, fetch_keep, find_live, number_in,
 };
 use store_tables::members::first_removed;
-use store_tables::settled::assert_settled;
+use store_tables::settled::assert_no_pending_writes;
 use store_writes::lookups::{as_version_and_card, open_header};
 
 /// A planned removal: the header of the book before it, its number, and the number up to which the
@@ -145,7 +145,7 @@ fn plan_remove<S: Alter>(
 {
     let header = open_header(conn, name)?;
 
-    // `plan_drop` needs that the horizon is at most the number.
+    // The proof needs the horizon to be at most the number, which this call ensures.
     let _low = header.horizon();
     let number = decide_removal(alloc, conn, limits, header, uid, expect)?;
     let drop = plan_drop(conn, header)?;
@@ -156,7 +156,12 @@ fn plan_remove<S: Alter>(
     })
 }
 
-/// Removes the card that has the UID from the named book.
+/// Removes the live card of the UID from the named book, and returns the number of the removal. If
+/// the book then has more tombstones than it keeps, it forgets the oldest one. `expect` is the
+/// version that the card must have, and `None` for no check. The connection must be outside a
+/// transaction.
+///
+/// Refused, in this order, with `NoSuchBook`; `NoSuchCard`; `VersionMismatch`; `ChangesSpent`.
 pub fn remove_in_book<S: Alter>(
     alloc: Global,
     conn: &mut Connection<S>,
@@ -171,7 +176,7 @@ pub fn remove_in_book<S: Alter>(
     ensures crash { CommitsOnce S.Store conn.old conn.new
         (λ books. remove_step limits books name.now uid.now expect) }
 {
-    assert_settled(conn);
+    assert_no_pending_writes(conn);
     let plan = plan_remove(alloc, conn, limits, name, uid, expect)?;
     write_remove(conn, plan.header, uid, plan.drop)?;
     Ok(plan.number)

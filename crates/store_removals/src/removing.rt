@@ -25,7 +25,7 @@ use sqlite::{Alter, Connection, Error, Transaction};
 use store_lookups::{BookHeader, column_of, fault_of};
 use store_tables::books::{BookNumbers, renumber_book};
 use store_tables::members::{forget_members, put_member};
-use store_tables::settled::assert_settled;
+use store_tables::settled::assert_no_pending_writes;
 use store_writes::columns::columns_of;
 use store_writes::putting::commit_member;
 
@@ -78,7 +78,7 @@ fn commit_removal_with_drop<S: Alter>(
         → CommitsBookOnce S.Store conn.old conn.new header
         (λ book. book_after_forget (book_with_row book uid.now (TakesAway why)) last) }
 {
-    assert_settled(conn);
+    assert_no_pending_writes(conn);
     let mut tx = conn.transaction();
     write_removal_with_drop(&mut tx, id, uid, changed, upto, numbers)?;
     tx.commit()?;
@@ -113,7 +113,7 @@ fn write_deletion<S: Alter>(
     ensures crash { CommitsBookOnce S.Store conn.old conn.new header
         (λ book. book_with_row book uid.now (TakesAway Deletion)) }
 {
-    assert_settled(conn);
+    assert_no_pending_writes(conn);
     let numbers = columns_after_deletion(header, header.horizon())?;
     let id = column_of(header.id())?;
     let changed = column_of(header.number() + 1)?;
@@ -137,7 +137,7 @@ fn write_drop<S: Alter>(
     ensures crash { CommitsBookOnce S.Store conn.old conn.new header
         (λ book. book_after_forget (book_with_row book uid.now (TakesAway Deletion)) upto) }
 {
-    assert_settled(conn);
+    assert_no_pending_writes(conn);
     let numbers = columns_after_deletion(header, upto)?;
     let id = column_of(header.id())?;
     let changed = column_of(header.number() + 1)?;

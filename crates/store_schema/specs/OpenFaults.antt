@@ -17,12 +17,12 @@ open_fault_number Damaged = 4
 open_fault_number NotEmpty = 5
 open_fault_number Memory = 6
 
--- an error of the database is out of memory, or a fault of the store
+-- the fault of an error of the database: `Memory` if it is out of memory, otherwise `Store`
 abbrev pub open_fault_of_error : Error → OpenFault
 open_fault_of_error (SqliteFailure OutOfMemory) = Memory
 open_fault_of_error error = Store
 
--- the fault is one of these two
+-- the fault is `Store` or `Memory`
 abbrev pub IsErrorFault : OpenFault → Type 0
 IsErrorFault fault = (fault ≡ Store) ⊎ (fault ≡ Memory)
 

@@ -11,7 +11,7 @@ use sqlite::{Error, ErrorCode};
 pub enum OpenFault {
     /// The database returned an error.
     Store,
-    /// The tables are not those of a book store.
+    /// The file is not a database, or the tables are not those of a book store.
     NotOurs,
     /// The tables have another schema number.
     OtherSchema {

@@ -11,7 +11,7 @@ use Rattle.book_model.specs.declared.refusal.Refusal.TheVariants.{BadForget}
 use Rattle.book_model.specs.Books.{Book, Books}
 use Rattle.book_model.specs.Forgetting.{book_after_forget, dropped_row_count, may_forget}
 use Rattle.book_model.specs.CallOutcomes.{MatchesStep, ◌>>=◌, refuse_unless}
-use Rattle.store_tables.specs.Books.{HasBooks, renumbered}
+use Rattle.store_tables.specs.Books.{HasBooks, with_book_numbers}
 use Rattle.store_tables.specs.SchemaCreation.{HoldsInTx}
 use Rattle.store_tables.specs.Members.{HasMembers, without_removed}
 use Rattle.store_tables.specs.StatementEffects.{KeepsOtherTables, WritesOnly}
@@ -34,7 +34,7 @@ spares_books old new h = h.1.0 (λ e. cc)
 
 module _ (old mid new : State) (rows : TableRows) (name : List ℕ) (header : HeaderRow) (upto : ℕ) where
   pub rows_forgotten : HasBookRow old.now rows name header → HasMembers mid (without_removed (pos header.id) (pos upto) rows.members) → WritesOnly 4 old mid
-      → HasBooks new (renumbered (pos header.id) (numbers_row header.number upto header.counts) rows.books) → WritesOnly 2 mid new
+      → HasBooks new (with_book_numbers (pos header.id) (numbers_row header.number upto header.counts) rows.books) → WritesOnly 2 mid new
       → HoldsInTx new (λ db. HoldsBooks db (finite.insert (books_of rows) name (book_after_forget (row_book rows (line_row name header)) upto)))
   rows_forgotten line members first books second =
       let left = forgotten_rows (pos header.id) (pos upto) rows in

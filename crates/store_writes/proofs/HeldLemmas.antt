@@ -4,14 +4,14 @@ use Rattle.sqlite.specs.Effect.{Database}
 use Rattle.sqlite.specs.State.{State}
 use Rattle.sqlite_rules.specs.Lists.{Has}
 use Rattle.book_model.specs.Books.{Books}
-use Rattle.store_tables.specs.Books.{BookRow, Numbers, has_id, renumbered}
+use Rattle.store_tables.specs.Books.{BookRow, Numbers, has_id, with_book_numbers}
 use Rattle.store_tables.specs.SchemaCreation.{HoldsInTx}
 use Rattle.store_rows.specs.TableRows.{TableRows}
 use Rattle.store_rows.proofs.HeldRows.{books_held}
 use Rattle.store_writes.specs.TableChanges.{HoldsBooks, HoldsChange, TreesHold}
 
 -- updating one book's numbers keeps the rows of the other books
-pub row_remains : (id : ℤ) (numbers : Numbers) (bs : List BookRow) (b : BookRow) → Has bs b → int_eq b.id id ≡ false → Has (renumbered id numbers bs) b
+pub row_remains : (id : ℤ) (numbers : Numbers) (bs : List BookRow) (b : BookRow) → Has bs b → int_eq b.id id ≡ false → Has (with_book_numbers id numbers bs) b
 row_remains id numbers [] b h apart = absurd h
 row_remains id numbers (x ∷ xs) b (inl same) apart =
     let away : has_id id x ≡ false = ap (has_id id) (sym same) ∙ apart in

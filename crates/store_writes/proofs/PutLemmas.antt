@@ -5,7 +5,7 @@ use Rattle.sqlite.specs.State.{State}
 use Rattle.book_model.specs.declared.change.Change.{Change}
 use Rattle.book_model.specs.BookChanges.{book_with_row}
 use Rattle.book_model.specs.Counting.{counts_after_change}
-use Rattle.store_tables.specs.Books.{HasBooks, renumbered}
+use Rattle.store_tables.specs.Books.{HasBooks, with_book_numbers}
 use Rattle.store_tables.specs.SchemaCreation.{HoldsInTx}
 use Rattle.store_tables.specs.Members.{PutsRow}
 use Rattle.store_tables.specs.StatementEffects.{WritesOnly}
@@ -20,7 +20,7 @@ use Rattle.store_writes.proofs.HeldLemmas.{row_remains}
 
 module _ (old mid new : State) (rows : TableRows) (name : List ℕ) (header : HeaderRow) (uid : List ℕ) (text : Option (List ℕ)) (change : Change) where
   pub row_put : HasBookRow old.now rows name header → IsCardTextOf text change → PutsRow mid.now.trees (pos header.id) uid (pos (header.number + 1)) text rows.members → WritesOnly 4 old mid
-      → HasBooks new (renumbered (pos header.id) (numbers_row (header.number + 1) header.horizon (counts_after_change change header.counts)) rows.books) → WritesOnly 2 mid new
+      → HasBooks new (with_book_numbers (pos header.id) (numbers_row (header.number + 1) header.horizon (counts_after_change change header.counts)) rows.books) → WritesOnly 2 mid new
       → HoldsInTx new (λ db. HoldsChange db rows (pos header.id) (finite.insert (books_of rows) name (book_with_row (row_book rows (line_row name header)) uid change)))
   row_put line is put first books second =
       let one = put_held old.now mid.now rows (line_row name header) uid (pos (header.number + 1)) text line.holds line.sound line.there put (writes_table 4 old mid first) in

@@ -1,4 +1,4 @@
--- The words of contracts, over connections, as in `store_tables`. This project's own.
+-- Definitions over connections, for contracts, as in `store_tables`. This project's own.
 use Rattle.std.specs.Prelude.{◌≡◌, ℕ, pos, List, Result, OnOk, IsTrue}
 use Rattle.std.specs.FinMap as finite
 use Rattle.sqlite.specs.Effect.{Database}

@@ -13,7 +13,8 @@ use store_tables::books::BookNumbers;
 use vcard_text::laws::card_is_computed;
 use vcard_text::{Card, write_card};
 
-/// Fails with `Store` if a number is 2^63 or more, which no stored number is.
+/// The column values of a book's number, horizon and counts. Fails with `Store` if one of them is
+/// 2^63 or more, which no stored number is.
 pub fn columns_of(number: u64, horizon: u64, counts: Counts) -> Result<BookNumbers, Denied>
     ensures numbers { IfOk result (λ numbers.
         numbers_of numbers ≡ numbers_row number horizon counts) }
@@ -32,7 +33,8 @@ pub fn columns_of(number: u64, horizon: u64, counts: Counts) -> Result<BookNumbe
     })
 }
 
-/// The canonical text of the card, which parses back to the card. Fails if memory runs out.
+/// The canonical text of the card, which parses back to the card. Fails with `Memory`
+/// if memory runs out.
 pub fn text_of_card(alloc: Global, card: &Card) -> Result<String, Denied>
     ensures canonical { IfOk result (λ text. string_bytes text ≡ canonical_text card.now) }
     ensures reads_back { IfOk result (λ text. text_card (string_bytes text) ≡ card.now) }

@@ -23,7 +23,7 @@ use sqlite::{Alter, Connection, Error, Transaction};
 use store_lookups::{BookHeader, column_of, fault_of};
 use store_tables::books::{BookNumbers, renumber_book};
 use store_tables::members::forget_members;
-use store_tables::settled::assert_settled;
+use store_tables::settled::assert_no_pending_writes;
 
 /// Deletes the tombstones of the book `id` up to the number, and updates the book's numbers.
 /// Returns how many were deleted.
@@ -71,7 +71,7 @@ fn commit_forget<S: Alter>(
         → AreHeaderColumns (record header { horizon = last }) id numbers
         → CommitsBookOnce S.Store conn.old conn.new header (λ book. book_after_forget book last) }
 {
-    assert_settled(conn);
+    assert_no_pending_writes(conn);
     let mut tx = conn.transaction();
     let dropped = forget_rows(&mut tx, id, upto, numbers)?;
     tx.commit()?;
@@ -93,7 +93,7 @@ fn write_forget<S: Alter>(
     ensures crash { CommitsBookOnce S.Store conn.old conn.new header
         (λ book. book_after_forget book upto) }
 {
-    assert_settled(conn);
+    assert_no_pending_writes(conn);
     let id = column_of(header.id())?;
     let last = column_of(upto)?;
     let numbers = columns_of(header.number(), upto, header.counts())?;
@@ -103,7 +103,11 @@ fn write_forget<S: Alter>(
     }
 }
 
-/// Raises the horizon of the named book to the number and deletes the tombstones up to it.
+/// Raises the horizon of the named book to the number, deletes the tombstones up to it, and returns
+/// how many there were. The connection must be outside a transaction.
+///
+/// Refused, in this order, with `NoSuchBook`; `BadForget` if the number is below the book's horizon
+/// or above its number.
 pub fn forget_in_book<S: Alter>(
     conn: &mut Connection<S>,
     name: &str,
@@ -115,7 +119,7 @@ pub fn forget_in_book<S: Alter>(
     ensures crash { CommitsOnce S.Store conn.old conn.new
         (λ books. forget_step books name.now upto) }
 {
-    assert_settled(conn);
+    assert_no_pending_writes(conn);
     let header = open_header(conn, name)?;
     if !may_forget(header.horizon(), header.number(), upto) {
         return Err(Denied::Refused(Refusal::BadForget));

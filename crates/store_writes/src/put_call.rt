@@ -15,7 +15,7 @@ use book_model::{Denied, Limits, PutAnswer};
 use sqlite::{Alter, Connection};
 use std::alloc::Global;
 use store_lookups::{BookHeader, find_live};
-use store_tables::settled::assert_settled;
+use store_tables::settled::assert_no_pending_writes;
 use vcard_text::Card;
 
 /// What a put of the card returns in the book with this header.
@@ -68,7 +68,13 @@ fn plan_put<S: Alter>(
     Ok((header, answer))
 }
 
-/// Stores the card in the named book.
+/// Stores the card in the named book, unless an equal card is live there, and returns its version.
+/// `expect` is the version that the live card must have, 0 if none may be live, and `None` for no
+/// check. The connection must be outside a transaction.
+///
+/// Refused, in this order, with `NoSuchBook`; `VersionMismatch`; and unless an equal card is live,
+/// `BookFull` if the card is new and the book is at its limit of cards; `ChangesSpent` if the book
+/// is at its limit of changes.
 pub fn put_in_book<S: Alter>(
     alloc: Global,
     conn: &mut Connection<S>,
@@ -83,7 +89,7 @@ pub fn put_in_book<S: Alter>(
     ensures crash { CommitsOnce S.Store conn.old conn.new
         (λ books. put_step limits books name.now card.now expect) }
 {
-    assert_settled(conn);
+    assert_no_pending_writes(conn);
     let (header, answer) = plan_put(alloc, conn, limits, name, card, expect)?;
     let Some(reason) = reason_of(answer) else {
         return Ok(answer);

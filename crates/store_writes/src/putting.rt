@@ -25,10 +25,11 @@ use std::alloc::Global;
 use store_lookups::{BookHeader, column_of, fault_of};
 use store_tables::books::{BookNumbers, renumber_book};
 use store_tables::members::put_member;
-use store_tables::settled::assert_settled;
+use store_tables::settled::assert_no_pending_writes;
 use vcard_text::Card;
 
-/// Writes the member of the book `id` that has the UID, and updates the book's numbers.
+/// Writes the member of the book `id` that has the UID, and updates the book's numbers. Without a
+/// card it is a removed member.
 pub fn write_member<S: Alter>(
     tx: &mut Transaction<'_, S>,
     id: i64,
@@ -75,7 +76,7 @@ pub fn commit_member<S: Alter>(
         → CommitsBookOnce S.Store conn.old conn.new header
         (λ book. book_with_row book uid.now change) }
 {
-    assert_settled(conn);
+    assert_no_pending_writes(conn);
     let mut tx = conn.transaction();
     write_member(&mut tx, id, uid, changed, card, numbers)?;
     tx.commit()?;
@@ -113,7 +114,7 @@ pub(crate) fn write_put<S: Alter>(
     ensures crash { CommitsBookOnce S.Store conn.old conn.new header
         (λ book. book_with_row book (uid_of card.now) (Stores card.now why)) }
 {
-    assert_settled(conn);
+    assert_no_pending_writes(conn);
     let text = text_of_card(alloc, card)?;
     let change = Change::Stores(card.try_copy()?, why);
     let numbers = columns_after(header, &change)?;

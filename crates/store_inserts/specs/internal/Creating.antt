@@ -11,7 +11,8 @@ use Rattle.store_rows.specs.TableBooks.{books_of}
 use Rattle.store_rows.specs.TableRows.{TableRows}
 use Rattle.store_lookups.specs.CallResults.{FollowsStep, IsExactly}
 
--- whether a book has the name: `true` by the books, `false` by the rows of the table
+-- whether a book has the name: `true` if one of the books has it, `false` if neither a row nor a
+-- book has it
 abbrev pub IsNameFound : TableRows → List ℕ → Bool → Type 0
 IsNameFound rows name true = finite.contains_key (books_of rows) name ≡ true
 IsNameFound rows name false = IsNameFree rows name
@@ -21,7 +22,7 @@ abbrev pub AreNameAndCount : TableRows → List ℕ → Bool × ℕ → Type 0
 AreNameAndCount rows name found =
     IsNameFound rows name found.0 × (finite.len (books_of rows) ≡ found.1)
 
--- the id that a new book of the name gets beside these books
+-- the id that a new book with this name gets beside these books
 abbrev pub new_id_among : Bounds → List ℕ → Books → Result ℕ Refusal
 new_id_among limits name books =
     new_id limits name (finite.contains_key books name) (finite.len books)

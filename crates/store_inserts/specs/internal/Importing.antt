@@ -129,7 +129,8 @@ abbrev pub IsKeyFreeFor : Book → List ℕ → ImportDecision → Type 0
 IsKeyFreeFor book key (Kept tally) = ⊤
 IsKeyFreeFor book key (New plan tally) = IsImportKeyFree book key
 
--- the header is the named book's, and the decision is the model's step; or the refusal is
+-- the header is the named book's, and the decision is the model's step; or the error is the model's
+-- refusal or a fault
 abbrev pub IsImportPlanned : Bounds → TableRows → List ℕ → List ℕ → List (List Line)
     → Result (HeaderRow × ImportDecision) Denied → Type 0
 IsImportPlanned limits rows name key cards (Ok found) = IsBookNamed rows name found.0

@@ -1,4 +1,4 @@
--- The words of private contracts, over connections, as in `store_tables`. This project's own.
+-- Definitions over connections, for private contracts, as in `store_tables`. This project's own.
 use Rattle.std.specs.Prelude.{ℕ, List, Result, OnOk, IsTrue}
 use Rattle.std.specs.FinMap as finite
 use Rattle.sqlite.specs.Held.{Held, state}

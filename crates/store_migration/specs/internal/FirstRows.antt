@@ -18,7 +18,7 @@ GivenFirstSchema old new Then = HasCleanDisk new → old.now.schema ≡ first_sc
 
 -- The state after a reading statement, whether it succeeds or fails. It begins no transaction. Over
 -- tables of the first schema it commits nothing, so that a crash leaves what it could leave before.
--- Outside a transaction each table is unchanged.
+-- If no write was pending and the connection is still open, its state is unchanged.
 pub record OnlyReadsFirstSchema (old new : State) : Type 0 where
   pub mode : old.in_transaction ≡ false → new.in_transaction ≡ false
   pub was_open : HasCleanDisk new → IsTrue new.is_open → IsTrue old.is_open

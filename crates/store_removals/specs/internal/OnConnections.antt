@@ -1,4 +1,4 @@
--- The words of private contracts, over connections, as in `store_tables`. This project's own.
+-- Definitions over connections, for private contracts, as in `store_tables`. This project's own.
 use Rattle.std.specs.Prelude.{ℕ, List, Option, Result, IsTrue}
 use Rattle.sqlite.specs.Held.{Held, state}
 use Rattle.vcard_lines.specs.declared.line.Line.{Line}
@@ -22,8 +22,8 @@ module _ {S : Type 0} (store : Ghosts S) (old new : Held S) where
       HasCleanDisk store new → IsTrue old.in_transaction →
       HasBothRows store old rows from source to target → Then rows from to
 
-  -- a success commits the move of the card from the one book to the other, and a failure changes
-  -- nothing
+  -- A success commits the move of the card from the one book to the other. A failure changes
+  -- nothing, unless the connection was closed.
   abbrev pub CommitsMove : {T E : Type 0} →
       HeaderRow → HeaderRow → Result T E → List ℕ → List Line → Option ℕ → Type 0
   CommitsMove source target result uid card drop = (rows : TableRows) (from to : List ℕ) →

@@ -22,7 +22,8 @@ abbrev pub IsNumberStated : List Row → Option ℤ → Type 0
 IsNumberStated rows None = (number : ℤ) → (row : Row) → rows ≡ row ∷ [] → ¬ RowStates row number
 IsNumberStated rows (Some number) = (row : Row) × (rows ≡ row ∷ []) × RowStates row number
 
--- the result of the check of the number: the wanted one with its tables declared, another, or none
+-- the result of the check of the number: `Ok` for the wanted one with its tables declared,
+-- `OtherSchema` for another one, otherwise `NotOurs`
 abbrev pub IsVerified : ℤ → Bool → Option ℤ → Result (Unit {0}) OpenFault → Type 0
 IsVerified wanted declared None outcome = outcome ≡ Err NotOurs
 IsVerified wanted declared (Some number) (Ok done) = (number ≡ wanted) × (declared ≡ true)

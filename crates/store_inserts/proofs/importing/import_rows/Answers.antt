@@ -1,14 +1,68 @@
-use Rattle.std.proofs.Common.{ap, ◌∙◌}
+use Rattle.std.proofs.Common.{IsTrue, List, ℕ, ap, ◌∙◌}
 use Rattle.std.specs.FinMap as finite
+use Rattle.book_model.specs.Books.{Book}
 use Rattle.book_model.specs.Importing.{book_with_kept_import}
 use Rattle.sqlite.specs.Held.{state}
-use Rattle.sqlite.specs.State.{HasCleanDisk}
+use Rattle.sqlite.specs.State.{State, HasCleanDisk}
 use Rattle.store_rows.specs.TableBooks.{row_book, line_row}
+use Rattle.store_rows.specs.TableRows.{TableRows}
+use Rattle.store_tables.specs.SchemaCreation.{HoldsInTx}
 use Rattle.store_tables.proofs.SchemaCreationLemmas.{clean_before}
-use Rattle.store_inserts.specs.internal.Importing.{IsImportKeyFree, book_with_stored}
+use Rattle.store_writes.specs.TableChanges.{HasBookRow}
+use Rattle.store_inserts.specs.internal.Importing.{IsImportKeyFree, WritesBook, book_with_stored}
 use Rattle.store_inserts.proofs.ImportLemmas.{stored_imports}
 use Rattle.store_inserts.proofs.WroteLemmas.{unwritten_book, keeps_commit_then}
+use Rattle.store_inserts.proofs.importing.import_rows.Given as given
 use Rattle.store_inserts.proofs.importing.import_rows.Goals as goal
+use Rattle.store_inserts.proofs.importing.import_rows.Goals.{After-write_book_row}
+
+-- ---- what the clauses share
+
+-- the states: before the writes, and after each of the three; and the book after each
+module _ (g : given.Over) (c : After-write_book_row g) where
+  abbrev old : State
+  old = state g.S.Store c.args.tx.now.conn.now
+
+  abbrev one : State
+  one = state g.S.Store c.write_next_cards.new.tx.conn.now
+
+  abbrev two : State
+  two = state g.S.Store c.insert_kept_import.new.tx.conn.now
+
+  abbrev new : State
+  new = state g.S.Store c.write_book_row.new.tx.conn.now
+
+  abbrev before : TableRows → List ℕ → Book
+  before rows name = row_book rows (line_row name c.args.header)
+
+  abbrev stored : TableRows → List ℕ → Book
+  stored rows name = book_with_stored (before rows name) c.args.stored.now
+
+  abbrev whole : TableRows → List ℕ → Book
+  whole rows name = book_with_kept_import (stored rows name) c.args.key.now c.args.tally
+
+-- the writes, given what the clauses are given
+module _ (g : given.Over) (c : After-write_book_row g) (rows : TableRows) (name : List ℕ) (clean : HasCleanDisk (new g c)) (inside : IsTrue (old g c).in_transaction)
+    (line : HasBookRow (old g c).now rows name c.args.header) (free : IsImportKeyFree (before g c rows name) c.args.key.now) where
+  clean_two : HasCleanDisk (two g c)
+  clean_two = clean_before _ (two g c) (new g c) c.write_book_row.ensures.survives clean
+
+  clean_one : HasCleanDisk (one g c)
+  clean_one = clean_before _ (one g c) (two g c) c.insert_kept_import.ensures.survives clean_two
+
+  begun : WritesBook (old g c).now rows name c.args.header (before g c rows name)
+  begun = unwritten_book (old g c).now rows name c.args.header line
+
+  put : HoldsInTx (one g c) (λ db. WritesBook db rows name c.in_ok-after.after (stored g c rows name))
+  put = c.in_ok-after.ensures.book_after rows name (before g c rows name) clean_one inside begun
+
+  still_free : IsImportKeyFree (stored g c rows name) c.args.key.now
+  still_free = ap (λ imports. finite.get imports c.args.key.now) (stored_imports c.args.stored.now (before g c rows name)) ∙ free
+
+  kept : HoldsInTx (two g c) (λ db. WritesBook db rows name c.in_ok-after.after (whole g c rows name))
+  kept = c.in_ok-insert_kept_import.ensures.book_after rows name (stored g c rows name) clean_two put.inside put.holds still_free
+
+-- ---- the clauses
 
 pub returns-in_err-after-clause-keeps_commit : goal.returns-in_err-after-clause-keeps_commit
 returns-in_err-after-clause-keeps_commit g c rows name clean inside line free =
@@ -28,36 +82,18 @@ returns-in_err-insert_kept_import-clause-keeps_commit g c rows name clean inside
 
 pub returns-clause-books_after : goal.returns-clause-books_after
 returns-clause-books_after g c rows name clean inside line free =
-    let old = state g.S.Store c.args.tx.now.conn.now in
-    let one = state g.S.Store c.write_next_cards.new.tx.conn.now in
-    let two = state g.S.Store c.insert_kept_import.new.tx.conn.now in
-    let new = state g.S.Store c.write_book_row.new.tx.conn.now in
-    let book = row_book rows (line_row name c.args.header) in
-    let stored = book_with_stored book c.args.stored.now in
-    let whole = book_with_kept_import stored c.args.key.now c.args.tally in
-    let begun = unwritten_book old.now rows name c.args.header line in
-    let second : HasCleanDisk two = clean_before _ two new c.write_book_row.ensures.survives clean in
-    let first : HasCleanDisk one = clean_before _ one two c.insert_kept_import.ensures.survives second in
-    let still : IsImportKeyFree stored c.args.key.now = ap (λ imports. finite.get imports c.args.key.now) (stored_imports c.args.stored.now book) ∙ free in
-    let put = c.in_ok-after.ensures.book_after rows name book first inside begun in
-    let kept = c.in_ok-insert_kept_import.ensures.book_after rows name stored second put.inside put.holds still in
-    c.write_book_row.ensures.books_after rows name whole clean kept.inside kept.holds
+    let p = (goal.at.returns-clause-books_after g c).After-write_book_row in
+    let held = kept g p rows name clean inside line free in
+    c.write_book_row.ensures.books_after rows name (whole g p rows name) clean held.inside held.holds
 
 pub returns-clause-keeps_commit : goal.returns-clause-keeps_commit
 returns-clause-keeps_commit g c rows name clean inside line free =
-    let old = state g.S.Store c.args.tx.now.conn.now in
-    let one = state g.S.Store c.write_next_cards.new.tx.conn.now in
-    let two = state g.S.Store c.insert_kept_import.new.tx.conn.now in
-    let new = state g.S.Store c.write_book_row.new.tx.conn.now in
-    let book = row_book rows (line_row name c.args.header) in
-    let stored = book_with_stored book c.args.stored.now in
-    let whole = book_with_kept_import stored c.args.key.now c.args.tally in
-    let begun = unwritten_book old.now rows name c.args.header line in
-    let second : HasCleanDisk two = clean_before _ two new c.write_book_row.ensures.survives clean in
-    let first : HasCleanDisk one = clean_before _ one two c.insert_kept_import.ensures.survives second in
-    let still : IsImportKeyFree stored c.args.key.now = ap (λ imports. finite.get imports c.args.key.now) (stored_imports c.args.stored.now book) ∙ free in
-    let put = c.in_ok-after.ensures.book_after rows name book first inside begun in
-    let kept = c.in_ok-insert_kept_import.ensures.book_after rows name stored second put.inside put.holds still in
-    keeps_commit_then old two new
-    (keeps_commit_then old one two (c.in_ok-after.ensures.keeps_commit rows name book first inside begun) (c.in_ok-insert_kept_import.ensures.keeps_commit rows name stored second put.inside put.holds))
-    (c.write_book_row.ensures.keeps_commit rows name whole clean kept.inside kept.holds)
+    let p = (goal.at.returns-clause-keeps_commit g c).After-write_book_row in
+    let early = clean_one g p rows name clean inside line free in
+    let late = clean_two g p rows name clean inside line free in
+    let start = begun g p rows name clean inside line free in
+    let cards = put g p rows name clean inside line free in
+    let answer = kept g p rows name clean inside line free in
+    keeps_commit_then (old g p) (two g p) (new g p)
+    (keeps_commit_then (old g p) (one g p) (two g p) (c.in_ok-after.ensures.keeps_commit rows name (before g p rows name) early inside start) (c.in_ok-insert_kept_import.ensures.keeps_commit rows name (stored g p rows name) late cards.inside cards.holds))
+    (c.write_book_row.ensures.keeps_commit rows name (whole g p rows name) clean answer.inside answer.holds)

@@ -1,6 +1,6 @@
 use Rattle.std.proofs.Common.{rules, ◌≡◌, pos, to_z, of_z, w64, sym, ap, subst, ◌∙◌}
 use Rattle.sqlite.specs.Held.{state}
-use Rattle.store_tables.specs.Books.{HasBooks, numbers_of, renumbered}
+use Rattle.store_tables.specs.Books.{HasBooks, numbers_of, with_book_numbers}
 use Rattle.store_rows.specs.TableBooks.{line_row, numbers_row}
 use Rattle.store_lookups.proofs.FindLemmas.{back_of}
 use Rattle.store_inserts.proofs.WroteLemmas.{line_wrote, row_remains}
@@ -19,7 +19,7 @@ returns-clause-books_after g c rows name book clean inside wrote =
     elim c.match-renumber_book.branch [
       | in-Ok w ↦ rw w.result-is
           (line_wrote old new rows name header book wrote
-          (subst (λ n. HasBooks new (renumbered (pos header.id) n wrote.now.books)) numbers (subst (λ z. HasBooks new (renumbered z (numbers_of c.in_ok-numbers.numbers) wrote.now.books)) id
+          (subst (λ n. HasBooks new (with_book_numbers (pos header.id) n wrote.now.books)) numbers (subst (λ z. HasBooks new (with_book_numbers z (numbers_of c.in_ok-numbers.numbers) wrote.now.books)) id
           (w.in-Ok.ensures.renumbers wrote.now.books clean inside wrote.holds.schema wrote.within.sound.books wrote.holds.books (line_row name wrote.line) there same)))
           (w.in-Ok.ensures.writes wrote.now.books clean inside wrote.holds.schema wrote.within.sound.books wrote.holds.books (line_row name wrote.line) there same))
       | in-Err w ↦ rw w.result-is tt

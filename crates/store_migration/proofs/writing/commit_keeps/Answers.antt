@@ -21,4 +21,4 @@ returns-clause-atomic g c id keep_rows clean first returned =
     let left = rw begun at (c.in_ok-write_keeps.ensures.writes id keep_rows early inside there returned) in
     let kept : KeepsCommit (state g.S.Store (record old { in_transaction = true })) mid = rw begun at (c.write_keeps.ensures.keeps_commit id keep_rows early inside there returned) in
     subst (λ k. CommitsKeeps (state g.S.Store old) (state g.S.Store k) c.commit.result (AddsKeeps keep_rows (state g.S.Store old).now)) same
-    (commits (state g.S.Store (record old { in_transaction = true })) mid (state g.S.Store end) c.commit.result (AddsKeeps keep_rows (state g.S.Store old).now) kept left c.assert_settled.ensures (c.commit.ensures.ok late) (c.commit.ensures.err late))
+    (commits (state g.S.Store (record old { in_transaction = true })) mid (state g.S.Store end) c.commit.result (AddsKeeps keep_rows (state g.S.Store old).now) kept left c.assert_no_pending_writes.ensures (c.commit.ensures.ok late) (c.commit.ensures.err late))

@@ -65,7 +65,7 @@ returns-in-Err-clause-atomic g c text rows from to clean line =
     let kept : KeepsCommit (state g.S.Store (record c.args.conn.now { in_transaction = true })) (mid g (writing g p)) = rw c.transaction-tx.ensures.begun at (c.in_ok-move_rows.ensures.keeps_commit rows from to first (inside g (writing g p)) both text) in
     subst (λ k. IsTrue (state g.S.Store k).is_open → ((state g.S.Store k).now ≡ (old g (writing g p)).now) × ((state g.S.Store k).now ≡ (state g.S.Store k).committed)) same
     (failed_done (state g.S.Store (record c.args.conn.now { in_transaction = true })) (mid g (writing g p)) (end g p) c.in-Err.error kept
-    (c.in_ok-move_rows.ensures.books_after rows from to first (inside g (writing g p)) both text).inside (c.in-Err.ensures.err late) c.assert_settled.ensures)
+    (c.in_ok-move_rows.ensures.books_after rows from to first (inside g (writing g p)) both text).inside (c.in-Err.ensures.err late) c.assert_no_pending_writes.ensures)
 
 pub returns-in-Ok-clause-atomic : goal.returns-in-Ok-clause-atomic
 returns-in-Ok-clause-atomic g c text rows from to clean line =
@@ -99,4 +99,4 @@ returns-in_err-move_rows-clause-atomic g c text rows from to clean line =
     let said : c.from_residual.result ≡ Err c.in_err-move_rows.field-0.0 = search rules in
     subst (λ r. IsAtomic (old g p) (state g.S.Store c.conn-1.given.0) r (λ _ db. HoldsBooks db (made g p rows from to))) (sym said)
     (subst (λ k. IsTrue (state g.S.Store k).is_open → ((state g.S.Store k).now ≡ (old g p).now) × ((state g.S.Store k).now ≡ (state g.S.Store k).committed)) same
-    (rollback_restores (state g.S.Store (record c.args.conn.now { in_transaction = true })) (mid g p) last kept (c.drop-tx.ensures.undone late) c.assert_settled.ensures))
+    (rollback_restores (state g.S.Store (record c.args.conn.now { in_transaction = true })) (mid g p) last kept (c.drop-tx.ensures.undone late) c.assert_no_pending_writes.ensures))

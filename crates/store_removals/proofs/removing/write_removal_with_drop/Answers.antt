@@ -4,7 +4,7 @@ use Rattle.sqlite.specs.Held.{state}
 use Rattle.sqlite.specs.State.{State, HasCleanDisk, KeepsCommit, Survives}
 use Rattle.sqlite.proofs.InsideLemmas.{keeps_then}
 use Rattle.sqlite.proofs.StateLemmas.{survives_then}
-use Rattle.store_tables.specs.Books.{HasBooks, HoldBooks, numbers_of, renumbered}
+use Rattle.store_tables.specs.Books.{HasBooks, HoldBooks, numbers_of, with_book_numbers}
 use Rattle.store_tables.specs.Members.{HasMembers, PutsRow, upsert_member, without_removed}
 use Rattle.store_tables.proofs.SchemaCreationLemmas.{clean_before}
 use Rattle.store_rows.specs.TableBooks.{HeaderRow, line_row}
@@ -75,7 +75,7 @@ returns-clause-books_after g c header why last changed_is upto_is columns rows n
     let members = subst (λ z. HasMembers b (without_removed z (pos last) ms)) id (subst (λ z. HasMembers b (without_removed (to_z w64 (of_z w64 c.args.id)) z ms)) until (c.in_ok-forget_members.ensures.forgets ms third first.inside first.schema one.within.sound.members one.holds.members)) in
     let two = c.in_ok-forget_members.ensures.writes ms third first.inside first.schema one.within.sound.members one.holds.members in
     let held : HoldBooks (b.now.trees 2) rows.books = subst (λ k. HoldBooks k rows.books) (sym (spares_books a.now.trees b.now.trees two.other_tables ∙ spares_books (old g p).now.trees a.now.trees first.other_tables)) line.holds.books in
-    let books = subst (λ n. HasBooks (new g p) (renumbered (pos header.id) n rows.books)) columns.numbers (subst (λ z. HasBooks (new g p) (renumbered z (numbers_of c.args.numbers) rows.books)) id (c.in_ok-renumber_book.ensures.renumbers rows.books clean two.inside two.schema line.sound.books held (line_row name header) line.there id)) in
+    let books = subst (λ n. HasBooks (new g p) (with_book_numbers (pos header.id) n rows.books)) columns.numbers (subst (λ z. HasBooks (new g p) (with_book_numbers z (numbers_of c.args.numbers) rows.books)) id (c.in_ok-renumber_book.ensures.renumbers rows.books clean two.inside two.schema line.sound.books held (line_row name header) line.there id)) in
     row_dropped (old g p) a b (new g p) rows name header uid why last line one members two books (c.in_ok-renumber_book.ensures.writes rows.books clean two.inside two.schema line.sound.books held (line_row name header) line.there id)
 
 pub returns-in_err-renumber_book-clause-keeps_commit : goal.returns-in_err-renumber_book-clause-keeps_commit

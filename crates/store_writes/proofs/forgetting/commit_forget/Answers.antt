@@ -76,7 +76,7 @@ returns-in_err-commit-clause-atomic g c header last upto_is columns rows name cl
     subst (λ r. IsAtomic (old g p) (state g.S.Store c.conn-2-1.given.0) r (λ count db. (count ≡ dropped_row_count (row_book rows (line_row name header)).members last) × HoldsBooks db (made rows name header last))) (sym said)
     (subst (λ k. IsTrue (state g.S.Store k).is_open → ((state g.S.Store k).now ≡ (old g p).now) × ((state g.S.Store k).now ≡ (state g.S.Store k).committed)) same
     (failed_done (state g.S.Store (record c.args.conn.now { in_transaction = true })) (mid g p) (end g p) c.in_err-commit.field-0.0
-    (kept g p rows name header last line upto_is columns first) (left g p rows name header last line upto_is columns first).inside (c.in_err-commit.ensures.err late) c.assert_settled.ensures))
+    (kept g p rows name header last line upto_is columns first) (left g p rows name header last line upto_is columns first).inside (c.in_err-commit.ensures.err late) c.assert_no_pending_writes.ensures))
 
 pub returns-clause-atomic : goal.returns-clause-atomic
 returns-clause-atomic g c header last upto_is columns rows name clean line =

@@ -2,7 +2,7 @@ use Rattle.std.proofs.Common.{◌≡◌, pos, length, filter, to_z, of_z, w64, s
 use Rattle.std.proofs.Math.Facts.{to_z-of_z}
 use Rattle.sqlite.specs.Held.{state}
 use Rattle.sqlite.specs.State.{HasCleanDisk}
-use Rattle.store_tables.specs.Books.{HasBooks, HoldBooks, numbers_of, renumbered}
+use Rattle.store_tables.specs.Books.{HasBooks, HoldBooks, numbers_of, with_book_numbers}
 use Rattle.store_tables.specs.Members.{HasMembers, is_removed_up_to, without_removed}
 use Rattle.store_tables.proofs.SchemaCreationLemmas.{clean_before}
 use Rattle.store_rows.specs.TableBooks.{line_row}
@@ -21,7 +21,7 @@ returns-clause-books_after g c rows name header clean inside line last upto_is c
     let members = subst (λ z. HasMembers mid (without_removed z (pos last) rows.members)) id (subst (λ z. HasMembers mid (without_removed (to_z w64 (of_z w64 c.args.id)) z rows.members)) at (c.in_ok-dropped.ensures.forgets rows.members second inside line.holds.schema line.sound.members line.holds.members)) in
     let one = c.in_ok-dropped.ensures.writes rows.members second inside line.holds.schema line.sound.members line.holds.members in
     let held : HoldBooks (mid.now.trees 2) rows.books = subst (λ k. HoldBooks k rows.books) (sym (spares_books old.now.trees mid.now.trees one.other_tables)) line.holds.books in
-    let books = subst (λ n. HasBooks new (renumbered (pos header.id) n rows.books)) columns.numbers (subst (λ z. HasBooks new (renumbered z (numbers_of c.args.numbers) rows.books)) id (c.in_ok-renumber_book.ensures.renumbers rows.books clean one.inside one.schema line.sound.books held (line_row name header) line.there id)) in
+    let books = subst (λ n. HasBooks new (with_book_numbers (pos header.id) n rows.books)) columns.numbers (subst (λ z. HasBooks new (with_book_numbers z (numbers_of c.args.numbers) rows.books)) id (c.in_ok-renumber_book.ensures.renumbers rows.books clean one.inside one.schema line.sound.books held (line_row name header) line.there id)) in
     rows_forgotten old mid new rows name header last line members one books (c.in_ok-renumber_book.ensures.writes rows.books clean one.inside one.schema line.sound.books held (line_row name header) line.there id)
 
 pub returns-clause-dropped : goal.returns-clause-dropped

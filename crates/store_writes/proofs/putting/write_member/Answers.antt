@@ -2,7 +2,7 @@ use Rattle.std.proofs.Common.{◌≡◌, ◌+◌, option_copied, pos, to_z, of_z
 use Rattle.std.proofs.Math.Facts.{to_z-of_z}
 use Rattle.sqlite.specs.Held.{state}
 use Rattle.sqlite.specs.State.{HasCleanDisk}
-use Rattle.store_tables.specs.Books.{HasBooks, HoldBooks, numbers_of, renumbered}
+use Rattle.store_tables.specs.Books.{HasBooks, HoldBooks, numbers_of, with_book_numbers}
 use Rattle.store_tables.specs.Members.{PutsRow}
 use Rattle.store_tables.proofs.SchemaCreationLemmas.{clean_before}
 use Rattle.store_rows.specs.TableBooks.{line_row}
@@ -22,5 +22,5 @@ returns-clause-books_after g c header change changed_is is columns rows name cle
     let put = subst (λ z. PutsRow mid.now.trees z c.args.uid.now (pos (header.number + 1)) text rows.members) id (subst (λ z. PutsRow mid.now.trees (to_z w64 (of_z w64 c.args.id)) c.args.uid.now z text rows.members) at (c.in_ok-put_member.ensures.puts rows.members second inside line.holds.schema line.sound.members line.holds.members)) in
     let one = c.in_ok-put_member.ensures.writes rows.members second inside line.holds.schema line.sound.members line.holds.members in
     let held : HoldBooks (mid.now.trees 2) rows.books = subst (λ k. HoldBooks k rows.books) (sym (spares_books old.now.trees mid.now.trees one.other_tables)) line.holds.books in
-    let books = subst (λ n. HasBooks new (renumbered (pos header.id) n rows.books)) columns.numbers (subst (λ z. HasBooks new (renumbered z (numbers_of c.args.numbers) rows.books)) id (c.in_ok-renumber_book.ensures.renumbers rows.books clean one.inside one.schema line.sound.books held (line_row name header) line.there id)) in
+    let books = subst (λ n. HasBooks new (with_book_numbers (pos header.id) n rows.books)) columns.numbers (subst (λ z. HasBooks new (with_book_numbers z (numbers_of c.args.numbers) rows.books)) id (c.in_ok-renumber_book.ensures.renumbers rows.books clean one.inside one.schema line.sound.books held (line_row name header) line.there id)) in
     row_put old mid new rows name header c.args.uid.now text change line is put one books (c.in_ok-renumber_book.ensures.writes rows.books clean one.inside one.schema line.sound.books held (line_row name header) line.there id)
