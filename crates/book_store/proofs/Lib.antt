@@ -1,3 +1,4 @@
 pub mod SchemaLemmas
 pub mod StoreLemmas
 pub mod FileLemmas
+pub mod FaultlessLemmas

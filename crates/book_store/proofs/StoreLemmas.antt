@@ -18,6 +18,7 @@ use Rattle.store_rows.specs.TableRows.{no_rows}
 use Rattle.store_rows.proofs.HeldRows.{books_held, nothing_held, no_rows_sound}
 use Rattle.store_rows.proofs.OpenLemmas.{new_tables_empty}
 use Rattle.store_lookups.specs.CallResults.{FollowsStep, GivenSoundRows}
+use Rattle.store_lookups.specs.StoreFaults.{FaultsFromOutside}
 use Rattle.book_store.specs.OpenOutcomes.{IsNewStoreCommitted}
 use Rattle.book_store.specs.StoreViews.{ChangesStore, IsStore, ReadsStore, StoreView}
 use Rattle.store_writes.specs.TableChanges.{AppliesStep, CommitsOnce}
@@ -56,13 +57,16 @@ reads_store allows r step old new limits store left returned order =
     (ap (λ (d : Database). books_in d.trees) here.now_is)
 
 pub only_reads_store : {S T A : Type 0} (g : Ghosts S) (allows : T → A → Type 0) (old new : StoreView S) (r : Result A Denied) (query : Bounds → Books → Result T Refusal) → IsStore (state g old.conn) old.limits → new.limits ≡ old.limits
-    → OnlyReads (state g old.conn) (state g new.conn) → GivenSoundRows (state g old.conn) (state g new.conn) (λ rows. FollowsStep allows r (query old.limits (books_of rows))) → ReadsStore g allows old new r query
-only_reads_store g allows old new r query store same left returned = record {
-  premise = read_before (state g old.conn) (state g new.conn) left;
-  limits = same;
-  range = subst IsInRange (sym same) store.range;
+    → OnlyReads (state g old.conn) (state g new.conn) → GivenSoundRows (state g old.conn) (state g new.conn) (λ rows. FollowsStep allows r (query old.limits (books_of rows))) → FaultsFromOutside (state g old.conn) (state g new.conn) r → ReadsStore g allows old new r query
+only_reads_store g allows old new r query store same left returned causes = record {
+  keeps_terms = record {
+    premise = read_before (state g old.conn) (state g new.conn) left;
+    limits = same;
+    range = subst IsInRange (sym same) store.range;
+  };
   matches_query = reads_store allows r (query old.limits) (state g old.conn) (state g new.conn) old.limits store left returned;
   only_reads = left;
+  store_fault = causes;
 }
 
 -- ---- created tables
@@ -77,9 +81,11 @@ new_store_books s h = (nothing_held s.now (new_tables_empty s.now h.created)).bo
 pub changes_store : {S A : Type 0} (g : Ghosts S) (old new : StoreView S) (r : Result A Denied) (step : Bounds → Books → Result (A × Books) Refusal) → IsStore (state g old.conn) old.limits → new.limits ≡ old.limits
     → AppliesStep (state g old.conn) (state g new.conn) r (step old.limits) → CommitsOnce (state g old.conn) (state g new.conn) (step old.limits) → ChangesStore g old new r step
 changes_store g old new r step store same changed commits = record {
-  premise = changed.was_open_on_honest_disk;
-  limits = same;
-  range = subst IsInRange (sym same) store.range;
+  keeps_terms = record {
+    premise = changed.was_open_on_honest_disk;
+    limits = same;
+    range = subst IsInRange (sym same) store.range;
+  };
   matches_step = λ order. changed.matches_step order (store.stays_sound (changed.was_open_on_honest_disk order));
   crash = λ order. commits (store.stays_sound order);
 }

@@ -1,4 +1,4 @@
--- The words of contracts, over connections, as in `store_tables`. This project's own.
+-- Definitions over connections, for contracts, as in `store_tables`. This project's own.
 use Rattle.sqlite.specs.Held.{Held, state}
 use Rattle.book_model.specs.Bounds.{Bounds}
 use Rattle.store_tables.specs.OnConnections.{Ghosts}

@@ -1,16 +1,17 @@
 -- A store over tables, as contracts see it, and its invariant. This project's own.
-use Rattle.std.specs.Prelude.{◌≡◌, false, Result, refl}
+use Rattle.std.specs.Prelude.{◌≡◌, false, Result, refl, ⊤}
 use Rattle.std.specs.Coded.{Coded, code_by, coded×}
 use Rattle.sqlite.specs.Held.{Held, held_code, state}
 use Rattle.sqlite.specs.State.{State, Survives}
 use Rattle.sqlite_trees.specs.declared.store.Store.{Ghosts}
+use Rattle.sync_core.specs.StoreModels.{StoreModel, KeepsTerms, AnswersQuery, PerformsStep}
 use Rattle.sync_core.specs.StoreStates.{coded_bounds}
 use Rattle.book_model.specs.declared.denied.Denied.{Denied}
 use Rattle.book_model.specs.declared.refusal.Refusal.{Refusal}
 use Rattle.book_model.specs.Books.{Books}
 use Rattle.book_model.specs.Bounds.{Bounds, IsInRange}
-use Rattle.book_model.specs.CallOutcomes.{MatchesQuery, MatchesStep}
 use Rattle.store_tables.specs.StatementEffects.{OnlyReads}
+use Rattle.store_lookups.specs.StoreFaults.{FaultsFromOutside}
 use Rattle.store_writes.specs.TableChanges.{HoldBooksAfter}
 use Rattle.store_writes.specs.StoredBooks.{IsOpenOnHonestDisk, IsCommittedAndSound, stored_books}
 
@@ -35,29 +36,33 @@ pub record IsStore (s : State) (limits : Bounds) : Type 0 where
 abbrev pub books_of_store : {S : Type 0} → Ghosts S → StoreView S → Books
 books_of_store g s = stored_books (state g s.conn)
 
+-- What contracts know of a store over tables. The premise: the disk has returned what was written
+-- so far, and the connection is open.
+abbrev pub table_model : {S : Type 0} → Ghosts S → StoreModel (StoreView S)
+table_model g = record {
+  books = books_of_store g;
+  limits = λ s. s.limits;
+  premise = λ s. IsOpenOnHonestDisk (state g s.conn);
+  may_fault = λ _. ⊤;
+}
+
 -- A call that reads: the contract of every store, and that it only reads. So a crash leaves what it
--- could leave before the call, if the tables are declared.
+-- could leave before the call, if the tables are declared. Over rows that cause no fault, a fault
+-- of the store comes only from an outside cause.
 pub record ReadsStore {S : Type 0} {T A : Type 0} (g : Ghosts S) (allows : T → A → Type 0)
     (old new : StoreView S) (r : Result A Denied) (query : Bounds → Books → Result T Refusal)
     : Type 0 where
-  pub premise : IsOpenOnHonestDisk (state g new.conn) → IsOpenOnHonestDisk (state g old.conn)
-  pub limits : new.limits ≡ old.limits
-  pub range : IsInRange new.limits
-  pub matches_query : IsOpenOnHonestDisk (state g new.conn) →
-      MatchesQuery allows r (query old.limits (books_of_store g old)) (books_of_store g old)
-      (books_of_store g new)
+  pub keeps_terms : KeepsTerms (table_model g) old new
+  pub matches_query : AnswersQuery (table_model g) allows old new r query
   pub only_reads : OnlyReads (state g old.conn) (state g new.conn)
+  pub store_fault : FaultsFromOutside (state g old.conn) (state g new.conn) r
 
 -- A call that changes the books: the contract of every store, and what a crash can leave. That is
 -- what it could leave before the call, or the one commit, with the books after the whole call.
 pub record ChangesStore {S : Type 0} {A : Type 0} (g : Ghosts S) (old new : StoreView S)
     (r : Result A Denied) (step : Bounds → Books → Result (A × Books) Refusal) : Type 0 where
-  pub premise : IsOpenOnHonestDisk (state g new.conn) → IsOpenOnHonestDisk (state g old.conn)
-  pub limits : new.limits ≡ old.limits
-  pub range : IsInRange new.limits
-  pub matches_step : IsOpenOnHonestDisk (state g new.conn) →
-      MatchesStep r (step old.limits (books_of_store g old)) (books_of_store g old)
-      (books_of_store g new)
+  pub keeps_terms : KeepsTerms (table_model g) old new
+  pub matches_step : PerformsStep (table_model g) old new r step
   pub crash : IsOpenOnHonestDisk (state g old.conn) →
       Survives (state g old.conn) (state g new.conn)
       (HoldBooksAfter (step old.limits (books_of_store g old)))

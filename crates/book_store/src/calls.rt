@@ -1,5 +1,5 @@
-//! The calls of `BookStore` over tables. Each has one more clause than the trait requires, about
-//! what a crash can leave: after a call that changes books, what it could leave before or the
+//! The calls of `BookStore` over tables. The clause of each states what the trait requires, and
+//! also what a crash can leave: after a call that changes books, what it could leave before or the
 //! whole change; after a call that reads, what it could leave before. Both hold if the connection
 //! was open on an honest disk before the call.
 ghost use Rattle.base_types.specs.TextMaps.{octet_map};
@@ -13,10 +13,9 @@ ghost use Rattle.book_model.specs.Moving.{move_step};
 ghost use Rattle.book_model.specs.Pages.{IsReport, report_step};
 ghost use Rattle.book_model.specs.Putting.{put_step};
 ghost use Rattle.book_model.specs.Removing.{remove_step};
-ghost use Rattle.book_store.specs.StoreViews.{ChangesStore, ReadsStore};
-ghost use Rattle.store_writes.specs.OnConnections.{IsOpenOnHonestDisk, stored_books};
+ghost use Rattle.book_store.specs.StoreViews.{ChangesStore, ReadsStore, table_model};
 ghost use Rattle.store_lookups.specs.CallResults.{IsExactly};
-ghost use Rattle.std.specs.Prelude.{◌≡◌, Ok, ⊤};
+ghost use Rattle.std.specs.Prelude.{◌≡◌, Ok};
 
 use crate::sql_store::SqlStore;
 use book_model::{BookLine, Denied, ImportTally, Moved, Page, PutAnswer, Stored, Tally, Token};
@@ -35,13 +34,7 @@ use sync_core::BookStore;
 use vcard_text::Card;
 
 impl<S: Alter> BookStore for SqlStore<S> {
-    // The premise: the disk has returned what was written so far, and the connection is open.
-    ghost model = { record {
-      books = λ s. stored_books S.Store s.conn;
-      limits = λ s. s.limits;
-      premise = λ s. IsOpenOnHonestDisk S.Store s.conn;
-      may_fault = λ _. ⊤;
-    } };
+    ghost model = { table_model S.Store };
 
     fn create_book(&mut self, name: &str) -> Result<u64, Denied>
         ensures changes { ChangesStore S.Store self.old self.new result

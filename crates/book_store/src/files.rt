@@ -93,7 +93,7 @@ impl SqlStore<FileStore<FileFrom<Unknown>>> {
     }
 
     /// `open_from`, for a program that proves nothing about the contents of the file. The clauses
-    /// here cover no file that isn't empty.
+    /// here state nothing about a file that wasn't empty.
     pub fn open(rt: &HostRuntime, path: &str, limits: Limits) -> Result<FileBooks, OpenFault>
         ensures well_formed { IfOk result (λ store. IsOpenOnHonestDisk (file_state store.conn)
             → HoldsWellFormed max_limits (file_state store.conn).now) }

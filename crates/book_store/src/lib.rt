@@ -4,6 +4,7 @@
 
 mod calls;
 mod files;
+pub mod laws;
 mod opening;
 mod schema_creation;
 mod sql_store;

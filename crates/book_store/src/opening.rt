@@ -13,11 +13,11 @@ use sqlite::{Alter, Connection};
 use std::alloc::Global;
 use store_check::opening::test_tables;
 use store_schema::OpenFault;
-use store_tables::settled::assert_settled;
+use store_tables::settled::assert_no_pending_writes;
 
 impl<S: Alter> SqlStore<S> {
     /// Opens the store whose books the connection's tables hold. The connection must be outside a
-    /// transaction; an error comes with it. All rows are read and tested, and nothing is written.
+    /// transaction; an error returns it. All rows are read and tested, and nothing is written.
     ///
     /// Fails with `NotOurs` if other tables are declared than a store's, of this schema or of the
     /// first, if the table `meta` holds anything but one schema number, or if that is 2 and the
@@ -44,7 +44,7 @@ impl<S: Alter> SqlStore<S> {
             IsOpenRefusal S.Store connection refused.1 refused.0) }
     {
         let mut conn = connection;
-        assert_settled(&conn);
+        assert_no_pending_writes(&conn);
         match test_tables(alloc, &mut conn, Limits::standard()) {
             Ok(()) => Ok(SqlStore {
                 conn,

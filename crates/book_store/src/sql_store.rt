@@ -67,8 +67,8 @@ impl<S: Alter> SqlStore<S> {
 
 impl<S: Alter> SqlStore<S> {
     /// Creates a store without books over the connection, whose schema must be empty: its tables
-    /// are created in one transaction. The connection must be outside a transaction; an error comes
-    /// with it.
+    /// are created in one transaction. The connection must be outside a transaction; an error
+    /// returns it.
     ///
     /// Fails with `NotEmpty` if there is a table, an index or a view, and then nothing is written;
     /// with `Memory` if memory runs out; and with `Store` for any other error of the database.

@@ -27,7 +27,7 @@ returns-in_err-create_tables-clause-unchanged_on_error g c clean up bare =
     let inside : IsTrue (state g.S.Store c.transaction-tx.result.conn.now).in_transaction = rw begun in
     let kept : KeepsCommit (state g.S.Store (record old { in_transaction = true })) mid = rw begun at (c.create_tables.ensures.no_commit.kept first inside) in
     on_err_from c.from_residual.result (subst (λ k. (state g.S.Store k).now ≡ (state g.S.Store old).now) same
-    (rollback_restores (state g.S.Store (record old { in_transaction = true })) mid (state g.S.Store end) kept (c.drop-tx.ensures.undone late) c.assert_settled.ensures top).0)
+    (rollback_restores (state g.S.Store (record old { in_transaction = true })) mid (state g.S.Store end) kept (c.drop-tx.ensures.undone late) c.assert_no_pending_writes.ensures top).0)
 
 pub returns-in_err-create_tables-clause-was_open : goal.returns-in_err-create_tables-clause-was_open
 returns-in_err-create_tables-clause-was_open g c clean up =
@@ -81,7 +81,7 @@ returns-clause-unchanged_on_error g c clean up bare =
     let schema : (state g.S.Store c.transaction-tx.result.conn.now).now.schema ≡ empty_schema = rw begun bare in
     let created = c.in_ok-create_tables.ensures.creates first inside schema in
     subst (λ k. OnErr c.commit.result ((state g.S.Store k).now ≡ (state g.S.Store old).now)) same
-    (failed_commit (state g.S.Store (record old { in_transaction = true })) mid (state g.S.Store end) c.commit.result kept created.inside c.assert_settled.ensures (c.commit.ensures.err late) top)
+    (failed_commit (state g.S.Store (record old { in_transaction = true })) mid (state g.S.Store end) c.commit.result kept created.inside c.assert_no_pending_writes.ensures (c.commit.ensures.err late) top)
 
 pub returns-clause-was_open : goal.returns-clause-was_open
 returns-clause-was_open g c clean up =

@@ -14,5 +14,5 @@ returns g c =
     let query = λ (limits : Bounds) (books : Books). book_line_step books c.args.name.now in
     record {
       reads = subst (λ (v : StoreView _). ReadsStore g.S.Store IsExactly v new c.line_of_book.result query) c.self.view_is
-          (only_reads_store g.S.Store IsExactly old new c.line_of_book.result query c.self.invariant refl c.line_of_book.ensures.reads_only c.line_of_book.ensures.answers);
+          (only_reads_store g.S.Store IsExactly old new c.line_of_book.result query c.self.invariant refl c.line_of_book.ensures.reads_only c.line_of_book.ensures.answers c.line_of_book.ensures.store_fault);
     }

@@ -13,5 +13,5 @@ returns g c =
     let query = λ (limits : Bounds) (books : Books). Ok (book_lines books) in
     record {
       reads = subst (λ (v : StoreView _). ReadsStore g.S.Store (λ expected lines. lines.items ≡ expected) v new c.lines_of_books.result query) c.self.view_is
-          (only_reads_store g.S.Store (λ expected lines. lines.items ≡ expected) old new c.lines_of_books.result query c.self.invariant refl c.lines_of_books.ensures.reads_only c.lines_of_books.ensures.answers);
+          (only_reads_store g.S.Store (λ expected lines. lines.items ≡ expected) old new c.lines_of_books.result query c.self.invariant refl c.lines_of_books.ensures.reads_only c.lines_of_books.ensures.answers c.lines_of_books.ensures.store_fault);
     }

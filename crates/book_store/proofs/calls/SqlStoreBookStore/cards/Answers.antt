@@ -14,5 +14,5 @@ returns g c =
     let query = λ (limits : Bounds) (books : Books). cards_step books c.args.book.now in
     record {
       reads = subst (λ (v : StoreView _). ReadsStore g.S.Store (λ expected cards. octet_map cards ≡ expected) v new c.cards_of_book.result query) c.self.view_is
-          (only_reads_store g.S.Store (λ expected cards. octet_map cards ≡ expected) old new c.cards_of_book.result query c.self.invariant refl c.cards_of_book.ensures.reads_only c.cards_of_book.ensures.answers);
+          (only_reads_store g.S.Store (λ expected cards. octet_map cards ≡ expected) old new c.cards_of_book.result query c.self.invariant refl c.cards_of_book.ensures.reads_only c.cards_of_book.ensures.answers c.cards_of_book.ensures.store_fault);
     }

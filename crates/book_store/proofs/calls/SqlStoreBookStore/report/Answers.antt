@@ -13,5 +13,5 @@ returns g c =
     let query = λ (limits : Bounds) (books : Books). report_step limits books c.args.book.now c.args.token c.args.limit in
     record {
       reads = subst (λ (v : StoreView _). ReadsStore g.S.Store IsReport v new c.page_of_book.result query) c.self.view_is
-          (only_reads_store g.S.Store IsReport old new c.page_of_book.result query c.self.invariant refl c.page_of_book.ensures.reads_only c.page_of_book.ensures.answers);
+          (only_reads_store g.S.Store IsReport old new c.page_of_book.result query c.self.invariant refl c.page_of_book.ensures.reads_only c.page_of_book.ensures.answers c.page_of_book.ensures.store_fault);
     }

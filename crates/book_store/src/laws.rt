@@ -1,0 +1,16 @@
+//! A law of stores over tables.
+ghost use Rattle.book_model.specs.Bounds.{Bounds};
+ghost use Rattle.store_lookups.specs.StoreFaults.{AreFaultless};
+ghost use Rattle.store_rows.specs.SoundTables.{AreWellFormed};
+ghost use Rattle.store_rows.specs.TableRows.{TableRows};
+ghost use Rattle.std.specs.List.{AllByRecursion};
+ghost use Rattle.std.specs.Prelude.{◌<◌, ◌^◌, IsUtf8, length};
+
+/// The rows of well-formed books cause no fault in a call that reads, if each UID is UTF-8 and
+/// there are fewer than 2^63 - 1 members.
+pub fn well_formed_rows_cause_no_fault()
+    ensures { (limits : Bounds) (rows : TableRows) → limits.books_max < 2 ^ 63
+        → limits.changes_max < 2 ^ 63 → AreWellFormed limits rows
+        → AllByRecursion (λ m. IsUtf8 m.uid) rows.members
+        → length rows.members < 9223372036854775807 → AreFaultless rows }
+{}
