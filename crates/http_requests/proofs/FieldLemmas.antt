@@ -22,6 +22,7 @@ use Rattle.std.specs.Str.Parse.{digits_value}
 use Rattle.httparse.specs.declared.spans.HeaderSpan.{HeaderSpan}
 use Rattle.base_types.specs.Octets.{comma}
 use Rattle.http_requests.specs.Fields.{is_close, has_close}
+use Rattle.base_types.proofs.BoolLemmas.{or_false}
 
 pub map_more : {A B : Type 0} (f : A → B) (xs : List A) (i : ℕ) (d : A) → i < length xs → map f (take (i + 1) xs) ≡ map f (take i xs) ++ f (get_or xs i d) ∷ []
 map_more f xs i d below = ap (map f) (take_more xs i d below) ∙ map-append f (take i xs) (get_or xs i d ∷ [])
@@ -68,10 +69,6 @@ close_later v i at is = ap (list_any is_close) (split_at_comma v i at) ∙ rw is
 pub comma_below : (v : List ℕ) (i : ℕ) → position is_comma v ≡ Some i → i < length v
 comma_below v i at = (position-Some is_comma v i 0 at).0
 
-pub any_one : (b : Bool) → (b || false) ≡ b
-any_one true = refl
-any_one false = refl
-
 pub any_true : (b : Bool) → (b || true) ≡ true
 any_true true = refl
 any_true false = refl
@@ -89,7 +86,7 @@ close_none v none =
       | inr le ↦ le
       | inl lt ↦ let e : nat_lt (position_or_len is_comma v) (length v) ≡ true = lt-ltb _ _ lt in let f = rw e at none in cc f
     ] in
-    ap (list_any is_close) (split_whole v far) ∙ any_one (is_close v)
+    ap (list_any is_close) (split_whole v far) ∙ or_false (is_close v)
 
 pub any_yes : {A B : Type 0} (p : B → Bool) (f : A → B) (xs : List A) (i : ℕ) (d : A) → i < length xs → p (f (get_or xs i d)) ≡ true → list_any p (map f xs) ≡ true
 any_yes p f [] i d below is = absurd (omega arith)

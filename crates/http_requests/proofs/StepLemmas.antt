@@ -1,5 +1,5 @@
 -- One step of a session.
-use Rattle.std.proofs.Common.{◌≡◌, ◌∙◌, ◌≢◌, ◌≤◌, ◌<◌, ◌+◌, ◌-◌, ◌⊎◌, ℕ, List, [], ◌∷◌, ◌++◌, length, refl, sym, ap, subst, append_assoc, Bool, true, false, inl, inr, arith, Some, None, take, drop, suc, zero, Result, Ok, Err, OnErr, get_or, length-append}
+use Rattle.std.proofs.Common.{◌≡◌, ◌∙◌, ◌≢◌, ◌≤◌, ◌<◌, ◌+◌, ◌-◌, ◌⊎◌, ℕ, List, [], ◌∷◌, ◌++◌, length, refl, sym, ap, subst, append_assoc, Bool, true, false, inl, inr, arith, Some, None, take, drop, suc, zero, get_or, length-append}
 use Rattle.std.proofs.lemmas.List.{append-nil, take-append-drop, take_more, take_all}
 use Rattle.std.proofs.Math.Seq.{drop-append_seam}
 use Rattle.httparse.specs.Grammar.{RequestHead, print_request, MayBecomeRequest}
@@ -22,10 +22,6 @@ use Rattle.http_requests.proofs.EndLemmas.{after-append, none_at_bound}
 use Rattle.http_requests.proofs.FaultLemmas.{fault_no_body, fault_last, good_last}
 use Rattle.http_requests.proofs.HeadLemmas.{unreadable_never}
 use Rattle.http_requests.proofs.RunLemmas.{run_none, run_one, run_answered, part_none, part_more}
-
-pub on_err_from : {T E P : Type 0} (r : Result T E) → P → OnErr r P
-on_err_from (Ok x) p = tt
-on_err_from (Err e) p = p
 
 -- ---- a good head and its body
 

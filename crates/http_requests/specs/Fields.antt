@@ -63,7 +63,7 @@ length_of (Some field) = digits_value 10 field.1
 
 -- ---- the first fault, in the order of the numbers
 
--- of version 1.minor with these fields
+-- the first fault of a head of version 1.minor with these fields
 abbrev pub fault_in_fields : ℕ → List (List ℕ × List ℕ) → Option HeadFault
 fault_in_fields minor fields =
     if nat_eq minor 1 && not (nat_eq (count_fields_named (codes "host") fields) 1) then Some BadHost

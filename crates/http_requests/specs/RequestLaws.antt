@@ -16,7 +16,7 @@ RequestsConcatenate =
     → AreAllRequests piece some false middle → AreAllRequests (middle ++ next) others ended rest
     → AreAllRequests (piece ++ next) (some ++ others) ended rest
 
--- if the list of the first piece has ended, they are those of the first piece
+-- if the list of the first piece has ended, the requests of two pieces are those of the first
 abbrev pub EndedListIsFinal : Type 0
 EndedListIsFinal =
     (piece next : List ℕ) (requests : List Request) (rest : List ℕ)

@@ -23,7 +23,7 @@ StartsWithHead octets head rest =
 abbrev pub HasNoHead : List ℕ → Type 0
 HasNoHead octets = (head : RequestHead) (rest : List ℕ) → ¬ (StartsWithHead octets head rest)
 
--- they never do, whatever follows
+-- whatever follows, the octets start with no complete head
 abbrev pub NeverHasHead : List ℕ → Type 0
 NeverHasHead octets = (more : List ℕ) → HasNoHead (octets ++ more)
 

@@ -36,7 +36,8 @@ module _ {State : Type 0} (does : HandlerRelation State) (fault_reply : FaultRep
     pub requests_are : AreAllRequests octets requests ended rest
     pub handles : HandlesRequests does fault_reply old requests replies new
 
-  -- the octets must have become a head and never do, and this is the reply to them
+  -- a head must have ended in the octets, but whatever follows, they start with none; this is the
+  -- reply to them
   abbrev pub RefusesHead : List ℕ → List ℕ → Type 0
   RefusesHead octets reply =
       HeadMustHaveEnded octets × NeverHasHead octets

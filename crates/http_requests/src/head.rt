@@ -34,7 +34,7 @@ pub enum ParsedHead {
     Unreadable,
 }
 
-/// Parses a head. The octets end where the head ends.
+/// Parses a head. The octets are at most 16,384, and end where the head ends.
 ///
 /// `NoMemory` if an allocation fails.
 pub fn read_head(alloc: Global, text: &[u8]) -> Result<ParsedHead, NoMemory>

@@ -10,7 +10,8 @@ use crate::handler::Handler;
 /// - `determined`: octets have at most one list of all requests, with one rest.
 /// - `concatenated`: if the list of a first piece hasn't ended, the requests of two pieces are
 ///   those of the first, then those of its rest and the second piece.
-/// - `ended`: if the list of the first piece has ended, they are those of the first piece.
+/// - `ended`: if the list of the first piece has ended, the requests of two pieces are those of the
+///   first.
 /// - `prefix`: requests at the front of the octets are a prefix of the list of all requests.
 pub fn streams_can_be_cut()
     ensures determined { RequestsAreDetermined }

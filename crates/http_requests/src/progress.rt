@@ -263,7 +263,7 @@ impl Progress {
         }
     }
 
-    /// Frees the octets that a closed session still holds.
+    /// Drops the octets that a closed session still holds.
     pub(crate) fn release_if_closed(&mut self, alloc: Global)
         requires holds { MatchesStage self.old.held.items self.old.stage }
         ensures holds { MatchesStage self.new.held.items self.new.stage }

@@ -4,7 +4,7 @@ use crate::fault::RouteFault;
 use base_types::NoMemory;
 use std::alloc::AllocError;
 
-/// Why a complete request was read without a command.
+/// Why no command was read from a complete request.
 #[derive(Clone, Copy, Debug, PartialEq, Eq)]
 pub enum NoCommand {
     /// The request asks for no command.

@@ -1,4 +1,4 @@
--- The JSON of a page (RFC 8259), with the statuses that RFC 6578, section 3.6, gives of members.
+-- The JSON of a page (RFC 8259), with the statuses that RFC 6578, section 3.6, gives to members.
 -- The names in it are this project's own.
 use Rattle.std.specs.Prelude.{ℕ, ◌≡◌, List, [], ◌∷◌, codes, map}
 use Rattle.serde_json.specs.Data.{Data, number, unsigned, string, boolean, array, object}

@@ -1,4 +1,4 @@
-//! Why a text isn't a page's.
+//! Why a text isn't that of a page.
 ghost use Rattle.std.specs.Prelude.{◌≡◌};
 ghost use Rattle.page_json.specs.FaultNumbers.{report_fault_number, fault_of_card};
 ghost use Rattle.page_json.specs.declared.fault.ReportFault.TheVariants.{Memory};
@@ -25,7 +25,7 @@ pub enum ReportFault {
 }
 
 impl ReportFault {
-    /// The number of the fault in replies, from 1 to 5.
+    /// The number of the fault: 1 to 5, in the order of the variants.
     pub fn number(&self) -> u8
         ensures { result ≡ report_fault_number self.now }
     {

@@ -2,7 +2,8 @@ use Rattle.std.proofs.Common.{◌≡◌, ◌<◌, ℕ, List, length, sym, ap, re
 use Rattle.std.proofs.lemmas.List.{append-nil}
 use Rattle.http_requests.specs.internal.Progress.{IsPartialBody}
 use Rattle.http_requests.proofs.RunLemmas.{part_none}
-use Rattle.http_requests.proofs.StepLemmas.{on_err_from, waiting_more, grown_part, run_none_at}
+use Rattle.base_types.proofs.TextMapLemmas.{on_err_from}
+use Rattle.http_requests.proofs.StepLemmas.{waiting_more, grown_part, run_none_at}
 use Rattle.http_requests.proofs.progress.Progress.consume_body.Goals as goal
 
 pub returns-in_err-extend_from_slice-clause-err : goal.returns-in_err-extend_from_slice-clause-err

@@ -5,7 +5,8 @@ use Rattle.http_requests.specs.HeadEnds.{EndsAtLastOctet}
 use Rattle.http_requests.specs.ParsedHeads.{IsBoundFault}
 use Rattle.http_requests.specs.internal.Progress.{IsPartialHead}
 use Rattle.http_requests.proofs.RunLemmas.{part_none}
-use Rattle.http_requests.proofs.StepLemmas.{on_err_from, scan_ends, still_going, beginning_more, bound_stop, grown_part, run_none_at}
+use Rattle.base_types.proofs.TextMapLemmas.{on_err_from}
+use Rattle.http_requests.proofs.StepLemmas.{scan_ends, still_going, beginning_more, bound_stop, grown_part, run_none_at}
 use Rattle.http_requests.proofs.progress.Progress.consume_head.Goals as goal
 
 pub returns-in_err-extend_from_slice-clause-err : goal.returns-in_err-extend_from_slice-clause-err

@@ -1,7 +1,7 @@
 use Rattle.std.proofs.Common.{◌∙◌, sym, length}
 use Rattle.std.proofs.lemmas.Bool.{eqb-true}
 use Rattle.http_requests.specs.internal.Progress.{IsOpen}
-use Rattle.http_requests.proofs.StepLemmas.{on_err_from}
+use Rattle.base_types.proofs.TextMapLemmas.{on_err_from}
 use Rattle.http_requests.proofs.FeedLemmas.{so_far_start, so_far_cut, takes_nothing, takes_stop, takes_all, loses_part, closed_holds, empty_rest}
 use Rattle.http_requests.proofs.progress.Progress.feed.Goals as goal
 

@@ -2,7 +2,8 @@ use Rattle.std.proofs.Common.{sym, refl, [], arith, inl}
 use Rattle.std.proofs.lemmas.List.{append-nil}
 use Rattle.http_requests.specs.declared.head_fault.HeadFault.TheVariants.{BadHead}
 use Rattle.http_requests.proofs.RunLemmas.{run_none, part_none}
-use Rattle.http_requests.proofs.StepLemmas.{on_err_from, waiting, fault_stop, unreadable_stop}
+use Rattle.base_types.proofs.TextMapLemmas.{on_err_from}
+use Rattle.http_requests.proofs.StepLemmas.{waiting, fault_stop, unreadable_stop}
 use Rattle.http_requests.proofs.progress.Progress.finish_head.Goals as goal
 
 pub returns-in_err-head-clause-err : goal.returns-in_err-head-clause-err

@@ -1,5 +1,6 @@
 use Rattle.std.proofs.Common.{◌∙◌, sym, ap, [], ◌++◌}
-use Rattle.http_requests.proofs.StepLemmas.{on_err_from, failed_part, whole_run, run_part, ended_stop, going_run, fresh}
+use Rattle.base_types.proofs.TextMapLemmas.{on_err_from}
+use Rattle.http_requests.proofs.StepLemmas.{failed_part, whole_run, run_part, ended_stop, going_run, fresh}
 use Rattle.http_requests.proofs.progress.Progress.handle.Goals as goal
 
 pub returns-in_err-reply-clause-err : goal.returns-in_err-reply-clause-err
