@@ -8,6 +8,7 @@ import copy
 import socket
 import struct
 import threading
+import time
 import unittest
 
 from dialogue import ServedTest
@@ -28,10 +29,11 @@ from model.http import Session
 
 BODY_MAX = 8_388_608
 NOTE = 240_000  # octets that a card's note may have, with its folds
+NOTES = ["NOTE:" + "x" * 70] * 3_000  # lines of a big card
 
 
 def reset(connection):
-    """Closes it as a client does that breaks down: without waiting for anything."""
+    """Closes it as a client does that crashes: without waiting for anything."""
     linger = struct.pack("ii", 1, 0)
     connection.socket.setsockopt(socket.SOL_SOCKET, socket.SO_LINGER, linger)
     connection.socket.close()
@@ -51,7 +53,7 @@ def rows_of(octets):
 
 class BigBodies(ServedTest):
     def test_greatest_import(self):
-        """Its head comes first, and then its body; what it stored is exported as it came."""
+        """Its head comes first, and then its body; what it stored is exported as it was sent."""
         rows = rows_of(BODY_MAX)
         octets = import_rows("staff", "k", rows)
         self.assertEqual(BODY_MAX, len(rows))
@@ -84,7 +86,7 @@ class BigBodies(ServedTest):
         self.serve(tally("staff"))
 
     def test_greatest_card_and_more(self):
-        """A body of any allowed size is read to its end, also where a card may not be as long."""
+        """A body of any allowed size is read to its end, even if a card may not be as long."""
         self.serve(create("staff"))
         path = "/books/staff/cards/a"
         for octets in [262_143, 262_144, 262_145, 1_000_000, BODY_MAX]:
@@ -161,7 +163,7 @@ class BreakingOff(ServedTest):
             self.serve(tally("staff") + sync("staff"))
 
     def test_fault_of_the_device(self):
-        """A server says at its end that it gave up a connection, and it has served the others."""
+        """At its end a server reports that it gave up a connection; it has served the others."""
         self.restart(3)
         self.serve(tally("staff"))
         with self.server.connect() as connection:
@@ -176,6 +178,64 @@ class BreakingOff(ServedTest):
             self.server.connect().socket.close()
             self.serve(b"")
         self.serve(tally("staff"))
+
+
+class Closing(ServedTest):
+    """Connections that the server closes while the client still sends, or stays silent."""
+
+    def setUp(self):
+        super().setUp()
+        big = request("PUT", "/books/staff/cards/a", card("a", "Ann", *NOTES))
+        self.serve(create("staff"), big)
+        self.octets = get("staff", "a", fields=["Connection: close"])
+
+    def test_slow_client_that_sends_on(self):
+        """A megabyte follows the request that closes. A client that reads slowly gets the reply."""
+        octets = self.octets + b"x" * 1_000_000
+        wanted = Session(self.office).feed(octets)
+        self.assertGreater(len(wanted), len(NOTES) * len(NOTES[0]))
+        with self.connection() as connection:
+            connection.socket.setsockopt(socket.SOL_SOCKET, socket.SO_RCVBUF, 4096)
+            sender = threading.Thread(target=connection.send, args=[octets])
+            sender.start()
+            replied = b""
+            while len(replied) < len(wanted):
+                time.sleep(0.001)
+                taken = connection.take(4096)
+                if not taken:
+                    break
+                replied += taken
+            replied += connection.rest()
+            sender.join()
+        self.compare(octets, wanted, replied)
+
+    def close_and_wait(self, client):
+        """The seconds until the next client is served, while the first one does something else."""
+        with self.connection() as first:
+            first.send(self.octets)
+            self.compare(self.octets, Session(self.office).feed(self.octets), first.rest())
+            stops = threading.Event()
+            other = threading.Thread(target=client, args=[first, stops])
+            other.start()
+            begun = time.monotonic()
+            try:
+                self.serve(books())
+            finally:
+                stops.set()
+                other.join()
+            return time.monotonic() - begun
+
+    def test_silent_client(self):
+        """A client that neither sends nor closes holds the server for about a second."""
+        self.assertLess(self.close_and_wait(lambda connection, stops: stops.wait()), 5)
+
+    def test_client_that_sends_octet_by_octet(self):
+        """A client that sends octets without end holds the server for at most a thousand reads."""
+        def send(connection, stops):
+            while not stops.wait(0.001):
+                connection.send(b"x")
+
+        self.assertLess(self.close_and_wait(send), 20)
 
 
 class Waiting(ServedTest):

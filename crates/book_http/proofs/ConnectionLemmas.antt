@@ -10,6 +10,7 @@ use Rattle.book_http.specs.declared.serve_fault.ServeFault.{ServeFault}
 use Rattle.book_http.specs.declared.serve_fault.ServeFault.TheVariants.{Read, Write, TooManyTurns, Memory}
 use Rattle.book_http.specs.OctetPromise.{ConnectionsRun, FaultsLeaveRuns, ServiceStep}
 use Rattle.book_http.specs.ServedConnections.{AbortsConnection}
+use Rattle.book_http.proofs.ServingLemmas.{fed_on}
 use Rattle.book_http.proofs.OctetRunLemmas.{lost_pieces_run, sessions_run}
 use Rattle.sync_core.specs.StoreModels.{StoreModel}
 
@@ -31,7 +32,13 @@ module _ {State : Type 0} (does : HandlerRelation State) (fault_reply : FaultRep
   handles_read Read input left output written old new broke =
       let s = broke.serves in record { octets = s.octets; read = s.read; part = part_of_fed s.octets s.replies old new (Some broke.held) s.fed }
   handles_read Write input left output written old new broke =
-      record { octets = broke.octets; read = broke.read; part = part_of_fed broke.octets broke.replies old new broke.session broke.fed }
+      let s = broke.serves in
+      record {
+        octets = s.octets ++ broke.piece;
+        read = Consumes-trans input broke.between left s.octets broke.piece s.read broke.read;
+        part = part_of_fed (s.octets ++ broke.piece) (s.replies ++ broke.replies) old new broke.session
+            (fed_on does fault_reply s.octets broke.piece s.replies broke.replies old broke.middle new (Some broke.held) broke.session s.fed broke.fed);
+      }
   handles_read TooManyTurns input left output written old new broke =
       let s = broke.serves in record { octets = s.octets; read = s.read; part = part_of_fed s.octets s.replies old new (Some broke.held) s.fed }
   handles_read Memory input left output written old new broke =

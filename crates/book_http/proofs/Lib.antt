@@ -1,6 +1,8 @@
 pub mod ListeningLemmas
 mod ListeningRunLemmas
 pub mod AnsweringLemmas
+pub mod CallLemmas
+pub mod PieceLemmas
 pub mod ServingLemmas
 pub mod OctetRunLemmas
 pub mod OneRunLemmas

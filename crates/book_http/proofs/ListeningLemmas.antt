@@ -1,5 +1,5 @@
 -- How one connection more lengthens those that were served.
-use Rattle.std.proofs.Common.{◌≡◌, ◌<◌, ◌+◌, ◌∙◌, ℕ, List, [], ◌∷◌, ◌++◌, length, map, Option, Some, None, refl, sym, subst, ap, arith}
+use Rattle.std.proofs.Common.{◌≡◌, ◌<◌, ◌+◌, ◌∙◌, ℕ, List, [], ◌∷◌, ◌++◌, length, Option, Some, None, refl, sym, subst, ap, arith}
 use Rattle.std.proofs.lemmas.List.{map-append, append_assoc}
 use Rattle.std.specs.Option.{option_or}
 use Rattle.http_requests.specs.HandlerRuns.{HandlerRelation, FaultReplies}

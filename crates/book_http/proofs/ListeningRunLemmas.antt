@@ -1,21 +1,19 @@
 -- Connections in turn are one run of the service.
-use Rattle.std.proofs.Common.{◌≡◌, ◌∙◌, ℕ, Bool, false, List, [], ◌∷◌, ◌++◌, Option, Some, None, refl, sym, ap, subst, inl, inr, ◌⊎◌}
+use Rattle.std.proofs.Common.{◌≡◌, ◌∙◌, ℕ, false, List, [], ◌∷◌, ◌++◌, Option, Some, None, refl, sym, subst, inl, inr, ◌⊎◌}
 use Rattle.std.proofs.lemmas.List.{append-nil}
 use Rattle.std.specs.Io.KnownBytes.{Appends, Consumes}
 use Rattle.book_http.specs.declared.serve_fault.ServeFault.{ServeFault}
 use Rattle.book_http.specs.declared.service.Service.{Service}
 use Rattle.book_http.specs.OctetPromise.{ServiceStep, StartsAt}
-use Rattle.book_http.specs.OctetRuns.{RunsRequests}
-use Rattle.book_http.specs.ServedConnections.{AbortsConnection, ServesToEnd}
 use Rattle.book_http.proofs.ConnectionLemmas.{handles_read, part_of_fed}
 use Rattle.book_http.proofs.OctetRunLemmas.{all_limits, all_premise, requests_run}
-use Rattle.book_http.specs.Listening.{ServesConnection, ServesInTurn, ServesOne, ServedConnection}
-use Rattle.book_http.specs.ListeningRuns.{ConnectionsAreOneRun, RepliesToAll, RunsInTurn, RunsOverAll, RunsOneConnection}
+use Rattle.book_http.specs.Listening.{ServesConnection, ServesInTurn, ServedConnection}
+use Rattle.book_http.specs.ListeningRuns.{ConnectionsAreOneRun, RunsInTurn, RunsOneConnection}
 use Rattle.book_http.specs.ConnectionModels.{ConnectionModel}
 use Rattle.book_service.specs.Runs.{TraceStep, MatchesRows, SystemState, Run, end_of}
-use Rattle.book_service.proofs.StepLemmas.{end-append, run_limits, runs_join}
+use Rattle.book_service.proofs.StepLemmas.{runs_join}
 use Rattle.http_replies.specs.Replies.{head_fault_octets}
-use Rattle.http_requests.specs.SessionFeeding.{FeedsSession, HandlesSomePrefix, RefusesHead}
+use Rattle.http_requests.specs.SessionFeeding.{FeedsSession, HandlesSomePrefix}
 use Rattle.sync_core.specs.StoreModels.{StoreModel}
 
 module _ {S Connection : Type 0} (model : StoreModel S)

@@ -1,5 +1,5 @@
 -- A connection is served in turns.
-use Rattle.std.proofs.Common.{◌≡◌, ◌≢◌, ℕ, List, [], ◌∷◌, ◌++◌, refl, sym, subst, inl, inr, Option, Some, None}
+use Rattle.std.proofs.Common.{◌≡◌, ◌≢◌, ◌+◌, ◌≤◌, ℕ, List, [], ◌∷◌, ◌++◌, length, take, refl, sym, subst, inl, inr, Option, Some, None, arith}
 use Rattle.std.proofs.lemmas.List.{append-nil}
 use Rattle.std.proofs.KnownBytes.{Appends-nil, Appends-trans, Consumes-nil, Consumes-trans, Consumes-kept}
 use Rattle.std.specs.Io.KnownBytes.{Appends, Consumes, IsAtEnd, Keeps}
@@ -9,7 +9,9 @@ use Rattle.http_requests.proofs.PieceLemmas.{pieces_are_fed}
 use Rattle.http_requests.proofs.RunLemmas.{part_none}
 use Rattle.book_http.specs.declared.serve_fault.ServeFault.{ServeFault}
 use Rattle.book_http.specs.declared.serve_fault.ServeFault.TheVariants.{Read, Write, TooManyTurns, Memory}
+use Rattle.book_http.specs.Pieces.{AppendsFront, IsInPieces, IsPiece, pieces_max}
 use Rattle.book_http.specs.ServedConnections.{AbortsConnection, FailsToWrite, LosesReplies, FailsPiece, FeedsInput, ServesToEnd, AnswersPiece}
+use Rattle.book_http.proofs.PieceLemmas.{piece_of, pieces_none, pieces_on}
 
 module _ {State : Type 0} (does : HandlerRelation State) (fault_reply : FaultReplies) where
   -- a new session was fed nothing
@@ -64,62 +66,84 @@ module _ {State : Type 0} (does : HandlerRelation State) (fault_reply : FaultRep
     sent = serves.sent;
   }
 
-  -- ---- the turns so far
+  -- ---- the pieces so far
 
-  -- it was served so far, and the session is open
-  pub record SoFar (input left output written : Option (List ℕ)) (old new : State) (session : Option (List ℕ)) : Type 0 where
+  -- it was served in that many pieces, and the session is open
+  pub record SoFar (count : ℕ) (input left output written : Option (List ℕ)) (old new : State) (session : Option (List ℕ)) : Type 0 where
     pub held : List ℕ
     pub is : session ≡ Some held
     pub serves : FeedsInput does fault_reply input left output written old new (Some held)
+    pub in_pieces : IsInPieces serves.octets count
 
-  pub far_start : (input output : Option (List ℕ)) (old : State) (session : Option (List ℕ)) → session ≡ Some [] → SoFar input input output output old old session
-  far_start input output old session is = record { held = []; is = is; serves = serves_none input output old }
+  pub far_start : (input output : Option (List ℕ)) (old : State) (session : Option (List ℕ)) → session ≡ Some [] → SoFar 0 input input output output old old session
+  unfolding serves_none
+  far_start input output old session is = record { held = []; is = is; serves = serves_none input output old; in_pieces = pieces_none }
 
-  pub far_still : (input between left output written : Option (List ℕ)) (old new : State) (session : Option (List ℕ))
-      → SoFar input between output written old new session → Keeps between left → SoFar input left output written old new session
-  far_still input between left output written old new session far kept =
-      record { held = far.held; is = far.is; serves = serves_still input between left output written old new (Some far.held) far.serves kept }
+  -- one piece after them
+  module _ (count : ℕ) (input between left output sent written : Option (List ℕ)) (old middle new : State) (before session : Option (List ℕ)) (piece replies : List ℕ) where
+    fed_to : (after : Option (List ℕ)) → (far : SoFar count input between output sent old middle before) → session ≡ after → FeedsPiece does fault_reply before middle piece replies new session
+        → FeedsPiece does fault_reply (Some far.held) middle piece replies new after
+    fed_to after far e feeds =
+        subst (λ s. FeedsPiece does fault_reply (Some far.held) middle piece replies new s) e (subst (λ b. FeedsPiece does fault_reply b middle piece replies new session) far.is feeds)
 
-  -- one turn after them
-  module _ (input between left output sent written : Option (List ℕ)) (old middle new : State) (before session : Option (List ℕ)) (piece replies : List ℕ) where
-    served : SoFar input between output sent old middle before → Consumes between left piece → FeedsPiece does fault_reply before middle piece replies new session → Appends sent written replies
-        → FeedsInput does fault_reply input left output written old new session
-    served far read feeds out =
-        serves_on input between left output sent written old middle new (Some far.held) session piece replies far.serves read
-        (subst (λ b. FeedsPiece does fault_reply b middle piece replies new session) far.is feeds) out
-
-    pub far_on : SoFar input between output sent old middle before → Consumes between left piece → FeedsPiece does fault_reply before middle piece replies new session → Appends sent written replies
-        → session ≢ None → SoFar input left output written old new session
-    far_on far read feeds out is_open = by_value session refl
+    pub far_on : SoFar count input between output sent old middle before → Consumes between left piece → IsPiece piece → FeedsPiece does fault_reply before middle piece replies new session → Appends sent written replies
+        → session ≢ None → SoFar (count + 1) input left output written old new session
+    unfolding serves_on
+    far_on far read piece_is feeds out is_open = by_value session refl
       where
-        by_value : (value : Option (List ℕ)) → session ≡ value → SoFar input left output written old new session
+        by_value : (value : Option (List ℕ)) → session ≡ value → SoFar (count + 1) input left output written old new session
         by_value None e = absurd (is_open e)
-        by_value (Some held) e = record { held = held; is = e; serves = subst (λ s. FeedsInput does fault_reply input left output written old new s) e (served far read feeds out) }
+        by_value (Some held) e = record {
+          held = held;
+          is = e;
+          serves = serves_on input between left output sent written old middle new (Some far.held) (Some held) piece replies far.serves read (fed_to (Some held) far e feeds) out;
+          in_pieces = pieces_on far.serves.octets piece count far.in_pieces piece_is;
+        }
 
     -- the session closed
-    pub all_closed : SoFar input between output sent old middle before → Consumes between left piece → FeedsPiece does fault_reply before middle piece replies new session → Appends sent written replies
+    pub all_closed : SoFar count input between output sent old middle before → Consumes between left piece → IsPiece piece → FeedsPiece does fault_reply before middle piece replies new session → Appends sent written replies
         → session ≡ None → ServesToEnd does fault_reply input left output written old new
-    all_closed far read feeds out closed = record { session = session; serves = served far read feeds out; at_end = inr closed }
+    unfolding serves_on
+    all_closed far read piece_is feeds out closed = record {
+      session = session;
+      serves = serves_on input between left output sent written old middle new (Some far.held) session piece replies far.serves read (fed_to session far refl feeds) out;
+      at_end = inr closed;
+      closes = λ _. record {
+        before = far.serves.octets;
+        piece = piece;
+        octets_are = refl;
+        piece_is = piece_is;
+        replies = far.serves.replies;
+        middle = middle;
+        held = far.held;
+        fed = far.serves.fed;
+      };
+    }
 
-    -- the replies weren't written
-    pub broke_writing : (why : ServeFault) → why ≡ Write → SoFar input between output sent old middle before → Consumes between left piece
-        → FeedsPiece does fault_reply before middle piece replies new session → AbortsConnection does fault_reply why input left output written old new
-    broke_writing why is far read feeds =
-        let fails : FailsToWrite does fault_reply input left old new = record {
-          octets = far.serves.octets ++ piece;
-          replies = far.serves.replies ++ replies;
-          session = session;
-          read = Consumes-trans input between left far.serves.octets piece far.serves.read read;
-          fed = fed_on far.serves.octets piece far.serves.replies replies old middle new (Some far.held) session far.serves.fed (subst (λ b. FeedsPiece does fault_reply b middle piece replies new session) far.is feeds);
-        } in
-        subst (λ w. AbortsConnection does fault_reply w input left output written old new) (sym is) fails
+    -- not all replies were written
+    pub broke_writing : SoFar count input between output sent old middle before → Consumes between left piece → IsPiece piece
+        → FeedsPiece does fault_reply before middle piece replies new session → AppendsFront sent written replies → FailsToWrite does fault_reply input left output written old new
+    broke_writing far read piece_is feeds out = record {
+      between = between;
+      sent = sent;
+      middle = middle;
+      held = far.held;
+      piece = piece;
+      replies = replies;
+      session = session;
+      serves = far.serves;
+      read = read;
+      piece_is = piece_is;
+      fed = fed_to session far refl feeds;
+      out = out;
+    }
 
   -- ---- where it ended
 
   -- with the input
-  pub all_read : (input between left output written : Option (List ℕ)) (old new : State) (session : Option (List ℕ)) (piece : List ℕ)
-      → SoFar input between output written old new session → piece ≡ [] → Consumes between left piece → IsAtEnd left → ServesToEnd does fault_reply input left output written old new
-  all_read input between left output written old new session piece far none read end = record {
+  pub all_read : (count : ℕ) (input between left output written : Option (List ℕ)) (old new : State) (session : Option (List ℕ)) (piece : List ℕ)
+      → SoFar count input between output written old new session → piece ≡ [] → Consumes between left piece → IsAtEnd left → ServesToEnd does fault_reply input left output written old new
+  all_read count input between left output written old new session piece far none read end = record {
     session = Some far.held;
     serves = record {
       octets = far.serves.octets;
@@ -129,16 +153,18 @@ module _ {State : Type 0} (does : HandlerRelation State) (fault_reply : FaultRep
       sent = far.serves.sent;
     };
     at_end = inl end;
+    closes = λ (closed : Some far.held ≡ None). absurd (let no : Some far.held ≡ None = closed in cc);
   }
 
-  pub broke_reading : (input between left output written : Option (List ℕ)) (old new : State) (session : Option (List ℕ))
-      → SoFar input between output written old new session → Keeps between left → AbortsConnection does fault_reply Read input left output written old new
-  broke_reading input between left output written old new session far kept =
-      record { held = far.held; serves = serves_still input between left output written old new (Some far.held) far.serves kept }
+  pub broke_reading : (count : ℕ) (input between left output written : Option (List ℕ)) (old new : State) (session : Option (List ℕ)) (why : ServeFault) → why ≡ Read
+      → SoFar count input between output written old new session → Keeps between left → AbortsConnection does fault_reply why input left output written old new
+  broke_reading count input between left output written old new session why is far kept =
+      subst (λ w. AbortsConnection does fault_reply w input left output written old new) (sym is)
+      (record { held = far.held; serves = serves_still input between left output written old new (Some far.held) far.serves kept })
 
-  pub broke_turning : (input left output written : Option (List ℕ)) (old new : State) (session : Option (List ℕ))
-      → SoFar input left output written old new session → AbortsConnection does fault_reply TooManyTurns input left output written old new
-  broke_turning input left output written old new session far = record { held = far.held; serves = far.serves }
+  pub broke_turning : (count : ℕ) (input left output written : Option (List ℕ)) (old new : State) (session : Option (List ℕ))
+      → SoFar count input left output written old new session → count ≡ pieces_max → AbortsConnection does fault_reply TooManyTurns input left output written old new
+  broke_turning count input left output written old new session far all = record { held = far.held; serves = far.serves; in_pieces = subst (IsInPieces far.serves.octets) all far.in_pieces }
 
   pub broke_first : (input output : Option (List ℕ)) (old : State) (why : ServeFault) → why ≡ Memory → AbortsConnection does fault_reply why input input output output old old
   broke_first input output old why is =
@@ -149,46 +175,87 @@ module _ {State : Type 0} (does : HandlerRelation State) (fault_reply : FaultRep
         piece = [];
         serves = serves_none input output old;
         read = Consumes-nil input;
+        at_most = omega arith;
         part = part_none does fault_reply [] old old refl;
       } in
       subst (λ w. AbortsConnection does fault_reply w input input output output old old) (sym is) loses
 
-  pub broke_feeding : (input between left output written : Option (List ℕ)) (old middle new : State) (before : Option (List ℕ)) (piece : List ℕ) (why : ServeFault) → why ≡ Memory
-      → SoFar input between output written old middle before → Consumes between left piece → FeedsPieceInPart does fault_reply before middle piece new
-      → AbortsConnection does fault_reply why input left output written old new
-  broke_feeding input between left output written old middle new before piece why is far read loses =
-      let lost : LosesReplies does fault_reply input left output written old new = record {
-        between = between;
-        middle = middle;
-        held = far.held;
-        piece = piece;
-        serves = far.serves;
-        read = read;
-        part = subst (λ s. FeedsPieceInPart does fault_reply s middle piece new) far.is loses;
-      } in
-      subst (λ w. AbortsConnection does fault_reply w input left output written old new) (sym is) lost
+  pub broke_feeding : (count : ℕ) (input between left output written : Option (List ℕ)) (old middle new : State) (before : Option (List ℕ)) (piece : List ℕ)
+      → SoFar count input between output written old middle before → Consumes between left piece → IsPiece piece → FeedsPieceInPart does fault_reply before middle piece new
+      → LosesReplies does fault_reply input left output written old new
+  broke_feeding count input between left output written old middle new before piece far read piece_is loses = record {
+    between = between;
+    middle = middle;
+    held = far.held;
+    piece = piece;
+    serves = far.serves;
+    read = read;
+    at_most = piece_is.at_most;
+    part = subst (λ s. FeedsPieceInPart does fault_reply s middle piece new) far.is loses;
+  }
 
-  -- ---- a whole turn
+  -- ---- a whole piece
 
-  pub turn_on : (input between left output sent written : Option (List ℕ)) (old middle new : State) (before session : Option (List ℕ)) (piece : List ℕ)
-      → SoFar input between output sent old middle before → Consumes between left piece → AnswersPiece does fault_reply before middle piece sent written new session
-      → session ≢ None → SoFar input left output written old new session
-  turn_on input between left output sent written old middle new before session piece far read turn is_open =
-      far_on input between left output sent written old middle new before session piece turn.replies far read turn.feeds turn.out is_open
+  module _ (count : ℕ) (input between left output sent written : Option (List ℕ)) (old middle new : State) (before session : Option (List ℕ)) (piece : List ℕ) where
+    pub turn_on : SoFar count input between output sent old middle before → Consumes between left piece → IsPiece piece → AnswersPiece does fault_reply before middle piece sent written new session
+        → session ≢ None → SoFar (count + 1) input left output written old new session
+    turn_on far read piece_is turn is_open =
+        far_on count input between left output sent written old middle new before session piece turn.replies far read piece_is turn.feeds turn.out is_open
 
-  pub turn_closed : (input between left output sent written : Option (List ℕ)) (old middle new : State) (before session : Option (List ℕ)) (piece : List ℕ)
-      → SoFar input between output sent old middle before → Consumes between left piece → AnswersPiece does fault_reply before middle piece sent written new session
-      → session ≡ None → ServesToEnd does fault_reply input left output written old new
-  turn_closed input between left output sent written old middle new before session piece far read turn closed =
-      all_closed input between left output sent written old middle new before session piece turn.replies far read turn.feeds turn.out closed
+    pub turn_closed : SoFar count input between output sent old middle before → Consumes between left piece → IsPiece piece → AnswersPiece does fault_reply before middle piece sent written new session
+        → session ≡ None → ServesToEnd does fault_reply input left output written old new
+    turn_closed far read piece_is turn closed =
+        all_closed count input between left output sent written old middle new before session piece turn.replies far read piece_is turn.feeds turn.out closed
 
-  pub turn_lost : (why : ServeFault) (input between left output sent written : Option (List ℕ)) (old middle new : State) (before session : Option (List ℕ)) (piece : List ℕ)
-      → SoFar input between output sent old middle before → Consumes between left piece → FailsPiece does fault_reply why before middle piece sent written new session
-      → AbortsConnection does fault_reply why input left output written old new
-  turn_lost Read input between left output sent written old middle new before session piece far read lost = absurd lost
-  turn_lost Write input between left output sent written old middle new before session piece far read lost =
-      broke_writing input between left output sent written old middle new before session piece lost.replies Write refl far read lost.feeds
-  turn_lost TooManyTurns input between left output sent written old middle new before session piece far read lost = absurd lost
-  turn_lost Memory input between left output sent written old middle new before session piece far read lost =
-      broke_feeding input between left output written old middle new before piece Memory refl
-      (subst (λ w. SoFar input between output w old middle before) (sym lost.1) far) read lost.0
+    pub turn_lost : (why : ServeFault) → SoFar count input between output sent old middle before → Consumes between left piece → IsPiece piece
+        → FailsPiece does fault_reply why before middle piece sent written new session → AbortsConnection does fault_reply why input left output written old new
+    turn_lost Read far read piece_is lost = absurd lost
+    turn_lost Write far read piece_is lost =
+        broke_writing count input between left output sent written old middle new before session piece lost.replies far read piece_is lost.feeds lost.out
+    turn_lost TooManyTurns far read piece_is lost = absurd lost
+    turn_lost Memory far read piece_is lost =
+        broke_feeding count input between left output written old middle new before piece (subst (λ w. SoFar count input between output w old middle before) (sym lost.1) far) read piece_is lost.0
+
+  -- what was written is the same
+  pub far_kept : (count : ℕ) (input left output sent written : Option (List ℕ)) (old new : State) (session : Option (List ℕ)) → SoFar count input left output sent old new session → written ≡ sent
+      → SoFar count input left output written old new session
+  far_kept count input left output sent written old new session far same = subst (λ w. SoFar count input left output w old new session) (sym same) far
+
+  -- a fault of a piece isn't one of these
+  pub no_read_fault : (before session : Option (List ℕ)) (old new : State) (piece : List ℕ) (sent written : Option (List ℕ)) (why : ServeFault) → FailsPiece does fault_reply why before old piece sent written new session → why ≡ Read → ⊥
+  no_read_fault before session old new piece sent written why fails is = subst (λ w. FailsPiece does fault_reply w before old piece sent written new session) is fails
+
+  pub no_turns_fault : (before session : Option (List ℕ)) (old new : State) (piece : List ℕ) (sent written : Option (List ℕ)) (why : ServeFault) → FailsPiece does fault_reply why before old piece sent written new session → why ≡ TooManyTurns → ⊥
+  no_turns_fault before session old new piece sent written why fails is = subst (λ w. FailsPiece does fault_reply w before old piece sent written new session) is fails
+
+  -- ---- a read and the replies to it
+
+  module _ (count size : ℕ) (room : List ℕ) (input between mid left output sent out written : Option (List ℕ)) (old middle new : State) (before session : Option (List ℕ))
+      (far : SoFar count input between output sent old middle before) (read : Consumes between mid (take size room)) (same_out : out ≡ sent) (same_left : left ≡ mid)
+      (some : size ≡ 0 → ⊥) (within : size ≤ length room) (small : length room ≤ 16384) where
+    far_now : SoFar count input between output out old middle before
+    far_now = far_kept count input between output sent out old middle before far same_out
+
+    read_now : Consumes between left (take size room)
+    read_now = subst (λ l. Consumes between l (take size room)) (sym same_left) read
+
+    pub step_on : AnswersPiece does fault_reply before middle (take size room) out written new session → session ≢ None → SoFar (count + 1) input left output written old new session
+    step_on turn is_open = turn_on count input between left output out written old middle new before session (take size room) far_now read_now (piece_of size room some within small) turn is_open
+
+    pub step_closed : AnswersPiece does fault_reply before middle (take size room) out written new session → session ≡ None → ServesToEnd does fault_reply input left output written old new
+    step_closed turn closed = turn_closed count input between left output out written old middle new before session (take size room) far_now read_now (piece_of size room some within small) turn closed
+
+    pub step_lost : (why : ServeFault) → FailsPiece does fault_reply why before middle (take size room) out written new session → AbortsConnection does fault_reply why input left output written old new
+    step_lost why lost = turn_lost count input between left output out written old middle new before session (take size room) why far_now read_now (piece_of size room some within small) lost
+
+  -- the input ended, and nothing was written
+  pub step_ended : (count size : ℕ) (room : List ℕ) (input between left output sent written : Option (List ℕ)) (old new : State) (session : Option (List ℕ)) → SoFar count input between output sent old new session
+      → Consumes between left (take size room) → written ≡ sent → size ≡ 0 → IsAtEnd left → ServesToEnd does fault_reply input left output written old new
+  step_ended count size room input between left output sent written old new session far read same none end =
+      all_read count input between left output written old new session (take size room) (far_kept count input between output sent written old new session far same) (subst (λ n. take n room ≡ []) (sym none) refl) read end
+
+  -- the reader failed
+  pub step_failed : (count : ℕ) (input between left output sent written : Option (List ℕ)) (old new : State) (session : Option (List ℕ)) (why : ServeFault) → SoFar count input between output sent old new session → why ≡ Read
+      → Keeps between left → written ≡ sent → AbortsConnection does fault_reply why input left output written old new
+  step_failed count input between left output sent written old new session why far is kept same =
+      broke_reading count input between left output written old new session why is (far_kept count input between output sent written old new session far same) kept

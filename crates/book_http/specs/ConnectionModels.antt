@@ -1,5 +1,6 @@
 -- What contracts know of a connection. This project's own.
 use Rattle.std.specs.Prelude.{ℕ, List, Option}
+use Rattle.book_http.specs.ConnectionCalls.{ConnectionCall}
 
 -- what contracts know of a connection
 pub record ConnectionModel (Connection : Type 0) : Type 0 where
@@ -7,3 +8,5 @@ pub record ConnectionModel (Connection : Type 0) : Type 0 where
   pub remaining : Connection → Option (List ℕ)
   -- the octets that were written, if known
   pub contents : Connection → Option (List ℕ)
+  -- the calls so far, if known
+  pub calls : Connection → Option (List ConnectionCall)

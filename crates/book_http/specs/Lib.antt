@@ -1,9 +1,11 @@
+pub mod ConnectionCalls
 pub mod ConnectionModels
 pub mod Listening
 pub mod ListeningRuns
 pub mod StoreCommands
 pub mod RequestAnswers
 pub mod ServeFaults
+pub mod Pieces
 pub mod ServedConnections
 pub mod OctetRuns
 pub mod OctetPromise

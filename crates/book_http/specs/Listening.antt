@@ -2,6 +2,7 @@
 use Rattle.std.specs.Prelude.{◌≡◌, ◌<◌, ⊤, ℕ, List, [], ◌∷◌, ◌++◌, length, map, Option, Some, None}
 use Rattle.std.specs.Option.{option_or}
 use Rattle.http_requests.specs.HandlerRuns.{HandlerRelation, FaultReplies}
+use Rattle.book_http.specs.ConnectionCalls.{AddsCalls, Closes, EndsInOrder}
 use Rattle.book_http.specs.ServedConnections.{AbortsConnection, ServesToEnd}
 use Rattle.book_http.specs.declared.serve_fault.ServeFault.{ServeFault}
 use Rattle.book_http.specs.declared.listen_fault.ListenFault.{ListenFault}
@@ -62,11 +63,15 @@ module _ {State Connection : Type 0} (does : HandlerRelation State) (fault_reply
       (stream.remaining before) (stream.remaining connection_after)
       (stream.contents before) (stream.contents connection_after) old new
 
-  -- it was served with a new session, with this result
+  -- it was served with a new session, with this result, and then closed
   pub record ServesOne (old : State) (turn : ServedConnection Connection) (new : State)
       : Type 0 where
     pub connection_after : Connection
+    pub closed : Connection
     pub ended : ServesConnection turn.end turn.connection connection_after old new
+    pub in_order : EndsInOrder turn.end (stream.calls turn.connection)
+        (stream.calls connection_after)
+    pub closes : AddsCalls (stream.calls connection_after) (stream.calls closed) (Closes ∷ [])
 
   -- they were served in turn, with these results
   unfoldable pub ServesInTurn : State → List (ServedConnection Connection) → State → Type 0

@@ -67,7 +67,7 @@ module _ {S : Type 0} (model : StoreModel S) where
       RunsAllRequests now octets replies new false rest × IsPartialRequest rest
   RunsAsFed now octets replies new None = RunsUntilClosed now octets replies new
 
-  -- all requests run of the octets that a session holds and those that it is fed
+  -- all requests of the octets that a session held and of those that it was fed ran
   abbrev pub SessionsRun : Type 0
   SessionsRun =
       (now : SystemState) (old new : Service S) (octets replies : List ℕ) →
@@ -84,9 +84,9 @@ module _ {S : Type 0} (model : StoreModel S) where
 
   -- ---- cuts
 
-  -- Both times the same requests ran: all of the octets. If no reply is a fault either time, the
-  -- traces are the same, the replies are the same octets, and the stores have the same rows. After
-  -- these replies there is nothing both times, or, both times, the reply to octets that never
+  -- Both times the same requests ran: all those of the octets. If no reply is a fault either time,
+  -- the traces are the same, the replies are the same octets, and the stores have the same rows.
+  -- After these replies there is nothing both times, or, both times, the reply to octets that never
   -- become a head.
   pub record RanAlike (now : SystemState) (octets replies others : List ℕ) (one other : Books)
       : Type 0 where
@@ -133,7 +133,7 @@ module _ {S : Type 0} (model : StoreModel S) where
     pub sent : Appends output written replies
     pub at_end : IsAtEnd left ⊎ (session ≡ None)
 
-  -- a connection that was served to its end ran so
+  -- this holds of each connection that was served to its end
   abbrev pub ConnectionsRun : Type 0
   ConnectionsRun =
       (now : SystemState) (old new : Service S) (input left output written : Option (List ℕ)) →

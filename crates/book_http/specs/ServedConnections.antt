@@ -1,8 +1,9 @@
 -- Serving a connection: the octets read, the octets written, and the new state of the handler. A
 -- reader is represented by the octets that are still to be read, and a writer by those that it
 -- holds, if known. This project's own.
-use Rattle.std.specs.Prelude.{◌≡◌, ◌⊎◌, ℕ, List, ◌++◌, Option, Some, None}
+use Rattle.std.specs.Prelude.{◌≡◌, ◌⊎◌, ◌≤◌, ℕ, List, ◌++◌, length, Option, Some, None}
 use Rattle.std.specs.Io.KnownBytes.{Appends, Consumes, IsAtEnd}
+use Rattle.book_http.specs.Pieces.{AppendsFront, IsInPieces, IsPiece, piece_octets_max, pieces_max}
 use Rattle.http_requests.specs.SessionFeeding.{FeedsSession, HandlesSomePrefix, FeedsPieceInPart}
 use Rattle.http_requests.specs.SessionFeeding.{FeedsPiece}
 use Rattle.http_requests.specs.HandlerRuns.{HandlerRelation, FaultReplies}
@@ -21,12 +22,25 @@ module _ {State : Type 0} (does : HandlerRelation State) (fault_reply : FaultRep
     pub fed : FeedsSession does fault_reply octets old replies new session
     pub sent : Appends output written replies
 
-  -- it was served to its end: the end of the input, or a closed session
+  -- The octets are those that leave a session open, and one piece more.
+  pub record EndsWithPiece (octets : List ℕ) (old : State) : Type 0 where
+    pub before : List ℕ
+    pub piece : List ℕ
+    pub octets_are : octets ≡ before ++ piece
+    pub piece_is : IsPiece piece
+    pub replies : List ℕ
+    pub middle : State
+    pub held : List ℕ
+    pub fed : FeedsSession does fault_reply before old replies middle (Some held)
+
+  -- It was served to its end: the end of the input, or a closed session. Nothing is read after the
+  -- piece that closes the session.
   pub record ServesToEnd (input left output written : Option (List ℕ)) (old new : State)
       : Type 0 where
     pub session : Option (List ℕ)
     pub serves : FeedsInput input left output written old new session
     pub at_end : IsAtEnd left ⊎ (session ≡ None)
+    pub closes : session ≡ None → EndsWithPiece serves.octets old
 
   -- it was served so far, and the session is still open
   pub record ServesSoFar (input left output written : Option (List ℕ)) (old new : State)
@@ -34,16 +48,32 @@ module _ {State : Type 0} (does : HandlerRelation State) (fault_reply : FaultRep
     pub held : List ℕ
     pub serves : FeedsInput input left output written old new (Some held)
 
-  -- The octets read were fed to a new session. How much of the last replies was written is unknown.
-  pub record FailsToWrite (input left : Option (List ℕ)) (old new : State) : Type 0 where
-    pub octets : List ℕ
+  -- it was served so far, in that many pieces, and the session is still open
+  pub record ServesPieces
+      (count : ℕ) (input left output written : Option (List ℕ)) (old new : State) : Type 0 where
+    pub held : List ℕ
+    pub serves : FeedsInput input left output written old new (Some held)
+    pub in_pieces : IsInPieces serves.octets count
+
+  -- It was served so far. Then a piece was read and fed, and the writer failed: some of the
+  -- replies to the piece, from the first octet on, were written.
+  pub record FailsToWrite (input left output written : Option (List ℕ)) (old new : State)
+      : Type 0 where
+    pub between : Option (List ℕ)
+    pub sent : Option (List ℕ)
+    pub middle : State
+    pub held : List ℕ
+    pub piece : List ℕ
     pub replies : List ℕ
     pub session : Option (List ℕ)
-    pub read : Consumes input left octets
-    pub fed : FeedsSession does fault_reply octets old replies new session
+    pub serves : FeedsInput input between output sent old middle (Some held)
+    pub read : Consumes between left piece
+    pub piece_is : IsPiece piece
+    pub fed : FeedsPiece does fault_reply (Some held) middle piece replies new session
+    pub out : AppendsFront sent written replies
 
   -- It was served so far. Then a piece was read, and memory ran out: some requests, from the first
-  -- on, were handled, and their replies are lost.
+  -- on, were handled, and their replies are lost. The piece is empty if nothing was read.
   pub record LosesReplies (input left output written : Option (List ℕ)) (old new : State)
       : Type 0 where
     pub between : Option (List ℕ)
@@ -52,6 +82,7 @@ module _ {State : Type 0} (does : HandlerRelation State) (fault_reply : FaultRep
     pub piece : List ℕ
     pub serves : FeedsInput input between output written old middle (Some held)
     pub read : Consumes between left piece
+    pub at_most : length piece ≤ piece_octets_max
     pub part : HandlesSomePrefix does fault_reply (held ++ piece) middle new
 
   -- a connection was aborted with this fault
@@ -60,9 +91,10 @@ module _ {State : Type 0} (does : HandlerRelation State) (fault_reply : FaultRep
       → State → State → Type 0
   AbortsConnection Read input left output written old new =
       ServesSoFar input left output written old new
-  AbortsConnection Write input left output written old new = FailsToWrite input left old new
+  AbortsConnection Write input left output written old new =
+      FailsToWrite input left output written old new
   AbortsConnection TooManyTurns input left output written old new =
-      ServesSoFar input left output written old new
+      ServesPieces pieces_max input left output written old new
   AbortsConnection Memory input left output written old new =
       LosesReplies input left output written old new
 
@@ -76,12 +108,13 @@ module _ {State : Type 0} (does : HandlerRelation State) (fault_reply : FaultRep
     pub feeds : FeedsPiece does fault_reply before old piece replies new session
     pub out : Appends sent written replies
 
-  -- it was fed the piece, and not all replies were written
+  -- it was fed the piece, and some of the replies, from the first octet on, were written
   pub record AnswersPieceInPart
-      (before : Option (List ℕ)) (old : State) (piece : List ℕ)
+      (before : Option (List ℕ)) (old : State) (piece : List ℕ) (sent written : Option (List ℕ))
       (new : State) (session : Option (List ℕ)) : Type 0 where
     pub replies : List ℕ
     pub feeds : FeedsPiece does fault_reply before old piece replies new session
+    pub out : AppendsFront sent written replies
 
   -- a piece wasn't replied to, because of this fault
   abbrev pub FailsPiece :
@@ -89,7 +122,7 @@ module _ {State : Type 0} (does : HandlerRelation State) (fault_reply : FaultRep
       → State → Option (List ℕ) → Type 0
   FailsPiece Read before old piece sent written new session = ⊥
   FailsPiece Write before old piece sent written new session =
-      AnswersPieceInPart before old piece new session
+      AnswersPieceInPart before old piece sent written new session
   FailsPiece TooManyTurns before old piece sent written new session = ⊥
   FailsPiece Memory before old piece sent written new session =
       FeedsPieceInPart does fault_reply before old piece new × (written ≡ sent)

@@ -2,15 +2,18 @@
 #![tactic(auto)]
 
 mod answering;
+mod closing;
 mod connection;
 pub mod laws;
 mod listen_fault;
 mod listener;
 pub mod listener_laws;
 mod listening;
+mod pieces;
 mod serve_fault;
 mod service;
 mod serving;
+mod streams;
 
 pub use answering::answer;
 pub use connection::Connection;

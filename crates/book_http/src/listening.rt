@@ -8,10 +8,11 @@ use crate::ServeFault;
 use crate::connection::Connection;
 use crate::listen_fault::ListenFault;
 use crate::listener::Listener;
+use crate::serving::serve_connection;
 use http_requests::Handler;
 use std::alloc::Global;
 
-/// Serves the next connection. Returns the fault for which it was aborted, if any.
+/// Serves the next connection and closes it. Returns the fault for which it was aborted, if any.
 fn serve_next<H: Handler, L: Listener>(
     alloc: Global,
     handler: &mut H,
@@ -27,7 +28,9 @@ fn serve_next<H: Handler, L: Listener>(
     let Ok(mut stream) = listener.accept() else {
         return Err(ListenFault::Device);
     };
-    match stream.serve(alloc, handler) {
+    let served = serve_connection(alloc, handler, &mut stream);
+    stream.close();
+    match served {
         Ok(()) => Ok(None),
         Err(fault) => Ok(Some(fault)),
     }

@@ -12,7 +12,8 @@ pub enum ServeFault {
     Read,
     /// The writer failed.
     Write,
-    /// 1,000,000 reads reached neither the end of the input nor a request that closes.
+    /// 1,000,000 reads that brought octets reached neither the end of the input nor a request that
+    /// closes.
     TooManyTurns,
     /// Out of memory.
     Memory,

@@ -1,100 +1,143 @@
-//! Reads the requests of a connection and writes the replies.
-ghost use Rattle.std.specs.Prelude.{◌≡◌, ◌<◌, ◌↔◌, None, length, IfOk, IfErr, IsTrue, OnOk};
-ghost use Rattle.std.specs.Io.KnownBytes.{Appends};
+//! Serves the requests of a connection.
+ghost use Rattle.std.specs.Prelude.{◌≡◌, ◌<◌, ◌≤◌, ◌↔◌, ℕ, None, Some, length, IfOk, IfErr};
+ghost use Rattle.std.specs.Prelude.{IsTrue, OnOk};
+ghost use Rattle.book_http.specs.ConnectionCalls.{AnswersInOrder, EndsInOrder};
 ghost use Rattle.book_http.specs.ServedConnections.{AbortsConnection, FailsPiece, ServesToEnd};
 ghost use Rattle.book_http.specs.ServedConnections.{AnswersPiece};
-ghost use Rattle.book_http.specs.declared.serve_fault.ServeFault.{ServeFault as TheFault};
 
+use crate::connection::Connection;
+use crate::pieces::{read_piece, send_replies};
 use crate::serve_fault::ServeFault;
+use crate::streams::Streams;
 use http_requests::{Handler, Session};
 use std::alloc::Global;
-use std::io::{ErrorKind, Read, Write};
+use std::io::{Read, Write};
 
 /// The most octets of one read.
 const PIECE_OCTETS_MAX: usize = 16_384;
 
-/// The most reads of one connection, including interrupted ones.
-const READS_MAX: u32 = 1_000_000;
-
-/// Writes the replies and flushes them, before more is read.
-fn send<W: Write>(writer: &mut W, replies: &[u8]) -> Result<(), ServeFault>
-    ensures sent { OnOk result (Appends (W.contents writer.old) (W.contents writer.new)
-        replies.now) }
-    ensures fault { IfErr result (λ fault. fault ≡ TheFault.Write) }
-{
-    match writer.write_all(replies) {
-        Ok(()) => match writer.flush() {
-            Ok(()) => Ok(()),
-            Err(_) => Err(ServeFault::Write),
-        },
-        Err(_) => Err(ServeFault::Write),
-    }
-}
+/// The most reads of one connection that bring octets.
+const PIECES_MAX: u32 = 1_000_000;
 
 /// Feeds the session a piece and writes the replies. Returns whether the session is closed.
-fn answer_piece<H: Handler, W: Write>(
+fn answer_piece<H: Handler, C: Connection>(
     alloc: Global,
     session: &mut Session,
     handler: &mut H,
-    writer: &mut W,
+    connection: &mut C,
     piece: &[u8],
 ) -> Result<bool, ServeFault>
     ensures answered { OnOk result (AnswersPiece H.does H.fault_reply
         session.old handler.old piece.now
-        (W.contents writer.old) (W.contents writer.new) handler.new session.new) }
+        (C.model.contents connection.old) (C.model.contents connection.new)
+        handler.new session.new) }
     ensures closed { IfOk result (λ closed. IsTrue closed ↔ (session.new ≡ None)) }
     ensures failed { IfErr result (λ fault. FailsPiece H.does H.fault_reply fault session.old
-        handler.old piece.now (W.contents writer.old) (W.contents writer.new)
+        handler.old piece.now (C.model.contents connection.old) (C.model.contents connection.new)
         handler.new session.new) }
+    ensures kept { C.model.remaining connection.new ≡ C.model.remaining connection.old }
+    ensures order { (pieces : ℕ) → AnswersInOrder pieces
+        (C.model.calls connection.old) (C.model.calls connection.new) result }
+    ensures borrows { C.borrowed connection.new ≡ C.borrowed connection.old }
 {
     let replies = session.feed(alloc, handler, piece)?;
-    send(writer, replies.as_slice())?;
+    send_replies(connection, replies.as_slice())?;
     Ok(session.closed())
 }
 
 /// Serves a new connection, with the buffer for the reads.
-fn serve_in<H: Handler, R: Read, W: Write>(
+fn serve_in<H: Handler, C: Connection>(
     alloc: Global,
     handler: &mut H,
-    reader: &mut R,
-    writer: &mut W,
+    connection: &mut C,
     room: &mut [u8],
 ) -> Result<(), ServeFault>
     requires some { 0 < length room.old }
+    requires at_most { length room.old ≤ 16384 }
     ensures served { OnOk result (ServesToEnd H.does H.fault_reply
-        (R.remaining reader.old) (R.remaining reader.new)
-        (W.contents writer.old) (W.contents writer.new) handler.old handler.new) }
+        (C.model.remaining connection.old) (C.model.remaining connection.new)
+        (C.model.contents connection.old) (C.model.contents connection.new)
+        handler.old handler.new) }
     ensures fault { IfErr result (λ fault. AbortsConnection H.does H.fault_reply fault
-        (R.remaining reader.old) (R.remaining reader.new)
-        (W.contents writer.old) (W.contents writer.new) handler.old handler.new) }
+        (C.model.remaining connection.old) (C.model.remaining connection.new)
+        (C.model.contents connection.old) (C.model.contents connection.new)
+        handler.old handler.new) }
+    ensures ended_in_order { OnOk result (EndsInOrder None
+        (C.model.calls connection.old) (C.model.calls connection.new)) }
+    ensures aborted_in_order { IfErr result (λ fault. EndsInOrder (Some fault)
+        (C.model.calls connection.old) (C.model.calls connection.new)) }
+    ensures borrows { C.borrowed connection.new ≡ C.borrowed connection.old }
 {
     let mut session = Session::new(alloc);
-    for _turn in 0..READS_MAX {
-        match reader.read(room) {
-            Ok(0) => return Ok(()),
-            Ok(count) => {
-                let piece = &room[..count];
-                if answer_piece(alloc, &mut session, handler, writer, piece)? {
-                    return Ok(());
-                }
-            }
-            Err(error) => {
-                if error.kind() != ErrorKind::Interrupted {
-                    return Err(ServeFault::Read);
-                }
-            }
+    for _piece in 0..PIECES_MAX {
+        let count = read_piece(connection, room)?;
+        if count == 0 {
+            return Ok(());
+        }
+        let piece = &room[..count];
+        if answer_piece(alloc, &mut session, handler, connection, piece)? {
+            return Ok(());
         }
     }
     Err(ServeFault::TooManyTurns)
 }
 
+/// Serves a connection with a new session, as `serve` does. It doesn't close the connection.
+pub(crate) fn serve_connection<H: Handler, C: Connection>(
+    alloc: Global,
+    handler: &mut H,
+    connection: &mut C,
+) -> Result<(), ServeFault>
+    ensures served { OnOk result (ServesToEnd H.does H.fault_reply
+        (C.model.remaining connection.old) (C.model.remaining connection.new)
+        (C.model.contents connection.old) (C.model.contents connection.new)
+        handler.old handler.new) }
+    ensures fault { IfErr result (λ fault. AbortsConnection H.does H.fault_reply fault
+        (C.model.remaining connection.old) (C.model.remaining connection.new)
+        (C.model.contents connection.old) (C.model.contents connection.new)
+        handler.old handler.new) }
+
+    // Each piece is read once all replies to those before it were written and flushed.
+    ensures ended_in_order { OnOk result (EndsInOrder None
+        (C.model.calls connection.old) (C.model.calls connection.new)) }
+    ensures aborted_in_order { IfErr result (λ fault. EndsInOrder (Some fault)
+        (C.model.calls connection.old) (C.model.calls connection.new)) }
+    ensures borrows { C.borrowed connection.new ≡ C.borrowed connection.old }
+{
+    let mut room = Vec::new(alloc);
+    room.resize(PIECE_OCTETS_MAX, 0)?;
+    serve_in(alloc, handler, connection, room.as_mut_slice())
+}
+
+/// `serve_connection` for a reader and a writer, which remain the same two.
+fn serve_streams<'a, H: Handler, R: Read, W: Write>(
+    alloc: Global,
+    handler: &mut H,
+    streams: &mut Streams<'a, R, W>,
+) -> Result<(), ServeFault>
+    ensures same_reader { streams.new.reader.ghost_name ≡ streams.old.reader.ghost_name }
+    ensures same_writer { streams.new.writer.ghost_name ≡ streams.old.writer.ghost_name }
+    ensures served { OnOk result (ServesToEnd H.does H.fault_reply
+        (R.remaining streams.old.reader.now) (R.remaining streams.new.reader.now)
+        (W.contents streams.old.writer.now) (W.contents streams.new.writer.now)
+        handler.old handler.new) }
+    ensures fault { IfErr result (λ fault. AbortsConnection H.does H.fault_reply fault
+        (R.remaining streams.old.reader.now) (R.remaining streams.new.reader.now)
+        (W.contents streams.old.writer.now) (W.contents streams.new.writer.now)
+        handler.old handler.new) }
+{
+    serve_connection(alloc, handler, streams)
+}
+
 /// Serves one connection. It reads pieces of at most 16,384 octets, handles each request once it is
-/// complete, and writes the replies to a piece before the next read. It returns at the end of the
-/// input or after the request that closes. An incomplete request at the end isn't handled.
+/// complete, and writes and flushes the replies to a piece before the next read. It returns at the
+/// end of the input or after the request that closes, and reads nothing after that. An incomplete
+/// request at the end isn't handled.
 ///
-/// `Read` or `Write` if the reader or the writer fails; `TooManyTurns` after 1,000,000 reads
+/// `Read` or `Write` if the reader or the writer fails; `TooManyTurns` after 1,000,000 pieces
 /// that reached neither end; `Memory` if an allocation fails. After an error, some requests of
-/// the octets read, from the first on, were handled completely. Interrupted reads are retried.
+/// the octets read, from the first on, were handled completely: all of them but for the last piece.
+/// Interrupted reads and writes are made again.
 pub fn serve<H: Handler, R: Read, W: Write>(
     alloc: Global,
     handler: &mut H,
@@ -106,12 +149,12 @@ pub fn serve<H: Handler, R: Read, W: Write>(
         (R.remaining reader.old) (R.remaining reader.new)
         (W.contents writer.old) (W.contents writer.new) handler.old handler.new) }
 
-    // The same up to the fault; replies are lost if the writer failed or memory ran out.
+    // The same up to the fault. If the writer failed or memory ran out, it is the same up to the
+    // last piece; the replies to that piece were written in part or not at all.
     ensures fault { IfErr result (λ fault. AbortsConnection H.does H.fault_reply fault
         (R.remaining reader.old) (R.remaining reader.new)
         (W.contents writer.old) (W.contents writer.new) handler.old handler.new) }
 {
-    let mut room = Vec::new(alloc);
-    room.resize(PIECE_OCTETS_MAX, 0)?;
-    serve_in(alloc, handler, reader, writer, room.as_mut_slice())
+    let mut streams = Streams { reader, writer };
+    serve_streams(alloc, handler, &mut streams)
 }

@@ -1,10 +1,10 @@
-//! Readers that are interrupted, and readers that never end. The suite over the built program tests
-//! all other kinds of connections.
+//! Readers that are interrupted, readers that never end, and a writer that has to be flushed. The
+//! suite over the built program tests all other kinds of connections.
 use super::new_service;
 use book_http::{ServeFault, serve};
 use std::alloc::Global;
 use std::io;
-use std::io::Read;
+use std::io::{Read, Write};
 use std::process::Abort;
 use std::rt::HostRuntime;
 use sync_core::BookStore;
@@ -64,6 +64,40 @@ fn retries_interrupted_reads(rt: HostRuntime) {
             "at {interrupted}"
         );
     }
+}
+
+/// A writer that sends what was written only when it is flushed.
+#[derive(Drop)]
+struct HoldingWriter {
+    held: Vec<u8>,
+    sent: Vec<u8>,
+}
+
+impl Write for HoldingWriter {
+    fn write(&mut self, buf: &[u8]) -> io::Result<usize> {
+        self.held.write(buf)
+    }
+
+    fn flush(&mut self) -> io::Result<()> {
+        self.sent.write_all(self.held.as_slice())?;
+        self.held.clear();
+        Ok(())
+    }
+}
+
+#[test]
+fn flushes_replies(rt: HostRuntime) {
+    let expected = replies(&rt, rt.alloc(), 0);
+    let mut reader = REQUESTS.as_bytes();
+    let mut service = new_service(rt.alloc());
+    let mut writer = HoldingWriter {
+        held: Vec::new(rt.alloc()),
+        sent: Vec::new(rt.alloc()),
+    };
+    let done = serve(rt.alloc(), &mut service, &mut reader, &mut writer);
+    assert_eq!(rt; done, Ok(()));
+    assert!(rt; writer.held.is_empty());
+    assert!(rt; writer.sent.as_slice() == expected.as_slice());
 }
 
 /// A head, and then a body that never ends, an octet a read.

@@ -1,4 +1,4 @@
-//! A store that answers a fault to each call. (`test_http` tests the replies over HTTP.)
+//! A store that returns a fault from each call. (`test_http` tests the replies over HTTP.)
 use super::{drive_script, new_devices};
 use book_service::mirror;
 use std::alloc::Global;
@@ -6,7 +6,7 @@ use std::process::Abort;
 use sync_core::{Denied, Fault};
 use test_scripts::{FailingStore, run_script};
 
-/// A store with the book `staff` and the card `a`, which answers the fault from now on.
+/// A store with the book `staff` and the card `a`, which returns the fault from now on.
 fn failing_store(rt: &impl Abort, alloc: Global, fault: Fault) -> FailingStore {
     let mut store = FailingStore::new(alloc);
     run_script(alloc, &mut store, "create staff\ncard staff a FN:Ann").expect(rt, "replies");

@@ -8,9 +8,17 @@ returns-in_err-replies-clause-failed g c =
     let p = err_from_is_err_and c.from_residual.result c.from_residual.ensures.1 in
     rw (p.1, p.2) (c.in_err-replies.ensures.fed_in_part, refl)
 
+pub returns-in_err-replies-clause-order : goal.returns-in_err-replies-clause-order
+returns-in_err-replies-clause-order g c =
+    let p = err_from_is_err_and c.from_residual.result c.from_residual.ensures.1 in
+    rw (p.1, p.2) (λ pieces. refl)
+
 pub returns-clause-answered : goal.returns-clause-answered
 returns-clause-answered g c = record {
   replies = c.in_ok-replies.replies.items;
   feeds = c.in_ok-replies.ensures.fed;
-  out = subst (Appends (g.W.Write.contents c.args.writer.now) (g.W.Write.contents c.send.new.writer)) c.as_slice.ensures.value c.in_ok-send.ensures.sent;
+  out = subst (Appends (g.C.Connection.model.contents c.args.connection.now) (g.C.Connection.model.contents c.send_replies.new.connection)) c.as_slice.ensures.value c.in_ok-send_replies.ensures.sent;
 }
+
+pub returns-clause-order : goal.returns-clause-order
+returns-clause-order g c = λ pieces. c.in_ok-send_replies.ensures.order pieces

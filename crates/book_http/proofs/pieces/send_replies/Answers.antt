@@ -1,0 +1,16 @@
+use Rattle.std.proofs.Common.{refl, inl}
+use Rattle.book_http.specs.ConnectionCalls.{FailsToFlush, WriterFailed, Flushes, Replies, Waits}
+use Rattle.book_http.proofs.CallLemmas.{leads_on, leads_one}
+use Rattle.book_http.proofs.pieces.send_replies.Goals as goal
+
+pub returns-in-Ok-clause-order : goal.returns-in-Ok-clause-order
+returns-in-Ok-clause-order g c = λ pieces.
+    leads_on (g.C.Connection.model.calls c.args.connection.now) (g.C.Connection.model.calls c.write_replies.new.connection) (g.C.Connection.model.calls c.flush.new.self) (Replies pieces) (Replies pieces) (Waits pieces)
+    (c.in_ok-write_replies.ensures.order pieces)
+    (leads_one (g.C.Connection.model.calls c.write_replies.new.connection) (g.C.Connection.model.calls c.flush.new.self) Flushes (Replies pieces) (Waits pieces) c.in-Ok.ensures.called refl)
+
+pub returns-in-Err-clause-order : goal.returns-in-Err-clause-order
+returns-in-Err-clause-order g c = λ pieces.
+    inl (leads_on (g.C.Connection.model.calls c.args.connection.now) (g.C.Connection.model.calls c.write_replies.new.connection) (g.C.Connection.model.calls c.flush.new.self) (Replies pieces) (Replies pieces) WriterFailed
+    (c.in_ok-write_replies.ensures.order pieces)
+    (leads_one (g.C.Connection.model.calls c.write_replies.new.connection) (g.C.Connection.model.calls c.flush.new.self) FailsToFlush (Replies pieces) WriterFailed c.in-Err.ensures.called refl))
