@@ -1,12 +1,14 @@
-"""What each order prints, in a file from its making on: rows that were worked out by hand.
+"""What each order prints, over a file from its creation on: rows that were worked out by hand.
 
-The rows are in `order_rows`. A file whose rows can't come from orders and requests in seconds is
-laid by sqlite3, with the tables that its format declares.
+The rows are in `order_rows`. A file that orders and requests can't make in seconds is made by
+sqlite3, with the tables that its format declares.
 """
 
+import os
 import random
 import socket
 import unittest
+from pathlib import Path
 
 import order_rows as rows
 from http_requests import create, export, get, put
@@ -14,7 +16,17 @@ from order_trials import (
     FIRST_STAFF, FIVE_CHANGES, LAST_STAFF, MORE_CHANGES, NEEDS_STRICT, TWO_BOOKS, OrderTest,
     mirrored, numbered,
 )
-from program import Ended, Server, run
+from program import PATIENCE, Ended, Server, run
+
+
+def listening_addresses(port):
+    """The addresses at which this host listens on a port, as the system writes them."""
+    rows = []
+    for table in "/proc/net/tcp", "/proc/net/tcp6":
+        if os.path.exists(table):
+            rows += [row.split() for row in Path(table).read_text().splitlines()[1:]]
+    ends = [row[1].split(":") for row in rows if row[3] == "0A"]
+    return [address for address, number in ends if int(number, 16) == port]
 
 
 class Orders(OrderTest):
@@ -176,7 +188,7 @@ class Ports(OrderTest):
 
     @staticmethod
     def free_port():
-        """A port that nobody has, below those that are given to whoever asks for any."""
+        """A port that nobody has, below those that the system gives for port 0."""
         for port in random.sample(range(20_000, 32_000), 100):
             with socket.socket() as bound:
                 try:
@@ -227,6 +239,17 @@ class Ports(OrderTest):
             else:
                 # Somebody has it.
                 self.assertEqual(Ended(3, b"", b"fault device 1\n"), server.end())
+
+    def test_address(self):
+        """The port is bound at 127.0.0.1, which only programs of this host can connect to."""
+        for port in 0, self.free_port():
+            arguments = ["a.db", "--port", str(port), "--connections", "2"]
+            with Server(None, arguments=arguments, cwd=self.folder) as server:
+                number = server.address[1]
+                self.assertEqual(["0100007F"], listening_addresses(number))
+                # A listener at all addresses would accept this one too.
+                with self.assertRaises(ConnectionRefusedError):
+                    socket.create_connection(("127.0.0.2", number), timeout=PATIENCE)
 
     def test_port_in_use(self):
         with socket.socket() as bound:

@@ -46,8 +46,8 @@ fn matches_of<'a>(alloc: Global, words: &'a [String]) -> Result<ArgMatches<'a>, 
 
 /// Parses the arguments after the program's name. Without arguments the order is `Try`.
 ///
-/// The fault is `Bad` if an argument or option is unknown, missing, repeated or out of range, or if
-/// help is requested. Its text is for the user.
+/// The fault is `Bad` if an argument or option is unknown, missing, repeated or invalid, or if help
+/// is requested; its text is for the user. The fault is `Memory` if an allocation fails.
 pub fn read_order(alloc: Global, words: &[String]) -> Result<Order, LineFault>
     ensures { ParsesTo (parsed.order_from (map string_bytes words.now)) result }
 {

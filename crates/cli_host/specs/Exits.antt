@@ -1,68 +1,99 @@
 -- What the program reports on standard error, and its exit status. This project's own.
-use Rattle.std.specs.Prelude.{ℕ, ◌≡◌, ◌⊎◌, ◌∷◌, ◌++◌, [], List, Option, Result, Ok, Err}
-use Rattle.std.specs.Io.KnownBytes.{Keeps}
+use Rattle.std.specs.Prelude.{ℕ, ◌≡◌, ◌⊎◌, ◌∷◌, ◌++◌, [], List, Option, Result, Ok, Err, OnOk}
+use Rattle.std.specs.Io.KnownBytes.{Appends, Keeps}
 use Rattle.base_types.specs.Octets.{line_feed}
+use Rattle.book_http.specs.ConnectionModels.{ConnectionModel}
 use Rattle.cli_args.specs.declared.order.Order.{Order}
 use Rattle.cli_orders.specs.TryOutputs.{KeepsTryOutput, PrintsTryResult}
 use Rattle.cli_orders.specs.TryStops.{IsTryStop}
 use Rattle.cli_orders.specs.declared.stop.Stop.{Stop}
-use Rattle.cli_host.specs.PrintedOutputs.{PrintsOrder}
 use Rattle.cli_orders.specs.Stops.{out_of_memory, status_of, stop_line}
 use Rattle.cli_orders.specs.Streams.{WritesPrefix}
 use Rattle.cli_orders.specs.ReplyTexts.{KeepsOutput}
+use Rattle.cli_host.specs.Hosts.{HostCall}
+use Rattle.cli_host.specs.OrdersOnHost.{RunsOnHost, StopsOnHost}
+use Rattle.cli_host.specs.declared.exit.ProgramExit.{ProgramExit}
+use Rattle.sync_core.specs.StoreModels.{StoreModel}
 
 -- a line with its line feed
 abbrev pub with_line_feed : List ℕ → List ℕ
 with_line_feed line = line ++ line_feed ∷ []
 
--- The line of the stop was written to standard error, or a prefix of it if standard error
--- failed; and the status is the stop's. Without memory for the line, that is reported instead.
-pub record ReportsStop (stop : Stop) (errors_before errors_after : Option (List ℕ)) (status : ℕ)
+-- the text was written to standard error, or a prefix of it if standard error failed
+pub record ReportsText
+    (text : List ℕ) (errors_before errors_after : Option (List ℕ)) (exit : ProgramExit)
+    : Type 0 where
+  pub whole : OnOk exit.reported (Appends errors_before errors_after text)
+  pub front : WritesPrefix text errors_before errors_after
+
+-- The line of the stop was reported, and the status is the stop's. Without memory for the line,
+-- that is reported instead.
+pub record ReportsStop
+    (stop : Stop) (errors_before errors_after : Option (List ℕ)) (exit : ProgramExit)
     : Type 0 where
   pub printed_stop : Stop
   pub agrees : (printed_stop ≡ stop) ⊎ (printed_stop ≡ out_of_memory)
-  pub reported : WritesPrefix (with_line_feed (stop_line printed_stop)) errors_before errors_after
-  pub status_is : status ≡ status_of printed_stop
+  pub reports : ReportsText (with_line_feed (stop_line printed_stop))
+      errors_before errors_after exit
+  pub status_is : exit.status ≡ status_of printed_stop
 
--- success: nothing is reported and the status is 0; or the stop is reported
-abbrev pub ReportsResult : Result (Unit {0}) Stop → Option (List ℕ) → Option (List ℕ) → ℕ → Type 0
-ReportsResult (Ok done) errors_before errors_after status =
-    Keeps errors_before errors_after × (status ≡ 0)
-ReportsResult (Err stop) errors_before errors_after status =
-    ReportsStop stop errors_before errors_after status
-
--- the text for invalid arguments or for help was written to standard error, and the status is 2
-pub record ReportsBadArguments
-    (text : List ℕ) (errors_before errors_after : Option (List ℕ)) (status : ℕ)
+-- nothing was reported, and the status is 0
+pub record Succeeds (errors_before errors_after : Option (List ℕ)) (exit : ProgramExit)
     : Type 0 where
-  pub reported : WritesPrefix text errors_before errors_after
-  pub status_is : status ≡ 2
+  pub silent : Keeps errors_before errors_after
+  pub unfailed : exit.reported ≡ Ok tt
+  pub status_is : exit.status ≡ 0
+
+-- success, or the stop was reported
+abbrev pub ReportsResult : Result (Unit {0}) Stop → Option (List ℕ) → Option (List ℕ)
+    → ProgramExit → Type 0
+ReportsResult (Ok done) errors_before errors_after exit = Succeeds errors_before errors_after exit
+ReportsResult (Err stop) errors_before errors_after exit =
+    ReportsStop stop errors_before errors_after exit
+
+-- the text for invalid arguments or for help was reported, and the status is 2
+pub record ReportsBadArguments
+    (text : List ℕ) (errors_before errors_after : Option (List ℕ)) (exit : ProgramExit)
+    : Type 0 where
+  pub reports : ReportsText text errors_before errors_after exit
+  pub status_is : exit.status ≡ 2
 
 -- `try` succeeded: the output for the input was printed, and nothing was reported
 pub record IsTryDone (input : List ℕ) (before after : Option (List ℕ))
-    (errors_before errors_after : Option (List ℕ)) (status : ℕ) : Type 0 where
+    (errors_before errors_after : Option (List ℕ)) (exit : ProgramExit) : Type 0 where
   pub printed : PrintsTryResult input before after
-  pub silent : Keeps errors_before errors_after
-  pub status_is : status ≡ 0
+  pub succeeds : Succeeds errors_before errors_after exit
 
 -- `try` stopped, because of the input, or because memory ran out or a device failed
 pub record IsTryStopped (input : List ℕ) (before after : Option (List ℕ))
-    (errors_before errors_after : Option (List ℕ)) (status : ℕ) : Type 0 where
+    (errors_before errors_after : Option (List ℕ)) (exit : ProgramExit) : Type 0 where
   pub stop : Stop
   pub agrees : IsTryStop input stop
   pub output_kept : KeepsTryOutput stop input before after
-  pub reports_stop : ReportsStop stop errors_before errors_after status
+  pub reports_stop : ReportsStop stop errors_before errors_after exit
 
--- the order succeeded: its output was printed, and nothing was reported
-pub record IsOrderDone (order : Order) (before after : Option (List ℕ))
-    (errors_before errors_after : Option (List ℕ)) (status : ℕ) : Type 0 where
-  pub printed : PrintsOrder order before after
-  pub silent : Keeps errors_before errors_after
-  pub status_is : status ≡ 0
+-- A store is represented by its books, a connection by its octets, and a listener by its arrivals.
+module _ {S Connection L : Type 0} (model : StoreModel S) (stream : ConnectionModel Connection)
+    (coming : L → Option (List (Option Connection))) where
+  -- the order succeeded with this log of calls: its output was printed, and nothing was reported
+  pub record IsOrderDone (order : Order) (before after : Option (List ℕ))
+      (errors_before errors_after : Option (List ℕ)) (exit : ProgramExit)
+      (log : List (HostCall S L)) : Type 0 where
+    pub runs : RunsOnHost model stream coming order before after log
+    pub succeeds : Succeeds errors_before errors_after exit
 
--- the order stopped, and the stop was reported
-pub record IsOrderStopped (before after : Option (List ℕ))
-    (errors_before errors_after : Option (List ℕ)) (status : ℕ) : Type 0 where
-  pub stop : Stop
-  pub output_kept : KeepsOutput stop before after
-  pub reports_stop : ReportsStop stop errors_before errors_after status
+  -- the order stopped with this log of calls, and the stop was reported
+  pub record IsOrderStopped (order : Order) (before after : Option (List ℕ))
+      (errors_before errors_after : Option (List ℕ)) (exit : ProgramExit)
+      (log : List (HostCall S L)) : Type 0 where
+    pub stop : Stop
+    pub stops : StopsOnHost model stream coming order stop before after log
+    pub output_kept : KeepsOutput stop before after
+    pub reports_stop : ReportsStop stop errors_before errors_after exit
+
+  -- either
+  abbrev pub EndsOrder : Order → Option (List ℕ) → Option (List ℕ) → Option (List ℕ)
+      → Option (List ℕ) → ProgramExit → List (HostCall S L) → Type 0
+  EndsOrder order before after errors_before errors_after exit log =
+      IsOrderDone order before after errors_before errors_after exit log
+      ⊎ IsOrderStopped order before after errors_before errors_after exit log

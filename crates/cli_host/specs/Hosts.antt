@@ -1,29 +1,58 @@
--- The host that orders run on: the possible results of using its files and ports. This project's
--- own.
-use Rattle.std.specs.Prelude.{◌≡◌, ◌≢◌, ⊤, ℕ, List, Result}
+-- The host that orders run on: the calls that are made of it. This project's own.
+use Rattle.std.specs.Prelude.{◌≡◌, ⊤, ℕ, List, [], ◌∷◌, Result}
+use Rattle.std.specs.declared.net.ip_addr.IpAddr.{IpAddr}
+use Rattle.std.specs.declared.net.ip_addr.IpAddr.TheVariants.{V4}
+use Rattle.book_model.specs.Bounds.{Bounds}
+use Rattle.cli_orders.specs.declared.stop.Stop.{Stop}
 use Rattle.store_schema.specs.declared.open_fault.OpenFault.{OpenFault}
 
--- The possible results of using the files and ports of a host, by their names. A store holds the
--- books of a file, and a listener accepts the connections to a port.
-pub record HostEffects (Store Listener : Type 0) : Type 1 where
+-- A call of a host, with the file or port that it is about, and its result. A store holds the books
+-- of a file, and a listener accepts the connections to a port.
+pub data HostCall (Store Listener : Type 0) : Type 0 where
   -- creating a store without books in the file
-  pub makes : List ℕ → Result Store OpenFault → Type 0
+  Creates : List ℕ → Result Store OpenFault → HostCall Store Listener
   -- opening the store of the books in the file
-  pub opens : List ℕ → Result Store OpenFault → Type 0
+  Opens : List ℕ → Result Store OpenFault → HostCall Store Listener
   -- migrating the file to the current schema, which returns its number of books
-  pub migrates : List ℕ → Result ℕ OpenFault → Type 0
-  -- the octets of the file
-  pub holds : List ℕ → List ℕ → Type 0
+  Migrates : List ℕ → Result ℕ OpenFault → HostCall Store Listener
+  -- reading all octets of the file
+  ReadsRows : List ℕ → Result (List ℕ) Stop → HostCall Store Listener
   -- binding a listener to the port, which returns the listener and its port
-  pub binds : ℕ → Listener → ℕ → Type 0
+  Binds : ℕ → Result (Listener × ℕ) Stop → HostCall Store Listener
 
--- Nothing is known of files and sockets, except that a listener has the requested port. Port 0
--- requests any free port.
-abbrev pub only_ports_known : {Store Listener : Type 0} → HostEffects Store Listener
-only_ports_known = record {
-  makes = λ _ _. ⊤;
-  opens = λ _ _. ⊤;
-  migrates = λ _ _. ⊤;
-  holds = λ _ _. ⊤;
-  binds = λ requested _ port. requested ≢ 0 → port ≡ requested;
+-- A host is represented by what is known of each call: its result, and the host before and after
+-- it.
+module _ {S L Host : Type 0} (calls : HostCall S L → Host → Host → Type 0) where
+  -- these calls were made of the host, in this order, and no others
+  abbrev pub MakesCalls : Host → List (HostCall S L) → Host → Type 0
+  MakesCalls old [] new = new ≡ old
+  MakesCalls old (call ∷ log) new = (next : Host) × calls call old next × MakesCalls next log new
+
+  -- all calls that were made of the host are this log, of which this holds
+  pub record LogsCalls (old new : Host) (Holds : List (HostCall S L) → Type 0) : Type 0 where
+    pub log : List (HostCall S L)
+    pub made : MakesCalls old log new
+    pub holds : Holds log
+
+-- of some log of calls, this holds
+pub record HasLog {S L : Type 0} (Holds : List (HostCall S L) → Type 0) : Type 0 where
+  pub log : List (HostCall S L)
+  pub holds : Holds log
+
+-- nothing is known of a call
+abbrev pub IsAnyCall : {S L Host : Type 0} → HostCall S L → Host → Host → Type 0
+IsAnyCall call old new = ⊤
+
+-- 127.0.0.1, which only programs of the host can connect to
+abbrev pub loopback_ip : IpAddr
+loopback_ip = V4 (record { octets = 127 ∷ 0 ∷ 0 ∷ 1 ∷ [] })
+
+-- the limits of the stores that the program creates and opens
+abbrev pub standard_limits : Bounds
+standard_limits = record {
+  page_max = 100;
+  cards_max = 10000;
+  changes_max = 1000000000000;
+  books_max = 100;
+  keep = 10000;
 }

@@ -1,5 +1,5 @@
 pub mod OrderWork
-pub mod PrintedOutputs
 pub mod Hosts
 pub mod OrdersOnHost
+pub mod Arguments
 pub mod Exits

@@ -1,20 +1,37 @@
-//! The entry point of the program: runs an order, reports errors, and returns the exit status.
+//! The entry point of the program: runs an order, reports errors, and returns how it ended.
 ghost use Rattle.std.specs.Prelude.{◌≡◌, ◌≢◌, ◌⊎◌, List, ℕ, IfOk, IfSome, Ok, Err, string_bytes};
 ghost use Rattle.std.specs.Io.KnownBytes.{Keeps};
 ghost use Rattle.cli_args.specs.declared.fault.LineFault.{LineFault as TheFault};
 ghost use Rattle.cli_args.specs.declared.order.Order.{Order as TheOrder};
-ghost use Rattle.cli_host.specs.Exits.{ReportsResult, IsTryDone, IsOrderDone, IsOrderStopped};
-ghost use Rattle.cli_host.specs.Exits.{IsTryStopped, ReportsStop, ReportsBadArguments};
-ghost use Rattle.cli_host.specs.Exits.{with_line_feed};
+ghost use Rattle.cli_host.specs.Exits.{EndsOrder, IsTryDone, IsTryStopped, ReportsBadArguments};
+ghost use Rattle.cli_host.specs.Exits.{ReportsResult, ReportsStop, with_line_feed};
+ghost use Rattle.cli_host.specs.Hosts.{HasLog, LogsCalls};
+ghost use Rattle.cli_orders.specs.Inputs.{read_octets_max};
 ghost use Rattle.cli_orders.specs.Stops.{out_of_memory, stop_line};
+ghost use Rattle.cli_orders.specs.Streams.{ReadsAtMost};
 
-use crate::running::run_order;
+use crate::host::Host;
+use crate::running::run_on_host;
+use book_http::{Connection, Listener};
+use book_store::FileBooks;
 use cli_args::{LineFault, Order};
 use cli_orders::{Stop, run_try, write_out};
 use std::alloc::Global;
 use std::io::{Read, Write};
+use std::net::{TcpListener, TcpStream};
 use std::rt::HostRuntime;
+use sync_core::BookStore;
 use vcard_text::NoMemory;
+
+/// How the program ended.
+#[derive(Clone, Copy, Debug, PartialEq, Eq)]
+pub struct ProgramExit {
+    /// The exit status: 0 for success, 1 for a refusal, 2 for invalid arguments or help, and 3 if
+    /// memory ran out, or a file, a connection or a device failed.
+    pub status: u8,
+    /// Whether standard error accepted what was reported on it, if anything was.
+    pub reported: Result<(), Stop>,
+}
 
 /// The line that reports a stop.
 fn format_stop(alloc: Global, stop: Stop) -> Result<String, NoMemory>
@@ -23,84 +40,97 @@ fn format_stop(alloc: Global, stop: Stop) -> Result<String, NoMemory>
     Ok(format!(in alloc; "{stop}\n")?)
 }
 
-/// Prints the line of a stop and returns the exit status. Without memory for the line, it prints
-/// the stop for memory instead. A failure of standard error is ignored.
-fn report_stop<E: Write>(alloc: Global, errors: &mut E, stop: Stop) -> u8
+/// Prints the line of a stop. Without memory for the line, it prints the stop for memory instead.
+fn report_stop<E: Write>(alloc: Global, errors: &mut E, stop: Stop) -> ProgramExit
     ensures { ReportsStop stop (E.contents errors.old) (E.contents errors.new) result }
 {
     match format_stop(alloc, stop) {
-        Ok(line) => {
-            let _reported = write_out(errors, line.as_bytes());
-            stop.status()
-        }
-        Err(NoMemory) => {
-            let _reported = write_out(errors, b"fault no-memory 20\n");
-            Stop::out_of_memory().status()
-        }
+        Ok(line) => ProgramExit {
+            reported: write_out(errors, line.as_bytes()),
+            status: stop.status(),
+        },
+        Err(NoMemory) => ProgramExit {
+            reported: write_out(errors, b"fault no-memory 20\n"),
+            status: Stop::out_of_memory().status(),
+        },
     }
 }
 
-/// Reports the stop, if any, and returns the exit status.
-fn report_result<E: Write>(alloc: Global, errors: &mut E, done: Result<(), Stop>) -> u8
+/// Reports the stop, if any.
+fn report_result<E: Write>(alloc: Global, errors: &mut E, done: Result<(), Stop>) -> ProgramExit
     ensures { ReportsResult done (E.contents errors.old) (E.contents errors.new) result }
 {
     match done {
-        Ok(()) => 0,
+        Ok(()) => ProgramExit {
+            reported: Ok(()),
+            status: 0,
+        },
         Err(stop) => report_stop(alloc, errors, stop),
     }
 }
 
-/// Prints the text for invalid arguments or for help, and returns the exit status 2.
-fn report_bad_arguments<E: Write>(errors: &mut E, text: &str) -> u8
+/// Prints the text for invalid arguments or for help.
+fn report_bad_arguments<E: Write>(errors: &mut E, text: &str) -> ProgramExit
     ensures { ReportsBadArguments text.now (E.contents errors.old) (E.contents errors.new) result }
 {
-    let _reported = write_out(errors, text.as_bytes());
-    2
+    ProgramExit {
+        reported: write_out(errors, text.as_bytes()),
+        status: 2,
+    }
 }
 
-/// Runs the order `try`, reports a stop, and returns the exit status.
+/// Runs the order `try`, and reports a stop.
 fn run_try_order<R: Read, W: Write, E: Write>(
     alloc: Global,
     reader: &mut R,
     writer: &mut W,
     errors: &mut E,
-) -> u8
-    ensures { IfSome (R.remaining reader.old) (λ input.
+) -> ProgramExit
+    ensures ends { IfSome (R.remaining reader.old) (λ input.
         IsTryDone input (W.contents writer.old) (W.contents writer.new) (E.contents errors.old)
         (E.contents errors.new) result
         ⊎ IsTryStopped input (W.contents writer.old) (W.contents writer.new)
         (E.contents errors.old) (E.contents errors.new) result) }
+    ensures at_most { ReadsAtMost read_octets_max
+        (R.remaining reader.old) (R.remaining reader.new) }
 {
     let done = run_try(alloc, reader, writer);
     report_result(alloc, errors, done)
 }
 
-/// Runs another order, reports a stop, and returns the exit status.
-fn run_other_order<W: Write, E: Write>(
-    rt: &HostRuntime,
+/// Runs another order, and reports a stop.
+fn run_other_order<S: BookStore + Drop, L: Listener + Drop, M: Host<S, L>, W: Write, E: Write>(
+    alloc: Global,
+    host: &mut M,
     order: Order,
     writer: &mut W,
     errors: &mut E,
-) -> u8
-    ensures { IsOrderDone order (W.contents writer.old) (W.contents writer.new)
-        (E.contents errors.old) (E.contents errors.new) result
-        ⊎ IsOrderStopped (W.contents writer.old) (W.contents writer.new) (E.contents errors.old)
-        (E.contents errors.new) result }
+) -> ProgramExit
+    ensures { LogsCalls M.calls host.old host.new
+        (EndsOrder S.model L.Stream.model L.coming order
+        (W.contents writer.old) (W.contents writer.new)
+        (E.contents errors.old) (E.contents errors.new) result) }
 {
-    let done = run_order(rt, order, writer);
-    report_result(rt.alloc(), errors, done)
+    let done = run_on_host(alloc, host, order, writer);
+    report_result(alloc, errors, done)
 }
 
-/// Runs an order, reports errors on standard error, and returns the exit status: 0 for success, 1
-/// for a refusal, 2 for invalid arguments or help, and 3 if memory ran out, or a file, a
-/// connection or a device failed.
-pub fn run<R: Read, W: Write, E: Write>(
-    rt: &HostRuntime,
+/// Runs an order on a host, and reports errors on standard error.
+pub fn run_and_report<
+    S: BookStore + Drop,
+    L: Listener + Drop,
+    M: Host<S, L>,
+    R: Read,
+    W: Write,
+    E: Write,
+>(
+    alloc: Global,
+    host: &mut M,
     order: Result<Order, LineFault>,
     reader: &mut R,
     writer: &mut W,
     errors: &mut E,
-) -> u8
+) -> ProgramExit
     // The output for the input is printed and nothing is reported, or the stop is reported.
     ensures try_order { order ≡ Ok TheOrder.Try → IfSome (R.remaining reader.old) (λ input.
         IsTryDone input (W.contents writer.old) (W.contents writer.new) (E.contents errors.old)
@@ -108,27 +138,73 @@ pub fn run<R: Read, W: Write, E: Write>(
         ⊎ IsTryStopped input (W.contents writer.old) (W.contents writer.new)
         (E.contents errors.old) (E.contents errors.new) result) }
 
-    // The output of another order is printed and nothing is reported, or the stop is reported.
-    ensures other_order { (other : TheOrder) → order ≡ Ok other → other ≢ TheOrder.Try →
-        IsOrderDone other (W.contents writer.old) (W.contents writer.new) (E.contents errors.old)
-        (E.contents errors.new) result
-        ⊎ IsOrderStopped (W.contents writer.old) (W.contents writer.new) (E.contents errors.old)
-        (E.contents errors.new) result }
+    // `try` reads no more than a prefix of its input, and calls no host.
+    ensures at_most { order ≡ Ok TheOrder.Try →
+        ReadsAtMost read_octets_max (R.remaining reader.old) (R.remaining reader.new)
+        × (host.new ≡ host.old) }
 
-    // For invalid arguments it reports the text, and reads and writes nothing.
+    // The output of another order is printed and nothing is reported, or the stop is reported. The
+    // whole log of calls that were made of the host is that of the order.
+    ensures other_order { (other : TheOrder) → order ≡ Ok other → other ≢ TheOrder.Try →
+        LogsCalls M.calls host.old host.new
+        (EndsOrder S.model L.Stream.model L.coming other
+        (W.contents writer.old) (W.contents writer.new)
+        (E.contents errors.old) (E.contents errors.new) result) }
+
+    // Another order reads no input.
+    ensures unread { order ≢ Ok TheOrder.Try → reader.new ≡ reader.old }
+
+    // For invalid arguments it reports the text, and does nothing else.
+    ensures bad_arguments { (text : List ℕ) → order ≡ Err (TheFault.Bad text) →
+        ReportsBadArguments text (E.contents errors.old) (E.contents errors.new) result
+        × Keeps (W.contents writer.old) (W.contents writer.new)
+        × (host.new ≡ host.old) }
+
+    // If memory ran out while the arguments were read, it reports that, and does nothing else.
+    ensures memory { order ≡ Err TheFault.Memory →
+        ReportsStop out_of_memory (E.contents errors.old) (E.contents errors.new) result
+        × Keeps (W.contents writer.old) (W.contents writer.new)
+        × (host.new ≡ host.old) }
+{
+    match order {
+        Ok(Order::Try) => run_try_order(alloc, reader, writer, errors),
+        Ok(order) => run_other_order(alloc, host, order, writer, errors),
+        Err(LineFault::Bad { text }) => report_bad_arguments(errors, text.as_str()),
+        Err(LineFault::Memory) => report_stop(alloc, errors, Stop::out_of_memory()),
+    }
+}
+
+/// `run_and_report`, on the host that the program runs on.
+///
+/// No contract connects a store with a real file, or a listener with a socket. So the clause on
+/// other orders only says that there are stores and listeners with which this is the order's log.
+pub fn run<R: Read, W: Write, E: Write>(
+    rt: &HostRuntime,
+    order: Result<Order, LineFault>,
+    reader: &mut R,
+    writer: &mut W,
+    errors: &mut E,
+) -> ProgramExit
+    ensures try_order { order ≡ Ok TheOrder.Try → IfSome (R.remaining reader.old) (λ input.
+        IsTryDone input (W.contents writer.old) (W.contents writer.new) (E.contents errors.old)
+        (E.contents errors.new) result
+        ⊎ IsTryStopped input (W.contents writer.old) (W.contents writer.new)
+        (E.contents errors.old) (E.contents errors.new) result) }
+    ensures at_most { order ≡ Ok TheOrder.Try →
+        ReadsAtMost read_octets_max (R.remaining reader.old) (R.remaining reader.new) }
+    ensures other_order { (other : TheOrder) → order ≡ Ok other → other ≢ TheOrder.Try →
+        HasLog (EndsOrder ⟦<FileBooks as BookStore>⟧.model ⟦<TcpStream as Connection>⟧.model
+        ⟦<TcpListener as Listener>⟧.coming other
+        (W.contents writer.old) (W.contents writer.new)
+        (E.contents errors.old) (E.contents errors.new) result) }
+    ensures unread { order ≢ Ok TheOrder.Try → reader.new ≡ reader.old }
     ensures bad_arguments { (text : List ℕ) → order ≡ Err (TheFault.Bad text) →
         ReportsBadArguments text (E.contents errors.old) (E.contents errors.new) result
         × Keeps (W.contents writer.old) (W.contents writer.new) }
-
-    // If memory ran out while the arguments were read, it reports that.
     ensures memory { order ≡ Err TheFault.Memory →
         ReportsStop out_of_memory (E.contents errors.old) (E.contents errors.new) result
         × Keeps (W.contents writer.old) (W.contents writer.new) }
 {
-    match order {
-        Ok(Order::Try) => run_try_order(rt.alloc(), reader, writer, errors),
-        Ok(order) => run_other_order(rt, order, writer, errors),
-        Err(LineFault::Bad { text }) => report_bad_arguments(errors, text.as_str()),
-        Err(LineFault::Memory) => report_stop(rt.alloc(), errors, Stop::out_of_memory()),
-    }
+    let mut host = *rt;
+    run_and_report(rt.alloc(), &mut host, order, reader, writer, errors)
 }

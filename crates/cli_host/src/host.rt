@@ -1,14 +1,18 @@
 //! The trait of hosts: the files and ports that orders use.
-ghost use Rattle.std.specs.Prelude.{◌≡◌, ◌⊎◌, IfErr, IfOk};
-ghost use Rattle.cli_host.specs.Hosts.{HostEffects};
+ghost use Rattle.std.specs.Prelude.{◌≡◌, ◌≢◌, ◌⊎◌, IfErr, IfOk, IfSome, OnErr};
+ghost use Rattle.cli_host.specs.Hosts.{HostCall, Creates, Opens, Migrates, ReadsRows, Binds};
+ghost use Rattle.cli_host.specs.Hosts.{loopback_ip, standard_limits};
+ghost use Rattle.std.specs.Net.Socket.{socket_ip, socket_port};
 ghost use Rattle.cli_orders.specs.Stops.{out_of_memory};
 
+use base_types::Items;
 use book_store::{FileBooks, OpenFault, SqlStore};
 use cli_orders::{Stop, read_rows_of};
 use std::alloc::Global;
-use std::fs;
-use std::net::{Ipv4Addr, SocketAddr, TcpListener};
+use std::io::Read;
+use std::net::{IpAddr, Ipv4Addr, SocketAddr, TcpListener};
 use std::rt::HostRuntime;
+use std::{fs, io};
 use store_migration::migrate;
 use sync_core::Limits;
 
@@ -16,64 +20,94 @@ use sync_core::Limits;
 /// and a listener `L` accepts the connections to a port.
 ///
 /// The contracts of the real host say neither what a file holds nor who connects to a port. The
-/// contracts over any host say which of its files and ports an order uses, and one body runs orders
-/// on all hosts.
+/// contracts over any host say which calls are made of it, and one body runs orders on all hosts.
 pub trait Host<S, L> {
-    /// The possible results of using files and ports, by their names.
-    ghost effects: { Self → HostEffects S L };
+    /// What is known of a call: its result, and the host before and after it.
+    ghost calls: { HostCall S L → Self → Self → Type 0 };
 
     /// Creates a new store without books in the file.
-    fn create(&self, file: &str) -> Result<S, OpenFault>
-        ensures made { (effects self.now).makes file.now result };
+    fn create(&mut self, file: &str) -> Result<S, OpenFault>
+        ensures { calls (Creates file.now result) self.old self.new };
 
     /// Opens the store of the books in the file.
-    fn open(&self, file: &str) -> Result<S, OpenFault>
-        ensures opened { (effects self.now).opens file.now result };
+    fn open(&mut self, file: &str) -> Result<S, OpenFault>
+        ensures { calls (Opens file.now result) self.old self.new };
 
     /// Migrates the file to the current schema, and returns its number of books.
-    fn migrate_file(&self, file: &str) -> Result<u64, OpenFault>
-        ensures migrated { (effects self.now).migrates file.now result };
+    fn migrate_file(&mut self, file: &str) -> Result<u64, OpenFault>
+        ensures { calls (Migrates file.now result) self.old self.new };
 
-    /// Reads a file of rows. `Device` if it can't be read or has more than 8,388,608 octets.
-    fn read_rows(&self, alloc: Global, file: &str) -> Result<Vec<u8>, Stop>
-        ensures whole { IfOk result (λ rows. (effects self.now).holds file.now rows.items) }
+    /// Reads a file of rows. `Device` if it can't be read or has more than 8,388,608 octets, and
+    /// `Memory` if the buffer can't be allocated.
+    fn read_rows(&mut self, alloc: Global, file: &str) -> Result<Items<u8>, Stop>
+        ensures called { calls (ReadsRows file.now result) self.old self.new }
         ensures stop { IfErr result (λ stop. (stop ≡ out_of_memory) ⊎ (stop ≡ Stop.Device)) };
 
     /// Binds a listener to the port, or to any free port for 0, and returns it with its port.
     /// `Device` if this fails.
-    fn listen(&self, port: u16) -> Result<(L, u16), Stop>
-        ensures bound { IfOk result (λ bound. (effects self.now).binds port bound.0 bound.1) }
+    fn listen(&mut self, port: u16) -> Result<(L, u16), Stop>
+        ensures called { calls (Binds port result) self.old self.new }
+        ensures port { IfOk result (λ bound. port ≢ 0 → bound.1 ≡ port) }
         ensures stop { IfErr result (λ stop. stop ≡ Stop.Device) };
+}
+
+/// The socket address of the port at 127.0.0.1, which only programs of this host can connect to.
+fn loopback(port: u16) -> SocketAddr
+    ensures ip { socket_ip result ≡ loopback_ip }
+    ensures port { socket_port result ≡ port }
+{
+    SocketAddr::new(IpAddr::V4(Ipv4Addr::LOCALHOST), port)
+}
+
+/// The limits of the stores that the program creates and opens.
+fn limits() -> Limits
+    ensures { result ≡ standard_limits }
+{
+    Limits::standard()
+}
+
+/// All octets of a file of rows that was opened, or that couldn't be.
+fn rows_from<R: Read + Drop>(alloc: Global, opened: io::Result<R>) -> Result<Items<u8>, Stop>
+    ensures whole { IfOk opened (λ reader. IfOk result (λ rows.
+        IfSome (R.remaining reader) (λ octets. rows ≡ octets))) }
+    ensures unopened { OnErr opened (result ≡ Err Stop.Device) }
+    ensures stop { IfErr result (λ stop. (stop ≡ out_of_memory) ⊎ (stop ≡ Stop.Device)) }
+{
+    let Ok(mut reader) = opened else {
+        return Err(Stop::Device);
+    };
+    let rows = read_rows_of(alloc, &mut reader)?;
+    Ok(Items::from_vec(rows))
 }
 
 /// The host that the program runs on.
 impl Host<FileBooks, TcpListener> for HostRuntime {
-    ghost use Rattle.cli_host.specs.Hosts.{only_ports_known};
+    ghost use Rattle.cli_host.specs.Hosts.{IsAnyCall};
 
-    ghost effects = { λ _. only_ports_known };
+    ghost calls = { IsAnyCall };
 
-    fn create(&self, file: &str) -> Result<FileBooks, OpenFault> {
-        SqlStore::create(self, file, Limits::standard())
+    fn create(&mut self, file: &str) -> Result<FileBooks, OpenFault>
+        ensures limits { IfOk result (λ store. store.limits ≡ standard_limits) }
+    {
+        SqlStore::create(self, file, limits())
     }
 
-    fn open(&self, file: &str) -> Result<FileBooks, OpenFault> {
-        SqlStore::open(self, file, Limits::standard())
+    fn open(&mut self, file: &str) -> Result<FileBooks, OpenFault>
+        ensures limits { IfOk result (λ store. store.limits ≡ standard_limits) }
+    {
+        SqlStore::open(self, file, limits())
     }
 
-    fn migrate_file(&self, file: &str) -> Result<u64, OpenFault> {
+    fn migrate_file(&mut self, file: &str) -> Result<u64, OpenFault> {
         migrate(self, file)
     }
 
-    fn read_rows(&self, alloc: Global, file: &str) -> Result<Vec<u8>, Stop> {
-        let Ok(mut opened) = fs::open(self, file) else {
-            return Err(Stop::Device);
-        };
-        read_rows_of(alloc, &mut opened)
+    fn read_rows(&mut self, alloc: Global, file: &str) -> Result<Items<u8>, Stop> {
+        rows_from(alloc, fs::open(self, file))
     }
 
-    fn listen(&self, port: u16) -> Result<(TcpListener, u16), Stop> {
-        let address = SocketAddr::from((Ipv4Addr::LOCALHOST, port));
-        let Ok(listener) = TcpListener::bind(self, address) else {
+    fn listen(&mut self, port: u16) -> Result<(TcpListener, u16), Stop> {
+        let Ok(listener) = TcpListener::bind(self, loopback(port)) else {
             return Err(Stop::Device);
         };
         if port != 0 {

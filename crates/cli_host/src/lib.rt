@@ -8,7 +8,7 @@ mod running;
 mod work;
 
 pub use args::read_args;
-pub use exit::run;
+pub use exit::{ProgramExit, run, run_and_report};
 pub use host::Host;
 pub use running::{run_on_host, run_order};
 pub use work::{StoreWork, Work, work_of};

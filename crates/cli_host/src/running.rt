@@ -1,6 +1,6 @@
 //! Runs orders on a host.
 ghost use Rattle.std.specs.Prelude.{◌⊎◌, IfErr, OnOk};
-ghost use Rattle.cli_host.specs.PrintedOutputs.{PrintsOrder};
+ghost use Rattle.cli_host.specs.Hosts.{HasLog, LogsCalls};
 ghost use Rattle.cli_host.specs.OrdersOnHost.{DoesInFile, DoesStoreWork, DoesWork, ImportsRows};
 ghost use Rattle.cli_host.specs.OrdersOnHost.{MakesStore, MigratesFile, RunsOnHost, ServesFile};
 ghost use Rattle.cli_host.specs.OrdersOnHost.{StopsInFile, StopsMaking, StopsMigrating};
@@ -10,28 +10,30 @@ ghost use Rattle.cli_orders.specs.ReplyTexts.{KeepsOutput};
 
 use crate::host::Host;
 use crate::work::{StoreWork, Work, work_of};
-use base_types::{Items, Text};
-use book_http::{Listener, Service};
+use base_types::Text;
+use book_http::{Connection, Listener, Service};
 use book_service::Command;
+use book_store::FileBooks;
 use cli_args::Order;
 use cli_orders::{
     Stop, announce_and_serve, made_text, migrate_text, run_command, run_mirror, write_out,
 };
 use std::alloc::Global;
 use std::io::Write;
+use std::net::{TcpListener, TcpStream};
 use std::rt::HostRuntime;
 use sync_core::BookStore;
 
 /// Creates a store without books in the file, and prints `made`.
 fn run_init<S: Drop, L, M: Host<S, L>, W: Write>(
-    host: &M,
+    host: &mut M,
     file: Text,
     writer: &mut W,
 ) -> Result<(), Stop>
-    ensures done { OnOk result (MakesStore (M.effects host.now)
-        file (W.contents writer.old) (W.contents writer.new)) }
-    ensures stopped { IfErr result (λ stop. StopsMaking (M.effects host.now)
-        file stop (W.contents writer.old) (W.contents writer.new)) }
+    ensures done { OnOk result (LogsCalls M.calls host.old host.new
+        (MakesStore file (W.contents writer.old) (W.contents writer.new))) }
+    ensures stopped { IfErr result (λ stop. LogsCalls M.calls host.old host.new
+        (StopsMaking file stop (W.contents writer.old) (W.contents writer.new))) }
 {
     let _books = host.create(file.as_str())?;
     write_out(writer, made_text().as_bytes())
@@ -41,14 +43,14 @@ fn run_init<S: Drop, L, M: Host<S, L>, W: Write>(
 /// if this can't be written.
 fn run_migrate<S, L, M: Host<S, L>, W: Write>(
     alloc: Global,
-    host: &M,
+    host: &mut M,
     file: Text,
     writer: &mut W,
 ) -> Result<(), Stop>
-    ensures done { OnOk result (MigratesFile (M.effects host.now)
-        file (W.contents writer.old) (W.contents writer.new)) }
-    ensures stopped { IfErr result (λ stop. StopsMigrating (M.effects host.now)
-        file stop (W.contents writer.old) (W.contents writer.new)) }
+    ensures done { OnOk result (LogsCalls M.calls host.old host.new
+        (MigratesFile file (W.contents writer.old) (W.contents writer.new))) }
+    ensures stopped { IfErr result (λ stop. LogsCalls M.calls host.old host.new
+        (StopsMigrating file stop (W.contents writer.old) (W.contents writer.new))) }
 {
     let books = host.migrate_file(file.as_str())?;
     let text = migrate_text(alloc, books)?;
@@ -58,18 +60,18 @@ fn run_migrate<S, L, M: Host<S, L>, W: Write>(
 /// Serves the books in the file at the port. The store is opened first.
 fn run_serve<S: BookStore + Drop, L: Listener + Drop, M: Host<S, L>, W: Write>(
     alloc: Global,
-    host: &M,
+    host: &mut M,
     file: Text,
     port: u16,
     connections: u64,
     writer: &mut W,
 ) -> Result<(), Stop>
-    ensures done { OnOk result (ServesFile S.model
-        L.Stream.model L.coming (M.effects host.now)
-        file port connections (W.contents writer.old) (W.contents writer.new)) }
-    ensures stopped { IfErr result (λ stop. StopsServe S.model
-        L.Stream.model L.coming (M.effects host.now)
-        file port connections stop (W.contents writer.old) (W.contents writer.new)) }
+    ensures done { OnOk result (LogsCalls M.calls host.old host.new
+        (ServesFile S.model L.Stream.model L.coming file port connections
+        (W.contents writer.old) (W.contents writer.new))) }
+    ensures stopped { IfErr result (λ stop. LogsCalls M.calls host.old host.new
+        (StopsServe S.model L.Stream.model L.coming file port connections stop
+        (W.contents writer.old) (W.contents writer.new))) }
 {
     let store = host.open(file.as_str())?;
     let (listener, port) = host.listen(port)?;
@@ -80,24 +82,23 @@ fn run_serve<S: BookStore + Drop, L: Listener + Drop, M: Host<S, L>, W: Write>(
 /// Imports a file of rows into a book of the store, and prints the counts.
 fn import_rows<S: BookStore, L, M: Host<S, L>, W: Write>(
     alloc: Global,
-    host: &M,
+    host: &mut M,
     store: &mut S,
     book: Text,
     key: Text,
     csv: &str,
     writer: &mut W,
 ) -> Result<(), Stop>
-    ensures done { OnOk result (ImportsRows S.model (M.effects host.now)
-        store.old book key csv.now (W.contents writer.old) (W.contents writer.new) store.new) }
-    ensures stopped { IfErr result (λ stop.
-        StopsReadingRows S.model (M.effects host.now)
-        store.old stop (W.contents writer.old) (W.contents writer.new) store.new
-        ⊎ StopsOnImport S.model (M.effects host.now)
-        store.old book key csv.now stop
-        (W.contents writer.old) (W.contents writer.new) store.new) }
+    ensures done { OnOk result (LogsCalls M.calls host.old host.new
+        (ImportsRows S.model store.old book key csv.now
+        (W.contents writer.old) (W.contents writer.new) store.new)) }
+    ensures stopped { IfErr result (λ stop. LogsCalls M.calls host.old host.new (λ log.
+        StopsReadingRows S.model store.old csv.now stop
+        (W.contents writer.old) (W.contents writer.new) store.new log
+        ⊎ StopsOnImport S.model store.old book key csv.now stop
+        (W.contents writer.old) (W.contents writer.new) store.new log)) }
 {
-    let rows = host.read_rows(alloc, csv)?;
-    let body = Items::from_vec(rows);
+    let body = host.read_rows(alloc, csv)?;
     let command = Command::Import { book, key, body };
     run_command(alloc, store, &command, writer)
 }
@@ -105,15 +106,17 @@ fn import_rows<S: BookStore, L, M: Host<S, L>, W: Write>(
 /// Does an order's work on a store, and prints the result.
 fn do_store_work<S: BookStore, L, M: Host<S, L>, W: Write>(
     alloc: Global,
-    host: &M,
+    host: &mut M,
     store: &mut S,
     work: StoreWork,
     writer: &mut W,
 ) -> Result<(), Stop>
-    ensures done { OnOk result (DoesStoreWork S.model (M.effects host.now)
-        store.old work (W.contents writer.old) (W.contents writer.new) store.new) }
-    ensures stopped { IfErr result (λ stop. StopsStoreWork S.model (M.effects host.now)
-        store.old work stop (W.contents writer.old) (W.contents writer.new) store.new) }
+    ensures done { OnOk result (LogsCalls M.calls host.old host.new
+        (DoesStoreWork S.model store.old work
+        (W.contents writer.old) (W.contents writer.new) store.new)) }
+    ensures stopped { IfErr result (λ stop. LogsCalls M.calls host.old host.new
+        (StopsStoreWork S.model store.old work stop
+        (W.contents writer.old) (W.contents writer.new) store.new)) }
 {
     match work {
         StoreWork::Perform(command) => run_command(alloc, store, &command, writer),
@@ -129,15 +132,15 @@ fn do_store_work<S: BookStore, L, M: Host<S, L>, W: Write>(
 /// Does an order's work on the store in the file, which is opened first.
 fn use_file<S: BookStore + Drop, L, M: Host<S, L>, W: Write>(
     alloc: Global,
-    host: &M,
+    host: &mut M,
     file: Text,
     work: StoreWork,
     writer: &mut W,
 ) -> Result<(), Stop>
-    ensures done { OnOk result (DoesInFile S.model (M.effects host.now)
-        file work (W.contents writer.old) (W.contents writer.new)) }
-    ensures stopped { IfErr result (λ stop. StopsInFile S.model (M.effects host.now)
-        file work stop (W.contents writer.old) (W.contents writer.new)) }
+    ensures done { OnOk result (LogsCalls M.calls host.old host.new
+        (DoesInFile S.model file work (W.contents writer.old) (W.contents writer.new))) }
+    ensures stopped { IfErr result (λ stop. LogsCalls M.calls host.old host.new
+        (StopsInFile S.model file work stop (W.contents writer.old) (W.contents writer.new))) }
 {
     let mut store = host.open(file.as_str())?;
     do_store_work(alloc, host, &mut store, work, writer)
@@ -146,15 +149,16 @@ fn use_file<S: BookStore + Drop, L, M: Host<S, L>, W: Write>(
 /// Does an order's work on a host, and prints its output.
 fn do_work<S: BookStore + Drop, L: Listener + Drop, M: Host<S, L>, W: Write>(
     alloc: Global,
-    host: &M,
+    host: &mut M,
     work: Work,
     writer: &mut W,
 ) -> Result<(), Stop>
-    ensures done { OnOk result (DoesWork S.model L.Stream.model L.coming (M.effects host.now)
-        work (W.contents writer.old) (W.contents writer.new)) }
-    ensures stopped { IfErr result (λ stop.
-        StopsWork S.model L.Stream.model L.coming (M.effects host.now)
-        work stop (W.contents writer.old) (W.contents writer.new)) }
+    ensures done { OnOk result (LogsCalls M.calls host.old host.new
+        (DoesWork S.model L.Stream.model L.coming work
+        (W.contents writer.old) (W.contents writer.new))) }
+    ensures stopped { IfErr result (λ stop. LogsCalls M.calls host.old host.new
+        (StopsWork S.model L.Stream.model L.coming work stop
+        (W.contents writer.old) (W.contents writer.new))) }
 {
     match work {
         Work::Nothing => Err(Stop::Device),
@@ -179,15 +183,17 @@ fn do_work<S: BookStore + Drop, L: Listener + Drop, M: Host<S, L>, W: Write>(
 /// which needs standard input.
 pub fn run_on_host<S: BookStore + Drop, L: Listener + Drop, M: Host<S, L>, W: Write>(
     alloc: Global,
-    host: &M,
+    host: &mut M,
     order: Order,
     writer: &mut W,
 ) -> Result<(), Stop>
-    ensures done { OnOk result (RunsOnHost S.model L.Stream.model L.coming (M.effects host.now)
-        order (W.contents writer.old) (W.contents writer.new)) }
-    ensures stopped { IfErr result (λ stop.
-        StopsOnHost S.model L.Stream.model L.coming (M.effects host.now)
-        order stop (W.contents writer.old) (W.contents writer.new)) }
+    // The whole log of calls that were made of the host is that of the order.
+    ensures done { OnOk result (LogsCalls M.calls host.old host.new
+        (RunsOnHost S.model L.Stream.model L.coming order
+        (W.contents writer.old) (W.contents writer.new))) }
+    ensures stopped { IfErr result (λ stop. LogsCalls M.calls host.old host.new
+        (StopsOnHost S.model L.Stream.model L.coming order stop
+        (W.contents writer.old) (W.contents writer.new))) }
 
     // Nothing is written on a refusal, on a fault, or if the file can't be opened.
     ensures output_kept { IfErr result (λ stop.
@@ -198,13 +204,20 @@ pub fn run_on_host<S: BookStore + Drop, L: Listener + Drop, M: Host<S, L>, W: Wr
 
 /// `run_on_host`, on the host that the program runs on.
 ///
-/// No contract says which store a real file holds. What the order does to the books is the contract
-/// of `run_on_host`, which has one body for all hosts.
+/// No contract connects a store with a real file, or a listener with a socket. So the clauses only
+/// say that there are stores and listeners with which this is the order's log.
 pub fn run_order<W: Write>(rt: &HostRuntime, order: Order, writer: &mut W) -> Result<(), Stop>
-    ensures printed { OnOk result
-        (PrintsOrder order (W.contents writer.old) (W.contents writer.new)) }
+    ensures done { OnOk result (HasLog (RunsOnHost ⟦<FileBooks as BookStore>⟧.model
+        ⟦<TcpStream as Connection>⟧.model ⟦<TcpListener as Listener>⟧.coming order
+        (W.contents writer.old) (W.contents writer.new))) }
+    ensures stopped { IfErr result (λ stop. HasLog (StopsOnHost ⟦<FileBooks as BookStore>⟧.model
+        ⟦<TcpStream as Connection>⟧.model ⟦<TcpListener as Listener>⟧.coming order stop
+        (W.contents writer.old) (W.contents writer.new))) }
+
+    // Nothing is written on a refusal, on a fault, or if the file can't be opened.
     ensures output_kept { IfErr result (λ stop.
         KeepsOutput stop (W.contents writer.old) (W.contents writer.new)) }
 {
-    run_on_host(rt.alloc(), rt, order, writer)
+    let mut host = *rt;
+    run_on_host(rt.alloc(), &mut host, order, writer)
 }

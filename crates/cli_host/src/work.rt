@@ -57,7 +57,7 @@ pub enum StoreWork {
     MirrorBook {
         /// The book's name.
         book: Text,
-        /// The most entries of a page, at least 1.
+        /// The most entries of a page; with 0 the first request for a page is refused.
         limit: u64,
         /// The most pages.
         pages: u64,

@@ -1,24 +1,20 @@
 -- What an order does to a store of books, and what it prints. This project's own.
 use Rattle.std.specs.Prelude.{ℕ, List, Option}
-use Rattle.std.specs.Io.KnownBytes.{Appends}
+use Rattle.std.specs.Io.KnownBytes.{Appends, Keeps}
 use Rattle.book_http.specs.StoreCommands.{PerformsOnStore}
 use Rattle.book_model.specs.declared.denied.Denied.TheVariants.{Refused as WasRefused}
 use Rattle.sync_core.specs.StoreModels.{KeepsBooks, StoreModel}
 use Rattle.book_commands.specs.declared.command.Command.{Command}
 use Rattle.book_service.specs.declared.mirrored.Mirrored.{Mirrored}
 use Rattle.book_commands.specs.declared.reply.Reply.{Reply}
+use Rattle.book_service.specs.Faults.{IsOutOfMemoryOr}
 use Rattle.book_service.specs.Mirrors.{IsMirrorRun, IsMirrorDenied, HasExactPageCount}
-use Rattle.book_service.specs.Runs.{FromEachState, SystemState}
+use Rattle.book_service.specs.Runs.{FromEachState}
 use Rattle.cli_orders.specs.OrderOutputs.{mirror_lines}
 use Rattle.cli_orders.specs.declared.stop.Stop.{Stop}
-use Rattle.cli_orders.specs.declared.stop.Stop.TheVariants.{Refused}
-use Rattle.cli_orders.specs.ReplyTexts.{PrintsReplyText, KeepsOutput, StopsOnReply}
-
--- a mirror was refused in this state
-abbrev pub IsMirrorStop : SystemState → List ℕ → ℕ → ℕ → Stop → Type 0
-IsMirrorStop now book limit pages (Refused refusal) =
-    IsMirrorDenied now book limit pages (WasRefused refusal)
-IsMirrorStop now book limit pages stop = Unit {0}
+use Rattle.cli_orders.specs.declared.stop.Stop.TheVariants.{Refused, Fault, Open, Serve, Device}
+use Rattle.cli_orders.specs.ReplyTexts.{PrintsReplyText, StopsOnReply}
+use Rattle.cli_orders.specs.Streams.{WritesPrefix}
 
 module _ {S : Type 0} (model : StoreModel S) where
   -- the command was performed, and its reply printed
@@ -46,11 +42,33 @@ module _ {S : Type 0} (model : StoreModel S) where
     pub kept : KeepsBooks model old new
     pub written : Appends before after (mirror_lines mirrored)
 
-  -- No mirror is printed. A refusal is that of the initial report. The books are unchanged, and
-  -- nothing is written unless the writer failed.
+  -- a mirror of the book was made, the writer failed, and a prefix of the mirror's text is written
+  pub record PrintsMirrorPrefix (old : S) (book : List ℕ) (limit pages : ℕ)
+      (before after : Option (List ℕ)) (new : S) : Type 0 where
+    pub mirrored : Mirrored
+    pub mirrors : FromEachState model old new (λ now.
+        IsMirrorRun now book limit pages mirrored)
+    pub few_pages : FromEachState model old new (λ now.
+        HasExactPageCount now book limit pages mirrored)
+    pub front : WritesPrefix (mirror_lines mirrored) before after
+
+  -- A refusal is that of the initial report. A fault is out of memory, or one that the store may
+  -- return. Both leave the output as it was.
+  abbrev pub IsMirrorStop : S → List ℕ → ℕ → ℕ → Option (List ℕ) → Option (List ℕ) → S → Stop
+      → Type 0
+  IsMirrorStop old book limit pages before after new (Refused refusal) =
+      FromEachState model old new (λ now.
+      IsMirrorDenied now book limit pages (WasRefused refusal))
+      × Keeps before after
+  IsMirrorStop old book limit pages before after new (Fault fault) =
+      IsOutOfMemoryOr model.may_fault fault × Keeps before after
+  IsMirrorStop old book limit pages before after new Device =
+      PrintsMirrorPrefix old book limit pages before after new
+  IsMirrorStop old book limit pages before after new (Open fault) = ⊥
+  IsMirrorStop old book limit pages before after new (Serve fault) = ⊥
+
+  -- why no mirror is printed, or only a prefix of its text; the books are unchanged
   pub record StopsMirror (old : S) (book : List ℕ) (limit pages : ℕ) (stop : Stop)
       (before after : Option (List ℕ)) (new : S) : Type 0 where
-    pub stop_is : FromEachState model old new (λ now.
-        IsMirrorStop now book limit pages stop)
     pub kept : KeepsBooks model old new
-    pub output_kept : KeepsOutput stop before after
+    pub stop_is : IsMirrorStop old book limit pages before after new stop

@@ -42,6 +42,9 @@ fn reply_text(alloc: Global, reply: Reply) -> Result<Vec<u8>, Stop>
 /// Stops with the command's refusal or fault, which leaves the books unchanged; with `Memory` if an
 /// allocation fails, possibly after the command was performed; and with `Device` if the writer
 /// fails. Changes that were made before `Memory` or `Device` remain.
+///
+/// No order has a command of another kind. Such a command is performed too, but its reply has no
+/// text: if the command succeeds, this stops with the fault `Store`, and the changes remain.
 pub fn run_command<S: BookStore, W: Write>(
     alloc: Global,
     store: &mut S,

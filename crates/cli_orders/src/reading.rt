@@ -42,7 +42,8 @@ fn fill<R: Read>(reader: &mut R, room: &mut [u8]) -> Result<usize, Stop>
     Err(Stop::Device)
 }
 
-/// Reads to the end of the input, at most `most` octets.
+/// Reads to the end of the input, at most `most` octets. The buffer of `most` octets is allocated
+/// first.
 ///
 /// `Device` if the reader fails, and `Memory` if the buffer can't be allocated.
 pub fn read_at_most<R: Read>(alloc: Global, reader: &mut R, most: usize) -> Result<Vec<u8>, Stop>

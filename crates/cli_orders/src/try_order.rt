@@ -16,6 +16,9 @@ use std::io::{Read, Write};
 /// Reads a card, puts it into an empty book, and prints the answer of the put and the book's
 /// initial report. The whole output is built before any of it is written. At most 262,145 octets
 /// are read, so that a text that is too long is refused, however long it is.
+///
+/// Stops with `BadCard` and the text's first fault if the text is no card, with `Memory` if an
+/// allocation fails, and with `Device` if the reader or the writer fails.
 pub fn run_try<R: Read, W: Write>(alloc: Global, reader: &mut R, writer: &mut W) -> Result<(), Stop>
     // The output for the input is written.
     ensures printed { OnOk result (IfSome (R.remaining reader.old)

@@ -29,7 +29,8 @@ fn put_and_report(alloc: Global, card: &Card) -> Result<FirstPath, Denied>
     ensures result_is { IfOk result (IsResultForCard card.now) }
     ensures only_memory { IfErr result (λ denied. denied ≡ denied_no_memory) }
 {
-    // These are laws and do nothing: the answers of a store by its rows are those by its histories.
+    // These are laws and do nothing. They say that the answers that a store computes from its rows
+    // are those of its histories.
     empty_stores_have_no_histories();
     create_refines_histories();
     put_refines_histories();

@@ -12,8 +12,9 @@ const WRITES_MAX: u32 = 1_000_000;
 
 /// Writes all octets, in one call if the writer accepts them all at once.
 ///
-/// `Stop::Device` if the writer fails. This is std's `write_all`, whose contract doesn't say
-/// what was written after a failure: a prefix of the octets, perhaps empty.
+/// `Stop::Device` if the writer fails; then a prefix of the octets is written, perhaps none. It
+/// does what std's `write_all` does, but the contract of that one doesn't say what is written after
+/// a failure.
 fn write_whole<W: Write>(writer: &mut W, octets: &[u8]) -> Result<(), Stop>
     ensures written { OnOk result (Appends (W.contents writer.old) (W.contents writer.new)
         octets.now) }

@@ -7,11 +7,12 @@ use cli_host::{read_args, run};
 use std::process::ExitCode;
 
 fn main(rt: HostRuntime) -> ExitCode {
-    ExitCode::from(run(
+    let exit = run(
         &rt,
         read_args(&rt),
         &mut rt.stdin(),
         &mut rt.stdout(),
         &mut rt.stderr(),
-    ))
+    );
+    ExitCode::from(exit.status)
 }

@@ -1,6 +1,7 @@
 use Rattle.std.proofs.Common.{◌≡◌, ◌∷◌, ◌++◌, [], sym, subst, refl, inr, ◌∙◌, ap, arith}
 use Rattle.std.specs.Fmt.{decimal}
-use Rattle.std.specs.Prelude.{codes}
+use Rattle.std.specs.Prelude.{codes, OnOk}
+use Rattle.std.specs.Io.KnownBytes.{Appends}
 use Rattle.std.proofs.lemmas.Fmt.{decimal_step, decimal_digit}
 use Rattle.cli_orders.specs.Streams.{WritesPrefix}
 use Rattle.cli_orders.specs.Stops.{out_of_memory, status_of}
@@ -14,6 +15,9 @@ pub returns-in-Err : goal.returns-in-Err
 returns-in-Err g c = record {
   printed_stop = out_of_memory;
   agrees = inr refl;
-  reported = subst (λ digits. WritesPrefix (codes "fault no-memory " ++ (digits ++ 10 ∷ [])) (g.E.Write.contents c.args.errors.now) (g.E.Write.contents c.write_out-reported-in-Err.new.writer)) (sym twenty) c.write_out-reported-in-Err.ensures.prefix;
+  reports = record {
+    whole = subst (λ digits. OnOk c.write_out-in-Err.result (Appends (g.E.Write.contents c.args.errors.now) (g.E.Write.contents c.write_out-in-Err.new.writer) (codes "fault no-memory " ++ (digits ++ 10 ∷ [])))) (sym twenty) c.write_out-in-Err.ensures.written;
+    front = subst (λ digits. WritesPrefix (codes "fault no-memory " ++ (digits ++ 10 ∷ [])) (g.E.Write.contents c.args.errors.now) (g.E.Write.contents c.write_out-in-Err.new.writer)) (sym twenty) c.write_out-in-Err.ensures.prefix;
+  };
   status_is = c.status-in-Err.ensures ∙ ap status_of c.out_of_memory.ensures;
 }

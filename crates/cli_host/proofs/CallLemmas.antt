@@ -1,0 +1,148 @@
+-- The calls that are made of a host, and what is done with their results.
+use Rattle.std.proofs.Common.{◌≡◌, ◌≢◌, ◌⊎◌, ℕ, List, [], ◌∷◌, Option, Result, Ok, Err, IfErr, OnOk, inl, inr, refl, subst, sym}
+use Rattle.std.specs.Io.KnownBytes.{Appends, Keeps}
+use Rattle.book_commands.specs.declared.command.Command.TheVariants.{Import as ImportRows}
+use Rattle.book_http.specs.ConnectionModels.{ConnectionModel}
+use Rattle.book_http.specs.OctetPromise.{ServiceStep}
+use Rattle.cli_orders.specs.Announcements.{AnnouncesAndServes, StopsServing}
+use Rattle.cli_orders.specs.CommandRuns.{PrintsCommand, StopsCommand}
+use Rattle.cli_orders.specs.OrderOutputs.{made_output, migrate_output}
+use Rattle.cli_orders.specs.Stops.{out_of_memory}
+use Rattle.cli_orders.specs.Streams.{WritesPrefix}
+use Rattle.cli_orders.specs.declared.stop.Stop.{Stop}
+use Rattle.cli_orders.specs.declared.stop.Stop.TheVariants.{Open, Device}
+use Rattle.cli_orders.proofs.StopLemmas.{kept_same}
+use Rattle.cli_host.specs.Hosts.{HostCall, Creates, Opens, Migrates, ReadsRows, Binds, HasLog, LogsCalls}
+use Rattle.cli_host.specs.OrdersOnHost.{DoesInFile, DoesStoreWork, ImportsRows, MakesStore, MigratesFile, ServesFile, StopsAtDevice, StopsForMemory, StopsInFile, StopsMaking, StopsMigrating, StopsOnFile, StopsOnImport, StopsOverText, StopsReadingRows, StopsServe, StopsServingFile, StopsStoreWork, StopsUnopened}
+use Rattle.cli_host.specs.declared.work.StoreWork.{StoreWork}
+use Rattle.http_replies.specs.Replies.{head_fault_octets}
+use Rattle.store_schema.specs.declared.open_fault.OpenFault.{OpenFault}
+use Rattle.sync_core.specs.StoreModels.{StoreModel}
+
+unopened : (fault : OpenFault) (w : Option (List ℕ)) → StopsUnopened fault (Open fault) w w
+unopened fault w = record { stop_is = refl; unwritten = kept_same w }
+
+module _ {S L H : Type 0} (calls : HostCall S L → H → H → Type 0) where
+  one_call : (old new : H) (call : HostCall S L) (Holds : List (HostCall S L) → Type 0) → calls call old new → Holds (call ∷ []) → LogsCalls calls old new Holds
+  one_call old new call Holds made holds = record { log = call ∷ []; made = (new, made, refl); holds = holds }
+
+  pub log_of : (old new : H) (Holds : List (HostCall S L) → Type 0) → LogsCalls calls old new Holds → HasLog Holds
+  log_of old new Holds calls_made = record { log = calls_made.log; holds = calls_made.holds }
+
+  -- ---- a new store
+
+  pub store_uncreated : (old new : H) (file : List ℕ) (fault : OpenFault) (w : Option (List ℕ)) → calls (Creates file (Err fault)) old new → LogsCalls calls old new (StopsMaking file (Open fault) w w)
+  store_uncreated old new file fault w made = one_call old new (Creates file (Err fault)) (StopsMaking file (Open fault) w w) made (inl (fault, refl, unopened fault w))
+
+  pub store_made : (result : Result (Unit {0}) Stop) (old new : H) (file : List ℕ) (store : S) (before after : Option (List ℕ)) → calls (Creates file (Ok store)) old new → OnOk result (Appends before after made_output)
+      → OnOk result (LogsCalls calls old new (MakesStore file before after))
+  store_made (Ok done) old new file store before after made printed = one_call old new (Creates file (Ok store)) (MakesStore file before after) made (record { store = store; calls = refl; printed = printed })
+  store_made (Err stop) old new file store before after made printed = tt
+
+  pub store_made_unprinted : (result : Result (Unit {0}) Stop) (old new : H) (file : List ℕ) (store : S) (before after : Option (List ℕ)) → calls (Creates file (Ok store)) old new → WritesPrefix made_output before after → IfErr result (λ stop. stop ≡ Device)
+      → IfErr result (λ stop. LogsCalls calls old new (StopsMaking file stop before after))
+  store_made_unprinted (Ok done) old new file store before after made front device = tt
+  store_made_unprinted (Err stop) old new file store before after made front device = one_call old new (Creates file (Ok store)) (StopsMaking file stop before after) made (inr (store, refl, record { stop_is = device; front = front }))
+
+  -- ---- a file of the first schema
+
+  pub file_unmigrated : (old new : H) (file : List ℕ) (fault : OpenFault) (w : Option (List ℕ)) → calls (Migrates file (Err fault)) old new → LogsCalls calls old new (StopsMigrating file (Open fault) w w)
+  file_unmigrated old new file fault w made = one_call old new (Migrates file (Err fault)) (StopsMigrating file (Open fault) w w) made (inl (fault, refl, unopened fault w))
+
+  pub migration_without_text : (old new : H) (file : List ℕ) (count : ℕ) (w : Option (List ℕ)) → calls (Migrates file (Ok count)) old new → LogsCalls calls old new (StopsMigrating file out_of_memory w w)
+  migration_without_text old new file count w made = one_call old new (Migrates file (Ok count)) (StopsMigrating file out_of_memory w w) made (inr (count, refl, inl (record { stop_is = refl; unwritten = kept_same w })))
+
+  pub file_migrated : (result : Result (Unit {0}) Stop) (old new : H) (file : List ℕ) (count : ℕ) (before after : Option (List ℕ)) → calls (Migrates file (Ok count)) old new → OnOk result (Appends before after (migrate_output count))
+      → OnOk result (LogsCalls calls old new (MigratesFile file before after))
+  file_migrated (Ok done) old new file count before after made printed = one_call old new (Migrates file (Ok count)) (MigratesFile file before after) made (record { count = count; calls = refl; printed = printed })
+  file_migrated (Err stop) old new file count before after made printed = tt
+
+  pub file_migrated_unprinted : (result : Result (Unit {0}) Stop) (old new : H) (file : List ℕ) (count : ℕ) (before after : Option (List ℕ)) → calls (Migrates file (Ok count)) old new → WritesPrefix (migrate_output count) before after → IfErr result (λ stop. stop ≡ Device)
+      → IfErr result (λ stop. LogsCalls calls old new (StopsMigrating file stop before after))
+  file_migrated_unprinted (Ok done) old new file count before after made front device = tt
+  file_migrated_unprinted (Err stop) old new file count before after made front device =
+      one_call old new (Migrates file (Ok count)) (StopsMigrating file stop before after) made (inr (count, refl, inr (record { stop_is = device; front = front })))
+
+-- ---- stores
+
+module _ {S L H : Type 0} (model : StoreModel S) (calls : HostCall S L → H → H → Type 0) where
+  abbrev StopsImport : S → List ℕ → List ℕ → List ℕ → Stop → Option (List ℕ) → Option (List ℕ) → S → List (HostCall S L) → Type 0
+  StopsImport old book key csv stop before after new log = StopsReadingRows model old csv stop before after new log ⊎ StopsOnImport model old book key csv stop before after new log
+
+  pub rows_unread : (host_old host_new : H) (old : S) (book key csv : List ℕ) (stop : Stop) (w : Option (List ℕ)) → calls (ReadsRows csv (Err stop)) host_old host_new → (stop ≡ out_of_memory) ⊎ (stop ≡ Device)
+      → LogsCalls calls host_old host_new (StopsImport old book key csv stop w w old)
+  rows_unread host_old host_new old book key csv stop w made stop_is =
+      one_call calls host_old host_new (ReadsRows csv (Err stop)) (StopsImport old book key csv stop w w old) made (inl (record { calls = refl; unchanged = refl; unwritten = kept_same w; stop_is = stop_is }))
+
+  pub rows_file_imported : (result : Result (Unit {0}) Stop) (host_old host_new : H) (old new : S) (book key csv rows : List ℕ) (before after : Option (List ℕ)) → calls (ReadsRows csv (Ok rows)) host_old host_new
+      → OnOk result (PrintsCommand model old (ImportRows book key rows) before after new) → OnOk result (LogsCalls calls host_old host_new (ImportsRows model old book key csv before after new))
+  rows_file_imported (Ok done) host_old host_new old new book key csv rows before after made prints = one_call calls host_old host_new (ReadsRows csv (Ok rows)) (ImportsRows model old book key csv before after new) made (record { rows = rows; calls = refl; prints = prints })
+  rows_file_imported (Err stop) host_old host_new old new book key csv rows before after made prints = tt
+
+  pub rows_file_unimported : (result : Result (Unit {0}) Stop) (host_old host_new : H) (old new : S) (book key csv rows : List ℕ) (before after : Option (List ℕ)) → calls (ReadsRows csv (Ok rows)) host_old host_new
+      → IfErr result (λ stop. StopsCommand model old (ImportRows book key rows) stop before after new) → IfErr result (λ stop. LogsCalls calls host_old host_new (StopsImport old book key csv stop before after new))
+  rows_file_unimported (Ok done) host_old host_new old new book key csv rows before after made stops = tt
+  rows_file_unimported (Err stop) host_old host_new old new book key csv rows before after made stops =
+      one_call calls host_old host_new (ReadsRows csv (Ok rows)) (StopsImport old book key csv stop before after new) made (inr (record { rows = rows; calls = refl; stops = stops }))
+
+  -- ---- the store in a file
+
+  pub file_unopened : (old new : H) (file : List ℕ) (work : StoreWork) (fault : OpenFault) (w : Option (List ℕ)) → calls (Opens file (Err fault)) old new → LogsCalls calls old new (StopsInFile model file work (Open fault) w w)
+  file_unopened old new file work fault w made = one_call calls old new (Opens file (Err fault)) (StopsInFile model file work (Open fault) w w) made (inl (fault, refl, unopened fault w))
+
+  pub file_used : (result : Result (Unit {0}) Stop) (old opened new : H) (file : List ℕ) (work : StoreWork) (store store_after : S) (before after : Option (List ℕ)) → calls (Opens file (Ok store)) old opened
+      → OnOk result (LogsCalls calls opened new (DoesStoreWork model store work before after store_after)) → OnOk result (LogsCalls calls old new (DoesInFile model file work before after))
+  file_used (Ok done) old opened new file work store store_after before after made does = record {
+    log = Opens file (Ok store) ∷ does.log;
+    made = (opened, made, does.made);
+    holds = record { store = store; later = does.log; calls = refl; store_after = store_after; does = does.holds };
+  }
+  file_used (Err stop) old opened new file work store store_after before after made does = tt
+
+  pub file_stopped : (result : Result (Unit {0}) Stop) (old opened new : H) (file : List ℕ) (work : StoreWork) (store store_after : S) (before after : Option (List ℕ)) → calls (Opens file (Ok store)) old opened
+      → IfErr result (λ stop. LogsCalls calls opened new (StopsStoreWork model store work stop before after store_after)) → IfErr result (λ stop. LogsCalls calls old new (StopsInFile model file work stop before after))
+  file_stopped (Ok done) old opened new file work store store_after before after made stops = tt
+  file_stopped (Err stop) old opened new file work store store_after before after made stops = record {
+    log = Opens file (Ok store) ∷ stops.log;
+    made = (opened, made, stops.made);
+    holds = inr (record { store = store; later = stops.log; calls = refl; store_after = store_after; stops = stops.holds });
+  }
+
+-- ---- serving
+
+module _ {S Connection L H : Type 0} (model : StoreModel S)
+    (stream : ConnectionModel Connection) (coming : L → Option (List (Option Connection))) (calls : HostCall S L → H → H → Type 0) where
+  pub serve_unopened : (old new : H) (file : List ℕ) (requested connections : ℕ) (fault : OpenFault) (w : Option (List ℕ)) → calls (Opens file (Err fault)) old new
+      → LogsCalls calls old new (StopsServe model stream coming file requested connections (Open fault) w w)
+  serve_unopened old new file requested connections fault w made =
+      one_call calls old new (Opens file (Err fault)) (StopsServe model stream coming file requested connections (Open fault) w w) made (inl (fault, refl, unopened fault w))
+
+  pub serve_unbound : (old opened new : H) (file : List ℕ) (requested connections : ℕ) (store : S) (stop : Stop) (w : Option (List ℕ)) → calls (Opens file (Ok store)) old opened → calls (Binds requested (Err stop)) opened new → stop ≡ Device
+      → LogsCalls calls old new (StopsServe model stream coming file requested connections stop w w)
+  serve_unbound old opened new file requested connections store stop w made binds stop_is = record {
+    log = Opens file (Ok store) ∷ Binds requested (Err stop) ∷ [];
+    made = (opened, made, (new, binds, refl));
+    holds = inr (inl (store, refl, record { stop_is = stop_is; unwritten = kept_same w }));
+  }
+
+  pub file_served : (result : Result (Unit {0}) Stop) (old opened new : H) (file : List ℕ) (requested port connections : ℕ) (store store_after : S) (listener : L) (before after : Option (List ℕ))
+      → calls (Opens file (Ok store)) old opened → calls (Binds requested (Ok (listener, port))) opened new → (requested ≢ 0 → port ≡ requested)
+      → OnOk result (AnnouncesAndServes (ServiceStep model) head_fault_octets stream port connections (coming listener) (record { store = store }) before after (record { store = store_after }))
+      → OnOk result (LogsCalls calls old new (ServesFile model stream coming file requested connections before after))
+  file_served (Ok done) old opened new file requested port connections store store_after listener before after made binds is_requested announces = record {
+    log = Opens file (Ok store) ∷ Binds requested (Ok (listener, port)) ∷ [];
+    made = (opened, made, (new, binds, refl));
+    holds = record { store = store; listener = listener; port = port; calls = refl; is_requested = is_requested; store_after = store_after; announces = announces };
+  }
+  file_served (Err stop) old opened new file requested port connections store store_after listener before after made binds is_requested announces = tt
+
+  pub file_unserved : (result : Result (Unit {0}) Stop) (old opened new : H) (file : List ℕ) (requested port connections : ℕ) (store store_after : S) (listener : L) (before after : Option (List ℕ))
+      → calls (Opens file (Ok store)) old opened → calls (Binds requested (Ok (listener, port))) opened new → (requested ≢ 0 → port ≡ requested)
+      → IfErr result (λ stop. StopsServing (ServiceStep model) head_fault_octets stream port connections (coming listener) (record { store = store }) before after stop (record { store = store_after }))
+      → IfErr result (λ stop. LogsCalls calls old new (StopsServe model stream coming file requested connections stop before after))
+  file_unserved (Ok done) old opened new file requested port connections store store_after listener before after made binds is_requested stops = tt
+  file_unserved (Err stop) old opened new file requested port connections store store_after listener before after made binds is_requested stops = record {
+    log = Opens file (Ok store) ∷ Binds requested (Ok (listener, port)) ∷ [];
+    made = (opened, made, (new, binds, refl));
+    holds = inr (inr (record { store = store; listener = listener; port = port; calls = refl; is_requested = is_requested; store_after = store_after; stops = stops }));
+  }

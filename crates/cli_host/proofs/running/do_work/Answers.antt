@@ -1,0 +1,4 @@
+use Rattle.cli_host.proofs.running.do_work.Goals as goal
+
+pub returns-in-ServeFile-clause-stopped : goal.returns-in-ServeFile-clause-stopped
+returns-in-ServeFile-clause-stopped g c = rw c.in-ServeFile.is c.run_serve.ensures.stopped
