@@ -9,26 +9,26 @@ HERE = pathlib.Path(__file__).resolve().parent
 TITLE = re.compile(rb"^######## ([a-z]+)\n", re.MULTILINE)
 
 
-def told_parts():
+def expected_parts():
     """The expected output of each part, by name, in their order."""
     pieces = TITLE.split((HERE / "stdout").read_bytes())[1:]
-    return {name.decode(): told[:-1] for name, told in zip(pieces[::2], pieces[1::2])}
+    return {name.decode(): output[:-1] for name, output in zip(pieces[::2], pieces[1::2])}
 
 
 def rows(part):
     return (HERE / "data" / part).read_bytes()
 
 
-def told(part):
-    return told_parts()[part]
+def expected(part):
+    return expected_parts()[part]
 
 
 def write_rows(part, octets):
     (HERE / "data" / part).write_bytes(octets)
 
 
-def write_told(part, octets):
-    parts = {**told_parts(), part: octets}
+def write_expected(part, octets):
+    parts = {**expected_parts(), part: octets}
     whole = b"".join(b"######## %s\n%s\n" % (name.encode(), octets) for name, octets in parts.items())
     (HERE / "stdout").write_bytes(whole)
 
@@ -37,7 +37,7 @@ def count_rows():
     for part in ("cards", "formats"):
         lines = rows(part).decode().split("\n")
         count = sum(1 for line in lines if line and not line.startswith("#"))
-        write_told(part, b"%d rows\n" % count)
+        write_expected(part, b"%d rows\n" % count)
 
 
 if __name__ == "__main__":

@@ -1,7 +1,7 @@
-"""Expands groups a second time, in a plain way: by passes over all cards, as many as there are cards.
+"""Expands groups a second time, in a simple way: by one pass over all cards for each card.
 
-Prints each difference from the rows `people` of the list, each group of a shape that has no row, and the number of
-rows. Run it by hand after a change of these rows."""
+Prints each difference from the rows `people` of the list, each group of a shape that has no row,
+and the number of rows. Run it by hand after a change of these rows."""
 import re
 from pathlib import Path
 
@@ -48,7 +48,7 @@ def listed(texts):
     return "".join(f" {text}" for text in texts)
 
 
-def told(cards, group):
+def people_line(cards, group):
     if group not in cards:
         return "no card has the UID"
     if cards[group][0] != "group":
@@ -63,7 +63,7 @@ def main():
         call, given, wanted = (line.split("\t") + ["", ""])[:3]
         if call == "people":
             group, shape = spelled(given).split("|")
-            found = told(cards_of(shape), group)
+            found = people_line(cards_of(shape), group)
             shapes.add(shape)
             asked.add((group, shape))
             count += 1

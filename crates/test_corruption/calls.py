@@ -101,9 +101,9 @@ class Reader:
 
     def tally(self):
         book = self.find("staff")
-        numbers = [book["number"], book["horizon"], book["cards"]]
-        numbers += [book[reason] for reason in NUMBERS[2:]] + [self.remembered(book)]
-        return "tally " + " ".join(map(str, numbers))
+        names = sorted(["cards", "remembered", *NUMBERS])
+        numbers = {**book, "remembered": self.remembered(book)}
+        return "tally " + " ".join(str(numbers[name]) for name in names)
 
     def report(self, token=None):
         """The initial report, or one since the token, which is the book's id and two numbers."""
@@ -115,12 +115,12 @@ class Reader:
             refuse(10)
         rows = self.tables.due(own, at, base)
         assert len(rows) <= PAGE_MAX
-        told = f"page {own}/{book['number']}/{book['number']}"
+        page = f"page {own}/{book['number']}/{book['number']}"
         for uid, changed, card in rows:
             uid, spelled = text(uid), card_of(card)
-            told += f", {uid} gone" if card is None else \
+            page += f", {uid} gone" if card is None else \
                 f", {uid} {changed} {uid_of(spelled)}"
-        return told
+        return page
 
 
 class Writer(Reader):

@@ -69,7 +69,7 @@ def main():
         given.append(f"{label}\t{statements}\n")
         wanted.append(f"{label}:{answers(statements)}\n")
     parts.write_rows("damage", "".join(given).encode())
-    parts.write_told("damage", "".join(wanted).encode())
+    parts.write_expected("damage", "".join(wanted).encode())
 
 
 main()

@@ -270,18 +270,18 @@ def command_of(line):
     return kind, *(READ[it](word) for it, word in zip(kinds, words))
 
 
-def see_that_all_come(commands, told):
+def see_that_all_come(commands, answers):
     """Tests that each refusal, each cause of a refused token and each kind of reply occurs, and that
     there are writes between pages."""
-    refused = {int(reply.split()[1]) for reply in told if reply.startswith("refused")}
+    refused = {int(reply.split()[1]) for reply in answers if reply.startswith("refused")}
     assert refused == set(range(1, 19)), refused
-    causes = {reply for reply in told if reply.startswith("refused 10")}
+    causes = {reply for reply in answers if reply.startswith("refused 10")}
     assert len(causes) == 4, causes
-    kinds = {reply.split()[0] for reply in told}
-    answers = "book books card created edited unchanged gone moved added"
-    answers += " page forgot number rows people refused"
-    assert kinds == set(answers.split()), kinds
-    both = list(zip(commands, told))
+    kinds = {reply.split()[0] for reply in answers}
+    wanted = "book books card created edited unchanged gone moved added"
+    wanted += " page forgot cards rows people refused"
+    assert kinds == set(wanted.split()), kinds
+    both = list(zip(commands, answers))
     left = sum(asked[0] == "report" and asked[3] == 1 and " and more" in page
                and put[:2] == ("put", asked[1]) and reply.startswith(("created", "edited"))
                for (asked, page), (put, reply) in zip(both, both[1:]))
@@ -294,16 +294,16 @@ def replies(limits, lines):
     return [None if line == "again" else script.reply(command_of(line)) for line in lines]
 
 
-def told_of(title, limits, lines):
+def expected_output(title, limits, lines):
     """The expected output of a section with these limits."""
-    told, place = [f"==== {title}", limits_line(limits)], 0
+    output, place = [f"==== {title}", limits_line(limits)], 0
     for reply in replies(limits, lines):
         if reply is None:
-            told.append("-- adopted, and opened")
+            output.append("-- adopted, and opened")
         else:
             place += 1
-            told.append(f"{place}: {reply}")
-    return told
+            output.append(f"{place}: {reply}")
+    return output
 
 
 def limits_line(limits):
@@ -320,21 +320,21 @@ def lines_of(commands):
     return lines
 
 
-def see_that_devices_hear(commands, told):
+def see_that_devices_sync(commands, answers):
     """Tests that there are truncated pages with writes between them, dropped tokens, and complete
     copies."""
-    asks = [reply for asked, reply in zip(commands, told) if asked[0] == "ask"]
+    asks = [reply for asked, reply in zip(commands, answers) if asked[0] == "ask"]
     assert sum(" and more" in reply for reply in asks) >= 50
     assert sum(" gone" in reply for reply in asks) >= 20
     assert sum(reply.startswith("refused 10") for reply in asks) >= 2
 
 
-def expanded(text, told):
+def expanded(text, join_card):
     """A line of a script, or its expected reply, with the short forms expanded. The lines of a card
     are expanded in a different way."""
     def card(found):
         uid, name = found.groups()
-        return told(["BEGIN:VCARD", "VERSION:4.0", "UID:" + uid, "FN:" + name, "END:VCARD", ""])
+        return join_card(["BEGIN:VCARD", "VERSION:4.0", "UID:" + uid, "FN:" + name, "END:VCARD", ""])
 
     text = re.sub(r"\[(\S+) ([^]]*)\]", card, text)
     for short, long in [(".../", SYNC), ("COLUMNS", ",".join(COLUMNS)), ("BOM", "\ufeff")]:
@@ -350,13 +350,13 @@ def worked(scripts):
             lines.append("again")
             wanted.append(None)
         for line in filter(None, script.split("\n")):
-            line, _behind, reply = line.partition(" => ")
+            line, _arrow, reply = line.partition(" => ")
             lines.append(expanded(line, lambda card: escaped("\n".join(card))))
             wanted.append(expanded(reply, lambda card: in_one_line("\r\n".join(card))))
     return lines, wanted
 
 
-def see_that_all_are_told(title, limits, lines, wanted):
+def see_that_the_model_agrees(title, limits, lines, wanted):
     """Tests that the replies that were worked out by hand are those of the model."""
     for line, want, reply in zip(lines, wanted, replies(limits, lines)):
         assert not want or want == reply, (title, line, want, reply)
@@ -366,7 +366,7 @@ def octets_of(lines):
     return "".join(line + "\n" for line in lines).encode()
 
 
-given, told = [], []
+given, outputs = [], []
 
 
 def add_drawn(title, drawing, sees):
@@ -375,7 +375,7 @@ def add_drawn(title, drawing, sees):
     given.extend([f"==== {title}", *(limits_line((*LIMITS, keep)) for keep in KEEPS), *lines])
     for keep in KEEPS:
         sees(drawing.commands, list(filter(None, replies((*LIMITS, keep), lines))))
-        told.extend(told_of(title, (*LIMITS, keep), lines))
+        outputs.extend(expected_output(title, (*LIMITS, keep), lines))
 
 
 commands = Drawing(2000)
@@ -385,11 +385,11 @@ events = Drawing(6578, devices=["staff", "staff", "friends", "clients"])
 events.draw_all(EVENTS)
 for place in range(len(events.devices)):
     events.do("copy", place)
-add_drawn("drawn, with devices", events, see_that_devices_hear)
+add_drawn("drawn, with devices", events, see_that_devices_sync)
 for title, limits, scripts in sections():
     lines, wanted = worked(scripts)
-    see_that_all_are_told(title, limits, lines, wanted)
+    see_that_the_model_agrees(title, limits, lines, wanted)
     given += [f"==== {title}", limits_line(limits), *lines]
-    told += told_of(title, limits, lines)
+    outputs += expected_output(title, limits, lines)
 parts.write_rows("commands", octets_of(given))
-parts.write_told("commands", octets_of(told))
+parts.write_expected("commands", octets_of(outputs))

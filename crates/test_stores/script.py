@@ -10,8 +10,6 @@ from model.books import SYNC, Device, Office  # noqa: E402
 # The details of a refusal beside its number.
 MORE = {5: [("fault", "cause")], 7: [("has", "has")], 10: [("cause", "cause")],
         14: [("row", "row"), ("cause", "cause")]}
-TALLY = ["number", "horizon", "cards", "created", "edited", "imported", "import_edited",
-         "moved_in", "deleted", "moved_out", "remembered"]
 
 
 class Script:
@@ -106,7 +104,7 @@ def refused_line(number, **parts):
 
 
 def tally_line(**parts):
-    return " ".join(f"{name.replace('_', '-')} {parts[name]}" for name in TALLY)
+    return " ".join(f"{name} {parts[name]}" for name in sorted(parts))
 
 
 def people_line(missing, people):

@@ -35,27 +35,27 @@ move staff a clients => moved 10 1
 """
 
 COMMAND_ROWS = [
-    ("An empty book is reported",
+    ("The report of an empty book",
      """
 create staff => book 1
 report staff - => page 1/0/0
 """),
-    ("Cards come, are edited and go",
+    ("Cards are created, edited and removed",
      FIVE_CHANGES),
-    ("A book is counted, and its cards are told",
+    ("A book is counted, and its cards are read",
      FIVE_CHANGES, """
-tally staff => number 5 horizon 0 cards 2 created 3 edited 1 imported 0 import-edited 0 moved-in 0 deleted 1 moved-out 0 remembered 1
+tally staff => cards 2 created 3 deleted 1 edited 1 horizon 0 import_edited 0 imported 0 moved_in 0 moved_out 0 number 5 remembered 1
 books => books | staff 1 5 0
 get staff a => card a 4 [a Anna]
 get staff b => refused 4
 """),
-    ("A put of what is live changes nothing, and one that expects another version is refused",
+    ("A put of the live card changes nothing, and one that expects another version is refused",
      FIVE_CHANGES, """
 card staff a FN:Anna => unchanged 4
 put staff b 5 [b Bob] => refused 7 has 0
 remove staff b => refused 4
 """),
-    ("Reports come in pages. A page that is just full is the last",
+    ("Reports have pages. A page that is exactly full is the last",
      FIVE_CHANGES, """
 report staff - 1 => page 1/3/5 and more | c 3 [c Cy]
 report staff .../1/3/5 1 => page 1/5/5 | a 4 [a Anna]
@@ -70,13 +70,13 @@ report staff - => page 1/4/4 | b 2 [b Bob] | c 3 [c Cy] | a 4 [a Anna]
 report staff .../1/2/2 => page 1/4/4 | c 3 [c Cy] | a 4 [a Anna]
 report staff .../1/4/4 => page 1/4/4
 """),
-    ("The token of a truncated page stands for the part that it has",
+    ("The token of a truncated page covers the part that the page has",
      FOUR_PUTS, """
 report staff - 1 => page 1/2/4 and more | b 2 [b Bob]
 report staff .../1/2/4 1 => page 1/3/4 and more | c 3 [c Cy]
 report staff .../1/3/4 1 => page 1/4/4 | a 4 [a Anna]
 """),
-    ("A page tells of members as they are now",
+    ("A page has the members as they are now",
      FOUR_PUTS, """
 card staff c FN:Cyd => edited 5
 report staff .../1/2/4 1 => page 1/4/4 and more | a 4 [a Anna]
@@ -91,24 +91,24 @@ report staff .../1/4/5 2 => page 1/7/7 | c gone | b 7 [b Bob]
 report staff .../1/4/5 1 => page 1/6/6 and more | c gone
 report staff .../1/6/6 1 => page 1/7/7 | b 7 [b Bob]
 """),
-    ("A card that came and went is reported",
+    ("A card that was created and removed is reported",
      FIVE_CHANGES, TWO_MORE, """
 card staff d FN:Dee => created 8
 remove staff d => gone 9
 report staff .../1/7/7 => page 1/9/9 | d gone
 """),
-    ("A card moves",
+    ("A card is moved",
      FIVE_CHANGES, TWO_MORE, DEE, A_MOVE),
-    ("Both books of a move are counted, and the card is in the one alone",
+    ("Both books of a move are counted, and the card is in one of them",
      FIVE_CHANGES, TWO_MORE, DEE, A_MOVE, """
-tally staff => number 10 horizon 0 cards 1 created 5 edited 1 imported 0 import-edited 0 moved-in 0 deleted 3 moved-out 1 remembered 3
-tally clients => number 1 horizon 0 cards 1 created 0 edited 0 imported 0 import-edited 0 moved-in 1 deleted 0 moved-out 0 remembered 0
+tally staff => cards 1 created 5 deleted 3 edited 1 horizon 0 import_edited 0 imported 0 moved_in 0 moved_out 1 number 10 remembered 3
+tally clients => cards 1 created 0 deleted 0 edited 0 horizon 0 import_edited 0 imported 0 moved_in 1 moved_out 0 number 1 remembered 0
 get staff a => refused 4
 get clients a => card a 1 [a Anna]
 get staff b => card b 7 [b Bob]
 report staff .../1/9/9 => page 1/10/10 | a gone
 """),
-    ("Moves are refused, and take no number",
+    ("Refused moves get no number",
      FIVE_CHANGES, TWO_MORE, DEE, A_MOVE, """
 move staff a clients => refused 4
 card clients b FN:Bob => created 2
@@ -119,7 +119,7 @@ move staff b nobody => refused 1
 move staff z staff => refused 9
 books => books | clients 2 2 0 | staff 1 10 0
 """),
-    ("Of several reasons to refuse a move the first is told",
+    ("A move with several faults is refused for the first",
      FIVE_CHANGES, TWO_MORE, DEE, """
 create clients => book 2
 card clients b FN:Bob => created 1
@@ -136,7 +136,7 @@ card staff b FN:Bob => unchanged 7
 report staff .../1/10/10 => page 1/10/10
 put staff b 6 [b Rob] => refused 7 has 7
 """),
-    ("Reports are refused in order, and an old token is taken",
+    ("Reports are refused in order, and an old token is accepted",
      FIVE_CHANGES, TWO_MORE, DEE, A_MOVE, """
 report staff - 0 => refused 11
 report staff .../2/1/1 => refused 10 cause 2
@@ -148,7 +148,7 @@ report nobody .../1/07/7 0 => refused 1
 report staff .../2/1/1 0 => refused 10 cause 2
 report staff .../1/3/5 => page 1/10/10 | c gone | b 7 [b Bob] | d gone | a gone
 """),
-    ("Of several reasons to refuse a report the first is told",
+    ("A report with several faults is refused for the first",
      FOUR_PUTS, """
 report nobody .../1/99/99 0 => refused 1
 report staff .../2/99/99 0 => refused 10 cause 2
@@ -156,7 +156,7 @@ report staff .../1/99/99 0 => refused 10 cause 3
 report staff .../1/4/5 0 => refused 10 cause 3
 report staff .../1/4/4 0 => refused 11
 """),
-    ("Puts and removals are refused in order. A text that ends behind its first line has no VERSION",
+    ("Puts and removals are refused in order. A text that ends after its first line has no VERSION",
      FIVE_CHANGES, r"""
 put nobody a 7 BEGIN:VCARD\n => refused 1
 put nobody a 7 [z Other] => refused 1
@@ -173,7 +173,7 @@ remove nobody a => refused 1
 remove staff a 7 => refused 7 has 4
 report nobody - => refused 1
 """),
-    ("A put meets the version that it expects",
+    ("A put that expects the current version",
      FOUR_PUTS, """
 card staff b FN:Bob => unchanged 2
 put staff b 6 [b Rob] => refused 7 has 2
@@ -181,7 +181,7 @@ put staff b 0 [b Rob] => refused 7 has 2
 put staff b 2 [b Rob] => edited 5
 card clients b FN:Rob => refused 1
 """),
-    ("A removal meets the version that it expects",
+    ("A removal that expects the current version",
      FIVE_CHANGES, """
 remove nobody b 1 => refused 1
 remove staff b 5 => refused 4
@@ -189,11 +189,11 @@ remove staff z => refused 4
 remove staff a 1 => refused 7 has 4
 remove staff a 4 => gone 6
 """),
-    ("A store has no books at first",
+    ("A new store has no books",
      """
 books => books
 """),
-    ("The books are told by the octets of their names, and have ids in the order in which they were made",
+    ("Books are listed in the byte order of their names, and have ids in the order of their creation",
      FIVE_CHANGES, """
 create clients => book 2
 create z => book 3
@@ -202,7 +202,7 @@ create staff-2 => book 5
 create z => refused 2
 books => books | - 4 0 0 | clients 2 0 0 | staff 1 5 0 | staff-2 5 0 0 | z 3 0 0
 """),
-    ("A name is 1 to 40 small letters, digits and hyphens",
+    ("A name has 1 to 40 lower-case letters, digits and hyphens",
      """
 create => refused 3
 create Staff => refused 3
@@ -215,7 +215,7 @@ create a-0 => book 2
 ]
 
 FORGET_ROWS = [
-    ("A book forgets what went up to its number. A page's token is taken on for its base, whatever its other number is",
+    ("A book forgets its tombstones up to its number. A page's token is accepted for its base, whatever its other number is",
      FIVE_CHANGES, """
 report staff - 1
 """, """
@@ -225,27 +225,27 @@ report staff .../1/4/4 => refused 10 cause 4
 forget staff 4 => refused 16
 books => books | staff 1 5 5
 """),
-    ("It has nothing more to forget there, and can't forget what is still to come",
+    ("It has no more tombstones to forget there, and can't forget beyond its number",
      FIVE_CHANGES, """
 forget staff 5
 """, """
 forget staff 5 => forgot 0 horizon 5
 forget staff 6 => refused 16
-tally staff => number 5 horizon 5 cards 2 created 3 edited 1 imported 0 import-edited 0 moved-in 0 deleted 1 moved-out 0 remembered 0
+tally staff => cards 2 created 3 deleted 1 edited 1 horizon 5 import_edited 0 imported 0 moved_in 0 moved_out 0 number 5 remembered 0
 forget clients 0 => refused 1
 """),
-    ("An initial report that begins after that is paged to its end, however long ago its members changed",
+    ("An initial report that begins after that is paged to its end, even if its members changed long ago",
      FIVE_CHANGES, """
 forget staff 5
 """, """
 report staff - 1 => page 1/3/5 and more | c 3 [c Cy]
 report staff .../1/3/5 => page 1/5/5 | a 4 [a Anna]
 """),
-    ("What went after the horizon is remembered, and a token at the horizon is told of it",
+    ("Removals after the horizon are remembered, and a token at the horizon gets them",
      FIVE_CHANGES, """
 remove staff c => gone 6
 forget staff 5 => forgot 1 horizon 5
-tally staff => number 6 horizon 5 cards 1 created 3 edited 1 imported 0 import-edited 0 moved-in 0 deleted 2 moved-out 0 remembered 1
+tally staff => cards 1 created 3 deleted 2 edited 1 horizon 5 import_edited 0 imported 0 moved_in 0 moved_out 0 number 6 remembered 1
 report staff .../1/5/5 => page 1/6/6 | c gone
 report staff .../1/4/5 => page 1/6/6 | c gone
 report staff .../1/2/4 => refused 10 cause 4
@@ -264,20 +264,20 @@ card clients o FN:Ola
 move staff m clients
 """
 IMPORT_ROWS = [
-    ("The third row has no name: nothing is kept. Then three cards come. The key again answers the same, whatever the body is, and another key acts anew",
+    ("The third row has no name, so nothing is imported. Then three cards are imported. The same key gets the same answer, whatever the body is, and another key imports again",
      CLIENTS, r"""
 import clients k1 COLUMNS\np,Pat Lee,Lee,Pat,pat@example.test,,,\nq,Quin,,,,,,\nr,,,,,,,\n => refused 14 row 3 cause 4
 import clients k1 COLUMNS\np,Pat Lee,Lee,Pat,pat@example.test,,,\nq,Quin,,,,,,\nr,Rae,,,,,,\n => added 3 edited 0 same 0 number 5
 import clients k1 COLUMNS\nz,Zoe,,,,,,\n => added 3 edited 0 same 0 number 5
 import clients k1 nonsense\n => added 3 edited 0 same 0 number 5
 import clients k1 => added 3 edited 0 same 0 number 5
-tally clients => number 5 horizon 0 cards 5 created 1 edited 0 imported 3 import-edited 0 moved-in 1 deleted 0 moved-out 0 remembered 0
+tally clients => cards 5 created 1 deleted 0 edited 0 horizon 0 import_edited 0 imported 3 moved_in 1 moved_out 0 number 5 remembered 0
 import clients k2 COLUMNS\np,Pat Lee,Lee,Pat,pat@example.test,,,\nq,Quinn,,,,,,\ns,Sy,,,,,,\n => added 1 edited 1 same 1 number 7
-tally clients => number 7 horizon 0 cards 6 created 1 edited 0 imported 4 import-edited 1 moved-in 1 deleted 0 moved-out 0 remembered 0
+tally clients => cards 6 created 1 deleted 0 edited 0 horizon 0 import_edited 1 imported 4 moved_in 1 moved_out 0 number 7 remembered 0
 import clients k1 => added 3 edited 0 same 0 number 5
 get clients p => card p 3 BEGIN:VCARD\r\nVERSION:4.0\r\nUID:p\r\nFN:Pat Lee\r\nN:Lee;Pat;;;\r\nEMAIL:pat@example.test\r\nEND:VCARD\r\n
 """),
-    ("A book that isn't there is refused first, then a key with a slash, then an empty body",
+    ("A missing book is refused first, then a key with a slash, then an empty body",
      """
 create staff
 """, r"""
@@ -296,14 +296,14 @@ import staff k uid,vcard\na,"BEGIN:VCARD\nVERSION:4.0\nUID:a\nFN:Ann\nEND:VCARD\
 get staff a => card a 1 [a Ann]
 card staff a FN:Ann => unchanged 1
 """),
-    ("Two rows of one UID are refused, and the second is told",
+    ("Two rows of one UID are refused, and the reply has the second",
      """
 create staff
 """, r"""
 import staff k COLUMNS\na,Ann,,,,,,\na,Anna,,,,,,\n => refused 14 row 2 cause 41
 books => books | staff 1 0 0
 """),
-    ("A row's parts are the card's lines, and are told again as they came",
+    ("The columns of a row become the card's lines, and are exported as they were imported",
      """
 create staff
 """, r"""
@@ -313,8 +313,8 @@ export staff columns => rows COLUMNS\np,Pat Lee,Lee,Pat,pat@example.test,,,\n
 """),
 ]
 
-# A group of a group, of a card behind `urn:uuid:`, and of nobody; a group of the first and of a
-# card; and the two cards.
+# A group of a group, of a card that is named with `urn:uuid:`, and of a card that is missing; a
+# group of the first and of a card; and the two cards.
 GROUPS = r"""
 create staff
 card staff g FN:Staff-g2-urn:uuid:x-nobody\nKIND:group\nMEMBER:g2\nMEMBER:urn:uuid:x\nMEMBER:nobody
@@ -331,7 +331,7 @@ card staff a FN:Ann
 export staff cards => rows uid,vcard\na,"BEGIN:VCARD\r\nVERSION:4.0\r\nUID:a\r\nFN:Ann\r\nEND:VCARD\r\n"\n
 export staff columns => rows COLUMNS\na,Ann,,,,,,\n
 """),
-    ("An empty book is a header alone, and a book that isn't there is refused",
+    ("An empty book is exported as the header alone, and a missing book is refused",
      """
 create staff
 """, r"""
@@ -339,7 +339,7 @@ export staff cards => rows uid,vcard\n
 export staff columns => rows COLUMNS\n
 export clients cards => refused 1
 """),
-    ("Cards stand in the order of their UIDs, whatever the order of their changes",
+    ("Cards are in the order of their UIDs, whatever the order of their changes",
      """
 create staff
 card staff b FN:Bob
@@ -350,19 +350,19 @@ remove staff c
 """, r"""
 export staff columns => rows COLUMNS\na,Ann,,,,,,\nb,Rob,,,,,,\n
 """),
-    ("A group reaches the people of all groups that it leads to, itself among them",
+    ("A group reaches the people of all groups within it, also through itself",
      GROUPS, """
 people staff g => people x y | missing nobody
 people staff g2 => people x y | missing nobody
 """),
-    ("A card of another kind has no people, and what isn't live is no card",
+    ("A card of another kind has no people, and a removed card isn't found",
      GROUPS, """
 people staff x => refused 17
 people staff nobody => refused 4
 people clients g => refused 1
 people clients x => refused 1
 """),
-    ("Who was taken away is missing, and a group that was taken away leads to nobody",
+    ("A removed person is missing, and so is a removed group",
      GROUPS, """
 remove staff y => gone 5
 people staff g => people x | missing nobody y
@@ -370,14 +370,14 @@ remove staff g2 => gone 6
 people staff g => people x | missing g2 nobody
 people staff g2 => refused 4
 """),
-    ("A member that moved to another book is missing from its first, and not reached there",
+    ("A member that was moved to another book is missing, and not found there",
      GROUPS, """
 create clients => book 2
 move staff y clients => moved 5 1
 people staff g2 => people x | missing nobody y
 people clients y => refused 17
 """),
-    ("A group's row in form cards has its members, and its row of columns hasn't",
+    ("A group's row has its members in the form of cards, and hasn't in the form of columns",
      r"""
 create staff
 card staff g FN:All-a\nKIND:group\nMEMBER:a
@@ -435,7 +435,7 @@ create staff => book 1
 create staff => refused 2
 create clients => refused 18
 """),
-    ("A removal takes a number too",
+    ("A removal gets a number too",
      (100, 10, 2, 1, 10_000), """
 create staff => book 1
 card staff a FN:Ann => created 1
@@ -444,7 +444,7 @@ remove staff a 2 => refused 7 has 1
 remove staff a => refused 13
 get staff a => card a 1 [a Ann]
 """),
-    ("A move needs room in the other book, and a number in both",
+    ("A move needs room in the target, and a number in both books",
      (100, 1, 3, 2, 10_000), """
 create staff => book 1
 create clients => book 2
@@ -456,7 +456,7 @@ move staff a clients 1 => moved 2 3
 move clients a staff 3 => refused 13
 get clients a => card a 3 [a Ann]
 """),
-    ("An import needs room for the cards that it adds, and one without room isn't kept",
+    ("An import needs room for the cards that it adds, and the key of one without room isn't kept",
      (100, 2, 300, 1, 10_000), r"""
 create staff => book 1
 card staff a FN:Ann => created 1
@@ -466,7 +466,7 @@ import staff k2 COLUMNS\na,Anna,,,,,,\nb,Rob,,,,,,\n => added 0 edited 1 same 1 
 import staff k3 COLUMNS\nc,Cy,,,,,,\n => refused 12
 books => books | staff 1 4 0
 """),
-    ("It needs a number for each card that it adds or edits",
+    ("An import needs a number for each card that it adds or edits",
      (100, 10, 3, 1, 10_000), r"""
 create staff => book 1
 card staff a FN:Ann => created 1
@@ -478,7 +478,7 @@ import staff k3 COLUMNS\na,Anna,,,,,,\nb,,,,,,,\n => refused 14 row 2 cause 4
 import staff k3 => refused 14 row 0 cause 1
 books => books | staff 1 3 0
 """),
-    ("Where there is neither, the room for cards is told",
+    ("Without room and without numbers, the refusal is for room",
      (100, 1, 1, 1, 10_000), r"""
 create staff => book 1
 import staff k COLUMNS\na,Ann,,,,,,\nb,Bob,,,,,,\n => refused 12
@@ -487,7 +487,7 @@ import staff k2 COLUMNS\nb,Bob,,,,,,\n => refused 12
 import staff k2 COLUMNS\na,Anna,,,,,,\n => refused 13
 import staff k/2 COLUMNS\nb,Bob,,,,,,\n => refused 15
 """),
-    ("A book that remembers one removed member drops those before it, and its horizon rises to the last that it dropped",
+    ("A book that remembers one tombstone drops those before it, and its horizon is the last that it dropped",
      (100, 10, 300, 1, 1), """
 create desk => book 1
 card desk a FN:Ann => created 1
@@ -495,16 +495,16 @@ card desk b FN:Bob => created 2
 card desk c FN:Cy => created 3
 report desk - 1 => page 1/1/3 and more | a 1 [a Ann]
 remove desk a => gone 4
-tally desk => number 4 horizon 0 cards 2 created 3 edited 0 imported 0 import-edited 0 moved-in 0 deleted 1 moved-out 0 remembered 1
+tally desk => cards 2 created 3 deleted 1 edited 0 horizon 0 import_edited 0 imported 0 moved_in 0 moved_out 0 number 4 remembered 1
 remove desk b => gone 5
-tally desk => number 5 horizon 4 cards 1 created 3 edited 0 imported 0 import-edited 0 moved-in 0 deleted 2 moved-out 0 remembered 1
+tally desk => cards 1 created 3 deleted 2 edited 0 horizon 4 import_edited 0 imported 0 moved_in 0 moved_out 0 number 5 remembered 1
 report desk .../1/1/3 => refused 10 cause 4
 report desk .../1/3/3 => refused 10 cause 4
 report desk .../1/4/4 => page 1/5/5 | b gone
 remove desk c => gone 6
-tally desk => number 6 horizon 5 cards 0 created 3 edited 0 imported 0 import-edited 0 moved-in 0 deleted 3 moved-out 0 remembered 1
+tally desk => cards 0 created 3 deleted 3 edited 0 horizon 5 import_edited 0 imported 0 moved_in 0 moved_out 0 number 6 remembered 1
 """),
-    ("What moves away is removed there too. A card that comes again isn't remembered, so that nothing is dropped for it",
+    ("A card that is moved out leaves a tombstone too. A card that is stored again has none, so that nothing is dropped for it",
      (100, 10, 300, 2, 1), """
 create staff => book 1
 create clients => book 2
@@ -517,11 +517,11 @@ books => books | clients 2 1 0 | staff 1 5 0
 remove clients a => gone 2
 move staff a clients => moved 6 3
 books => books | clients 2 3 0 | staff 1 6 5
-tally staff => number 6 horizon 5 cards 0 created 3 edited 0 imported 0 import-edited 0 moved-in 0 deleted 1 moved-out 2 remembered 1
+tally staff => cards 0 created 3 deleted 1 edited 0 horizon 5 import_edited 0 imported 0 moved_in 0 moved_out 2 number 6 remembered 1
 """),
 ]
 
-# The first device hears a page of one entry, then two more, and then of Dee.
+# The first device gets a page of one entry, then two more pages, and then one with Dee.
 FIVE_HEARD = FIVE_CHANGES + """
 ask 0 1 => page 1/3/5 and more | c 3 [c Cy]
 """
@@ -533,18 +533,18 @@ DEE_HEARD = DEE + """
 ask 0 => page 1/9/9 | d gone
 """
 
-# With so many removed members remembered, and with two devices of `staff` and one of `clients`.
+# With a number of tombstones to keep, and with two devices of `staff` and one of `clients`.
 DEVICE_ROWS = [
     ("A truncated page is applied",
      10_000, FIVE_HEARD, """
 copy 0 => copy 1/3/5 | c 3 [c Cy]
 """),
-    ("A device that goes on has the book",
+    ("A device that applies the next page has the book",
      10_000, FIVE_HEARD, """
 ask 0 1 => page 1/5/5 | a 4 [a Anna]
 copy 0 => copy 1/5/5 | a 4 [a Anna] | c 3 [c Cy]
 """),
-    ("A page tells of a card as it is now",
+    ("A page has a card as it is now",
      10_000, """
 create staff => book 1
 card staff a FN:Ann => created 1
@@ -563,11 +563,11 @@ create staff => book 1
 ask 0 => page 1/0/0
 copy 0 => copy 1/0/0
 """),
-    ("Changes between pages are heard",
+    ("Changes between pages are on later pages",
      10_000, FIVE_HEARD, TWO_HEARD, """
 copy 0 => copy 1/7/7 | a 4 [a Anna] | b 7 [b Bob]
 """),
-    ("Pages of one entry lead to the same",
+    ("Pages of one entry give the same copy",
      10_000, FIVE_HEARD, """
 remove staff c => gone 6
 card staff b FN:Bob => created 7
@@ -576,7 +576,7 @@ ask 0 1 => page 1/6/6 and more | c gone
 ask 0 1 => page 1/7/7 | b 7 [b Bob]
 copy 0 => copy 1/7/7 | a 4 [a Anna] | b 7 [b Bob]
 """),
-    ("A card that came and went leaves no copy",
+    ("A card that was created and removed leaves no copy",
      10_000, FIVE_HEARD, TWO_HEARD, DEE_HEARD, """
 copy 0 => copy 1/9/9 | a 4 [a Anna] | b 7 [b Bob]
 """),
@@ -587,7 +587,7 @@ ask 0 => page 1/10/10 | a gone
 ask 1 => page 2/1/1
 copy 0 => copy 1/10/10 | b 7 [b Bob]
 """),
-    ("A moved card comes to the other copy. Nothing is heard of what is refused or changes nothing",
+    ("A moved card is in the other copy. Refused commands, and those that change nothing, are on no page",
      10_000, FIVE_HEARD, TWO_HEARD, DEE_HEARD, A_MOVE, """
 ask 1 => page 2/1/1 | a 1 [a Anna]
 card clients b FN:Bob => created 2
@@ -597,32 +597,32 @@ ask 1 1 => page 2/2/2 | b 2 [b Bob]
 ask 0 => page 1/10/10 | a gone
 copy 1 => copy 2/2/2 | a 1 [a Anna] | b 2 [b Bob]
 """),
-    ("A new device hears of both cards at once",
+    ("A new device gets both cards at once",
      10_000, FIVE_HEARD, TWO_HEARD, DEE_HEARD, A_MOVE, """
 card clients b FN:Bob => created 2
 ask 1 => page 2/2/2 | a 1 [a Anna] | b 2 [b Bob]
 ask 0 => page 1/10/10 | a gone
 copy 1 => copy 2/2/2 | a 1 [a Anna] | b 2 [b Bob]
 """),
-    ("A device that was long away hears all at once",
+    ("A device that was away for long gets all changes at once",
      10_000, FIVE_CHANGES, """
 ask 2 1
 """, TWO_MORE, DEE, A_MOVE, """
 ask 2 => page 1/10/10 | c gone | b 7 [b Bob] | d gone | a gone
 copy 2 => copy 1/10/10 | b 7 [b Bob]
 """),
-    ("Asks that are refused change nothing",
+    ("Refused reports change nothing",
      10_000, FIVE_HEARD, """
 ask 0 0 => refused 11
 ask 1 => refused 1
 card staff z FN:Zoe => created 6
 copy 0 => copy 1/3/5 | c 3 [c Cy]
 """),
-    ("No events have no replies",
+    ("No events, no replies",
      10_000, """
 copy 0 => copy none
 """),
-    ("A token whose base is forgotten is given up, and the next ask is for an initial report",
+    ("A device drops a token whose base is forgotten, and then asks for an initial report",
      10_000, FIVE_HEARD, """
 remove staff c => gone 6
 forget staff 6 => forgot 2 horizon 6
@@ -630,14 +630,14 @@ ask 0 => refused 10 cause 4
 ask 0 => page 1/6/6 | a 4 [a Anna]
 copy 0 => copy 1/6/6 | a 4 [a Anna]
 """),
-    ("A token at the horizon isn't, and is told of what went after it",
+    ("A device keeps a token at the horizon, and gets the removals after it",
      10_000, FIVE_HEARD, """
 remove staff c => gone 6
 forget staff 5 => forgot 1 horizon 5
 ask 0 => page 1/6/6 | a 4 [a Anna] | c gone
 copy 0 => copy 1/6/6 | a 4 [a Anna]
 """),
-    ("One card more than the book remembers went since the device's page: its token is given up, and it hears of the whole book again",
+    ("One card more than the book remembers was removed since the device's page: it drops its token and gets the whole book again",
      1, FIVE_HEARD, """
 remove staff c => gone 6
 remove staff a => gone 7
@@ -646,7 +646,7 @@ ask 0 => refused 10 cause 4
 ask 0 => page 1/8/8 | d 8 [d Dee]
 copy 0 => copy 1/8/8 | d 8 [d Dee]
 """),
-    ("Only as many went as the book remembers, and the device hears of it",
+    ("As many cards were removed as the book remembers, and the device gets the removals",
      1, FIVE_HEARD, """
 remove staff c => gone 6
 ask 0 => page 1/6/6 | a 4 [a Anna] | c gone
@@ -662,37 +662,37 @@ card desk b FN:Bob => created 2
 card desk c FN:Cy => created 3
 """
 KEEPING_ROWS = [
-    ("A removal drops the member that went longest ago, and the tokens that need it", 1, DESK, """
+    ("A removal drops the oldest tombstone, and the tokens that need it", 1, DESK, """
 report desk - 1 => page 1/1/3 and more | a 1 [a Ann]
 remove desk a => gone 4
-tally desk => number 4 horizon 0 cards 2 created 3 edited 0 imported 0 import-edited 0 moved-in 0 deleted 1 moved-out 0 remembered 1
+tally desk => cards 2 created 3 deleted 1 edited 0 horizon 0 import_edited 0 imported 0 moved_in 0 moved_out 0 number 4 remembered 1
 """, """
 remove desk b => gone 5
-tally desk => number 5 horizon 4 cards 1 created 3 edited 0 imported 0 import-edited 0 moved-in 0 deleted 2 moved-out 0 remembered 1
+tally desk => cards 1 created 3 deleted 2 edited 0 horizon 4 import_edited 0 imported 0 moved_in 0 moved_out 0 number 5 remembered 1
 """, """
 report desk .../1/1/3 => refused 10 cause 4
 report desk .../1/3/3 => refused 10 cause 4
 report desk .../1/4/4 => page 1/5/5 | b gone
 remove desk c => gone 6
-tally desk => number 6 horizon 5 cards 0 created 3 edited 0 imported 0 import-edited 0 moved-in 0 deleted 3 moved-out 0 remembered 1
+tally desk => cards 0 created 3 deleted 3 edited 0 horizon 5 import_edited 0 imported 0 moved_in 0 moved_out 0 number 6 remembered 1
 """),
-    ("A move drops in the book that the card leaves, and nothing in the other", 1, DESK, """
+    ("A move drops a tombstone in the book that the card leaves, and none in the other", 1, DESK, """
 move desk a shelf => moved 4 1
 move desk b shelf => moved 5 2
 """, """
-tally desk => number 5 horizon 4 cards 1 created 3 edited 0 imported 0 import-edited 0 moved-in 0 deleted 0 moved-out 2 remembered 1
+tally desk => cards 1 created 3 deleted 0 edited 0 horizon 4 import_edited 0 imported 0 moved_in 0 moved_out 2 number 5 remembered 1
 report desk .../1/1/3 => refused 10 cause 4
 report desk .../1/3/3 => refused 10 cause 4
 report desk .../1/4/4 => page 1/5/5 | b gone
-tally shelf => number 2 horizon 0 cards 2 created 0 edited 0 imported 0 import-edited 0 moved-in 2 deleted 0 moved-out 0 remembered 0
+tally shelf => cards 2 created 0 deleted 0 edited 0 horizon 0 import_edited 0 imported 0 moved_in 2 moved_out 0 number 2 remembered 0
 """),
-    ("A member that came back isn't remembered", 1, DESK, """
+    ("A member that is live again has no tombstone", 1, DESK, """
 remove desk a => gone 4
 card desk a FN:Ann => created 5
-tally desk => number 5 horizon 0 cards 3 created 4 edited 0 imported 0 import-edited 0 moved-in 0 deleted 1 moved-out 0 remembered 0
+tally desk => cards 3 created 4 deleted 1 edited 0 horizon 0 import_edited 0 imported 0 moved_in 0 moved_out 0 number 5 remembered 0
 """, """
 remove desk b => gone 6
-tally desk => number 6 horizon 0 cards 2 created 4 edited 0 imported 0 import-edited 0 moved-in 0 deleted 2 moved-out 0 remembered 1
+tally desk => cards 2 created 4 deleted 2 edited 0 horizon 0 import_edited 0 imported 0 moved_in 0 moved_out 0 number 6 remembered 1
 """),
 ]
 
@@ -707,7 +707,7 @@ create staff => book 1
 import staff k COLUMNS\\n{LONG_BODY} => added 250 edited 0 same 0 number 250
 mirror staff 100 10 => pages 3 done 1/250/250{LONG_COPY}
 """),
-    ("A book is copied whole, page by page, or until there were so many pages", FIVE_CHANGES, """
+    ("A book is copied whole, page by page, or up to a number of pages", FIVE_CHANGES, """
 mirror staff 1 10 => pages 2 done 1/5/5 | a 4 [a Anna] | c 3 [c Cy]
 mirror staff 2 1 => pages 1 done 1/5/5 | a 4 [a Anna] | c 3 [c Cy]
 mirror staff 1 1 => pages 1 more 1/3/5 | c 3 [c Cy]
@@ -716,11 +716,11 @@ mirror nobody 0 0 => pages 0 more none
 mirror staff 0 1 => refused 11
 mirror nobody 1 1 => refused 1
 """),
-    ("A book that forgot is copied too", FIVE_CHANGES, """
+    ("A book that forgot tombstones is copied too", FIVE_CHANGES, """
 forget staff 5 => forgot 1 horizon 5
 mirror staff 1 10 => pages 2 done 1/5/5 | a 4 [a Anna] | c 3 [c Cy]
 """),
-    ("What nobody should send is refused", FIVE_CHANGES, r"""
+    ("Malformed commands are refused", FIVE_CHANGES, r"""
 report staff .../1/3/99999999999999 => refused 10 cause 1
 create aaaaaaaaaabbbbbbbbbbccccccccccddddddddddx => refused 3
 tally aaaaaaaaaabbbbbbbbbbccccccccccddddddddddx => refused 1

@@ -28,9 +28,9 @@ fn print_part(rt: &HostRuntime, part: &str, output: &[u8]) -> bool {
     print_title(rt, part) && print(rt, output) && print(rt, b"\n")
 }
 
-/// Calls that find little memory. They are first, since they allocate all that the process can
-/// have, and they have no rows. Returns whether all were run, as do the functions of the other
-/// parts.
+/// Calls with little free memory. This part is run first, since it allocates all memory that the
+/// process can have, and it has no rows. Returns whether all its cases were run, as do the
+/// functions of the other parts.
 fn run_memory(rt: &HostRuntime) -> bool {
     print_title(rt, "memory") && run_all_cases(rt).is_ok() && print(rt, b"\n")
 }
@@ -93,7 +93,8 @@ fn run_text(rt: &HostRuntime, part: &str, rows: &str) -> bool {
     }
 }
 
-/// Runs the part, whose rows are in the file of its name. Those of connections are octets.
+/// Runs the part, whose rows are in the file of its name. The rows of `connections` needn't be
+/// UTF-8.
 fn run_part(rt: &HostRuntime, part: &str) -> bool {
     let Ok(rows) = fs::read(rt, part) else {
         return false;

@@ -54,8 +54,8 @@ pub(crate) fn run_people(alloc: Global, input: &str) -> Result<String, NoMemory>
     }
 }
 
-/// The same for a group of `count` members, the greatest number first. Even numbers are prefixed
-/// with `urn:uuid:`, and the cards of the last tenth are missing.
+/// Expands a group of `count` numbered members, the greatest number first. Even numbers are
+/// prefixed with `urn:uuid:`, and the cards of the last tenth are missing.
 pub(crate) fn run_wide(alloc: Global, count: &str) -> Result<String, NoMemory> {
     let count = count.parse::<u32>().unwrap_or(0);
     let mut input = String::from_str(alloc, "g|g group")?;
@@ -81,8 +81,8 @@ fn push_people(alloc: Global, input: &mut String, count: u32) -> Result<(), NoMe
     Ok(())
 }
 
-/// The same for the first of `count` groups, each of which has the next one and a value that names
-/// no card. The last one has a person.
+/// Expands the first of `count` groups. The members of each group are the next group and a value
+/// that names no card; the last group has a person instead of a next group.
 pub(crate) fn run_chain(alloc: Global, count: &str) -> Result<String, NoMemory> {
     let count = count.parse::<u32>().unwrap_or(0);
     let mut input = String::from_str(alloc, "m00000|")?;

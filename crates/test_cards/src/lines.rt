@@ -15,7 +15,7 @@ fn has_same_copy(line: &Line) -> Result<bool, NoMemory> {
     Ok(copy.is_same(line))
 }
 
-/// The line's text, written into a buffer that had another.
+/// The line's text, written into a buffer that held another text.
 fn line_text(alloc: Global, line: &Line) -> Result<String, NoMemory> {
     let mut text = String::from_str(alloc, "before")?;
     write_line(&mut text, line)?;

@@ -1,5 +1,6 @@
-//! Makes cards from a shape: for each card its UID, its kind and the values of its members, with
-//! spaces between; semicolons separate cards. Further lines may follow after line feeds.
+//! Makes cards from a shape: for each card its UID, its kind and the values of its members,
+//! separated by spaces. Semicolons separate cards. Further lines of a card may follow, each after a
+//! line feed.
 use std::alloc::Global;
 use std::collections::BTreeMap;
 use vcard_lines::CardFault;

@@ -1,6 +1,6 @@
 //! Formats answers in one line.
 //!
-//! Output is appended to a borrowed string: so there is little to drop if memory runs out.
+//! Output is appended to a borrowed string, so that there is little to drop if memory runs out.
 use std::alloc::{AllocError, Global};
 use sync_core::{BookLine, Denied, Entry, ImportTally, Page, PutAnswer, Tally};
 use vcard_text::{Card, NoMemory};
@@ -116,39 +116,17 @@ pub(crate) fn push_import(
     push_numbers(output, alloc, "import", &[added, edited, same, number])
 }
 
-/// The numbers of a tally, in the order of its fields.
+/// The numbers of a tally, in the byte order of their names.
 pub(crate) fn push_tally(
     output: &mut String,
     alloc: Global,
     tally: &Tally,
 ) -> Result<(), NoMemory> {
-    let Tally {
-        number,
-        horizon,
-        cards,
-        created,
-        edited,
-        imported,
-        import_edited,
-        moved_in,
-        deleted,
-        moved_out,
-        remembered,
-    } = *tally;
-    let numbers = [
-        number,
-        horizon,
-        cards,
-        created,
-        edited,
-        imported,
-        import_edited,
-        moved_in,
-        deleted,
-        moved_out,
-        remembered,
-    ];
-    push_numbers(output, alloc, "tally", &numbers)
+    output.push_str("tally")?;
+    for (_, number) in tally.named() {
+        push_piece(output, format!(in alloc; " {number}"))?;
+    }
+    Ok(())
 }
 
 /// The label, the card's version, and the card's own UID.

@@ -20,8 +20,8 @@ fn error_text(error: Error) -> &'static str {
     }
 }
 
-/// Runs the statements up to the first one that fails, and adds a text for it. Whether all were
-/// run.
+/// Runs the statements up to the first one that fails, and adds a text for it. Returns whether all
+/// were run.
 fn run_statements(output: &mut String, conn: &mut Memory, statements: &str) -> Result<bool, Stop> {
     match conn.execute_batch(statements) {
         Ok(()) => Ok(true),
@@ -32,7 +32,8 @@ fn run_statements(output: &mut String, conn: &mut Memory, statements: &str) -> R
     }
 }
 
-/// Inserts the rows into the tables of a new store, and damages them. Whether that succeeded.
+/// Inserts the rows into the tables of a new store, and damages them. Returns whether that
+/// succeeded.
 pub(crate) fn apply_damage(
     output: &mut String,
     conn: &mut Memory,

@@ -1,6 +1,6 @@
 //! Formats the rows of a store as SQL statements that insert them.
 //!
-//! So the commands that create the store are performed only once, and not for each line.
+//! With them the commands that create the store are performed only once, and not for each line.
 use crate::answers::push_pieces;
 use crate::fixture::Memory;
 use crate::rows::{BOOK, IMPORT, KEEPING, MEMBER, push_number, push_octets};

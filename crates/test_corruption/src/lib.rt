@@ -1,4 +1,4 @@
-//! Tests each call over tables that were damaged by hand and not tested since.
+//! Tests each call over tables that were damaged by hand after they were last checked.
 #![tactic(auto)]
 
 mod answers;

@@ -24,7 +24,7 @@ impl Follower {
         })
     }
 
-    /// Asks for a page of one entry. Returns whether the store answered a fault. If the page is
+    /// Asks for a page of one entry. Returns whether the store returned a fault. If the page is
     /// refused, the device doesn't change.
     fn ask<S: BookStore>(&mut self, store: &mut S) -> Result<bool, NoMemory> {
         let answer = store.report(self.device.book(), self.device.token(), Some(1));
@@ -153,7 +153,7 @@ impl Followers {
         })
     }
 
-    /// Each asks for a page of one entry. Returns whether the store answered a fault.
+    /// Each asks for a page of one entry. Returns whether the store returned a fault.
     pub fn ask<S: BookStore>(&mut self, store: &mut S) -> Result<bool, NoMemory> {
         if self.staff.ask(store)? {
             return Ok(true);

@@ -2,7 +2,7 @@
 
 use vcard_text::NoMemory;
 
-/// Memory ran out, or a check failed; the text says which one.
+/// Memory ran out, or a check failed; the text says which check.
 #[derive(Clone, Copy)]
 pub enum Mismatch {
     Memory,

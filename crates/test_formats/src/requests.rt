@@ -175,8 +175,8 @@ fn compare_cuts(
 
 /// `requests OCTETS`: the same, and the replies to each cut in two pieces if they differ.
 pub(crate) fn requests(alloc: Global, text: &[u8]) -> Result<Vec<u8>, NoMemory> {
-    // Laws, without effect at run time: the replies depend only on the octets received, not on
-    // cuts.
+    // Laws, without effect at run time: the replies depend only on the octets received, not on how
+    // these are split into pieces.
     streams_can_be_cut();
     cuts_make_no_difference::<Echo>();
     pieces_are_fed_as_one::<Echo>();

@@ -1,5 +1,5 @@
-//! The first path of a card with an input or an output that fails at some call, and the lines of
-//! stops that no order reaches.
+//! The order `try` with an input or an output that fails at some call, and the lines of stops that
+//! no order reaches.
 
 use crate::devices::{FailingReader, FailingWriter};
 use crate::parts::Row;
@@ -18,7 +18,7 @@ fn push_line(out: &mut Vec<u8>, line: Result<String, AllocError>) -> Result<(), 
     Ok(pushed?)
 }
 
-/// Adds how a path ended, and the number of octets it wrote.
+/// Adds how the order ended, and the number of octets that it wrote.
 fn push_end(
     alloc: Global,
     what: &str,
@@ -38,7 +38,7 @@ fn push_end(
     }
 }
 
-/// Runs the path with an input that fails at that read, and adds how it ended.
+/// Runs the order with an input that fails at that read, and adds how it ended.
 fn push_with_reader(
     alloc: Global,
     octets: &[u8],
@@ -53,7 +53,7 @@ fn push_with_reader(
     push_end(alloc, what, ended, writer.octets.len(), out)
 }
 
-/// Runs the path with this output, and adds how it ended.
+/// Runs the order with this output, and adds how it ended.
 fn push_with_writer(
     alloc: Global,
     octets: &[u8],
@@ -88,8 +88,8 @@ fn push_path(alloc: Global, octets: &[u8], out: &mut Vec<u8>) -> Result<(), NoMe
     push_with_writer(alloc, octets, "the flush fails", unflushed, out)
 }
 
-/// Runs the first path on the row's first connection, with each failing input and output, and adds
-/// how each run ended.
+/// Runs the order on the card of the row's first connection, with each failing input and output,
+/// and adds how each run ended.
 pub(crate) fn push_paths(alloc: Global, row: &Row, out: &mut Vec<u8>) -> Result<(), NoMemory> {
     let first = row.connections.as_slice().first();
     let octets = first.map(|first| first.octets).unwrap_or_default();

@@ -11,7 +11,7 @@ use std::alloc::Global;
 use sync_core::{Fault, Limits, PlainStore};
 use test_scripts::FailingStore;
 
-/// Adds the replies over a store that answers the fault to each call.
+/// Adds the replies over a store that returns the fault from each call.
 fn push_over_failing(
     alloc: Global,
     row: &Row,

@@ -6,11 +6,11 @@ use sync_core::Fault;
 /// What fails in a row.
 #[derive(Clone, Copy)]
 pub(crate) enum Setting {
-    /// The store: it answers this fault to each call.
+    /// The store: it returns this fault from each call.
     Store(Fault),
     /// The reader or the writer of the first connection, at each read or write in turn.
     Devices,
-    /// The input or the output of the first path, whose card is the first connection.
+    /// The input or the output of the order `try`, whose card is the first connection.
     FirstPath,
     /// Nothing: the lines of stops that no order reaches.
     Stops,

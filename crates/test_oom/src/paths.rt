@@ -1,4 +1,4 @@
-//! The first path: one card through the program without arguments.
+//! The order `try`: one card through the program without arguments.
 
 use cli_orders::first_path;
 use sync_core::{Denied, Fault};

@@ -9,8 +9,8 @@ use std::alloc::Global;
 use sync_core::{BookStore, Fault};
 use test_oom_calls::{Harness, Stop, Stores, have_same_books, limits};
 
-/// The requests of the piece: a card is put into a new book, a device asks for its first report,
-/// and the card is removed. Each one with a flag, whether it was done.
+/// The requests of the piece: a book is created, a card is put into it, a device asks for its first
+/// report, and the card is removed. Each has a flag that says whether it was done.
 type Requests = [(&'static str, bool); 4];
 
 /// The number of subsets of the requests.
@@ -133,8 +133,8 @@ fn are_replied_alike<S: BookStore>(
     are_fed_alike(alloc, service, twin, left.as_bytes())
 }
 
-/// Whether the result is that of this subset: the replies, or none if the requests done are the
-/// first ones.
+/// Whether the result is that of this subset: its replies, or out of memory if the requests done
+/// are the first ones.
 fn is_answered<S: BookStore>(
     alloc: Global,
     twin: &mut Service<S>,

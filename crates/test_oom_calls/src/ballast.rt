@@ -1,4 +1,4 @@
-//! A ballast: the process allocates all memory that it can have, so that a call finds little.
+//! A ballast: the process allocates all memory that it can have, so that little is left for a call.
 //!
 //! A block that is never written to uses no more than a page of the machine's memory, but all of
 //! its addresses, and a process has some 2^47 of these. So a few thousand blocks use them up, and
@@ -75,7 +75,7 @@ fn push_block(blocks: &mut Blocks, alloc: Global, octets: usize) -> Result<(), S
     Ok(())
 }
 
-/// Adds blocks of this number of octets together.
+/// Adds blocks that have this number of octets together.
 fn push_blocks(blocks: &mut Blocks, alloc: Global, octets: usize) -> Result<(), Stop> {
     for _ in 0..octets / LEFT_IN_ONE {
         push_block(blocks, alloc, LEFT_IN_ONE)?;

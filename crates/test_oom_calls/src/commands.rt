@@ -77,7 +77,7 @@ fn expected_of<K: Stores>(alloc: Global, kind: &K, command: &Command) -> Result<
     expected_from(alloc, &mut twin, command)
 }
 
-/// Whether the command gives the expected reply and books when it is performed again.
+/// Whether the reply and the books are the expected ones when the command is performed again.
 fn repeats_as_expected<S: BookStore>(
     alloc: Global,
     store: &mut S,

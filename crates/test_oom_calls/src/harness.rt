@@ -72,7 +72,8 @@ impl<'a> Harness<'a> {
         mem::replace(&mut self.names, none)
     }
 
-    /// From now on each window has this number of octets, and only findings are printed.
+    /// From now on this number of octets is left free in each window, and only findings are
+    /// printed.
     pub fn limit_memory(&mut self, octets: usize) -> Result<(), Stop> {
         if self.ballast.is_none() {
             self.ballast = Some(Ballast::new(self.alloc())?);
@@ -156,8 +157,8 @@ impl<'a> Harness<'a> {
         }
     }
 
-    /// Reports a call that didn't run out of memory. `same` says whether it returned and left what
-    /// it does when nothing is refused.
+    /// Reports a call that didn't run out of memory. `same` says whether its result and its effect
+    /// are those that it has when nothing is refused.
     pub fn report_answer<T: Debug>(&mut self, same: bool, answer: &T) {
         if same {
             self.set_outcome(Outcome::Same);
@@ -168,7 +169,7 @@ impl<'a> Harness<'a> {
     }
 
     /// Reports a call that ran out of memory. `left` says whether nothing was changed, `again`
-    /// whether it returned and left the expected when it was repeated.
+    /// whether its result and its effect were the expected ones when it was repeated.
     pub fn report_no_memory<T: Debug>(&mut self, left: bool, again: bool, state: &T) {
         self.set_outcome(Outcome::without_memory(left, again));
         if self.outcome.is_finding() {
@@ -177,8 +178,8 @@ impl<'a> Harness<'a> {
     }
 
     /// Reports a call that must change nothing: whether nothing was changed, its expected value,
-    /// its value, and its value when repeated. They are passed by value: so they are dropped as
-    /// values of a generic type, and the prover need not split on their variants.
+    /// its value, and its value when repeated. They are passed by value, so that they are dropped
+    /// as values of a generic type, and the prover need not split on their variants.
     pub fn report_read<T: PartialEq + Debug + Drop>(
         &mut self,
         left: bool,

@@ -3,21 +3,23 @@
 /// The outcome of a case.
 #[derive(Clone, Copy, PartialEq)]
 pub enum Outcome {
-    /// The call returned and left what it does when nothing is refused.
+    /// The call had the result and the effect that it has when nothing is refused.
     Same,
-    /// It ran out of memory and changed nothing, and gave the same when it was repeated.
+    /// It ran out of memory and changed nothing, and had the expected result and effect when it was
+    /// repeated.
     OutOfMemory,
-    /// It ran out of memory and changed nothing, and gave something else when it was repeated.
+    /// It ran out of memory and changed nothing, and had another result or effect when it was
+    /// repeated.
     AnotherThen,
     /// It ran out of memory, and something was changed.
     Changed,
-    /// It didn't run out of memory, and gave something else.
+    /// It didn't run out of memory, and had another result or effect.
     AnotherAnswer,
 }
 
 impl Outcome {
     /// The outcome of a call that ran out of memory. `left` says whether nothing was changed,
-    /// `again` whether it gave the expected when it was repeated.
+    /// `again` whether its result and its effect were the expected ones when it was repeated.
     pub(crate) fn without_memory(left: bool, again: bool) -> Outcome {
         match (left, again) {
             (true, true) => Outcome::OutOfMemory,

@@ -109,7 +109,7 @@ fn forget(alloc: Global, words: &[&str]) -> Result<Command, NoMemory> {
     })
 }
 
-/// `export BOOK FORM`, where the form is `cards`; any other word is columns.
+/// `export BOOK FORM`, where the form is `cards`, or `columns` for any other word.
 fn export(alloc: Global, words: &[&str]) -> Result<Command, NoMemory> {
     let book = text_of(alloc, words, 1)?;
     let form = match word(words, 2) {
@@ -127,7 +127,7 @@ fn people(alloc: Global, words: &[&str]) -> Result<Command, NoMemory> {
     })
 }
 
-/// `create BOOK` and `tally BOOK`; any other word is `books`.
+/// `create BOOK` and `tally BOOK`; any other line is `books`.
 fn book_command(alloc: Global, words: &[&str]) -> Result<Command, NoMemory> {
     let book = text_of(alloc, words, 1)?;
     match word(words, 0) {
@@ -158,9 +158,9 @@ fn words_in(alloc: Global, line: &str) -> Result<Vec<&str>, NoMemory> {
 /// - `import BOOK KEY BODY`, `forget BOOK UPTO`, `export BOOK cards` or `columns`
 /// - `report BOOK TOKEN LIMIT`
 ///
-/// Any other line is `books`. A word that isn't a number, such as `-`, is a number left out. Words
-/// after the last one are ignored. A token `-` is the empty text. A text, lines and a body may have
-/// spaces, and `\n` in them is a line feed.
+/// Any other line is read as `books`. A word that isn't a number, such as `-`, is no EXPECT and no
+/// LIMIT, and 0 as UPTO. Further words are ignored. A token `-` is the empty text. A text, lines
+/// and a body may have spaces, and `\n` in them is a line feed.
 pub fn parse_command(alloc: Global, line: &str) -> Result<Command, NoMemory> {
     let words = words_in(alloc, line)?;
     let words = words.as_slice();

@@ -1,4 +1,4 @@
-//! A store that answers a fault on demand, instead of performing the call.
+//! A store that returns a fault on demand, instead of performing the call.
 ghost use Rattle.std.specs.Prelude.{◌≡◌};
 ghost use Rattle.book_model.specs.Bounds.{IsInRange};
 
@@ -10,7 +10,7 @@ use sync_core::{
 };
 use vcard_text::Card;
 
-/// A store in memory, and the fault that it answers, if any.
+/// A store in memory, and the fault that its calls return, if any.
 #[derive(Drop)]
 pub struct FailingStore {
     inner: PlainStore,
@@ -31,7 +31,7 @@ impl FailingStore {
         }
     }
 
-    /// From now on each call answers the fault. With `None`, calls are performed again.
+    /// From now on each call returns the fault. With `None`, calls are performed again.
     pub fn set_fault(&mut self, fault: Option<Fault>) {
         self.fault = fault;
     }

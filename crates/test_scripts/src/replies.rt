@@ -131,37 +131,13 @@ fn format_import(alloc: Global, tally: &ImportTally) -> Result<String, NoMemory>
     or_no_memory(format!(in alloc; "added {added} edited {edited} same {same} number {number}"))
 }
 
-/// The numbers of a tally in the order of its fields.
+/// The numbers of a tally, each after its name.
 fn format_tally(alloc: Global, tally: &Tally) -> Result<String, NoMemory> {
-    let Tally {
-        number,
-        horizon,
-        cards,
-        created,
-        edited,
-        imported,
-        import_edited,
-        moved_in,
-        deleted,
-        moved_out,
-        remembered,
-    } = *tally;
-    let numbers = [
-        ("number", number),
-        (" horizon", horizon),
-        (" cards", cards),
-        (" created", created),
-        (" edited", edited),
-        (" imported", imported),
-        (" import-edited", import_edited),
-        (" moved-in", moved_in),
-        (" deleted", deleted),
-        (" moved-out", moved_out),
-        (" remembered", remembered),
-    ];
     let mut output = String::new(alloc);
-    for (word, number) in numbers {
-        push_piece(&mut output, format!(in alloc; "{word} {number}"))?;
+    let mut space = "";
+    for (name, number) in tally.named() {
+        push_piece(&mut output, format!(in alloc; "{space}{name} {number}"))?;
+        space = " ";
     }
     Ok(output)
 }

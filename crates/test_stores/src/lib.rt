@@ -1,5 +1,6 @@
-//! Runs lists of commands and asks over three new stores: one in memory, one over tables in memory,
-//! and one over tables in a file. The result of a line is printed once if all three agree.
+//! Runs lists of commands and of asks of devices over three new stores: one in memory, one over
+//! tables in memory, and one over tables in a file. The result of a line is printed once if all
+//! three agree.
 #![tactic(auto)]
 
 mod lines;

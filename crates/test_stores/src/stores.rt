@@ -18,7 +18,7 @@ pub(crate) struct StoreRun {
 }
 
 impl StoreRun {
-    /// Without devices and lines.
+    /// A run without devices and without results.
     pub(crate) fn new(alloc: Global) -> StoreRun {
         StoreRun {
             devices: Vec::new(alloc),
@@ -126,8 +126,8 @@ fn do_part_in_file(
     do_lines(rt.alloc(), &mut store, part, store_run)
 }
 
-/// Runs the lines over a store in a new file at the path. Between two parts it is closed and
-/// opened.
+/// Runs the lines over a store in a new file at the path. Between two parts the file is closed and
+/// opened again.
 pub(crate) fn do_in_file(
     rt: &HostRuntime,
     path: &str,

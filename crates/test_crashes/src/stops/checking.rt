@@ -11,7 +11,7 @@ use test_crash_plans::expected_run::ExpectedRun;
 use test_crash_plans::followers::Followers;
 use test_crash_plans::mismatch::Mismatch;
 
-/// For the log's salts.
+/// The seed of the log's salts.
 const NEXT_SEED: u64 = 8;
 
 /// A run that was stopped, with its devices at that time.
@@ -33,12 +33,12 @@ fn done_at(expected_run: &ExpectedRun, ending: Ending) -> (usize, usize) {
     }
 }
 
-/// Whether there is no table.
+/// Whether there are no tables.
 fn is_bare<S: Alter>(tables: &Connection<S>) -> bool {
     tables.schema().tables.is_empty()
 }
 
-/// `Before` if the schema wasn't created, which may be only if its creation was stopped; else
+/// `Before` if the schema wasn't created, which is possible only if its creation was stopped; else
 /// `After`.
 fn schema_left<S: Alter>(stop: Stop<'_>, tables: &Connection<S>) -> StateLeft {
     if matches!(stop.ending, Ending::CreateSchema) && is_bare(tables) {
@@ -82,7 +82,7 @@ fn books_left<B: BookStore>(stop: Stop<'_>, store: &mut B) -> Result<(StateLeft,
     found
 }
 
-/// Performs the rest of the list, which must give the same as if nothing had stopped it.
+/// Performs the rest of the list. Its replies and the books at its end must be the expected ones.
 fn finish<B: BookStore>(
     expected_run: &ExpectedRun,
     store: &mut B,
@@ -146,8 +146,8 @@ impl Work for Check<'_> {
     }
 }
 
-/// Opens the disks that are left of a run. Returns the state that the stopped call left, and the
-/// number of tokens that are refused as too old.
+/// Opens the disks that a run left. Returns the state that the stopped call left, and the number of
+/// tokens that are refused as too old.
 pub(crate) fn check_left<D: FusedDisk>(
     stop: Stop<'_>,
     disks: Files<D>,

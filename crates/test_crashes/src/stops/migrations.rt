@@ -42,7 +42,7 @@ const ANNA: &str = "BEGIN:VCARD\r\nVERSION:4.0\r\nUID:a\r\nFN:Anna\r\nEND:VCARD\
 
 const BOB: &str = "BEGIN:VCARD\r\nVERSION:4.0\r\nUID:b\r\nFN:Bob\r\nEND:VCARD\r\n";
 
-/// For the log's salts: files that are opened again have other ones.
+/// The seeds of the log's salts: each time that files are opened they get other salts.
 const SEEDS: [u64; 3] = [17, 18, 19];
 
 fn put<S: Alter>(
@@ -127,8 +127,8 @@ fn push_second<S: Alter + Drop>(
     Ok(pushed?)
 }
 
-/// Adds the books of tables which are still of the first schema, and are migrated then, or already
-/// of the second.
+/// Adds the books of the tables. Tables that are still of the first schema are migrated before.
+/// Returns `Before` for these, and `After` for tables of the second schema.
 fn push_migrated_books<S: Alter + Drop>(
     alloc: Global,
     tables: Connection<S>,

@@ -11,7 +11,7 @@ use test_crash_plans::expected_run::{ExpectedRun, Step};
 use test_crash_plans::followers::Followers;
 use vcard_text::NoMemory;
 
-/// For the log's salts: files that are opened again have other ones.
+/// The seed of the log's salts: files that are opened again get other salts.
 const FIRST_SEED: u64 = 7;
 
 /// How a run ended.
@@ -21,7 +21,7 @@ pub(crate) enum Ending {
     CreateSchema,
     /// The command at this index got a fault of the store.
     Command(usize),
-    /// A device's page after the command at this index got one.
+    /// A device that asked for a page after the command at this index got a fault of the store.
     Page(usize),
     /// The list was performed.
     End,
@@ -131,7 +131,7 @@ impl Run<'_> {
         })
     }
 
-    /// Performs the command, and counts an unexpected reply. Returns whether the store answered a
+    /// Performs the command, and counts an unexpected reply. Returns whether the store returned a
     /// fault.
     fn has_fault<B: BookStore>(&mut self, store: &mut B, step: &Step) -> bool {
         let answer = answer_to(self.expected_run, store, step);
@@ -142,7 +142,7 @@ impl Run<'_> {
     }
 
     /// Performs the list, and makes the devices ask for a page after each command, until the store
-    /// answers a fault.
+    /// returns a fault.
     fn perform_list<B: BookStore>(&mut self, store: &mut B) -> Result<Ending, NoMemory> {
         let expected_run = self.expected_run;
         for (place, step) in expected_run.steps.as_slice().iter().enumerate() {

@@ -52,7 +52,7 @@ impl Sweep {
         push_piece(&mut self.findings, line)
     }
 
-    /// Adds the finding that work which must return the disks didn't. The sweep ends then.
+    /// Adds the finding that the disks weren't returned. Returns `false`, which ends the sweep.
     pub(crate) fn add_no_disks(&mut self, calls: u64) -> Result<bool, NoMemory> {
         self.add_finding(calls, "the disks are gone")?;
         Ok(false)

@@ -1,5 +1,5 @@
 use Rattle.std.proofs.Common.{[], inr}
-use Rattle.http_requests.proofs.StepLemmas.{on_err_from}
+use Rattle.base_types.proofs.TextMapLemmas.{on_err_from}
 use Rattle.test_formats.proofs.requests.EchoHandler.handle.Goals as goal
 
 pub returns-clause-no_memory : goal.returns-clause-no_memory
