@@ -64,7 +64,7 @@ class Peer(Server):
         return {"file": sum(os.stat(path).st_blocks for path in paths) * 512}
 
     def put(self, number, edition=0, tag=None, alone=False):
-        """Puts a card; with a tag, only where the card has this one."""
+        """Puts a card; with a tag, only if the card has this one."""
         fields = b"Content-Type: text/vcard\r\n" + (b"If-Match: %s\r\n" % tag if tag else b"")
         self._ask("PUT", self._path(number), card(number, edition), fields, alone)
 
@@ -76,8 +76,8 @@ class Peer(Server):
         self._ask("DELETE", self._path(number))
 
     def sync(self, token):
-        """Asks what changed, and then for the cards where the first reply has none. Returns the
-        new token, and how many cards came."""
+        """Asks what changed, and then for the cards if the first reply has none. Returns the
+        new token, and how many cards it got."""
         since = b"<d:sync-token>%s</d:sync-token><d:sync-level>1</d:sync-level>" % token.encode()
         report = xml(b"d:sync-collection", since + PROPERTIES)
         _, changes = self._ask("REPORT", self.book, report, XML + b"Depth: 0\r\n")

@@ -53,7 +53,7 @@ class Day:
         self.figures, self.token = {}, ""
 
     def run(self):
-        """Has the day, and returns its figures by name."""
+        """Runs the day, and returns its figures by name."""
         try:
             self.server.start()
             self.write()

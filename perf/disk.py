@@ -1,4 +1,4 @@
-"""The yardstick of the disk: SQLite in Python's module, with statements and a commit as a put's."""
+"""The yardstick of the disk: SQLite in Python's module, with a put's statements and commit."""
 
 import os
 import sqlite3

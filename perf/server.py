@@ -21,7 +21,7 @@ class Server:
         self.process.wait(PATIENCE)
 
     def stop(self):
-        """Ends the server where it has not ended, by force where it resists."""
+        """Ends the server if it is still running, by force if it has to."""
         if self.process is None:
             return
         self.process.terminate()

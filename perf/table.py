@@ -1,4 +1,4 @@
-"""The figures as one Markdown table, and the machine that they are of."""
+"""The figures as one Markdown table, and the machine that they were measured on."""
 
 import os
 import platform
@@ -78,7 +78,7 @@ def cell(row, column):
         return ""
     text = row.unit(median(values))
     if row.spread and len(values) > 1:
-        # Of seconds the least is the greatest rate. The unit is written once.
+        # The greatest rate is that of the least time. The unit is written once.
         ends = sorted(values, reverse=row.unit is rate)
         text += " ({} to {})".format(*(row.unit(end).split()[0] for end in (ends[0], ends[-1])))
     return text + ratio(row, column)

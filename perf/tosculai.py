@@ -19,7 +19,7 @@ def find_program():
     """The path of the program: what CONTACTS names, or else the program of `./contacts`."""
     program = os.environ.get("CONTACTS")
     if not program:
-        # The launcher makes the program where it is not there, and then runs it on a card.
+        # The launcher makes the program if it is not there, and then runs it on a card.
         subprocess.run([str(ROOT / "contacts")], input=card(0), stdout=subprocess.DEVNULL)
         program = ROOT / "crates/contacts/out/contacts"
     program = os.path.abspath(str(program))
@@ -34,7 +34,7 @@ def digest(program):
 
 
 class Tosculai(Server):
-    """The server over `office.db` in the folder, which is made where it is not there."""
+    """The server over `office.db` in the folder, which is made if it is not there."""
 
     name = "Tosculai"
 
@@ -62,7 +62,7 @@ class Tosculai(Server):
         return {"file": self.file.stat().st_size, "log": log.stat().st_size if log.exists() else 0}
 
     def put(self, number, edition=0, tag=None, alone=False):
-        """Puts a card; with a tag, only where the card has this version."""
+        """Puts a card; with a tag, only if the card has this version."""
         condition = f"?version={tag}" if tag else ""
         self._ask("PUT", self._path(number) + condition, card(number, edition), alone)
 
@@ -77,8 +77,8 @@ class Tosculai(Server):
         self._ask("POST", self._path(number) + "/move?to=clients")
 
     def sync(self, token):
-        """Asks for pages of 100 until one is not truncated. Returns its token, and how many
-        members all had."""
+        """Asks for pages of 100 until one is not truncated. Returns the last token, and how
+        many members all pages had."""
         members = 0
         while True:
             token, count, truncated = self.page(token)
@@ -87,7 +87,7 @@ class Tosculai(Server):
                 return token, members
 
     def page(self, token=""):
-        """Asks for one page. Returns its token, how many members it has, and if it is truncated."""
+        """Asks for one page. Returns its token, its number of members, and if it is truncated."""
         query = f"token={quote(token, safe='')}&limit=100"
         body = self._ask("GET", f"/books/staff/sync?{query}")
         # Quotes in a card's text are escaped: what looks like a key here is one.

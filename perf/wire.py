@@ -11,7 +11,7 @@ class Failure(Exception):
 
 
 class Wire:
-    """A client's connection, opened anew where the server, or the client, closed the last one."""
+    """A client's connection, opened anew if the server, or the client, closed the last one."""
 
     def __init__(self, port, fields=b""):
         """`fields` are header fields of every request, each ended by CRLF."""

@@ -1,7 +1,7 @@
 """Runs the mutants that the gate doesn't run: edits.py [CRATE..]
 
-Each `edits/CRATE/NAME.edit` is an edit of that crate that makes its code wrong, in the format of
-those under `crates/CRATE/must-fail/`. The prover must refuse it. The gate runs only the edits that
+Each `edits/CRATE/NAME.edit` makes the code of that crate wrong, in the format of the edits under
+`crates/CRATE/must-fail/`. The prover must refuse it. The gate runs only the edits that
 break a rule of the promise, or the meaning of a statement for the books, since each takes half a
 minute or more, and the first one of a crate also the crate's whole proof.
 
@@ -33,7 +33,7 @@ def main():
             shutil.rmtree(copy / "crates" / name / "must-fail", ignore_errors=True)
             shutil.copytree(EDITS / name, copy / "crates" / name / "must-fail")
             failed += bool(subprocess.run(["rt", "must-fail", name], cwd=copy).returncode)
-    print(f"not each is refused, in {failed} crates" if failed else "each is refused")
+    print(f"{failed} crates have edits that are not refused" if failed else "each edit is refused")
     return 1 if failed else 0
 
 

@@ -41,10 +41,10 @@ SHOWN = 5
 KEPT = None
 
 
-def told(task):
+def run_task(task):
     """The outcome of a run with one refused allocation. It is run in a forked process."""
     name, at, later = task
-    kind, ran = KEPT.told(name, at, later)
+    kind, ran = KEPT.outcome(name, at, later)
     return at, later, kind, ran
 
 
@@ -66,13 +66,13 @@ def swept(name, step, jobs):
     growths, kind = KEPT.growths(name)
     counts = collections.Counter(cases=1, growths=growths)
     if kind != "same":
-        print(f"** {name}: another answer where nothing is refused")
+        print(f"** {name}: another result although nothing is refused")
         counts["finding"] = 1
         return counts
     tasks = [(name, at, later) for at in range(1, growths + 1, step) for later in (False, True)]
     same, findings = [], []
     with multiprocessing.get_context("fork").Pool(jobs) as pool:
-        for at, later, kind, ran in pool.imap_unordered(told, tasks, 16):
+        for at, later, kind, ran in pool.imap_unordered(run_task, tasks, 16):
             counts[kind] += 1
             if kind == "same":
                 same.append((at, later))

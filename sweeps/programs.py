@@ -70,7 +70,7 @@ class Cases:
         growths, ran = counted(self.ran(name, 0, False))
         return growths, self.kind(name, ran)
 
-    def told(self, name, at, later):
+    def outcome(self, name, at, later):
         ran = self.ran(name, at, later)
         return self.kind(name, ran), ran
 
@@ -197,7 +197,7 @@ class Orders:
             self.wanted[name] = ran, before, self.books(name, folder)
         return growths, "same"
 
-    def told(self, name, at, later):
+    def outcome(self, name, at, later):
         ran, left = self.ran(name, at, later)
         wanted, before, after = self.wanted[name]
         done = "before" if before == after else "after"

@@ -1,13 +1,13 @@
-"""Arguments, good and bad, and the text that clap 4 has for those that ask for nothing.
+"""Arguments, valid and invalid, and the text that clap 4 prints for those that ask for no order.
 
-A text is clap's: what is wrong, then perhaps a tip, the usage, and where there is more; an empty
-line between two of them. A tip names what is near by Jaro's measure, above 0.7. The usage names
-the options that were given, where one of them matters to what is wrong, and else [OPTIONS].
+A text is clap's: the error, perhaps a tip, the usage, and where to find more, separated by empty
+lines. A tip names a similar word, whose Jaro similarity is above 0.7. The usage names the options
+that were given if one of them matters to the error, and else [OPTIONS].
 
-A row is the arguments, with a space between two, and the text; arguments with spaces are a list.
+A row is the arguments, separated by spaces, and the text; arguments with spaces are a list.
 """
 
-# How each order is used.
+# The usage of each order.
 TOP = "[COMMAND]"
 TRY = "try"
 INIT = "init <FILE>"
@@ -23,7 +23,7 @@ MIGRATE = "migrate <FILE>"
 
 
 def error(what, usage=None, tip=None):
-    """What clap writes."""
+    """The text that clap prints for an error."""
     parts = ["error: " + what]
     parts += ["  tip: " + tip] if tip else []
     parts += ["Usage: contacts " + usage] if usage else []
@@ -40,7 +40,7 @@ def unexpected(argument, usage):
 
 
 def unexpected_hyphen(argument, usage):
-    """Of an argument that looks like an option, to an order that has positional arguments."""
+    """An argument that looks like an option, in an order that has positional arguments."""
     tip = f"to pass '{argument}' as a value, use '-- {argument}'"
     return error(f"unexpected argument '{argument}' found", usage, tip)
 

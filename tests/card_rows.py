@@ -22,10 +22,10 @@ def fold(line):
     return "\r\n ".join(pieces)
 
 
-# 3,403 lines of 77 octets each, which leave 61 of the most octets to a card of 52.
+# 3,403 lines of 77 octets each. With a card of 52 octets, 61 octets are left up to the limit.
 NOTES = 3_403 * ("NOTE:" + 70 * "x" + "\r\n")
 LONG_NOTES = NOTES + "NOTE:" + 54 * "x"
-# As one line, this note is written in as many octets as the most leaves: 3,403 folds.
+# Written with 3,403 folds, this note has as many octets as the limit leaves to it.
 LONG_NOTE = "NOTE:" + 251_876 * "x"
 MANY_PARAMETERS = "X-MANY" + 8_000 * ';P=a,"b"' + ":v"
 GERMAN = 'item1.NOTE;LANGUAGE=de;TYPE="a,b":Straße, Platz und Allee, und noch viel m'
@@ -245,7 +245,7 @@ WITH_LONG_UID = [
 
 
 def octets(text):
-    """The octets of a text, of which a surrogate U+DC80 to U+DCFF is an octet from 128 on."""
+    """The octets of a text, in which a surrogate U+DC80 to U+DCFF is an octet from 128 on."""
     return text.encode("utf-8", "surrogateescape")
 
 

@@ -1,6 +1,6 @@
-"""Requests with some octets changed, dropped or put in, and garbage, drawn with fixed numbers.
+"""Requests with some octets changed, dropped or inserted, and garbage, drawn from fixed seeds.
 
-The draws are the same with each version of Python, since they are made here.
+The draws are the same with each version of Python, since `Drawing` has its own generator.
 """
 
 from exchanges import CLIENTS, STAFF, connection, row
@@ -49,7 +49,7 @@ CONNECTIONS_OF_A_PART = 25
 
 
 class Drawing:
-    """Numbers that are the same each time."""
+    """A generator of numbers, the same from the same seed."""
 
     def __init__(self, seed=2_463_534_242):
         self.state = seed
@@ -62,7 +62,7 @@ class Drawing:
         return items[self.below(len(items))]
 
     def pieces(self, octets, most):
-        """The octets in pieces of one to `most` octets, or in 80 or so where they are many."""
+        """The octets in pieces of one to `most` octets, or in about 80 pieces if there are many."""
         most = max(most, len(octets) // 40)
         pieces = []
         while octets:
@@ -73,7 +73,7 @@ class Drawing:
 
 
 def damaged(drawing, octets):
-    """The octets with up to three of them changed, dropped or put in."""
+    """The octets with up to three of them changed, dropped or inserted."""
     octets = bytearray(octets)
     for _ in range(1 + drawing.below(3)):
         place = drawing.below(len(octets))

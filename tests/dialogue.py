@@ -1,7 +1,7 @@
-"""A client's connection to the server, beside the same connection to the model.
+"""A client's connection to the server, and the same connection to the model.
 
-What the server replies over a connection is wanted octet for octet as the model computes it, and
-so is whether the server closes it.
+The server must reply what the model computes, octet for octet, and must close the connection
+exactly if the model does.
 """
 
 import os
@@ -14,12 +14,12 @@ from model.books import Office
 from model.http import Session
 from program import Folder, Server, run
 
-# The server has read what came as soon as it sleeps; it is looked at that often at most.
+# How often at most a test looks whether the server sleeps: then it has read what was sent.
 LOOKS_MAX = 100
 
 
 class ServedTest(unittest.TestCase):
-    """A test with a server over a new file, and a model beside it. `renew` begins both anew."""
+    """A test with a server over a new file, and a model. `renew` starts again with new ones."""
 
     def setUp(self):
         self.renew()
@@ -48,9 +48,9 @@ class ServedTest(unittest.TestCase):
         self.start(connections)
 
     def serve(self, *pieces):
-        """Sends the pieces on a connection of their own, and compares all that is replied.
+        """Sends the pieces on a connection of their own, and compares all replies.
 
-        Where the server is to close, the client leaves its own side open: else nobody would end.
+        If the server has to close the connection, the client leaves its own side open.
         """
         octets = b"".join(pieces)
         session = Session(self.office)
@@ -61,7 +61,7 @@ class ServedTest(unittest.TestCase):
     def serve_on(self, octets):
         """Sends the octets, and a further request in a segment of its own, on one connection.
 
-        It is replied to where the server has left the connection open, and else it isn't.
+        The further request is replied to exactly if the server has left the connection open.
         """
         session = Session(self.office)
         wanted = session.feed(octets)
@@ -76,9 +76,9 @@ class ServedTest(unittest.TestCase):
 
     @contextmanager
     def connection(self):
-        """A connection to the server, which is killed where it keeps its client waiting too long.
+        """A connection to the server, which is killed if it keeps its client waiting too long.
 
-        So what comes next fails at once.
+        Then all that follows in the test fails at once.
         """
         with self.server.connect() as connection:
             try:
@@ -99,12 +99,12 @@ class ServedTest(unittest.TestCase):
             return connection.rest()
 
     def settle(self):
-        """Waits until the server has most likely read what was sent, so that pieces come apart.
+        """Waits until the server has most likely read what was sent, so that pieces stay apart.
 
-        Whether they do makes no difference to what is wanted.
+        The expected replies don't depend on it.
         """
         for _ in range(LOOKS_MAX if self.status else 0):
-            # After the program's name in brackets comes a letter: S where it sleeps.
+            # After the program's name in brackets comes a letter: S if it sleeps.
             if b") S " in os.pread(self.status, 64, 0):
                 break
 

@@ -1,6 +1,6 @@
 """One run of what docs/API.md shows: its session, and then each refusal that a request can have.
 
-The run is made once in a process, and tests compare what was replied with the pages.
+The run is made once in a process, and tests compare its replies with the pages.
 """
 
 import functools
@@ -22,7 +22,7 @@ Record = namedtuple("Record", "shown refused all")
 
 @functools.lru_cache(maxsize=None)
 def record():
-    """Sends it all to a server with a new file."""
+    """Sends all these requests to a server with a new file."""
     exchanges = Page("docs/API.md").exchanges()
     with Folder() as folder:
         run("init", folder / "office.db")

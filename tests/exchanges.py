@@ -1,4 +1,4 @@
-"""Rows of connections, octet for octet: what clients send, and nothing of what is replied.
+"""Rows of connections, octet for octet: what clients send, without the replies.
 
 A row has a server of its own over a new file. Its connections come to it one after another, and
 the last often asks what the books hold. To add a row, copy one; to add a request, copy a line.
@@ -48,7 +48,7 @@ def fields(*more):
 
 STAFF = create("staff")
 CLIENTS = create("clients")
-# It follows what closes a connection, and so it is never done: the list of books shows it.
+# It follows a request that closes the connection, so it is never done: see the list of books.
 NEVER = create("never")
 TWO_ROWS = COLUMNS + "p,Pat Lee,Lee,Pat,pat@example.test,,,\nq,Quin,,,,,,\n"
 GROUP = card("g", "Team", "KIND:group", "MEMBER:g2", "MEMBER:urn:uuid:x", "MEMBER:nobody")
@@ -321,7 +321,7 @@ EACH_COMMAND = row(
         request("GET", "/books/staff/sync?limit=x"),
     ),
 )
-# Requests that come to a limit, once a book was filled so far; without that they are all done.
+# Requests that reach a limit if the books were filled before; else all of them are done.
 AT_MOST_THREE_CHANGES = row(
     "at most three changes of a book",
     connection(

@@ -19,7 +19,7 @@ ELSEWHERE = ["lent", "nowhere"]  # books that aren't there at first, or ever
 NAMES = ["Ann", "Bob Low", "Zoë Ångström", "山田 太郎", "Mc\\, Kay\\; Jr"]
 UIDS = ["a", "b", "c", "team", "all", "é/x", "o p%", "urn:uuid:7f", "7f", "q+&?#"]
 
-# Lines of cards, each kind of line with what a reader has to do about it.
+# Lines of cards, of each kind that a reader has to treat in its own way.
 LINES = [
     ["TEL;VALUE=uri;TYPE=\"voice,home\":tel:+1-555-555-5555;ext=5555"],
     ["item1.EMAIL;TYPE=work;PREF=1:ann@example.test", "item1.X-Label:at work"],
@@ -86,7 +86,7 @@ def csv_text(rows, end="\n"):
 
 
 def parts_of(reply):
-    """A reply's status, and the value of its body where that is JSON, else the body's octets."""
+    """A reply's status, and the value of its body if that is JSON, else the body's octets."""
     head, _, body = reply.partition(b"\r\n\r\n")
     is_json = b"application/json" in head
     return int(head.split(b" ")[1]), json.loads(body.decode()) if is_json else body
@@ -99,9 +99,9 @@ class Drawing:
         "put": 30, "remove": 18, "move": 14, "import_rows": 6, "forget": 2, "get": 4, "report": 8,
         "tally": 2, "export": 3, "people": 6, "list_books": 1, "create": 2, "no_command": 3,
     }
-    FRESH = 0.7  # the part of the cards that differ from each earlier one
+    FRESH = 0.7  # the share of the cards that differ from each earlier one
     ROWS = (0, 6)  # the least and the greatest number of an import's rows
-    WRONG = 0.06  # the part of the books, bodies and keys that are to be refused
+    WRONG = 0.06  # the share of the books, bodies and keys that are to be refused
 
     def __init__(self, seed, books=BOOKS, uids=UIDS):
         self.random = random.Random(seed)
@@ -122,7 +122,7 @@ class Drawing:
         return getattr(self, kind)(*self.place)
 
     def uids_for(self, kind, book):
-        """Any UIDs, or those of cards that are most likely there, where the command needs one. A
+        """Any UIDs, or those of cards that are most likely there, if the command needs one. A
         move needs one that no other book has."""
         if kind not in ("remove", "move", "people") or self.chance(0.2):
             return self.uids
@@ -153,7 +153,7 @@ class Drawing:
         return self.random.random() < part
 
     def expectation(self, book, uid):
-        """A version to ask for: none, mostly, else the one that a reply gave, or any."""
+        """An expected version: mostly none, else the one that a reply had, or any."""
         if self.chance(0.6):
             return None
         known = self.versions.get((book, uid), 0)

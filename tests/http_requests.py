@@ -55,7 +55,7 @@ def people(book, uid):
 
 
 def sync(book, token=None, limit=None):
-    """A request for a page; of the token its three numbers, with slashes between."""
+    """A request for a page; `token` is its three numbers, separated by slashes."""
     query = [f"token={quote(SYNC + token, safe='')}"] if token else []
     query += [f"limit={limit}"] if limit is not None else []
     return request("GET", f"/books/{book}/sync" + ("?" + "&".join(query) if query else ""))

@@ -21,9 +21,9 @@ ROOM = 40_000_000  # octets, more than any of these tests writes
 
 
 class QuickFolder(Folder):
-    """A folder in memory, where the system offers that: for files that need no disk.
+    """A folder in memory, if the system offers one, for files that need no disk.
 
-    A file of books is written to the disk each time that it is opened, which is slow.
+    Each time that a file of books is opened, it is written to the disk, which is slow.
     """
 
     def __enter__(self):
@@ -34,7 +34,7 @@ class QuickFolder(Folder):
 
 
 def fault(number):
-    """What the program ends with where it can't open a file."""
+    """How the program ends if it can't open a file."""
     return Ended(3, b"", b"fault open %d\n" % number)
 
 
@@ -51,13 +51,13 @@ def make(file, *books):
 
 
 def serve(file, *requests):
-    """What is replied to these requests, which come over one connection."""
+    """The replies to these requests over one connection."""
     with Server(file) as server:
         return server.ask(b"".join(requests))
 
 
 def copy(file, folder):
-    """A copy of the file, and of its log where it has one, in the new folder."""
+    """A copy of the file, and of its log if it has one, in the new folder."""
     folder.mkdir()
     for it in file, log_of(file):
         if it.exists():
@@ -66,7 +66,7 @@ def copy(file, folder):
 
 
 def contents(file, folder):
-    """What the file holds, which SQLite finds sound. A copy in the new folder is read."""
+    """What the file holds, read from a copy in the new folder, which SQLite must find sound."""
     with Tables(copy(file, folder)) as tables:
         assert tables.rows("PRAGMA integrity_check") == [(b"ok",)]
         assert tables.rows("PRAGMA foreign_key_check") == []
@@ -74,7 +74,7 @@ def contents(file, folder):
 
 
 def is_damaged(tables, statements):
-    """Runs the statements. Whether the tables allowed the rows that they make."""
+    """Runs the statements. Returns whether the tables allowed the rows that they make."""
     try:
         tables.run(statements)
     except sqlite3.IntegrityError:
@@ -93,7 +93,7 @@ def renew(file, octets):
 def up_to(octets, is_killed=False):
     """For `preexec_fn`: no file grows past this size. A write past it fails, or kills the program.
 
-    So a disk that is full can be tried without one, and a crash at any write.
+    This tests full disks without having one, and crashes at any write.
     """
 
     def limit():

@@ -15,7 +15,7 @@ Reply = namedtuple("Reply", "method target status fields body")
 
 
 def read_reply(request, octets):
-    """The parts of a request and of its reply. A request that is no HTTP has empty parts."""
+    """The parts of a request and of its reply. A request that isn't HTTP has empty parts."""
     line = request.split(b"\r\n")[0].decode("utf-8", "replace").split(" ")
     method, target = line[:2] if len(line) == 3 else ("", "")
     head, _, body = octets.partition(b"\r\n\r\n")
@@ -51,7 +51,7 @@ class Document:
                 yield path, method, status, self.resolve(response)
 
     def examples(self, media):
-        """The examples of a media type, by their names; a lone one has none."""
+        """The examples of a media type by name; an only example has the name None."""
         lone = {None: media["example"]} if "example" in media else {}
         named = media.get("examples", {})
         return {**lone, **{name: self.resolve(it)["value"] for name, it in named.items()}}
@@ -104,7 +104,7 @@ class Document:
         return wrong
 
     def complaints(self, reply):
-        """What the document doesn't have of a reply, as texts."""
+        """What a reply has and the document doesn't, as texts."""
         path = self.path_of(reply.target)
         if path is None:
             return self._complaints_elsewhere(reply)
@@ -122,7 +122,7 @@ class Document:
         return wrong + self._complaints_on_body(reply, media)
 
     def _complaints_elsewhere(self, reply):
-        """A document has no place for paths that it doesn't list: such a reply is any fault."""
+        """The same for a path that the document doesn't list: the reply may be any fault."""
         fault = {"$ref": "#/components/schemas/Fault"}
         return self.misfits(json.loads(reply.body), fault, "body")
 

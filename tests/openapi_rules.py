@@ -1,4 +1,4 @@
-"""What an OpenAPI 3.0 document has to be like, of the parts that docs/openapi.json uses.
+"""The rules for OpenAPI 3.0 documents, as far as docs/openapi.json uses them.
 
 RULES are written from the OpenAPI Specification 3.0.3, section 4.7: for each kind of object the
 fields that it must have, and all that it may have. A field that isn't in them is wrong, also where
@@ -106,7 +106,7 @@ class Check:
         self.wrong = []
         self.used = set()
         self._walk(document.value, "document", "document")
-        # Where the shape is wrong, the rest may not be there to be looked at.
+        # If the shape is wrong, the rest may be missing, and isn't checked.
         if not self.wrong:
             self._check_operations()
             self._check_examples()

@@ -1,6 +1,6 @@
-"""What orders print, and what they end with: rows of arguments, worked out by hand.
+"""What orders print, and how they end: rows of arguments, worked out by hand.
 
-A row is made by `done`, `refused` or `fault`, which say what the arguments end with; arguments with
+A row is made by `done`, `refused` or `fault`, which say how the order ends; arguments with
 spaces are a list. The rows of a table are run in their order, so that each finds the files that
 those before it left. The changes and the numbers are those of docs/API.md's rules: each change of a
 book has the book's next number, which is the version of the card that it leaves.
@@ -46,13 +46,13 @@ def quoted(*cards):
 
 
 def tally(**numbers):
-    """The eleven lines: the name left in 14 places, the number right in 13."""
+    """The eleven lines: names left-aligned in 14 columns, numbers right-aligned in 13."""
     names = ["cards", "created", "deleted", "edited", "horizon", "import_edited", "imported",
              "moved_in", "moved_out", "number", "remembered"]
     return "".join(f"{name:<14}{numbers.get(name, 0):>13}\n" for name in names)
 
 
-# A file from its making on. The second book has the next number, and a new file the present schema.
+# A file from its creation on. The second book has the next id, and a new file the current schema.
 MAKING = [
     fault("tally a.db staff", "open 1"),
     done("init a.db", "made\n"),
@@ -89,7 +89,7 @@ remembered                1
 
 TWO_PAGES = ["pages 2 done yes\n", "            4 a\n", "            3 c\n", TOKEN + "1/5/5\n"]
 
-# The book staff after five changes: a, b and c came, a was edited, b was removed.
+# The book staff after five changes: a, b and c were created, a was edited, b was removed.
 FIVE_CHANGES = [
     done("tally a.db staff", FIVE_CHANGES_TALLY),
     done("mirror a.db staff --limit 1", *TWO_PAGES),
@@ -121,8 +121,8 @@ FORGETTING = [
     done("mirror a.db staff --limit 1", *TWO_PAGES),
 ]
 
-# Further changes of staff: c removed (6), b came again (7), d came (8) and was removed (9), and a
-# moved to the clients (10), where b came too.
+# Further changes of staff: c was removed (6), b created again (7), d created (8) and removed (9),
+# and a moved to the clients (10), where another b was created.
 MOVE = [
     done("tally a.db staff", tally(cards=1, created=5, deleted=3, edited=1, moved_out=1, number=10,
                                    remembered=3)),
@@ -146,7 +146,7 @@ CLIENTS = [card("a", "Anna"), card("b", "Bob"),
            card("p", "Pat Lee", "N:Lee;Pat;;;", "EMAIL:pat@example.test"), card("q", "Quinn"),
            card("r", "Rae"), card("s", "Sy")]
 
-# Imports into clients, which has a and b: each is whole or nothing, and acts once under its key.
+# Imports into clients, which has a and b: each is done in full or not at all, and once for its key.
 IMPORTS = [
     refused("import a.db clients k1 faulty.csv", "bad-import 14"),
     done("tally a.db clients", tally(cards=2, created=1, moved_in=1, number=2)),
@@ -154,7 +154,7 @@ IMPORTS = [
     done("import a.db clients k1 three.csv", FIRST_IMPORT),
     done("import a.db clients k1 faulty.csv", FIRST_IMPORT),
     done("import a.db clients k1 empty.csv", FIRST_IMPORT),
-    # The rows are read before the key is looked for.
+    # The rows are read before the key is looked up.
     fault("import a.db clients k1 none.csv", "device 1"),
     done("tally a.db clients", tally(cards=5, created=1, imported=3, moved_in=1, number=5)),
     done("import a.db clients k2 again.csv", "new 1 edited 1 same 1 number 7\n"),
@@ -243,7 +243,7 @@ ROUND = [
     done("export r.db one", CARDS, quoted(card("a", "Ann")), f'"q,1","{QUOTES_CARD}"\n'),
 ]
 
-# Each order on a book that isn't there. A name that no book can have names none.
+# Each order on a book that isn't there. An illegal name is that of no book.
 NO_BOOK = [
     refused("import a.db nobody k header.csv", "no-such-book 1"),
     refused("export a.db nobody", "no-such-book 1"),

@@ -5,7 +5,7 @@ from program import Ended
 
 
 def outcome(reply, text):
-    """What an order ends with; `text` writes the body of a reply that is no refusal."""
+    """How an order ends; `text` formats the body of a reply that is no refusal."""
     status, body = parts_of(reply)
     if status < 400:
         return Ended(0, text(body), b"")
@@ -13,7 +13,7 @@ def outcome(reply, text):
 
 
 def tally_text(body):
-    """A line for each number: its name left in 14 places, and itself right in 13."""
+    """A line for each number: its name left-aligned in 14 columns, itself right-aligned in 13."""
     return "".join("%-14s%13d\n" % line for line in sorted(body.items())).encode()
 
 
@@ -36,7 +36,7 @@ def people_text(body):
 
 
 def mirror_text(copy, pages, is_done):
-    """A new device's copy after a number of pages: versions right in 13 places, and UIDs."""
+    """A new device's copy after a number of pages: versions in 13 columns, and UIDs."""
     lines = ["pages %d done %s" % (pages, "yes" if is_done else "no")]
     uids = sorted(copy.members, key=str.encode)
     lines += ["%13d %s" % (copy.members[uid][0], uid) for uid in uids]

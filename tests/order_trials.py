@@ -1,4 +1,4 @@
-"""What the tests of orders share: a folder, rows that are run there, changes, laid files."""
+"""What the tests of orders share: a folder, rows that are run there, changes, and files."""
 
 import sqlite3
 import unittest
@@ -43,7 +43,7 @@ LAST_STAFF = [
 
 
 def numbered(first, count):
-    """Rows of as many cards: n00000 and so on."""
+    """Rows of `count` cards: n00000 and so on."""
     names = range(first, first + count)
     return rows.COLUMNS + "".join(f"n{number:05},Name,,,,,,\n" for number in names)
 

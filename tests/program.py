@@ -1,7 +1,7 @@
 """The program under test: its orders, and its server over raw sockets.
 
 The program is the one that `./contacts` runs, or the file that the environment's CONTACTS names.
-Nothing here knows what the program should answer; tests/model computes that.
+Nothing here knows what the program should reply; tests/model computes that.
 """
 
 import os
@@ -35,7 +35,7 @@ def run(*arguments, input=b"", **options):
 class Folder:
     """A folder of a test's own, which is removed with the context.
 
-    One in memory spares the waits for the disk, of which each change of a book has some.
+    In a folder in memory no change of a book waits for a disk.
     """
 
     def __init__(self, in_memory=False):
@@ -50,10 +50,10 @@ class Folder:
 
 
 class Server:
-    """`contacts serve FILE`, which is killed with the context where it has not ended by itself."""
+    """`contacts serve FILE`, which is killed at the end of the context unless it has ended."""
 
     def __init__(self, file, connections=1_000_000, port=0, arguments=None, **options):
-        """Where `arguments` are given, they are all that come after `serve`."""
+        """If `arguments` are given, nothing else follows `serve`."""
         whole = [file, "--port", port, "--connections", connections]
         self.process = subprocess.Popen(
             [PROGRAM, "serve", *map(str, arguments or whole)],
@@ -91,7 +91,7 @@ class Server:
         self.end()
 
     def end(self):
-        """Waits until it has ended, and returns what it came to."""
+        """Waits until it has ended, and returns how it ended."""
         if self.process.stdout.closed:
             return Ended(self.process.returncode, self.line, b"")
         out, err = self.process.communicate(timeout=PATIENCE)
@@ -99,7 +99,7 @@ class Server:
 
 
 class Connection:
-    """A client's raw connection. What is sent goes out at once, a send a segment."""
+    """A client's raw connection. Each send goes out at once, as a segment of its own."""
 
     def __init__(self, address):
         self.socket = socket.create_connection(address, timeout=PATIENCE)
@@ -142,7 +142,7 @@ class Connection:
         return self.take(len(head) + 4 + (int(lines[0][15:]) if lines else 0))
 
     def take(self, count):
-        """The next octets, that many; fewer where the connection ends before."""
+        """The next `count` octets; fewer if the connection ends before."""
         while len(self.read) < count and self._more():
             pass
         octets, self.read = self.read[:count], self.read[count:]

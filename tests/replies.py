@@ -1,7 +1,7 @@
 """Replies written out by hand, and a walk over rows of requests and such replies.
 
 A row is a title, a request, and its reply: a status with its phrase, and a body. All rows of a walk
-come over one connection. What was written by hand is wanted of the program and of the model alike.
+come over one connection. The program and the model must both give the replies written by hand.
 """
 
 from dialogue import ServedTest
@@ -45,7 +45,7 @@ def removed_member(uid):
 
 
 def page(token, *members, more=False):
-    """A page; of its token the three numbers."""
+    """A page; `token` is the three numbers of its token."""
     token = f"http://contacts.invalid/sync/{token}"
     truncated = "true" if more else "false"
     return f'{{"members":[{",".join(members)}],"token":"{token}","truncated":{truncated}}}'
@@ -82,7 +82,7 @@ class WalkTest(ServedTest):
             self.same(wanted, replied, f"after {octets[:500]!r}")
 
     def same(self, wanted, replied, message):
-        """Compares octets, of which long ones aren't shown whole."""
+        """Compares octets. Long ones aren't shown in full."""
         if wanted != replied:
             self.assertEqual(wanted[:5_000], replied[:5_000], message)
             self.fail(f"{len(replied)} octets in place of {len(wanted)}, {message}")

@@ -1,9 +1,9 @@
 """Runs the blocks of shell commands of a page, as a reader would, and compares what they print.
 
 A block `console` is a session: lines that begin with `$ ` are commands, and below each is what it
-prints. A block `sh` has commands alone; where the text after it says that they print, the next
-block is what. All blocks of a page run in their order, in one folder, in which `contacts` is the
-program. A block whose fence says more than that, as `sh root`, isn't run.
+prints. A block `sh` has commands alone; if the text after it says that they print something, the
+next block is their output. All blocks of a page run in their order, in one folder, in which
+`contacts` is the program. A block whose fence says more than that, as `sh root`, isn't run.
 """
 
 import os
@@ -57,7 +57,7 @@ def session(block):
 
 
 def printed(page, block):
-    """What commands print by the block after them, or None where that block is something else."""
+    """What commands print by the block after them, or None if that block is something else."""
     if block is None or block.info:
         return None
     before = "\n".join(page.text.splitlines()[: block.line - 2])
@@ -112,7 +112,7 @@ class Shell:
     def run(self, step):
         """What the step prints, standard error included, and its status.
 
-        Of a command in the background it is as many lines as the page shows, and no status.
+        For a command in the background: as many lines as the page shows, and no status.
         """
         command = step.command.replace(PORT, self.port)
         if command.endswith("&"):
@@ -134,7 +134,7 @@ class Shell:
         self.process.stdin.flush()
 
     def _line(self):
-        """The next line that is printed; empty where the shell ends, or prints nothing for long.
+        """The next line that is printed; empty if the shell ends, or prints nothing for long.
 
         Then the shell is killed, and with it the command that never ends.
         """

@@ -1,4 +1,4 @@
-"""What is served of books, computed from the rows of their tables: the rows are well formed.
+"""What is served of books, computed from the rows of their tables, which must be well formed.
 
 `requests` asks for everything that a file holds, and `replies` gives the octets of the replies.
 """
@@ -65,7 +65,7 @@ def page_reply(tables, book, base):
     members = []
     for uid, changed, card in tables.due(book["id"], 0, base):
         if decoded(uid) is None:
-            # A removed member's UID isn't looked at before it is to be sent.
+            # A removed member's UID isn't tested before it has to be sent.
             return fault_message({"number": STORE_FAULT}, close=False)
         member = {"uid": uid.decode(), "status": 404}
         if card is not None:

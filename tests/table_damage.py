@@ -24,7 +24,7 @@ TEXT_COLUMNS = [("book", "name", "id = 1"), ("member", "uid", ANN), ("member", "
                 ("member", "card", ANN), ("member", "card", BOB),
                 ("import_key", "ikey", "book = 1"), ("meta", "name", "name = 'schema'")]
 
-# What a column gets. In braces comes the column itself.
+# The values that a column is set to; `{}` is the column itself.
 NOT_NUMBERS = ["NULL", "'many'", "x'38'", "1.5"]
 OTHER_NUMBERS = ["-1", str(GREATEST), "0", "{} + 1", "{} - 1", "{} + 2"]
 OTHER_TEXTS = ["NULL", NOT_UTF8, "7", "x'61'", "''", "'a b'", "'Ann'", "'zed'",

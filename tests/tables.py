@@ -57,7 +57,7 @@ class Tables:
         self.db = sqlite3.connect(str(path), isolation_level=None)
         self.db.text_factory = Text
         self.db.execute(f"PRAGMA foreign_keys = {'ON' if foreign_keys else 'OFF'}")
-        # Nobody pulls a plug here, so nothing waits for the disk.
+        # No power failure is tested here, so nothing waits for the disk.
         self.db.execute("PRAGMA synchronous = OFF")
 
     def __enter__(self):
@@ -106,7 +106,7 @@ class Tables:
     def due(self, book, at, base):
         """The members of the book that a report is about, in its order.
 
-        That are those which changed after `at`, and are live or were removed after `base`.
+        These are the members that changed after `at`, and are live or were removed after `base`.
         """
         return self.rows("SELECT uid, changed, card FROM member WHERE book = ? AND changed > ? AND "
                          "(card IS NOT NULL OR changed > ?) ORDER BY changed", book, at, base)
@@ -130,12 +130,12 @@ def card(uid, name, note=None):
 
 
 def small_store():
-    """Three books, in the present schema, each of which keeps three removed members in mind.
+    """Three books, in the current schema, each of which may keep three tombstones.
 
     Staff had eight changes: Ann, Bob and Cy were created, Ann was edited, Bob removed, Dee imported
     and Cy edited by an import, and Cy moved to the clients. These had six: Eve was created, Cy
-    came, Fay was created; Eve was removed and forgotten; Gus was created and removed. Hal and Ida
-    were imported among the friends.
+    moved in, Fay was created; Eve was removed and forgotten; Gus was created and removed. Hal and
+    Ida were imported into the friends.
     """
     books = [(1, "staff", 8, 0, 3, 1, 1, 1, 0, 1, 1), (2, "clients", 6, 4, 3, 0, 0, 0, 1, 2, 0),
              (3, "friends", 2, 0, 0, 0, 2, 0, 0, 0, 0)]
@@ -155,7 +155,7 @@ def first_store():
 
 
 def decoded(text):
-    """The text, where it is UTF-8, and else None."""
+    """The text if it is UTF-8, and else None."""
     try:
         return text.decode()
     except UnicodeDecodeError:
@@ -163,7 +163,7 @@ def decoded(text):
 
 
 def canonical_card(text):
-    """The card whose canonical text this is, and None where it is none's."""
+    """The card with this canonical text, or None if no card has it."""
     try:
         spelled = read_card(bytes(text))
     except BadCard:

@@ -1,8 +1,8 @@
-"""The arguments of the command line: which ask for an order, and what is said of all others.
+"""The arguments of the command line: which ask for an order, and what is reported for all others.
 
-What is said is clap 4's text, octet for octet, on standard error, and the status is 2; nothing is
-printed, nothing is read, and no file is made. A request for help is no order either. The texts are
-written by hand in `argument_rows` and `help_texts`.
+For these, clap 4's text is written to standard error, octet for octet, and the status is 2; nothing
+is printed, nothing is read, and no file is made. A request for help is no order either. The texts
+are written by hand in `argument_rows` and `help_texts`.
 """
 
 import os
@@ -42,7 +42,7 @@ class Trial(unittest.TestCase):
         self.addCleanup(folder.__exit__)
 
     def run_here(self, arguments):
-        """Runs the program in a folder of its own, in which no file may come to be."""
+        """Runs the program in a folder of its own, in which it must not create a file."""
         ended = run(*arguments, input=CARD, cwd=self.folder)
         self.assertEqual([], list(self.folder.iterdir()))
         return ended
@@ -60,7 +60,7 @@ class Arguments(Trial):
                 self.assert_bad(arguments_of(row), text)
 
     def test_good_arguments(self):
-        """There is no such file, and that is what is said: so the arguments were understood."""
+        """There is no such file, and the program says so: it has understood the arguments."""
         for row in GOOD:
             with self.subTest(row):
                 self.assertEqual(NO_FILE, self.run_here(arguments_of(row)))
@@ -75,7 +75,7 @@ class Arguments(Trial):
                 self.assertEqual(tried, self.run_here(row.split()))
 
     def test_forms_near_the_two(self):
-        """What else clap says of such a value isn't looked at here."""
+        """The rest of clap's text for such a value isn't tested here."""
         for value in "", "card", "column", "cards ", "Cards":
             with self.subTest(value):
                 ended = self.run_here(["export", "a.db", "staff", "--form", value])

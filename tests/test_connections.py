@@ -1,7 +1,7 @@
 """Connections over raw sockets: rows of requests, heads one by one, and drawn damage.
 
 What a client sends comes whole, octet by octet, or in pieces, and the replies are those that the
-model computes. It is also looked at whether the server closes a connection or leaves it open. The
+model computes. The tests also check whether the server closes a connection or leaves it open. The
 rules are those of the API's description and of RFC 9112.
 """
 
@@ -20,7 +20,7 @@ PIECE_MAX = 40
 
 
 def number_of(replies):
-    """The number of the refusal or fault that the first reply has; 0 where it has none."""
+    """The number of the refusal or fault that the first reply has; 0 if it has none."""
     head, _, rest = replies.partition(b"\r\n\r\n")
     if b"Content-Type: application/json\r\n" not in head:
         return 0
@@ -66,7 +66,7 @@ class Rows(ServedTest):
 class Heads(ServedTest):
     """Each head on a connection of its own, with a request after it.
 
-    Where the head closes the connection, that request isn't done: the export shows it.
+    If the head closes the connection, that request isn't done: the export shows it.
     """
 
     def each(self, way):

@@ -1,7 +1,7 @@
 """However a connection's octets are cut, the replies are the same.
 
-Connections are cut in two at each octet, over one server and one model that go along, so that each
-cut does what it says once more. The rows come in drawn pieces, with fixed numbers.
+Connections are cut in two at each octet, over one server and one model, so that their requests are
+done once more for each cut. The rows come in pieces that are drawn from fixed seeds.
 """
 
 import unittest
@@ -27,7 +27,7 @@ from http_requests import (
 )
 
 DRAWN = 3  # ways in which each row comes in drawn pieces
-PIECE_MAX = 24  # octets of a drawn piece, where a connection isn't long
+PIECE_MAX = 24  # octets of a drawn piece, if a connection isn't long
 
 
 # What is sent on a connection, of which the number is that of the cut: of any length, so that

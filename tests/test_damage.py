@@ -2,7 +2,7 @@
 
 The program makes a file of the small store in `tables`. For each damage in `table_damage` a copy is
 changed by SQL, and the program opens it. Whether it is refused is computed by `well_formed` from
-docs/MODEL.md, and what is served else by `stored_books`, both over the rows of the changed copy.
+docs/MODEL.md, and what is served otherwise by `stored_books`, both over the rows of the copy.
 """
 
 import unittest
@@ -66,7 +66,7 @@ class Damage(unittest.TestCase):
         self.assertGreater(done, 200)
 
     def test_missing_books(self):
-        """Rows of books that aren't there: sqlite3 tests that only where it is asked to."""
+        """Rows of books that aren't there: sqlite3 tests that only if it is asked to."""
         done = 0
         for label, statements in store_damage():
             with self.subTest(label), self.copy(foreign_keys=False) as tables:
@@ -77,7 +77,7 @@ class Damage(unittest.TestCase):
         self.assertGreater(done, 10)
 
     def check(self, tables):
-        """Whether the file is refused, or what is served of it, is what its rows say."""
+        """Tests that the file is refused, or what is served of it, as its rows require."""
         number = open_fault(tables)
         wanted = None if number else (stored_books.requests(tables), stored_books.replies(tables))
         tables.close()

@@ -1,6 +1,6 @@
-"""The pages for users: what they show is sent or run, and has to be replied or printed as shown.
+"""The pages for users: the requests and commands that they show are sent and run.
 
-What is wanted is what README.md, docs/API.md and docs/OPERATING.md themselves say.
+The replies and the output must be those that README.md, docs/API.md and docs/OPERATING.md show.
 """
 
 import json

@@ -1,7 +1,7 @@
 """The scripts of examples/: an office's first days, and backups with a service that is stopped.
 
 In place of systemctl the backups have commands that ask the test to stop and start its server.
-What is wanted is what the scripts and docs/OPERATING.md say of them.
+The scripts must do what their comments and docs/OPERATING.md say.
 """
 
 import fcntl

@@ -1,6 +1,6 @@
 """The file of an office as others see it: its rows read by sqlite3, copies, and full disks.
 
-The rows follow from the worked changes by hand. What becomes of copies, and of a disk without room,
+The rows were worked out by hand from the changes. What must happen to copies, and on a full disk,
 is what docs/OPERATING.md says.
 """
 
@@ -122,7 +122,7 @@ class Rows(FileTest):
         ], held.rows)
 
     def test_further_import(self):
-        """A card that came by an import is edited by the next one; a header alone is kept too."""
+        """A card of an import is edited by the next one; the key of a header alone is kept too."""
         make(self.file, "clients")
         rows = self.folder / "rows.csv"
         for key, csv, line in [

@@ -1,8 +1,8 @@
 """Whole histories over the served program: writers and devices in turn, with restarts between.
 
-Each reply is to equal, to the octet, what tests/model computes from the same requests. A device is
-`histories.Copy`, which is no part of the model: whenever a page comes that isn't truncated, its
-copy is to be the book, cards and versions.
+Each reply must equal, octet for octet, what tests/model computes from the same requests. A device
+is `histories.Copy`, which is no part of the model: whenever it gets a page that isn't truncated,
+its copy must be the book, cards and versions.
 
 The histories are drawn. SEEDS=20 in the environment asks for the seeds 1 to 20 in place of the
 first 3; a failure names its seed, and the step at which it came.
@@ -105,7 +105,7 @@ class History(Trial):
             self.equal(connection.rest(), due, end)
 
     def draw(self, session):
-        """A request, and the reply that is due."""
+        """A request, and the reply that is expected."""
         octets = self.drawing.draw()
         reply = session.feed(octets)
         self.drawing.learn(reply)
@@ -139,7 +139,7 @@ class History(Trial):
                 self.ask(connection, device, self.random.choice(self.limits))
 
     def ask(self, connection, device, limit):
-        """One page for the device; answers whether its copy is the book now."""
+        """One page for the device; returns whether its copy is the book now."""
         self.step += 1
         copy = device.copy
         if device.round is None:
@@ -268,7 +268,7 @@ class LongHistory(History):
 
 class Histories(unittest.TestCase):
     def go(self, kind, seeds, steps):
-        """A history for each seed; answers those that came to their end."""
+        """A history for each seed; returns those that ran to their end."""
         ended = []
         for seed in seeds:
             with self.subTest(seed=seed), Folder() as folder:

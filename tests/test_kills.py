@@ -1,7 +1,7 @@
 """`kill -9` in the middle of writes, and what the file holds when it is opened again.
 
 A client sends changes without waiting for replies, and the server is killed at a drawn moment.
-Whatever was replied is there. Of the changes that were sent and not replied, a first part was
+Each change that was replied to is there. Of those that were sent without a reply, a first part was
 done, each whole or not at all: a move is never on one side alone, an import never in part. Devices
 go on with their tokens. SQLite's own check finds the file sound after each kill.
 
@@ -216,7 +216,7 @@ class KillTrial(Trial):
             self.equal(device.members, self.contents(device.book))
 
     def ask(self, connection, device, limit):
-        """A page for the device; answers whether it is the last one."""
+        """A page for the device; returns whether it is the last one."""
         octets = device.ask(limit)
         connection.send(octets)
         reply = connection.reply()

@@ -1,7 +1,7 @@
 """The launcher `./contacts` and its tools, in copies of the tree, where Rattle's kit is missing.
 
-What is wanted is what README.md says of a first start: the program of dist/ where that was made
-from the present sources, and else status 125, with nothing run and the reason on standard error.
+A first start must do what README.md says: it runs the program of dist/ if that was made from the
+present sources. Otherwise nothing is run, the reason is on standard error, and the status is 125.
 """
 
 import os
@@ -87,7 +87,7 @@ class Launcher(unittest.TestCase):
         return start(self.tree / "contacts", self.path, *arguments)
 
     def change(self, name, octets):
-        """Has the file hold these octets, or none where they are None, until the test ends."""
+        """Writes these octets to the file, or removes it for None, until the test ends."""
         file = self.tree / name
         before, times = file.read_bytes(), (file.stat().st_atime, file.stat().st_mtime)
         # Whatever the clock's steps are, the file and its folder are newer than any program.

@@ -1,7 +1,7 @@
 """Books at their limits: 100 books, 10,000 cards of a book, its last number, 100 members of a page.
 
-A book is filled up to just below a limit, by an import or by a line of its file. Then the rows come
-that lead up to the limit and past it. The replies are those of the model.
+A book is filled up to just below a limit, by an import or by a line of its file. Then rows lead up
+to the limit and past it. The replies are those of the model.
 """
 
 import sqlite3
@@ -62,7 +62,7 @@ class Limits(ServedTest):
 
     def test_cards_and_books(self):
         self.fill("staff", CARDS_MAX - 2)
-        # An import is refused as a whole where one of its cards is too many.
+        # An import is refused as a whole if one of its cards is too many.
         self.serve(self.import_new(3), tally("staff"))
         self.serve(*[create(f"book-{number}") for number in range(1, BOOKS_MAX)])
         self.serve_row(AT_MOST_TWO_CARDS)

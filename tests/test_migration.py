@@ -1,6 +1,6 @@
-"""Files of the first schema, which `contacts migrate` carries to the present one, or refuses.
+"""Files of the first schema, which `contacts migrate` migrates to the current one, or refuses.
 
-The files are laid by sqlite3. What they hold afterwards follows from their rows, by docs/MODEL.md
+The files are made by sqlite3. What they hold afterwards follows from their rows, by docs/MODEL.md
 (`well_formed`): every row as it was, the new number of the schema, and each book's keep.
 """
 
@@ -18,8 +18,8 @@ from well_formed import due_keeps, open_fault
 
 KEEP = 10_000
 
-# Staff's nine changes: three cards came, a was edited, b removed, c removed, b came again, and d
-# came and was removed.
+# Staff's nine changes: three cards were created, a was edited, b removed, c removed, b created
+# again, and d created and removed.
 NINE = [
     ("meta", [("schema", 1)]),
     ("book", [(1, "staff", 9, 0, 5, 1, 0, 0, 0, 3, 0)]),
@@ -27,7 +27,7 @@ NINE = [
                 (1, "d", 9, None)]),
     ("import_key", []),
 ]
-# What a device is sent that knows the first seven.
+# What is sent to a device that knows the first seven.
 D_REMOVED = b'{"members":[{"status":404,"uid":"d"}],' \
     b'"token":"http://contacts.invalid/sync/1/9/9","truncated":false}'
 
@@ -134,7 +134,7 @@ class Migration(MigrationTest):
         self.lay(removals(counts))
         self.assertEqual(migrated(3), run("migrate", self.file))
         self.assertEqual([(1, KEEP), (2, KEEP), (3, KEEP + 50)], self.contents().rows[4])
-        # Of the third book's changes the first count + 1 are cards that came, and the others are
+        # Of the third book's changes the first count + 1 created cards, and the others are
         # removals. One more drops the first of these.
         number, first = 2 * counts[2] + 1, counts[2] + 2
         replies = serve(self.file, sync("book-3", "3/0/0", limit=1), tally("book-3"),
@@ -176,7 +176,7 @@ class Refusals(MigrationTest):
         log = log_of(self.file).read_bytes()
         self.assert_refused(3)
         self.assertEqual(log, log_of(self.file).read_bytes())
-        # The same where sqlite3 wrote it.
+        # The same if sqlite3 wrote the file.
         other = self.folder / "other.db"
         with Tables(other) as tables:
             tables.lay(small_store())

@@ -1,8 +1,8 @@
 """No room: in a book or for books, for a book's numbers, on the disk, and in memory.
 
-What is wanted was written by hand from docs/API.md: 10,000 cards of a book, 100 books, and
-1,000,000,000,000 changes, and what is refused then. Where the disk or the memory is short, a
-request is refused and changes nothing, and all goes on once there is room.
+The expected replies were written by hand from docs/API.md: 10,000 cards of a book, 100 books, and
+1,000,000,000,000 changes, and what is refused then. If the disk or the memory is short, a request
+is refused and changes nothing, and all works again once there is room.
 """
 
 import resource
@@ -170,7 +170,7 @@ class FullBooksTest(NoRoomTest):
 
     @unittest.skipIf(sqlite3.sqlite_version_info < (3, 37), "SQLite below 3.37 can't read the file")
     def test_spent_changes(self):
-        """The book's edits are made many in its file. The model has few, and a limit to fit."""
+        """The file's count of edits is raised. The model has few changes, and a limit to match."""
         self.office = Office(changes_max=3)
         self.walk([
             ("staff", create("staff"), CREATED, '{"id":1}'),

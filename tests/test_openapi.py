@@ -1,6 +1,6 @@
 """docs/openapi.json: it is valid OpenAPI 3.0, and has every reply of the run of docs/API.md.
 
-What is valid is written from the OpenAPI Specification 3.0.3 (openapi_rules.py). The run is that
+The rules are written from the OpenAPI Specification 3.0.3 (openapi_rules.py). The run is that
 of documented.py: the page's session and each refusal that a request can have.
 """
 

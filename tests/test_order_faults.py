@@ -1,8 +1,8 @@
-"""What orders end with where a device, a connection or memory fails, or a disk is full.
+"""How orders end if a device, a connection or memory fails, or a disk is full.
 
-What is said, and what is left, is what docs/OPERATING.md says: `fault device 1` where a file of
-rows, the port, or standard input or output can't be used; what was done stays where it can't be
-printed; standard error changes nothing.
+What must be reported and left is what docs/OPERATING.md says: `fault device 1` if a file of rows,
+the port, or standard input or output can't be used; changes remain if they can't be printed; a
+failure of standard error changes nothing.
 """
 
 import os
@@ -170,7 +170,7 @@ class Rows(FaultTest):
         ])
 
     def test_no_right(self):
-        """Root may read every file: there the program runs as nobody, who has the folder."""
+        """Root may read every file: then the program runs as user nobody, who owns the folder."""
         (self.folder / "three.csv").chmod(0)
         if os.geteuid() != 0:
             ended = self.run_here("import a.db staff k three.csv")
@@ -215,7 +215,7 @@ class Rows(FaultTest):
 
 
 class Connections(FaultTest):
-    """Connections that are given up. The others are served, and the first fault is said at last."""
+    """Connections that are given up. The others are served; the first fault is reported last."""
 
     def assert_served(self, server):
         self.assertIn(b'"name":"staff"', server.ask(books()))
@@ -306,7 +306,7 @@ class Memory(FaultTest):
         return self.run_here(arguments, input=ANN.encode(), preexec_fn=limit)
 
     def least(self, arguments, is_enough):
-        """The least pages with which that is so."""
+        """The least number of pages with which the order ends so."""
         low, high = 0, self.MOST
         while high - low > 1:
             middle = (low + high) // 2
@@ -317,9 +317,9 @@ class Memory(FaultTest):
         return high
 
     def outcomes(self, arguments, status=0, count=12):
-        """What an order ends with from the least memory to begin with up to what it needs.
+        """How an order ends, from the least memory with which a program starts up to enough for it.
 
-        With less to begin with the loader says why not, or a signal ends it, whatever the order.
+        With less memory the program isn't started: the loader reports it, or a signal ends it.
         """
         least = self.least("--help", lambda ended: ended.status in range(4))
         enough = self.least(arguments, lambda ended: ended.status == status)

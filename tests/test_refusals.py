@@ -1,7 +1,7 @@
 """Refusals: each number over each route that has it, and which of two comes first.
 
-What is wanted was written by hand from docs/API.md: the statuses and texts of the table of
-refusals, and the causes of cards and rows. Nothing is changed by a refusal, which is looked at too.
+The expected replies were written by hand from docs/API.md: the statuses and texts of the table of
+refusals, and the causes of cards and rows. A refusal must change nothing, which is tested too.
 To add a row, copy a line: a title, a request, a status, a body.
 """
 

@@ -1,6 +1,6 @@
 """Files that the program refuses to open, each with its fault and left as it was.
 
-What is a store's file, and which fault is said of any other, is what docs/OPERATING.md says.
+docs/OPERATING.md says which files are stores, and which fault is reported for each other file.
 """
 
 import os
@@ -85,7 +85,7 @@ class RefusedFile(unittest.TestCase):
 
 
 class OtherFiles(RefusedFile):
-    """Files of others."""
+    """Files of other programs."""
 
     def test_no_databases(self):
         for number, (label, octets) in enumerate(NO_DATABASES):
@@ -198,7 +198,7 @@ class UnusableFiles(RefusedFile):
 
 
 class Rights(RefusedFile):
-    """What a user may not read or write. Where root runs the tests, nobody runs the program."""
+    """What a user may not read or write. If root runs the tests, user nobody runs the program."""
 
     # A folder in memory may be one from which no program can be run.
     folder_type = Folder

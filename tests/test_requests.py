@@ -1,6 +1,6 @@
 """Requests and their replies, octet for octet: each route, each kind of reply, each fault.
 
-All that is wanted was written by hand from docs/API.md, from the formats' descriptions and from RFC
+All expected replies were written by hand from docs/API.md, the formats' descriptions and from RFC
 9112 (heads) and RFC 6578 (pages). To add a row, copy a line: a title, a request, a status, a body.
 """
 
@@ -38,7 +38,7 @@ PAT_TEXT = card_text("p", "Pat Lee", "N:Lee;Pat;;;", "EMAIL:pat@example.test")
 GROUP = card("g", "Team", "KIND:group", "MEMBER:g2", "MEMBER:urn:uuid:x", "MEMBER:nobody")
 OTHER_GROUP = card("g2", "Half", "KIND:group", "MEMBER:g", "MEMBER:y")
 ANN = card("a", "Ann")
-# It follows what closes a connection, and so it is never done.
+# It follows a request that closes the connection, so it is never done.
 NEVER = create("never")
 
 
@@ -387,7 +387,7 @@ class RepliesTest(WalkTest):
         )
 
     def test_requests_that_are_not_whole(self):
-        """There is no reply, and nothing is done, where the input ends within a request."""
+        """There is no reply, and nothing is done, if the input ends within a request."""
         put_ann = put("staff", "a", "Ann")
         self.walk([("a book", create("staff"), CREATED, '{"id":1}')])
         for title, octets in [
@@ -402,7 +402,7 @@ class RepliesTest(WalkTest):
 
 
 class ModelTest(unittest.TestCase):
-    """The model replies what was written by hand elsewhere, for the program alone."""
+    """The model gives the replies that were written by hand elsewhere to test the program."""
 
     def test_worked_rows(self):
         for name in ("HISTORY", "WITH_FORGETTING"):

@@ -1,7 +1,8 @@
 """Targets: routes, methods, parts of a path, queries, and bodies that a request doesn't need.
 
-What is wanted was written by hand from docs/API.md: which routes there are with which methods and
-names in their queries, and that a part of a path is percent-decoded and a query read as a form's.
+The expected replies were written by hand from docs/API.md: which routes there are, with which
+methods and names in their queries, that a part of a path is percent-decoded, and that a query is
+decoded like a form.
 To add a row, copy a line.
 """
 
@@ -55,7 +56,7 @@ METHODS = [
     ("/books/staff/cards/a", "GET, PUT, DELETE", ["POST", "PATCH", "MOVE"]),
     ("/books/staff/cards/a/move", "POST", ["GET", "PUT", "MOVE"]),
     ("/books/staff/cards/a/people", "GET", ["POST", "PUT"]),
-    # Another method is found before a part of the path or the query is looked at.
+    # Another method is refused before a part of the path or the query is read.
     ("/books/%FF/tally?x=1", "GET", ["POST"]),
 ]
 
@@ -178,7 +179,7 @@ OTHER_BAD_QUERIES = [
     request("POST", "/books/staff/cards/a/move"),
     request("POST", "/books/staff/cards/a/move?to=b&version=x"),
     request("GET", "/books/staff/cards/a/people?depth=1"),
-    # Also where there is no such book.
+    # Also if there is no such book.
     request("GET", "/books/none/sync?limit=x"),
 ]
 

@@ -2,7 +2,7 @@
 
 The texts and what they spell are in `card_rows`, written by hand. What is printed is the put, the
 card in its canonical text, and the token of the book's initial report. The cause for which a text
-is refused isn't printed: a server says it, to which the same text is put.
+is refused isn't printed, so the same text is also put to a server, whose reply has the cause.
 """
 
 import os
@@ -90,7 +90,7 @@ class Texts(unittest.TestCase):
 
 
 class Inputs(unittest.TestCase):
-    """Standard input: how much of it is read, in which pieces, and where it can't be used."""
+    """Standard input: how much of it is read, in which pieces, and how it may fail."""
 
     def setUp(self):
         folder = Folder()

@@ -28,7 +28,7 @@ class Trial:
         self.test.assertEqual(has, due, self.where(what))
 
     def model_reply(self, octets):
-        """What the model replies to requests on a connection of their own."""
+        """The model's replies to requests on a connection of their own."""
         return Session(self.office).feed(octets)
 
     def number(self, book):

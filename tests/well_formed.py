@@ -1,4 +1,4 @@
-"""Which tables are a store's, and which rows are well-formed books: docs/MODEL.md, read over rows.
+"""Which tables are a store's, and which rows are well-formed books, by docs/MODEL.md.
 
 `open_fault` gives the number of the fault with which a file of such tables is refused.
 """
@@ -83,7 +83,7 @@ def read_books(tables):
 
 
 def check_book(book, members, keeps):
-    """The counts add up, to the number and to the live members, and the keep is kept."""
+    """The counts add up to the number and to the live members, and the tombstones fit the keep."""
     need(BOOK_NAME.fullmatch(book["name"]))
     arrived = book["created"] + book["imported"] + book["moved_in"]
     left = book["deleted"] + book["moved_out"]

@@ -1,7 +1,7 @@
 """Books as lists of events, and the devices that copy them (RFC 6578).
 
-A book is what its events come to. Two maps are kept beside the list, so that a look-up needn't read
-it all: the members that are there, and the removed ones that the book remembers.
+A book is the result of its events. Two maps are kept beside the list, so that a look-up needn't
+read it all: the members that are there, and the removed ones that the book remembers.
 
 Commands are tuples: a kind and its arguments, as the methods `do_KIND` of Office have them. Cards
 and bodies are octets; a version, a limit or a token that is left out is None or empty. A reply has
@@ -47,7 +47,7 @@ class Book:
     def __init__(self, own_id, keep):
         self.id, self.keep, self.horizon = own_id, keep, 0
         self.events, self.reasons, self.imports = [], Counter(), {}
-        # Of each member's last event: the version and the card where it is there; the number where
+        # Of each member's last event: the version and the card if it is live; the number if
         # it was removed and is remembered, and these in the order of their numbers.
         self.live, self.gone = {}, {}
 
@@ -56,7 +56,7 @@ class Book:
         return len(self.events)
 
     def version(self, uid):
-        """The version of the card with this UID; 0 where none is there."""
+        """The version of the card with this UID; 0 if there is none."""
         return self.live[uid].version if uid in self.live else 0
 
     def card(self, uid):
@@ -64,7 +64,7 @@ class Book:
         return self.live[uid].card if uid in self.live else None
 
     def add(self, uid, reason, card=None):
-        """Adds an event: the card is stored, or the member removed where there is no card."""
+        """Adds an event: the card is stored, or the member removed if there is no card."""
         self.events.append(Event(uid, reason, card))
         self.reasons[reason] += 1
         if card:
@@ -270,7 +270,7 @@ def live_card(book, uid):
 
 
 def expect_version(book, uid, version):
-    """Whoever says a version means that it is there; 0 means that no card is."""
+    """Refuses another version than the expected one; 0 expects that no card is there."""
     if version is not None and version != book.version(uid):
         raise Refused(VERSION_MISMATCH, has=book.version(uid))
 
@@ -321,7 +321,7 @@ class Device:
         return reply
 
     def apply(self, page):
-        """Applies a page's members in order, and then has its token. A first page begins anew."""
+        """Applies a page's members in order, and keeps its token. A first page begins the copy."""
         if not self.token:
             self.copy = {}
         for it in page["members"]:

@@ -39,7 +39,7 @@ class BadCard(Exception):
 
 
 def read_card(octets):
-    """The card that a text spells; BadCard where it spells none."""
+    """The card that a text spells; BadCard if it spells none."""
     if len(octets) > OCTETS_MAX:
         raise BadCard(TOO_LONG)
     try:
@@ -61,7 +61,7 @@ def read_card(octets):
 
 
 def card_of_values(values):
-    """The card that has a line for each name and value; BadCard where none has."""
+    """The card of a line for each name and value; BadCard if there is no such card."""
     lines = []
     for name, value in values:
         if FORBIDDEN.search(value):
@@ -140,7 +140,7 @@ def line_text(line):
 
 
 def fold(line):
-    """The line with its end, cut where it is long: never within a character."""
+    """The line with its end, folded if it is long, but never within a character."""
     pieces, begin, room = [], 0, LINE_MAX
     while len(line) - begin > room:
         end = begin + room

@@ -84,7 +84,7 @@ FAULTS = {
 
 
 class Fault(Exception):
-    """What is wrong with a request, and the methods of its route where the method is."""
+    """What is wrong with a request, and the methods of its route if the method is wrong."""
 
     def __init__(self, number, allow=None):
         super().__init__(number)
@@ -139,7 +139,7 @@ Head = namedtuple("Head", "method target length close")
 
 def split_head(octets):
     """The lines at the front, those before the first left out if they are empty; the beginning of
-    a further line; and where the head ends, or None where its empty line hasn't come."""
+    a further line; and where the head ends, or None if its empty line hasn't come."""
     lines, at = [], 0
     while True:
         end = octets.find(b"\n", at)
@@ -162,7 +162,7 @@ def is_text(octets):
 
 
 def read_fields(lines):
-    """The fields, their names in lower case; None where a line is none or there are too many."""
+    """The fields, their names in lower case; None if a line is no field or there are too many."""
     found = [FIELD_LINE.fullmatch(line) for line in lines]
     if None in found or len(found) > FIELDS_MAX:
         return None
@@ -182,7 +182,7 @@ def is_begun(lines, last):
 
 
 def read_head(lines):
-    """The head that these lines are; Fault where they are none that is served."""
+    """The head that these lines are; Fault if they are no head that is served."""
     found = REQUEST_LINE.fullmatch(lines[0])
     fields = read_fields(lines[1:])
     if not found or not is_text(found[2]) or fields is None:
@@ -280,7 +280,7 @@ PATHS = [
 
 
 def read_query(query, wanted):
-    """The values of the query by name; Fault where it isn't as wanted."""
+    """The values of the query by name; Fault if it isn't as wanted."""
     values = {}
     for piece in filter(None, query.replace(b"+", b" ").split(b"&")):
         name, _, value = (unquote_to_bytes(it) for it in piece.partition(b"="))
@@ -294,7 +294,7 @@ def read_query(query, wanted):
 
 
 def read_command(head, body):
-    """The command that a whole request asks for; Fault where it asks for none."""
+    """The command that a whole request asks for; Fault if it asks for none."""
     path, _, query = head.target.partition(b"?")
     found = [(it.fullmatch(path), methods) for it, methods in PATHS if it.fullmatch(path)]
     if not found:
@@ -333,7 +333,7 @@ class Session:
         return b"".join(replies)
 
     def next_reply(self):
-        """The reply to the request at the front, which is taken away; None where it isn't whole."""
+        """The reply to the request at the front, which is taken away; None if it isn't whole."""
         lines, last, end = split_head(self.rest[:HEAD_MAX])
         if end is None:
             if len(self.rest) < HEAD_MAX:

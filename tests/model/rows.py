@@ -51,7 +51,7 @@ def records(octets):
 
 
 def read_rows(octets):
-    """The cards of the rows; BadImport where the text isn't a header and rows of cards."""
+    """The cards of the rows; BadImport if the text isn't a header and rows of cards."""
     octets = octets[len(MARK):] if octets.startswith(MARK) else octets
     header, *rows = records(octets) or [[]]
     forms = [form for form, names in HEADERS.items() if header == [it.encode() for it in names]]
@@ -124,7 +124,7 @@ def columns_of(card):
 
 
 def field_text(text):
-    """The field, in quotes where it needs them."""
+    """The field, in quotes if it needs them."""
     return '"' + text.replace('"', '""') + '"' if re.search('[,"\r\n]', text) else text
 
 
