@@ -7,3 +7,4 @@ pub mod RunLemmas
 pub mod StepLemmas
 pub mod FeedLemmas
 pub mod PieceLemmas
+pub mod HeldHeadLemmas

@@ -1,6 +1,7 @@
 pub mod HeadFaults
 pub mod Fields
 pub mod HeadEnds
+pub mod HeldHeads
 pub mod Requests
 pub mod RequestLaws
 pub mod ParsedHeads

@@ -2,6 +2,7 @@
 ghost use Rattle.std.specs.Prelude.{◌≡◌, ◌≢◌, ◌≤◌, ◌<◌, ◌-◌, ◌↔◌, [], ◌++◌, length, take, IfOk};
 ghost use Rattle.std.specs.Prelude.{OnErr, IsTrue};
 ghost use Rattle.http_requests.specs.HeadEnds.{head_state_after, EndsAtLastOctet};
+ghost use Rattle.http_requests.specs.HeldHeads.{partial_head_length};
 ghost use Rattle.http_requests.specs.SessionFeeding.{HandlesSomePrefix, FeedsPieceInPart};
 ghost use Rattle.http_requests.specs.SessionFeeding.{FeedsPiece};
 ghost use Rattle.http_requests.specs.ParsedHeads.{IsBoundFault};
@@ -85,6 +86,19 @@ impl Progress {
         ensures { IsTrue result ↔ IsClosed self.now.stage }
     {
         matches!(&self.stage, Stage::Closed)
+    }
+
+    /// The number of octets of an incomplete head that are held.
+    pub(crate) fn partial_head_len(&self) -> usize
+        requires holds { MatchesStage self.now.held.items self.now.stage }
+        ensures { result ≡ partial_head_length
+            (open_octets self.now.held.items self.now.stage) }
+    {
+        match &self.stage {
+            Stage::Head(_) => self.held.len(),
+            Stage::Body(_, _, _) => 0,
+            Stage::Closed => 0,
+        }
     }
 
     /// Appends the reply to a head with the fault.

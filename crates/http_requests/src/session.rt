@@ -1,5 +1,6 @@
 //! The requests of one connection, received in pieces.
 ghost use Rattle.std.specs.Prelude.{◌≡◌, ◌↔◌, [], Some, None, IfOk, OnErr, IsTrue};
+ghost use Rattle.http_requests.specs.HeldHeads.{partial_head_length};
 ghost use Rattle.http_requests.specs.SessionFeeding.{FeedsPiece, FeedsPieceInPart};
 
 use crate::handler::Handler;
@@ -45,6 +46,14 @@ impl Session {
         ensures { IsTrue result ↔ (self.now ≡ None) }
     {
         self.progress.is_closed()
+    }
+
+    /// The number of octets of an incomplete head that the session holds. It is 0 between requests,
+    /// within a body, and once the session is closed.
+    pub fn partial_head_len(&self) -> usize
+        ensures { result ≡ partial_head_length self.now }
+    {
+        self.progress.partial_head_len()
     }
 
     /// Consumes the next piece of the stream, passes each request that it completes to the
