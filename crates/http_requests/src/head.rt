@@ -2,6 +2,7 @@
 ghost use Rattle.std.specs.Prelude.{◌≡◌, ◌≤◌, length, IfOk};
 ghost use Rattle.http_requests.specs.ParsedHeads.{IsParsedHead};
 ghost use Rattle.http_requests.specs.HeadEnds.{EndsAtLastOctet};
+ghost use Rattle.http_requests.specs.Requests.{longest_head};
 
 use crate::fields::{closes, length_or_fault};
 use crate::head_fault::HeadFault;
@@ -39,7 +40,7 @@ pub enum ParsedHead {
 /// `NoMemory` if an allocation fails.
 pub fn read_head(alloc: Global, text: &[u8]) -> Result<ParsedHead, NoMemory>
     requires ends { EndsAtLastOctet text.now }
-    requires short { length text.now ≤ 16384 }
+    requires short { length text.now ≤ longest_head }
     ensures { IfOk result (IsParsedHead text.now) }
 {
     let mut spans = [EMPTY_HEADER_SPAN; 64];

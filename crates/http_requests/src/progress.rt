@@ -6,6 +6,7 @@ ghost use Rattle.http_requests.specs.HeldHeads.{partial_head_length};
 ghost use Rattle.http_requests.specs.SessionFeeding.{HandlesSomePrefix, FeedsPieceInPart};
 ghost use Rattle.http_requests.specs.SessionFeeding.{FeedsPiece};
 ghost use Rattle.http_requests.specs.ParsedHeads.{IsBoundFault};
+ghost use Rattle.http_requests.specs.Requests.{longest_head};
 ghost use Rattle.http_requests.specs.internal.Progress.{MatchesStage, IsPartialHead, IsClosed};
 ghost use Rattle.http_requests.specs.internal.Progress.{IsOpen, IsPartialBody, IsCompleteRequest};
 ghost use Rattle.http_requests.specs.internal.Progress.{HoldsNoneIfClosed, StepsSession};
@@ -22,6 +23,9 @@ use httparse::Status;
 use httparse::spans::{EMPTY_HEADER_SPAN, RequestSpans, parse_request};
 use std::alloc::Global;
 use std::mem;
+
+/// The most octets of a head.
+const HEAD_OCTETS_MAX: usize = 16_384;
 
 /// What the held octets are.
 #[derive(Debug, Drop)]
@@ -151,7 +155,7 @@ impl Progress {
         out: &mut Vec<u8>,
     ) -> Result<bool, NoMemory>
         requires ends { EndsAtLastOctet self.old.held.items }
-        requires short { length self.old.held.items ≤ 16384 }
+        requires short { length self.old.held.items ≤ longest_head }
         requires closed { IsClosed self.old.stage }
         ensures ok { IfOk result (StepsSession H.does H.fault_reply self.old.held.items handler.old
             out.old.items out.new.items handler.new self.new) }
@@ -201,12 +205,12 @@ impl Progress {
             (self.old.held.items ++ piece.now) handler.old handler.new) }
         ensures err_closed { OnErr result (IsClosed self.new.stage) }
     {
-        let (used, state) = scan(state, piece, 16384 - self.held.len());
+        let (used, state) = scan(state, piece, HEAD_OCTETS_MAX - self.held.len());
         self.held.extend_from_slice(&piece[..used])?;
         if state.has_ended() {
             let stays_open = self.finish_head(alloc, handler, out)?;
             Ok((used, stays_open))
-        } else if self.held.len() < 16384 {
+        } else if self.held.len() < HEAD_OCTETS_MAX {
             self.stage = Stage::Head(state);
             Ok((used, true))
         } else {

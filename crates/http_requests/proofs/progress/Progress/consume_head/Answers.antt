@@ -28,12 +28,12 @@ pub returns-in_err-refuse-clause-err : goal.returns-in_err-refuse-clause-err
 returns-in_err-refuse-clause-err g c = on_err_from c.from_residual-in_err-refuse.result
     (part_none g.H.Handler.does g.H.Handler.fault_reply (c.args.self.now.held.items ++ c.args.piece.now) c.args.handler.now c.args.handler.now refl)
 
-pub returns-then-len-lt16384-clause-ok : goal.returns-then-len-lt16384-clause-ok
-returns-then-len-lt16384-clause-ok g c =
+pub returns-then-len-lt-HEAD_OCTETS_MAX-clause-ok : goal.returns-then-len-lt-HEAD_OCTETS_MAX-clause-ok
+returns-then-len-lt-HEAD_OCTETS_MAX-clause-ok g c =
     let s : List ℕ = c.args.self.now.held.items ++ take c.scan-used.result.0 c.args.piece.now in
     let grown : c.extend_from_slice.new.self.items ≡ s = c.in_ok-extend_from_slice.ensures.items in
     let going : c.scan-used.result.1 ≢ Ended = λ e. let t : c.has_ended.result ≡ true = c.has_ended.ensures.1 e in cc (t, c.if-has_ended.false) in
-    let short : length s < 16384 = omega (arith, ap length grown, c.extend_from_slice.new.self.ok, c.if-len-lt16384.true, c.len-else-has_ended.ensures) in
+    let short : length s < 16384 = omega (arith, ap length grown, c.extend_from_slice.new.self.ok, c.if-len-lt-HEAD_OCTETS_MAX.true, c.len-else-has_ended.ensures) in
     record {
       holds = subst (λ (t : List ℕ). IsPartialHead t c.scan-used.result.1) (sym grown)
           (beginning_more c.args.self.now.held.items c.args.piece.now c.args.state c.scan-used.result.1 (16384 - c.len.result) c.scan-used.result.0 c.requires.holds c.scan-used.ensures going short);
@@ -53,7 +53,7 @@ returns-in_ok-refuse-clause-ok g c =
     let sum : length s ≡ length held + length taken = length-append held taken in
     let few = length-take c.scan-used.result.0 c.args.piece.now in
     let long : length s ≡ 16384 =
-    omega (arith, sum, few, c.scan-used.ensures.fits, c.len.ensures, c.args.self.now.held.ok, c.requires.holds.short, ap length grown, c.extend_from_slice.new.self.ok, c.if-len-lt16384.false, c.len-else-has_ended.ensures) in
+    omega (arith, sum, few, c.scan-used.ensures.fits, c.len.ensures, c.args.self.now.held.ok, c.requires.holds.short, ap length grown, c.extend_from_slice.new.self.ok, c.if-len-lt-HEAD_OCTETS_MAX.false, c.len-else-has_ended.ensures) in
     record {
       is_closed = c.requires.closed;
       added = g.H.Handler.fault_reply c.bound_fault-fault.result;
