@@ -1,13 +1,14 @@
 -- Pieces that are read, and octets that are written.
-use Rattle.std.proofs.Common.{◌≡◌, ◌+◌, ◌*◌, ◌≤◌, ℕ, List, [], ◌∷◌, ◌++◌, ◌∙◌, length, take, drop, refl, sym, ap, subst, Option, Some, None, arith, length-append, take-append-drop, length-drop, length-take, ◌-◌}
+use Rattle.std.proofs.Common.{◌≡◌, ◌+◌, ◌*◌, ◌≤◌, ℕ, List, [], ◌∷◌, ◌++◌, ◌∙◌, length, take, drop, refl, sym, ap, subst, Option, Some, None, arith, length-append, length-drop, length-take, ◌-◌}
 use Rattle.std.proofs.KnownBytes.{Appends-trans, Appends-kept, Consumes-nil, Consumes-trans, Consumes-kept}
-use Rattle.std.proofs.lemmas.List.{append-nil, take_rest}
+use Rattle.std.proofs.lemmas.List.{append-nil, take_all, take_rest}
 use Rattle.std.proofs.Math.Seq.{take-add}
 use Rattle.std.specs.Io.KnownBytes.{Appends, Consumes, Keeps}
 use Rattle.std.specs.List.{concat}
 use Rattle.std.proofs.lemmas.List.Elements.{All-nil, All-push}
 use Rattle.std.proofs.lemmas.List.Folds.{concat-append}
-use Rattle.book_http.specs.Pieces.{AppendsFront, IsInPieces, IsPiece, ReadsUpTo}
+use Rattle.book_http.specs.Pieces.{IsInPieces, IsPiece, piece_octets_max}
+use Rattle.book_http.specs.Streams.{ReadsAtMost, WritesPrefix}
 
 -- what is read after nothing was read
 pub kept_consumes : (a b c : Option (List ℕ)) (octets : List ℕ) → Keeps a b → Consumes b c octets → Consumes a c octets
@@ -16,20 +17,25 @@ kept_consumes (Some x) None c octets kept read = absurd kept
 kept_consumes (Some x) (Some y) None octets kept read = absurd read
 kept_consumes (Some x) (Some y) (Some z) octets kept read = rw (sym kept) read
 
-pub up_to_none : (a : Option (List ℕ)) (most : ℕ) → ReadsUpTo most a a
-up_to_none a most = record { octets = []; read = Consumes-nil a; at_most = omega arith }
+pub up_to_none : (a : Option (List ℕ)) (most : ℕ) → ReadsAtMost most a a
+up_to_none a most = record { octets = []; read = Consumes-nil a; within = omega arith }
 
-pub up_to_kept : (a b c : Option (List ℕ)) (most more : ℕ) → most ≤ more → ReadsUpTo most a b → Keeps b c → ReadsUpTo more a c
-up_to_kept a b c most more less reads kept = record { octets = reads.octets; read = Consumes-kept a b c reads.octets reads.read kept; at_most = omega (arith, less, reads.at_most) }
+pub up_to_kept : (a b c : Option (List ℕ)) (most more : ℕ) → most ≤ more → ReadsAtMost most a b → Keeps b c → ReadsAtMost more a c
+up_to_kept a b c most more less reads kept = record { octets = reads.octets; read = Consumes-kept a b c reads.octets reads.read kept; within = omega (arith, less, reads.within) }
 
-pub up_to_more : (a b c : Option (List ℕ)) (most more : ℕ) (octets : List ℕ) → ReadsUpTo most a b → Consumes b c octets → most + length octets ≤ more → ReadsUpTo more a c
+pub up_to_more : (a b c : Option (List ℕ)) (most more : ℕ) (octets : List ℕ) → ReadsAtMost most a b → Consumes b c octets → most + length octets ≤ more → ReadsAtMost more a c
 up_to_more a b c most more octets reads read less =
-    record { octets = reads.octets ++ octets; read = Consumes-trans a b c reads.octets octets reads.read read; at_most = grind (arith, less, reads.at_most, length-append) }
+    record { octets = reads.octets ++ octets; read = Consumes-trans a b c reads.octets octets reads.read read; within = grind (arith, less, reads.within, length-append) }
 
 -- after some octets were written, no more were
-pub front_was_written : (a b c : Option (List ℕ)) (count : ℕ) (octets : List ℕ) → Appends a b (take count octets) → Keeps b c → AppendsFront a c octets
+pub front_was_written : (a b c : Option (List ℕ)) (count : ℕ) (octets : List ℕ) → Appends a b (take count octets) → Keeps b c → WritesPrefix octets a c
 front_was_written a b c count octets sent kept =
-    record { front = take count octets; rest = drop count octets; octets_are = sym (take-append-drop count octets); sent = Appends-kept a b c (take count octets) sent kept }
+    record { count = count; written = Appends-kept a b c (take count octets) sent kept }
+
+-- all octets were written, and then no more
+pub all_were_written : (a b c : Option (List ℕ)) (octets : List ℕ) → Appends a b octets → Keeps b c → WritesPrefix octets a c
+all_were_written a b c octets sent kept =
+    front_was_written a b c (length octets) octets (subst (Appends a b) (sym (take_all (length octets) octets (omega arith))) sent) kept
 
 -- the first octets, after some of them, were written
 pub wrote_more : (a b c : Option (List ℕ)) (count more : ℕ) (octets : List ℕ) → count ≤ length octets → Appends a b (take count octets)
@@ -44,15 +50,15 @@ wrote_more a b c count more octets within sent less out =
 
 pub wrote_front : (a b c : Option (List ℕ)) (count more : ℕ) (octets : List ℕ) → count ≤ length octets → Appends a b (take count octets)
     → more ≤ length (take (length octets - count) (drop count octets)) → Appends b c (take more (take (length octets - count) (drop count octets)))
-    → AppendsFront a c octets
+    → WritesPrefix octets a c
 wrote_front a b c count more octets within sent less out =
-    record { front = take (count + more) octets; rest = drop (count + more) octets; octets_are = sym (take-append-drop (count + more) octets); sent = (wrote_more a b c count more octets within sent less out).0 }
+    record { count = count + more; written = (wrote_more a b c count more octets within sent less out).0 }
 
 -- one more read
-pub up_to_read : (a b c : Option (List ℕ)) (reads count : ℕ) (room : List ℕ) → ReadsUpTo (reads * 16384) a b → Consumes b c (take count room) → length room ≡ 16384 → ReadsUpTo ((reads + 1) * 16384) a c
+pub up_to_read : (a b c : Option (List ℕ)) (reads count : ℕ) (room : List ℕ) → ReadsAtMost (reads * piece_octets_max) a b → Consumes b c (take count room) → length room ≡ piece_octets_max → ReadsAtMost ((reads + 1) * piece_octets_max) a c
 up_to_read a b c reads count room before read size =
     let short : length (take count room) ≤ length room = omega (arith, length-take count room) in
-    up_to_more a b c (reads * 16384) ((reads + 1) * 16384) (take count room) before read (omega (arith, short, size))
+    up_to_more a b c (reads * piece_octets_max) ((reads + 1) * piece_octets_max) (take count room) before read (omega (arith, short, size))
 
 -- ---- pieces
 
@@ -68,5 +74,5 @@ pieces_on octets piece count before is = record {
 }
 
 -- what a read into the buffer brought
-pub piece_of : (count : ℕ) (room : List ℕ) → (count ≡ 0 → ⊥) → count ≤ length room → length room ≤ 16384 → IsPiece (take count room)
+pub piece_of : (count : ℕ) (room : List ℕ) → (count ≡ 0 → ⊥) → count ≤ length room → length room ≤ piece_octets_max → IsPiece (take count room)
 piece_of count room some within small = record { some = omega (arith, length-take count room, some, within); at_most = omega (arith, length-take count room, within, small) }

@@ -9,7 +9,8 @@ use Rattle.http_requests.proofs.PieceLemmas.{pieces_are_fed}
 use Rattle.http_requests.proofs.RunLemmas.{part_none}
 use Rattle.book_http.specs.declared.serve_fault.ServeFault.{ServeFault}
 use Rattle.book_http.specs.declared.serve_fault.ServeFault.TheVariants.{Read, Write, TooManyTurns, Memory}
-use Rattle.book_http.specs.Pieces.{AppendsFront, IsInPieces, IsPiece, pieces_max}
+use Rattle.book_http.specs.Pieces.{IsInPieces, IsPiece, piece_octets_max, pieces_max}
+use Rattle.book_http.specs.Streams.{WritesPrefix}
 use Rattle.book_http.specs.ServedConnections.{AbortsConnection, FailsToWrite, LosesReplies, FailsPiece, FeedsInput, ServesToEnd, AnswersPiece}
 use Rattle.book_http.proofs.PieceLemmas.{piece_of, pieces_none, pieces_on}
 
@@ -122,7 +123,7 @@ module _ {State : Type 0} (does : HandlerRelation State) (fault_reply : FaultRep
 
     -- not all replies were written
     pub broke_writing : SoFar count input between output sent old middle before → Consumes between left piece → IsPiece piece
-        → FeedsPiece does fault_reply before middle piece replies new session → AppendsFront sent written replies → FailsToWrite does fault_reply input left output written old new
+        → FeedsPiece does fault_reply before middle piece replies new session → WritesPrefix replies sent written → FailsToWrite does fault_reply input left output written old new
     broke_writing far read piece_is feeds out = record {
       between = between;
       sent = sent;
@@ -232,7 +233,7 @@ module _ {State : Type 0} (does : HandlerRelation State) (fault_reply : FaultRep
 
   module _ (count size : ℕ) (room : List ℕ) (input between mid left output sent out written : Option (List ℕ)) (old middle new : State) (before session : Option (List ℕ))
       (far : SoFar count input between output sent old middle before) (read : Consumes between mid (take size room)) (same_out : out ≡ sent) (same_left : left ≡ mid)
-      (some : size ≡ 0 → ⊥) (within : size ≤ length room) (small : length room ≤ 16384) where
+      (some : size ≡ 0 → ⊥) (within : size ≤ length room) (small : length room ≤ piece_octets_max) where
     far_now : SoFar count input between output out old middle before
     far_now = far_kept count input between output sent out old middle before far same_out
 

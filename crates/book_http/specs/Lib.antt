@@ -5,6 +5,7 @@ pub mod ListeningRuns
 pub mod StoreCommands
 pub mod RequestAnswers
 pub mod ServeFaults
+pub mod Streams
 pub mod Pieces
 pub mod ServedConnections
 pub mod OctetRuns

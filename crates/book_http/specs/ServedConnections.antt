@@ -3,10 +3,11 @@
 -- holds, if known. This project's own.
 use Rattle.std.specs.Prelude.{◌≡◌, ◌⊎◌, ◌≤◌, ℕ, List, ◌++◌, length, Option, Some, None}
 use Rattle.std.specs.Io.KnownBytes.{Appends, Consumes, IsAtEnd}
-use Rattle.book_http.specs.Pieces.{AppendsFront, IsInPieces, IsPiece, piece_octets_max, pieces_max}
+use Rattle.book_http.specs.Pieces.{IsInPieces, IsPiece, piece_octets_max, pieces_max}
 use Rattle.http_requests.specs.SessionFeeding.{FeedsSession, HandlesSomePrefix, FeedsPieceInPart}
 use Rattle.http_requests.specs.SessionFeeding.{FeedsPiece}
 use Rattle.http_requests.specs.HandlerRuns.{HandlerRelation, FaultReplies}
+use Rattle.book_http.specs.Streams.{WritesPrefix}
 use Rattle.book_http.specs.declared.serve_fault.ServeFault.{ServeFault}
 use Rattle.book_http.specs.declared.serve_fault.ServeFault.TheVariants.{Read, Write, TooManyTurns}
 use Rattle.book_http.specs.declared.serve_fault.ServeFault.TheVariants.{Memory}
@@ -55,8 +56,8 @@ module _ {State : Type 0} (does : HandlerRelation State) (fault_reply : FaultRep
     pub serves : FeedsInput input left output written old new (Some held)
     pub in_pieces : IsInPieces serves.octets count
 
-  -- It was served so far. Then a piece was read and fed, and the writer failed: some of the
-  -- replies to the piece, from the first octet on, were written.
+  -- It was served so far. Then a piece was read and fed, and the writer failed: a prefix
+  -- of the replies to the piece was written.
   pub record FailsToWrite (input left output written : Option (List ℕ)) (old new : State)
       : Type 0 where
     pub between : Option (List ℕ)
@@ -70,7 +71,7 @@ module _ {State : Type 0} (does : HandlerRelation State) (fault_reply : FaultRep
     pub read : Consumes between left piece
     pub piece_is : IsPiece piece
     pub fed : FeedsPiece does fault_reply (Some held) middle piece replies new session
-    pub out : AppendsFront sent written replies
+    pub out : WritesPrefix replies sent written
 
   -- It was served so far. Then a piece was read, and memory ran out: some requests, from the first
   -- on, were handled, and their replies are lost. The piece is empty if nothing was read.
@@ -108,13 +109,13 @@ module _ {State : Type 0} (does : HandlerRelation State) (fault_reply : FaultRep
     pub feeds : FeedsPiece does fault_reply before old piece replies new session
     pub out : Appends sent written replies
 
-  -- it was fed the piece, and some of the replies, from the first octet on, were written
+  -- it was fed the piece, and a prefix of the replies was written
   pub record AnswersPieceInPart
       (before : Option (List ℕ)) (old : State) (piece : List ℕ) (sent written : Option (List ℕ))
       (new : State) (session : Option (List ℕ)) : Type 0 where
     pub replies : List ℕ
     pub feeds : FeedsPiece does fault_reply before old piece replies new session
-    pub out : AppendsFront sent written replies
+    pub out : WritesPrefix replies sent written
 
   -- a piece wasn't replied to, because of this fault
   abbrev pub FailsPiece :

@@ -5,13 +5,16 @@ ghost use Rattle.std.specs.Io.KnownBytes.{Appends, Consumes, IsAtEnd, Keeps};
 ghost use Rattle.std.specs.IoError.{error_kind};
 ghost use Rattle.std.specs.declared.io.ErrorKind.{ErrorKind as TheKind};
 ghost use Rattle.book_http.specs.ConnectionCalls.{ReadsInOrder, Replies, SendsInOrder, Waits};
-ghost use Rattle.book_http.specs.Pieces.{AppendsFront};
+ghost use Rattle.book_http.specs.Streams.{WritesPrefix};
 ghost use Rattle.book_http.specs.declared.serve_fault.ServeFault.{ServeFault as TheFault};
 
 use crate::connection::Connection;
 use crate::serve_fault::ServeFault;
 use std::io;
 use std::io::ErrorKind;
+
+/// The most octets of one read.
+pub(crate) const PIECE_OCTETS_MAX: usize = 16_384;
 
 /// How often an interrupted call is made, as in the standard library.
 const TRIES_MAX: u64 = u64::MAX;
@@ -63,8 +66,8 @@ pub(crate) fn read_piece<C: Connection>(
 fn write_replies<C: Connection>(connection: &mut C, replies: &[u8]) -> Result<(), ServeFault>
     ensures sent { OnOk result (Appends (C.model.contents connection.old)
         (C.model.contents connection.new) replies.now) }
-    ensures front { OnErr result (AppendsFront (C.model.contents connection.old)
-        (C.model.contents connection.new) replies.now) }
+    ensures front { OnErr result (WritesPrefix replies.now (C.model.contents connection.old)
+        (C.model.contents connection.new)) }
     ensures kept { C.model.remaining connection.new ≡ C.model.remaining connection.old }
     ensures fault { IfErr result (λ fault. fault ≡ TheFault.Write) }
     ensures order { (pieces : ℕ) → SendsInOrder pieces (Replies pieces)
@@ -98,8 +101,8 @@ pub(crate) fn send_replies<C: Connection>(
 ) -> Result<(), ServeFault>
     ensures sent { OnOk result (Appends (C.model.contents connection.old)
         (C.model.contents connection.new) replies.now) }
-    ensures front { OnErr result (AppendsFront (C.model.contents connection.old)
-        (C.model.contents connection.new) replies.now) }
+    ensures front { OnErr result (WritesPrefix replies.now (C.model.contents connection.old)
+        (C.model.contents connection.new)) }
     ensures kept { C.model.remaining connection.new ≡ C.model.remaining connection.old }
     ensures fault { IfErr result (λ fault. fault ≡ TheFault.Write) }
     ensures order { (pieces : ℕ) → SendsInOrder pieces (Waits pieces)

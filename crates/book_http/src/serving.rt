@@ -2,19 +2,17 @@
 ghost use Rattle.std.specs.Prelude.{◌≡◌, ◌<◌, ◌≤◌, ◌↔◌, ℕ, None, Some, length, IfOk, IfErr};
 ghost use Rattle.std.specs.Prelude.{IsTrue, OnOk};
 ghost use Rattle.book_http.specs.ConnectionCalls.{AnswersInOrder, EndsInOrder};
+ghost use Rattle.book_http.specs.Pieces.{piece_octets_max};
 ghost use Rattle.book_http.specs.ServedConnections.{AbortsConnection, FailsPiece, ServesToEnd};
 ghost use Rattle.book_http.specs.ServedConnections.{AnswersPiece};
 
 use crate::connection::Connection;
-use crate::pieces::{read_piece, send_replies};
+use crate::pieces::{PIECE_OCTETS_MAX, read_piece, send_replies};
 use crate::serve_fault::ServeFault;
 use crate::streams::Streams;
 use http_requests::{Handler, Session};
 use std::alloc::Global;
 use std::io::{Read, Write};
-
-/// The most octets of one read.
-const PIECE_OCTETS_MAX: usize = 16_384;
 
 /// The most reads of one connection that bring octets.
 const PIECES_MAX: u32 = 1_000_000;
@@ -53,7 +51,7 @@ fn serve_in<H: Handler, C: Connection>(
     room: &mut [u8],
 ) -> Result<(), ServeFault>
     requires some { 0 < length room.old }
-    requires at_most { length room.old ≤ 16384 }
+    requires at_most { length room.old ≤ piece_octets_max }
     ensures served { OnOk result (ServesToEnd H.does H.fault_reply
         (C.model.remaining connection.old) (C.model.remaining connection.new)
         (C.model.contents connection.old) (C.model.contents connection.new)

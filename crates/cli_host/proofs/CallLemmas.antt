@@ -1,6 +1,6 @@
 -- The calls that are made of a host, and what is done with their results.
-use Rattle.std.proofs.Common.{◌≡◌, ◌≢◌, ◌⊎◌, ℕ, List, [], ◌∷◌, Option, Result, Ok, Err, IfErr, OnOk, inl, inr, refl, subst, sym}
-use Rattle.std.specs.Io.KnownBytes.{Appends, Keeps}
+use Rattle.std.proofs.Common.{◌≡◌, ◌≢◌, ◌⊎◌, ℕ, List, [], ◌∷◌, Option, Result, Ok, Err, IfErr, OnOk, inl, inr, refl}
+use Rattle.std.specs.Io.KnownBytes.{Appends}
 use Rattle.book_commands.specs.declared.command.Command.TheVariants.{Import as ImportRows}
 use Rattle.book_http.specs.ConnectionModels.{ConnectionModel}
 use Rattle.book_http.specs.OctetPromise.{ServiceStep}
@@ -8,12 +8,12 @@ use Rattle.cli_orders.specs.Announcements.{AnnouncesAndServes, StopsServing}
 use Rattle.cli_orders.specs.CommandRuns.{PrintsCommand, StopsCommand}
 use Rattle.cli_orders.specs.OrderOutputs.{made_output, migrate_output}
 use Rattle.cli_orders.specs.Stops.{out_of_memory}
-use Rattle.cli_orders.specs.Streams.{WritesPrefix}
+use Rattle.book_http.specs.Streams.{WritesPrefix}
 use Rattle.cli_orders.specs.declared.stop.Stop.{Stop}
 use Rattle.cli_orders.specs.declared.stop.Stop.TheVariants.{Open, Device}
 use Rattle.cli_orders.proofs.StopLemmas.{kept_same}
 use Rattle.cli_host.specs.Hosts.{HostCall, Creates, Opens, Migrates, ReadsRows, Binds, HasLog, LogsCalls}
-use Rattle.cli_host.specs.OrdersOnHost.{DoesInFile, DoesStoreWork, ImportsRows, MakesStore, MigratesFile, ServesFile, StopsAtDevice, StopsForMemory, StopsInFile, StopsMaking, StopsMigrating, StopsOnFile, StopsOnImport, StopsOverText, StopsReadingRows, StopsServe, StopsServingFile, StopsStoreWork, StopsUnopened}
+use Rattle.cli_host.specs.OrdersOnHost.{DoesInFile, DoesStoreWork, ImportsRows, MakesStore, MigratesFile, ServesFile, StopsInFile, StopsMaking, StopsMigrating, StopsOnImport, StopsReadingRows, StopsServe, StopsStoreWork, StopsUnopened}
 use Rattle.cli_host.specs.declared.work.StoreWork.{StoreWork}
 use Rattle.http_replies.specs.Replies.{head_fault_octets}
 use Rattle.store_schema.specs.declared.open_fault.OpenFault.{OpenFault}

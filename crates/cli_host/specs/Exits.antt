@@ -8,7 +8,7 @@ use Rattle.cli_orders.specs.TryOutputs.{KeepsTryOutput, PrintsTryResult}
 use Rattle.cli_orders.specs.TryStops.{IsTryStop}
 use Rattle.cli_orders.specs.declared.stop.Stop.{Stop}
 use Rattle.cli_orders.specs.Stops.{out_of_memory, status_of, stop_line}
-use Rattle.cli_orders.specs.Streams.{WritesPrefix}
+use Rattle.book_http.specs.Streams.{WritesPrefix}
 use Rattle.cli_orders.specs.ReplyTexts.{KeepsOutput}
 use Rattle.cli_host.specs.Hosts.{HostCall}
 use Rattle.cli_host.specs.OrdersOnHost.{RunsOnHost, StopsOnHost}

@@ -20,7 +20,7 @@ use Rattle.cli_host.specs.declared.work.Work.TheVariants.{Nothing, CreateFile, M
 use Rattle.cli_host.specs.declared.work.Work.TheVariants.{ServeFile, UseFile}
 use Rattle.cli_orders.specs.Announcements.{AnnouncesAndServes, StopsServing}
 use Rattle.cli_orders.specs.Stops.{out_of_memory}
-use Rattle.cli_orders.specs.Streams.{WritesPrefix}
+use Rattle.book_http.specs.Streams.{WritesPrefix}
 use Rattle.store_schema.specs.declared.open_fault.OpenFault.{OpenFault}
 use Rattle.sync_core.specs.StoreModels.{StoreModel}
 

@@ -8,7 +8,7 @@ ghost use Rattle.cli_host.specs.Exits.{ReportsResult, ReportsStop, with_line_fee
 ghost use Rattle.cli_host.specs.Hosts.{HasLog, LogsCalls};
 ghost use Rattle.cli_orders.specs.Inputs.{read_octets_max};
 ghost use Rattle.cli_orders.specs.Stops.{out_of_memory, stop_line};
-ghost use Rattle.cli_orders.specs.Streams.{ReadsAtMost};
+ghost use Rattle.book_http.specs.Streams.{ReadsAtMost};
 
 use crate::host::Host;
 use crate::running::run_on_host;

@@ -16,7 +16,7 @@ use Rattle.cli_orders.specs.declared.stop.Stop.{Stop}
 use Rattle.cli_orders.specs.declared.stop.Stop.TheVariants.{Refused, Fault, Open, Serve, Device}
 use Rattle.cli_orders.specs.CommandRuns.{PrintsCommand, PrintsMirror, StopsCommand, StopsMirror}
 use Rattle.cli_orders.specs.Stops.{out_of_memory, stop_of}
-use Rattle.cli_orders.specs.Streams.{WritesPrefix}
+use Rattle.book_http.specs.Streams.{WritesPrefix}
 use Rattle.cli_orders.specs.ReplyTexts.{IsReplyStop, IsReplyText, KeepsOutput}
 use Rattle.cli_orders.proofs.StopLemmas.{kept_same, stop_leaves}
 use Rattle.sync_core.specs.StoreModels.{KeepsBooks, StoreModel}

@@ -10,7 +10,7 @@ use Rattle.vcard_text.specs.FirstFaults.{IsFirstFaultOfText, of_length, of_encod
 use Rattle.cli_orders.specs.declared.try_result.FirstPath.{FirstPath}
 use Rattle.cli_orders.specs.declared.stop.Stop.{Stop}
 use Rattle.cli_orders.specs.declared.stop.Stop.TheVariants.{Refused, Fault, Open, Serve, Device}
-use Rattle.cli_orders.specs.Streams.{WritesPrefix}
+use Rattle.book_http.specs.Streams.{WritesPrefix}
 use Rattle.cli_orders.specs.TryResults.{IsTryResult}
 use Rattle.cli_orders.specs.Inputs.{read_octets_max}
 use Rattle.cli_orders.specs.TryOutputs.{PrintsTryResult, KeepsTryOutput, try_lines}

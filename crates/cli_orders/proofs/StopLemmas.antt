@@ -11,7 +11,7 @@ use Rattle.cli_orders.specs.declared.stop.Stop.{Stop}
 use Rattle.cli_orders.specs.declared.stop.Stop.TheVariants.{Refused, Fault, Open, Serve, Device}
 use Rattle.cli_orders.specs.Announcements.{StopsServing, listening_line}
 use Rattle.cli_orders.specs.Stops.{out_of_memory, stop_of_listening}
-use Rattle.cli_orders.specs.Streams.{WritesPrefix}
+use Rattle.book_http.specs.Streams.{WritesPrefix}
 use Rattle.cli_orders.specs.ReplyTexts.{KeepsOutput, StopsOnReply}
 
 pub kept_same : (w : Option (List ℕ)) → Keeps w w

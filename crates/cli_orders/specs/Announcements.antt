@@ -8,7 +8,7 @@ use Rattle.http_requests.specs.HandlerRuns.{HandlerRelation, FaultReplies}
 use Rattle.cli_orders.specs.declared.stop.Stop.{Stop}
 use Rattle.cli_orders.specs.declared.stop.Stop.TheVariants.{Refused, Fault, Open, Serve, Device}
 use Rattle.cli_orders.specs.Stops.{out_of_memory}
-use Rattle.cli_orders.specs.Streams.{WritesPrefix}
+use Rattle.book_http.specs.Streams.{WritesPrefix}
 
 -- the line that announces the port
 abbrev pub listening_line : ℕ → List ℕ

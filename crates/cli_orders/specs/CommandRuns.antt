@@ -14,7 +14,7 @@ use Rattle.cli_orders.specs.OrderOutputs.{mirror_lines}
 use Rattle.cli_orders.specs.declared.stop.Stop.{Stop}
 use Rattle.cli_orders.specs.declared.stop.Stop.TheVariants.{Refused, Fault, Open, Serve, Device}
 use Rattle.cli_orders.specs.ReplyTexts.{PrintsReplyText, StopsOnReply}
-use Rattle.cli_orders.specs.Streams.{WritesPrefix}
+use Rattle.book_http.specs.Streams.{WritesPrefix}
 
 module _ {S : Type 0} (model : StoreModel S) where
   -- the command was performed, and its reply printed

@@ -1,7 +1,6 @@
 pub mod OutputPadding
 pub mod OrderOutputs
 pub mod Stops
-pub mod Streams
 pub mod ReplyTexts
 pub mod CommandRuns
 pub mod OrderReplies

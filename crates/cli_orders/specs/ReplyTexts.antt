@@ -9,7 +9,7 @@ use Rattle.cli_orders.specs.OrderOutputs.{tally_lines}
 use Rattle.cli_orders.specs.declared.stop.Stop.{Stop}
 use Rattle.cli_orders.specs.declared.stop.Stop.TheVariants.{Refused, Fault, Open, Serve, Device}
 use Rattle.cli_orders.specs.Stops.{out_of_memory}
-use Rattle.cli_orders.specs.Streams.{WritesPrefix}
+use Rattle.book_http.specs.Streams.{WritesPrefix}
 
 -- the text to print for a reply
 abbrev pub IsReplyText : Reply → List ℕ → Type 0

@@ -13,7 +13,7 @@ use Rattle.cli_orders.specs.declared.try_result.FirstPath.{FirstPath}
 use Rattle.cli_orders.specs.TryResults.{IsTryResult}
 use Rattle.cli_orders.specs.declared.stop.Stop.{Stop}
 use Rattle.cli_orders.specs.declared.stop.Stop.TheVariants.{Refused, Fault, Open, Serve, Device}
-use Rattle.cli_orders.specs.Streams.{WritesPrefix}
+use Rattle.book_http.specs.Streams.{WritesPrefix}
 use Rattle.cli_orders.specs.OrderOutputs.{yes_or_no}
 
 abbrev pub put_line : PutAnswer → List ℕ

@@ -2,7 +2,7 @@
 ghost use Rattle.std.specs.Prelude.{◌≡◌, List, ℕ, IfOk, IfErr, IfSome, take};
 ghost use Rattle.cli_orders.specs.Inputs.{read_octets_max};
 ghost use Rattle.cli_orders.specs.TryStops.{IsTryStop};
-ghost use Rattle.cli_orders.specs.Streams.{ReadsAtMost};
+ghost use Rattle.book_http.specs.Streams.{ReadsAtMost};
 
 use crate::reading::read_at_most;
 use crate::stop::Stop;

@@ -2,7 +2,7 @@
 ghost use Rattle.std.specs.Prelude.{◌≡◌, ◌⊎◌, ◌<◌, ◌≤◌, IfOk, IfErr, IfSome, length, take};
 ghost use Rattle.std.specs.Io.KnownBytes.{Consumes, IsAtEnd};
 ghost use Rattle.cli_orders.specs.Stops.{out_of_memory};
-ghost use Rattle.cli_orders.specs.Streams.{ReadsAtMost};
+ghost use Rattle.book_http.specs.Streams.{ReadsAtMost};
 
 use crate::stop::Stop;
 use std::alloc::Global;

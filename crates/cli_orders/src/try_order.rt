@@ -3,7 +3,7 @@ ghost use Rattle.std.specs.Prelude.{IfErr, IfSome, OnOk};
 ghost use Rattle.cli_orders.specs.Inputs.{read_octets_max};
 ghost use Rattle.cli_orders.specs.TryOutputs.{KeepsTryOutput, PrintsTryResult};
 ghost use Rattle.cli_orders.specs.TryStops.{IsTryStop};
-ghost use Rattle.cli_orders.specs.Streams.{ReadsAtMost};
+ghost use Rattle.book_http.specs.Streams.{ReadsAtMost};
 
 use crate::input::read_input;
 use crate::stop::Stop;

@@ -1,7 +1,7 @@
 //! Writes octets to standard output and standard error.
 ghost use Rattle.std.specs.Prelude.{◌≡◌, IfErr, OnOk};
 ghost use Rattle.std.specs.Io.KnownBytes.{Appends};
-ghost use Rattle.cli_orders.specs.Streams.{WritesPrefix};
+ghost use Rattle.book_http.specs.Streams.{WritesPrefix};
 
 use crate::stop::Stop;
 use std::io::{ErrorKind, Write};

@@ -1,4 +1,5 @@
 use Rattle.std.proofs.Common.{arith, ◌*◌, ◌+◌}
+use Rattle.book_http.specs.Pieces.{piece_octets_max}
 use Rattle.book_http.proofs.PieceLemmas.{up_to_kept, up_to_read}
 use Rattle.book_http.proofs.closing.drop_input.Goals.{in-Ok, in-Err+else-ne+else-empty_reads-eq-EMPTY_READS_MAX}
 use Rattle.book_http.proofs.closing.drop_input.Goals as goal
@@ -13,7 +14,7 @@ loop-read-preserved g c =
         c.loop-read.invariant.2,
       )
       | in-Err+else-ne+else-empty_reads-eq-EMPTY_READS_MAX w ↦ rw w.empty_reads-is (
-        up_to_kept (g.R.Read.remaining c.args.reader.now) (g.R.Read.remaining c.loop-read.reader) (g.R.Read.remaining c.read.new.self) (c.loop-read._read * 16384) ((c.loop-read._read + 1) * 16384)
+        up_to_kept (g.R.Read.remaining c.args.reader.now) (g.R.Read.remaining c.loop-read.reader) (g.R.Read.remaining c.read.new.self) (c.loop-read._read * piece_octets_max) ((c.loop-read._read + 1) * piece_octets_max)
             (omega arith) c.loop-read.invariant.0 w.in-Err.ensures.bytes,
         omega (arith, c.read.auto.buf, c.loop-read.invariant.1),
         omega (arith, c.loop-read.invariant.2, w.if-empty_reads-eq-EMPTY_READS_MAX.false),

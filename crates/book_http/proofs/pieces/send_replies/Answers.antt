@@ -1,6 +1,7 @@
 use Rattle.std.proofs.Common.{refl, inl}
 use Rattle.book_http.specs.ConnectionCalls.{FailsToFlush, WriterFailed, Flushes, Replies, Waits}
 use Rattle.book_http.proofs.CallLemmas.{leads_on, leads_one}
+use Rattle.book_http.proofs.PieceLemmas.{all_were_written}
 use Rattle.book_http.proofs.pieces.send_replies.Goals as goal
 
 pub returns-in-Ok-clause-order : goal.returns-in-Ok-clause-order
@@ -14,3 +15,8 @@ returns-in-Err-clause-order g c = λ pieces.
     inl (leads_on (g.C.Connection.model.calls c.args.connection.now) (g.C.Connection.model.calls c.write_replies.new.connection) (g.C.Connection.model.calls c.flush.new.self) (Replies pieces) (Replies pieces) WriterFailed
     (c.in_ok-write_replies.ensures.order pieces)
     (leads_one (g.C.Connection.model.calls c.write_replies.new.connection) (g.C.Connection.model.calls c.flush.new.self) FailsToFlush (Replies pieces) WriterFailed c.in-Err.ensures.called refl))
+
+pub returns-in-Err-clause-front : goal.returns-in-Err-clause-front
+returns-in-Err-clause-front g c =
+    all_were_written (g.C.Connection.model.contents c.args.connection.now) (g.C.Connection.model.contents c.write_replies.new.connection) (g.C.Connection.model.contents c.flush.new.self) c.args.replies.now
+    c.in_ok-write_replies.ensures.sent c.in-Err.ensures.written

@@ -1,4 +1,4 @@
-use Rattle.std.proofs.Common.{take, drop, sym, take-append-drop, refl, arith, inl, inr, ◌∙◌}
+use Rattle.std.proofs.Common.{take, refl, arith, inl, inr, ◌∙◌}
 use Rattle.std.proofs.KnownBytes.{Appends-kept, Appends-nil}
 use Rattle.std.specs.IoError.{error_kind}
 use Rattle.book_http.specs.ConnectionCalls.{FailsToSend, Replies, Sends}
@@ -57,12 +57,7 @@ loop-try-preserved g c =
 
 pub returns-clause-front : goal.returns-clause-front
 returns-clause-front g c =
-    record {
-      front = take c.loop-try.count c.args.replies.now;
-      rest = drop c.loop-try.count c.args.replies.now;
-      octets_are = sym (take-append-drop c.loop-try.count c.args.replies.now);
-      sent = c.loop-try.invariant.0;
-    }
+    record { count = c.loop-try.count; written = c.loop-try.invariant.0 }
 
 pub returns-clause-order : goal.returns-clause-order
 returns-clause-order g c = λ pieces.

@@ -1,5 +1,6 @@
 use Rattle.std.proofs.Common.{◌≡◌, ◌<◌, ◌≤◌, length}
 use Rattle.book_http.specs.ConnectionCalls.{LeadsOn, Waits}
+use Rattle.book_http.specs.Pieces.{piece_octets_max}
 use Rattle.book_http.proofs.ServingLemmas.{SoFar}
 use Rattle.book_http.proofs.serving.serve_in.Given as goal
 
@@ -10,4 +11,4 @@ invariant-loop-piece g l =
     (g.C.Connection.model.contents l.fn.connection) (g.C.Connection.model.contents l.connection) l.fn.handler l.handler l.session
     × LeadsOn (g.C.Connection.model.calls l.fn.connection) (g.C.Connection.model.calls l.connection) (Waits 0) (Waits l._piece)
     × (g.C.Connection.borrowed l.connection ≡ g.C.Connection.borrowed l.fn.connection)
-    × (0 < length l.room) × (length l.room ≤ 16384)
+    × (0 < length l.room) × (length l.room ≤ piece_octets_max)

@@ -1,7 +1,7 @@
 use Rattle.std.proofs.Common.{◌∙◌, rules, Ok, Err, OnOk, subst}
 use Rattle.std.proofs.lemmas.Result.{err_from_is_err_and}
 use Rattle.std.specs.Io.KnownBytes.{Appends}
-use Rattle.cli_orders.specs.Streams.{WritesPrefix}
+use Rattle.book_http.specs.Streams.{WritesPrefix}
 use Rattle.cli_host.specs.Hosts.{Creates}
 use Rattle.cli_host.proofs.CallLemmas.{store_made, store_made_unprinted, store_uncreated}
 use Rattle.cli_host.proofs.running.run_init.Goals as goal

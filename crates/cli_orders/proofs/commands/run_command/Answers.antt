@@ -2,7 +2,7 @@ use Rattle.std.proofs.Common.{OnOk, subst}
 use Rattle.std.proofs.lemmas.Result.{err_from_is_err_and}
 use Rattle.std.specs.Io.KnownBytes.{Appends}
 use Rattle.book_http.specs.StoreCommands.{PerformsOnStore}
-use Rattle.cli_orders.specs.Streams.{WritesPrefix}
+use Rattle.book_http.specs.Streams.{WritesPrefix}
 use Rattle.cli_orders.proofs.CommandLemmas.{command_without_text, command_printed, command_cut_off}
 use Rattle.cli_orders.proofs.commands.run_command.Goals as goal
 

@@ -1,7 +1,7 @@
 use Rattle.std.proofs.Common.{◌∙◌, OnOk, subst}
 use Rattle.std.proofs.lemmas.Result.{err_from_is_err_and}
 use Rattle.std.specs.Io.KnownBytes.{Appends}
-use Rattle.cli_orders.specs.Streams.{WritesPrefix}
+use Rattle.book_http.specs.Streams.{WritesPrefix}
 use Rattle.cli_orders.proofs.CommandLemmas.{mirror_cut_off, mirror_denied, mirror_printed, mirror_without_text}
 use Rattle.cli_orders.proofs.commands.run_mirror.Goals as goal
 

@@ -2,7 +2,7 @@ use Rattle.std.proofs.Common.{◌∙◌, refl, subst}
 use Rattle.std.proofs.lemmas.Result.{err_from_is_err_and}
 use Rattle.std.specs.Io.KnownBytes.{Appends}
 use Rattle.cli_orders.specs.Stops.{out_of_memory}
-use Rattle.cli_orders.specs.Streams.{WritesPrefix}
+use Rattle.book_http.specs.Streams.{WritesPrefix}
 use Rattle.cli_orders.proofs.StopLemmas.{stops_unannounced, stops_mute, stops_listening}
 use Rattle.cli_orders.proofs.serving.announce_and_serve.Goals as goal
 

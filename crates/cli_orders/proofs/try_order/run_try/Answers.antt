@@ -4,7 +4,7 @@ use Rattle.std.specs.Io.KnownBytes.{Appends}
 use Rattle.cli_orders.specs.TryResults.{IsTryResult}
 use Rattle.cli_orders.specs.TryStops.{IsTryStop}
 use Rattle.cli_orders.specs.Stops.{stop_of}
-use Rattle.cli_orders.specs.Streams.{WritesPrefix}
+use Rattle.book_http.specs.Streams.{WritesPrefix}
 use Rattle.cli_orders.proofs.LongTextLemmas.{stopped_for_all, stopped_for_input, printed_of_input, output_kept_of_input}
 use Rattle.cli_orders.proofs.try_order.run_try.Goals as goal
 
