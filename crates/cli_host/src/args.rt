@@ -9,7 +9,6 @@ use base_types::{NoMemory, Text};
 use cli_args::{LineFault, Order, read_order};
 use std::alloc::Global;
 use std::io::ErrorKind;
-use std::rt::Env;
 use std::{env, io};
 
 /// The text for an argument that isn't UTF-8, in the form of `clap`'s texts.
@@ -41,8 +40,12 @@ fn without_name(alloc: Global, given: env::Args) -> Result<Vec<String>, NoMemory
     Ok(rest)
 }
 
-/// The order that the arguments ask for, if they could be read. The program's name is the first.
-fn order_of_args(alloc: Global, given: io::Result<env::Args>) -> Result<Order, LineFault>
+/// The order that the arguments of a program ask for, if they could be read. The first is the
+/// program's name.
+///
+/// `Bad` for invalid arguments, for help, and if an argument isn't UTF-8; `Memory` if an allocation
+/// fails.
+pub fn order_of_args(alloc: Global, given: io::Result<env::Args>) -> Result<Order, LineFault>
     ensures order { IfOk given (λ args.
         ParsesTo (order_from (map string_bytes (drop 1 (into_iter_items args)))) result) }
     ensures unread { IfErr given (λ error.
@@ -56,10 +59,4 @@ fn order_of_args(alloc: Global, given: io::Result<env::Args>) -> Result<Order, L
         Err(error) if error.kind() == ErrorKind::OutOfMemory => Err(LineFault::Memory),
         Err(_) => Err(not_utf8_fault(alloc)),
     }
-}
-
-/// The order that the arguments of the program ask for. `Bad` for invalid arguments and for help,
-/// and `Memory` if an allocation fails.
-pub fn read_args<R: Env + AllocGlobal>(rt: &R) -> Result<Order, LineFault> {
-    order_of_args(rt.alloc(), env::args(rt))
 }

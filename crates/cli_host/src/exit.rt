@@ -5,21 +5,18 @@ ghost use Rattle.cli_args.specs.declared.fault.LineFault.{LineFault as TheFault}
 ghost use Rattle.cli_args.specs.declared.order.Order.{Order as TheOrder};
 ghost use Rattle.cli_host.specs.Exits.{EndsOrder, IsTryDone, IsTryStopped, ReportsBadArguments};
 ghost use Rattle.cli_host.specs.Exits.{ReportsResult, ReportsStop, with_line_feed};
-ghost use Rattle.cli_host.specs.Hosts.{HasLog, LogsCalls};
+ghost use Rattle.cli_host.specs.Hosts.{LogsCalls};
 ghost use Rattle.cli_orders.specs.Inputs.{read_octets_max};
 ghost use Rattle.cli_orders.specs.Stops.{out_of_memory, stop_line};
 ghost use Rattle.book_http.specs.Streams.{ReadsAtMost};
 
 use crate::host::Host;
 use crate::running::run_on_host;
-use book_http::{Connection, Listener};
-use book_store::FileBooks;
+use book_http::Listener;
 use cli_args::{LineFault, Order};
 use cli_orders::{Stop, run_try, write_out};
 use std::alloc::Global;
 use std::io::{Read, Write};
-use std::net::{TcpListener, TcpStream};
-use std::rt::HostRuntime;
 use sync_core::BookStore;
 use vcard_text::NoMemory;
 
@@ -172,39 +169,4 @@ pub fn run_and_report<
         Err(LineFault::Bad { text }) => report_bad_arguments(errors, text.as_str()),
         Err(LineFault::Memory) => report_stop(alloc, errors, Stop::out_of_memory()),
     }
-}
-
-/// `run_and_report`, on the host that the program runs on.
-///
-/// No contract connects a store with a real file, or a listener with a socket. So the clause on
-/// other orders only says that there are stores and listeners with which this is the order's log.
-pub fn run<R: Read, W: Write, E: Write>(
-    rt: &HostRuntime,
-    order: Result<Order, LineFault>,
-    reader: &mut R,
-    writer: &mut W,
-    errors: &mut E,
-) -> ProgramExit
-    ensures try_order { order ≡ Ok TheOrder.Try → IfSome (R.remaining reader.old) (λ input.
-        IsTryDone input (W.contents writer.old) (W.contents writer.new) (E.contents errors.old)
-        (E.contents errors.new) result
-        ⊎ IsTryStopped input (W.contents writer.old) (W.contents writer.new)
-        (E.contents errors.old) (E.contents errors.new) result) }
-    ensures at_most { order ≡ Ok TheOrder.Try →
-        ReadsAtMost read_octets_max (R.remaining reader.old) (R.remaining reader.new) }
-    ensures other_order { (other : TheOrder) → order ≡ Ok other → other ≢ TheOrder.Try →
-        HasLog (EndsOrder ⟦<FileBooks as BookStore>⟧.model ⟦<TcpStream as Connection>⟧.model
-        ⟦<TcpListener as Listener>⟧.coming other
-        (W.contents writer.old) (W.contents writer.new)
-        (E.contents errors.old) (E.contents errors.new) result) }
-    ensures unread { order ≢ Ok TheOrder.Try → reader.new ≡ reader.old }
-    ensures bad_arguments { (text : List ℕ) → order ≡ Err (TheFault.Bad text) →
-        ReportsBadArguments text (E.contents errors.old) (E.contents errors.new) result
-        × Keeps (W.contents writer.old) (W.contents writer.new) }
-    ensures memory { order ≡ Err TheFault.Memory →
-        ReportsStop out_of_memory (E.contents errors.old) (E.contents errors.new) result
-        × Keeps (W.contents writer.old) (W.contents writer.new) }
-{
-    let mut host = *rt;
-    run_and_report(rt.alloc(), &mut host, order, reader, writer, errors)
 }

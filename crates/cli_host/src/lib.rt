@@ -7,8 +7,8 @@ mod host;
 mod running;
 mod work;
 
-pub use args::read_args;
-pub use exit::{ProgramExit, run, run_and_report};
+pub use args::order_of_args;
+pub use exit::{ProgramExit, run_and_report};
 pub use host::Host;
 pub use running::{run_on_host, run_order};
 pub use work::{StoreWork, Work, work_of};

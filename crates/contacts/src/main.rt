@@ -3,13 +3,17 @@
 //! prints the book's initial report.
 #![tactic(auto)]
 
-use cli_host::{read_args, run};
+use cli_host::{order_of_args, run_and_report};
+use std::env;
 use std::process::ExitCode;
 
 fn main(rt: HostRuntime) -> ExitCode {
-    let exit = run(
-        &rt,
-        read_args(&rt),
+    let order = order_of_args(rt.alloc(), env::args(&rt));
+    let mut host = rt;
+    let exit = run_and_report(
+        rt.alloc(),
+        &mut host,
+        order,
         &mut rt.stdin(),
         &mut rt.stdout(),
         &mut rt.stderr(),
