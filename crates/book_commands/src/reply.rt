@@ -4,7 +4,8 @@ use book_model::{BookLine, Fault, ImportTally, Moved, Page, PutAnswer, Refusal, 
 use card_core::Expansion;
 use vcard_text::{Card, Items, Text};
 
-/// The reply to a command. `Refused` and `Fault` leave the books unchanged.
+/// The reply to a command. `Refused` leaves the books unchanged. So does `Fault`, unless a failure
+/// of the disk closed the file.
 #[derive(Debug, Drop, PartialEq, Eq)]
 pub enum Reply {
     /// The book was created.

@@ -8,7 +8,8 @@ use std::error::Error;
 use std::fmt;
 use vcard_text::{CardFault, NoMemory};
 
-/// A failure of the store or of an allocation. After a fault the books are unchanged.
+/// A failure of the store or of an allocation. After a fault the books are unchanged. But if a
+/// failure of the disk closed the file, the change was made completely or not at all.
 #[derive(Clone, Copy, Debug, PartialEq, Eq)]
 pub enum Fault {
     /// The database reported an error, or a row read from it isn't well formed.

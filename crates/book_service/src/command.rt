@@ -11,7 +11,8 @@ use book_commands::{Command, Reply};
 use std::alloc::Global;
 use sync_core::BookStore;
 
-/// Performs the command and returns its reply. A refusal or a fault leaves the books unchanged.
+/// Performs the command and returns its reply. A refusal or a fault leaves the books unchanged, if
+/// the store's premise holds afterwards.
 ///
 /// A command is refused as its store call is, with these additions, each list in order. `Put`:
 /// `NoSuchBook`; `BadCard` with the first fault of the text; `UidMismatch` if the card has another
