@@ -6,7 +6,6 @@ use Rattle.std.specs.Str.{is_utf8}
 use Rattle.std.proofs.lemmas.Str.{IsUtf8-from_is_utf8, is_utf8-from_IsUtf8}
 use Rattle.book_model.specs.BookNames.{is_legal_name}
 use Rattle.book_model.specs.Bounds.{Bounds}
-use Rattle.store_tables.specs.Books.{BookRow}
 use Rattle.store_tables.specs.Members.{MemberRow}
 use Rattle.store_tables.proofs.KeyedRows.{all_has}
 use Rattle.store_rows.specs.SoundTables.{AreWellFormed, IsReadableBook, IsReadableMember}

@@ -2,3 +2,4 @@ pub mod SchemaLemmas
 pub mod StoreLemmas
 pub mod FileLemmas
 pub mod FaultlessLemmas
+pub mod CrashLemmas

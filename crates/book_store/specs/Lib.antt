@@ -1,3 +1,4 @@
 pub mod OpenOutcomes
 pub mod StoreViews
+pub mod Crashes
 pub mod OnConnections

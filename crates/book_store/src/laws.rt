@@ -1,10 +1,13 @@
-//! A law of stores over tables.
+//! Laws of stores over tables.
 ghost use Rattle.book_model.specs.Bounds.{Bounds};
+ghost use Rattle.book_store.specs.Crashes.{StoresSurviveCrashes};
 ghost use Rattle.store_lookups.specs.StoreFaults.{AreFaultless};
 ghost use Rattle.store_rows.specs.SoundTables.{AreWellFormed};
 ghost use Rattle.store_rows.specs.TableRows.{TableRows};
 ghost use Rattle.std.specs.List.{AllByRecursion};
 ghost use Rattle.std.specs.Prelude.{◌<◌, ◌^◌, IsUtf8, length};
+
+use sqlite::Alter;
 
 /// The rows of well-formed books cause no fault in a call that reads, if each UID is UTF-8 and
 /// there are fewer than 2^63 - 1 members.
@@ -13,4 +16,11 @@ pub fn well_formed_rows_cause_no_fault()
         → limits.changes_max < 2 ^ 63 → AreWellFormed limits rows
         → AllByRecursion (λ m. IsUtf8 m.uid) rows.members
         → length rows.members < 9223372036854775807 → AreFaultless rows }
+{}
+
+/// A crash between two calls of a store leaves its books, with each change that a call made before
+/// it returned: an open after the crash finds these books and no others. The connection must be
+/// open, and the disk must have returned what was written.
+pub fn stores_survive_crashes<S: Alter>()
+    ensures { StoresSurviveCrashes S.Store }
 {}
