@@ -1,0 +1,9 @@
+pub mod AloneLemmas
+pub mod FedPieceLemmas
+pub mod PlaceLemmas
+pub mod LinkRunLemmas
+pub mod HubLemmas
+pub mod ExpiryLemmas
+pub mod CallLemmas
+pub mod CountLemmas
+pub mod PieceRequestLemmas

@@ -1,0 +1,26 @@
+use Rattle.std.proofs.Common.{◌≡◌, ◌∙◌, ◌<◌, ◌≤◌, ◌+◌, ◌||◌, List, Option, length, ap, subst, take, arith}
+use Rattle.std.proofs.lemmas.List.{take_all}
+use Rattle.http_hub.specs.Hubs.{HubValue, any_expired, is_expired_slot}
+use Rattle.http_hub.specs.Links.{IsFirstTime}
+use Rattle.http_hub.specs.declared.slot.Slot.{Slot}
+use Rattle.http_hub.proofs.ExpiryLemmas.{any_more, first_time_as}
+use Rattle.http_hub.proofs.hub.Hub.next_expiry.Goals as goal
+
+pub loop-slot-preserved : goal.loop-slot-preserved
+loop-slot-preserved c =
+    let items = c.deref-slot-items.result.now in
+    let i = c.loop-slot.slot-index in
+    let within : i < length items = omega arith in
+    first_time_as (λ now. any_expired (take i items) now c.args.patience || is_expired_slot now c.args.patience c.slot-item.result)
+    (λ now. any_expired (take (i + 1) items) now c.args.patience) c.earlier-next.result
+    (λ now. any_more items i c.slot-item.result now c.args.patience within c.slot-item.is)
+    (c.earlier-next.ensures (λ now. any_expired (take i items) now c.args.patience) (λ now. is_expired_slot now c.args.patience c.slot-item.result)
+    c.loop-slot.invariant c.slot_expiry.ensures)
+
+pub returns : goal.returns
+returns c =
+    let items = c.deref-slot-items.result.now in
+    let i = c.loop-slot.slot-index in
+    let past : length items ≤ i = omega arith in
+    let slots_are : items ≡ c.args.self.now.slots = c.deref-slot-items.ensures.value ∙ ap (λ (h : HubValue). h.slots) c.self.view_is in
+    subst (λ (xs : List (Option Slot)). IsFirstTime (λ now. any_expired xs now c.args.patience) c.loop-slot.next) (take_all i items past ∙ slots_are) c.loop-slot.invariant

@@ -1,0 +1,114 @@
+-- The effect of any list of a hub's operations. This project's own.
+use Rattle.std.specs.Prelude.{◌≡◌, ◌==◌, ◌≤◌, ℕ, List, [], ◌∷◌, ◌++◌, Option, Some, None, cond}
+use Rattle.std.specs.Prelude.{length, take, slice_get}
+use Rattle.http_requests.specs.HandlerRuns.{HandlerRelation, FaultReplies}
+use Rattle.http_hub.specs.FedPieces.{AreOneRun, FedPiece, Sessions, replies_to}
+use Rattle.http_hub.specs.Hubs.{EndsAt, FailsAt, HubValue, IsAt, OpensAt, ReceivesAt, SendsAt}
+use Rattle.http_hub.specs.Hubs.{new_hub, open_count}
+use Rattle.http_hub.specs.Links.{LinkValue}
+use Rattle.http_hub.specs.declared.slot.Slot.{Slot}
+
+-- One operation of a hub. A connection is named by its serial number: how many were opened before
+-- it.
+pub data HubStep : Type 0 where
+  -- a new connection, at this time
+  Opens : ℕ → HubStep
+  -- the connection sends a piece and gets these replies, at this time
+  Receives : ℕ → List ℕ → List ℕ → ℕ → HubStep
+  -- the memory runs out within a piece of the connection
+  Fails : ℕ → List ℕ → HubStep
+  -- these octets are sent to the connection, at this time
+  Sends : ℕ → List ℕ → ℕ → HubStep
+  -- the connection is ended, and its place is free
+  Ends : ℕ → HubStep
+
+-- the pieces that the steps feed
+abbrev pub pieces_in : List HubStep → List FedPiece
+pieces_in [] = []
+pieces_in (Opens now ∷ steps) = pieces_in steps
+pieces_in (Receives serial piece replies now ∷ steps) =
+    record { connection = serial; octets = piece; replies = Some replies } ∷ pieces_in steps
+pieces_in (Fails serial piece ∷ steps) =
+    record { connection = serial; octets = piece; replies = None } ∷ pieces_in steps
+pieces_in (Sends serial octets now ∷ steps) = pieces_in steps
+pieces_in (Ends serial ∷ steps) = pieces_in steps
+
+-- all octets that were sent to the connection
+abbrev pub sent_to : ℕ → List HubStep → List ℕ
+sent_to connection [] = []
+sent_to connection (Opens now ∷ steps) = sent_to connection steps
+sent_to connection (Receives serial piece replies now ∷ steps) = sent_to connection steps
+sent_to connection (Fails serial piece ∷ steps) = sent_to connection steps
+sent_to connection (Sends serial octets now ∷ steps) =
+    cond (serial == connection) (octets ++ sent_to connection steps) (sent_to connection steps)
+sent_to connection (Ends serial ∷ steps) = sent_to connection steps
+
+-- the session of a link; a connection without a link has a new session
+abbrev pub session_of : Option LinkValue → Option (List ℕ)
+session_of None = Some []
+session_of (Some link) = link.session
+
+-- the pending octets of a link
+abbrev pub pending_of : Option LinkValue → List ℕ
+pending_of None = []
+pending_of (Some link) = link.pending
+
+-- the sessions of all links, by their serial numbers
+abbrev pub sessions_of : List LinkValue → Sessions
+sessions_of links = λ serial. session_of (slice_get links serial)
+
+-- these are the links of all connections so far, by their serial numbers; that of an open
+-- connection is at its place, and no two places have the same connection
+pub record AreAllLinks (hub : HubValue) (links : List LinkValue) : Type 0 where
+  pub all : length links ≡ hub.opened
+  pub are_open : (place : ℕ) (slot : Slot) → IsAt hub place slot
+      → slice_get links slot.serial ≡ Some slot.link
+  pub are_apart : (place other : ℕ) (slot another : Slot)
+      → IsAt hub place slot → IsAt hub other another
+      → slot.serial ≡ another.serial → place ≡ other
+
+module _ {State : Type 0} (does : HandlerRelation State) (fault_reply : FaultReplies) where
+  -- the effect of one step, at some place
+  abbrev pub DoesStep : HubValue → State → HubStep → State → HubValue → Type 0
+  DoesStep before old (Opens now) new after =
+      (old ≡ new) × (place : ℕ) × OpensAt place before now after
+  DoesStep before old (Receives serial piece replies now) new after =
+      (place : ℕ) × (received : ReceivesAt does fault_reply place before old piece now new after)
+      × (received.slot.serial ≡ serial) × (received.receives.replies ≡ replies)
+  DoesStep before old (Fails serial piece) new after =
+      (place : ℕ) × (failed : FailsAt does fault_reply place before old piece new after)
+      × (failed.slot.serial ≡ serial)
+  DoesStep before old (Sends serial octets now) new after =
+      (old ≡ new) × (place : ℕ) × (sends : SendsAt place before (length octets) now after)
+      × (sends.slot.serial ≡ serial) × (octets ≡ take (length octets) sends.slot.link.pending)
+  DoesStep before old (Ends serial) new after =
+      (old ≡ new) × (place : ℕ) × (ends : EndsAt place before after)
+      × (ends.slot.serial ≡ serial)
+
+  -- the effect of steps in turn
+  unfoldable pub HubRuns : HubValue → State → List HubStep → State → HubValue → Type 0
+  HubRuns before old [] new after = (before ≡ after) × (old ≡ new)
+  HubRuns before old (step ∷ steps) new after =
+      (between : HubValue) × (middle : State) × DoesStep before old step middle between
+      × HubRuns between middle steps new after
+
+  -- The handler made one run of all requests, and each connection gets the replies to its own
+  -- requests, as if it were alone. The octets sent to a connection, followed by those that are
+  -- pending, are these replies in order; what was sent to an ended connection is a prefix of them.
+  -- At most `limit` connections are open at once.
+  pub record SeparatesConnections
+      (limit : ℕ) (old : State) (steps : List HubStep) (new : State) (after : HubValue)
+      : Type 0 where
+    pub links : List LinkValue
+    pub are_all : AreAllLinks after links
+    pub one_run : AreOneRun does fault_reply old (pieces_in steps) new (sessions_of links)
+    pub sent : (serial : ℕ) → replies_to serial (pieces_in steps)
+        ≡ sent_to serial steps ++ pending_of (slice_get links serial)
+    pub within : open_count after ≤ limit
+
+  -- every run of a hub that starts without connections separates them
+  abbrev pub HubsSeparateConnections : Type 0
+  HubsSeparateConnections =
+      (limit : ℕ) (old new : State) (steps : List HubStep) (after : HubValue)
+      → HubRuns (new_hub limit) old steps new after
+      → SeparatesConnections limit old steps new after

@@ -1,0 +1,6 @@
+pub mod HandledRequests
+pub mod FedPieces
+pub mod Links
+pub mod Hubs
+pub mod HubRuns
+pub mod PieceRequests

@@ -1,0 +1,57 @@
+//! When the connections of a hub expire.
+ghost use Rattle.std.specs.Prelude.{◌≡◌, ◌||◌, ℕ, Bool};
+ghost use Rattle.http_hub.specs.Hubs.{IsAt, IsOpenAt, any_expired, is_expired_slot};
+ghost use Rattle.http_hub.specs.Links.{IsFirstTime, has_expired};
+ghost use Rattle.http_hub.specs.declared.slot.Slot.{Slot};
+
+use crate::hub::Hub;
+use crate::slot::Slot;
+
+/// The first time at which the connection of the place has expired.
+fn slot_expiry(slot: &Option<Slot>, patience: u64) -> Option<u64>
+    ensures { IsFirstTime (λ now. is_expired_slot now patience slot.now) result }
+{
+    match slot {
+        Some(slot) => slot.link.expiry(patience),
+        None => None,
+    }
+}
+
+/// The earlier of two times.
+fn earlier(first: Option<u64>, second: Option<u64>) -> Option<u64>
+    ensures { (test other : ℕ → Bool) → IsFirstTime test first → IsFirstTime other second
+        → IsFirstTime (λ now. test now || other now) result }
+{
+    match (first, second) {
+        (Some(first), Some(second)) => Some(first.min(second)),
+        (Some(first), None) => Some(first),
+        (None, second) => second,
+    }
+}
+
+impl Hub {
+    /// Whether the connection at the place has expired: for more than `patience` milliseconds it
+    /// was not active, or the rest of a head has been awaited.
+    pub fn has_expired(&self, place: usize, now: u64, patience: u64) -> bool
+        requires { IsOpenAt self.now place }
+        ensures { (slot : Slot) → IsAt self.now place slot
+            → result ≡ has_expired slot.link now patience }
+    {
+        let Some(slot) = &self.slots[place] else {
+            unreachable!()
+        };
+        slot.link.has_expired(now, patience)
+    }
+
+    /// The first time at which some connection has expired, if nothing is received or sent before.
+    /// `None` if there is no such time below 2^64.
+    pub fn next_expiry(&self, patience: u64) -> Option<u64>
+        ensures { IsFirstTime (λ now. any_expired self.now.slots now patience) result }
+    {
+        let mut next = None;
+        for slot in &self.slots {
+            next = earlier(next, slot_expiry(slot, patience));
+        }
+        next
+    }
+}

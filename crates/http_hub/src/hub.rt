@@ -1,0 +1,153 @@
+//! The open connections of a server, without their sockets.
+ghost use Rattle.std.specs.Prelude.{◌≡◌, ◌↔◌, ◌≤◌, ◌<◌, [], length, None, Some};
+ghost use Rattle.std.specs.Prelude.{IfOk, OnErr, IsTrue};
+ghost use Rattle.http_hub.specs.HubRuns.{pending_of, session_of};
+ghost use Rattle.http_hub.specs.Hubs.{EndsAt, FailsAt, IsAt, IsFreeAt, IsOpenAt, ReceivesAt};
+ghost use Rattle.http_hub.specs.Hubs.{SendsAt, link_at, new_hub, with_slot};
+ghost use Rattle.http_hub.specs.declared.slot.Slot.{Slot};
+
+use crate::slot::Slot;
+use base_types::NoMemory;
+use http_requests::Handler;
+use std::alloc::Global;
+use std::marker::Model;
+
+/// The open connections of a server, at most as many as it has places. A place is used again once
+/// its connection was ended; each connection has a serial number of its own, which is the number of
+/// connections that were opened before it.
+#[derive(Debug, Drop)]
+pub struct Hub {
+    pub(crate) slots: Vec<Option<Slot>>,
+    pub(crate) opened: u64,
+}
+
+impl Model for Hub {
+    ghost use Rattle.http_hub.specs.Hubs.{HubValue};
+
+    ghost Value = { HubValue };
+
+    ghost view = { λ hub. record { slots = hub.slots.items; opened = hub.opened } };
+}
+
+impl Hub {
+    /// A hub with `limit` places and no connections.
+    pub fn new(alloc: Global, limit: usize) -> Result<Hub, NoMemory>
+        ensures { IfOk result (λ hub. hub ≡ new_hub limit) }
+    {
+        let mut slots = Vec::new(alloc);
+        for _place in 0..limit {
+            slots.push(None)?;
+        }
+        Ok(Hub { slots, opened: 0 })
+    }
+
+    /// Takes the connection from the place, which is then free.
+    fn take_slot(&mut self, place: usize) -> Slot
+        requires { IsOpenAt self.old place }
+        ensures found { IsAt self.old place result }
+        ensures freed { self.new ≡ with_slot self.old place None }
+    {
+        match self.slots[place].take() {
+            Some(slot) => slot,
+            None => unreachable!(),
+        }
+    }
+
+    /// Puts the connection at the place.
+    fn put_slot(&mut self, place: usize, slot: Slot)
+        requires { IsFreeAt self.old place }
+        ensures { self.new ≡ with_slot self.old place (Some slot) }
+    {
+        self.slots[place] = Some(slot);
+    }
+
+    /// Whether the place has a connection.
+    pub fn is_open(&self, place: usize) -> bool
+        ensures { IsTrue result ↔ IsOpenAt self.now place }
+    {
+        match self.slots.get(place) {
+            Some(slot) => slot.is_some(),
+            None => false,
+        }
+    }
+
+    /// The serial number of the connection at the place.
+    pub fn serial(&self, place: usize) -> u64
+        requires { IsOpenAt self.now place }
+        ensures { (slot : Slot) → IsAt self.now place slot → result ≡ slot.serial }
+    {
+        let Some(slot) = &self.slots[place] else {
+            unreachable!()
+        };
+        slot.serial
+    }
+
+    /// The octets of the replies to the connection at the place that are not sent yet.
+    pub fn pending(&self, place: usize) -> &[u8]
+        requires { IsOpenAt self.now place }
+        ensures { result.now ≡ pending_of (link_at self.now place) }
+    {
+        let Some(slot) = &self.slots[place] else {
+            unreachable!()
+        };
+        slot.link.pending()
+    }
+
+    /// Whether the session of the connection at the place is closed, so that it is to be ended once
+    /// no octets are pending.
+    pub fn session_is_closed(&self, place: usize) -> bool
+        requires { IsOpenAt self.now place }
+        ensures { IsTrue result ↔ (session_of (link_at self.now place) ≡ None) }
+    {
+        let Some(slot) = &self.slots[place] else {
+            unreachable!()
+        };
+        slot.link.session_is_closed()
+    }
+
+    /// Feeds a piece to the connection at the place. No octets of it may be pending.
+    ///
+    /// `NoMemory` if an allocation fails: some requests, from the first on, were handled
+    /// completely, their replies are lost, and the session is closed.
+    pub fn receive<H: Handler>(
+        &mut self,
+        alloc: Global,
+        handler: &mut H,
+        place: usize,
+        piece: &[u8],
+        now: u64,
+    ) -> Result<(), NoMemory>
+        requires is_open { IsOpenAt self.old place }
+        requires none_pending { pending_of (link_at self.old place) ≡ [] }
+        requires some { 0 < length piece.now }
+        ensures received { IfOk result (λ _. ReceivesAt H.does H.fault_reply place
+            self.old handler.old piece.now now handler.new self.new) }
+        ensures no_memory { OnErr result (FailsAt H.does H.fault_reply place
+            self.old handler.old piece.now handler.new self.new) }
+    {
+        let mut slot = self.take_slot(place);
+        let received = slot.link.receive(alloc, handler, piece, now);
+        self.put_slot(place, slot);
+        received
+    }
+
+    /// Records that the first `count` pending octets were sent to the connection at the place.
+    pub fn mark_sent(&mut self, place: usize, count: usize, now: u64)
+        requires is_open { IsOpenAt self.old place }
+        requires some { 0 < count }
+        requires within { count ≤ length (pending_of (link_at self.old place)) }
+        ensures { SendsAt place self.old count now self.new }
+    {
+        let mut slot = self.take_slot(place);
+        slot.link.mark_sent(count, now);
+        self.put_slot(place, slot);
+    }
+
+    /// Ends the connection at the place, which is then free.
+    pub fn end(&mut self, place: usize)
+        requires { IsOpenAt self.old place }
+        ensures { EndsAt place self.old self.new }
+    {
+        self.slots[place] = None;
+    }
+}

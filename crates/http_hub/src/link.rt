@@ -1,0 +1,176 @@
+//! One connection, without its socket.
+ghost use Rattle.std.specs.Prelude.{◌≡◌, ◌↔◌, ◌≤◌, ◌<◌, [], None, length};
+ghost use Rattle.std.specs.Prelude.{IfOk, OnErr, IsTrue};
+ghost use Rattle.http_requests.specs.SessionFeeding.{FeedsPieceInPart};
+ghost use Rattle.http_hub.specs.Links.{IsFirstTime, ReceivesPiece, has_expired, new_link};
+ghost use Rattle.http_hub.specs.Links.{link_after_failure, link_after_sent, since_after_piece};
+ghost use Rattle.http_hub.specs.Links.{since_after_sent};
+
+use base_types::NoMemory;
+use http_requests::{Handler, Session};
+use std::alloc::Global;
+use std::marker::Model;
+
+/// The session of a connection, the pending octets of its replies, when it was last active, and
+/// since when the rest of a head is awaited.
+#[derive(Debug, Drop)]
+pub struct Link {
+    session: Session,
+    out: Vec<u8>,
+    sent_count: usize,
+    active_at: u64,
+    head_since: Option<u64>,
+}
+
+impl Model for Link {
+    ghost use Rattle.std.specs.Prelude.{◌≤◌, drop, length};
+    ghost use Rattle.http_hub.specs.Links.{LinkValue};
+
+    ghost Value = { LinkValue };
+
+    ghost view = { λ link. record {
+      session = link.session;
+      pending = drop link.sent_count link.out.items;
+      active_at = link.active_at;
+      head_since = link.head_since;
+    } };
+
+    ghost invariant = { λ link. link.sent_count ≤ length link.out.items };
+}
+
+/// Since when the rest of a head is awaited, after a piece of `added` octets. The session held
+/// `before` octets of an incomplete head, and now it holds `held`.
+fn awaited_after_piece(
+    since: Option<u64>,
+    before: usize,
+    added: usize,
+    held: usize,
+    pending: &[u8],
+    now: u64,
+) -> Option<u64>
+    ensures { result ≡ since_after_piece since before added held pending.now now }
+{
+    if held == 0 || !pending.is_empty() {
+        return None;
+    }
+    if before > 0 && held >= added && held - added == before {
+        since
+    } else {
+        Some(now)
+    }
+}
+
+/// Since when the rest of a head is awaited, after octets were sent.
+fn awaited_after_sent(held: usize, pending: &[u8], now: u64) -> Option<u64>
+    ensures { result ≡ since_after_sent held pending.now now }
+{
+    if held > 0 && pending.is_empty() {
+        Some(now)
+    } else {
+        None
+    }
+}
+
+impl Link {
+    /// The link of a new connection. It allocates nothing.
+    pub fn new(alloc: Global, now: u64) -> Link
+        ensures { result ≡ new_link now }
+    {
+        Link {
+            session: Session::new(alloc),
+            out: Vec::new(alloc),
+            sent_count: 0,
+            active_at: now,
+            head_since: None,
+        }
+    }
+
+    /// The octets of the replies that are not sent yet.
+    pub fn pending(&self) -> &[u8]
+        ensures { result.now ≡ self.now.pending }
+    {
+        &self.out[self.sent_count..]
+    }
+
+    /// Whether the session is closed and ignores further pieces.
+    pub fn session_is_closed(&self) -> bool
+        ensures { IsTrue result ↔ (self.now.session ≡ None) }
+    {
+        self.session.closed()
+    }
+
+    /// Whether for more than `patience` milliseconds the connection was not active, or the rest of
+    /// a head has been awaited.
+    pub fn has_expired(&self, now: u64, patience: u64) -> bool
+        ensures { result ≡ has_expired self.now now patience }
+    {
+        patience < now.saturating_sub(self.active_at)
+            || match self.head_since {
+                Some(since) => patience < now.saturating_sub(since),
+                None => false,
+            }
+    }
+
+    /// The first time at which the connection has expired, if nothing comes before.
+    pub fn expiry(&self, patience: u64) -> Option<u64>
+        ensures { IsFirstTime (λ now. has_expired self.now now patience) result }
+    {
+        let since = match self.head_since {
+            Some(since) => since.min(self.active_at),
+            None => self.active_at,
+        };
+        match since.checked_add(patience) {
+            Some(time) => time.checked_add(1),
+            None => None,
+        }
+    }
+
+    /// Feeds a piece to the session. Its replies are then pending. No octets may be pending before,
+    /// which bounds the memory.
+    ///
+    /// `NoMemory` if an allocation fails: some requests, from the first on, were handled
+    /// completely, their replies are lost, and the session is closed.
+    pub fn receive<H: Handler>(
+        &mut self,
+        alloc: Global,
+        handler: &mut H,
+        piece: &[u8],
+        now: u64,
+    ) -> Result<(), NoMemory>
+        requires none_pending { self.old.pending ≡ [] }
+        requires some { 0 < length piece.now }
+        ensures received { IfOk result (λ _. ReceivesPiece H.does H.fault_reply
+            self.old handler.old piece.now now handler.new self.new) }
+        ensures fed_in_part { OnErr result (FeedsPieceInPart H.does H.fault_reply
+            self.old.session handler.old piece.now handler.new) }
+        ensures no_memory_closes { OnErr result (self.new ≡ link_after_failure self.old) }
+    {
+        let before = self.session.partial_head_len();
+        let replies = self.session.feed(alloc, handler, piece)?;
+        let held = self.session.partial_head_len();
+        self.head_since = awaited_after_piece(
+            self.head_since,
+            before,
+            piece.len(),
+            held,
+            &replies,
+            now,
+        );
+        self.out = replies;
+        self.sent_count = 0;
+        self.active_at = now;
+        Ok(())
+    }
+
+    /// Records that the first `count` pending octets were sent.
+    pub fn mark_sent(&mut self, count: usize, now: u64)
+        requires some { 0 < count }
+        requires within { count ≤ length self.old.pending }
+        ensures { self.new ≡ link_after_sent self.old count now }
+    {
+        self.sent_count += count;
+        self.active_at = now;
+        let held = self.session.partial_head_len();
+        self.head_since = awaited_after_sent(held, &self.out[self.sent_count..], now);
+    }
+}
