@@ -1,0 +1,80 @@
+-- A pass that closes the connections that have expired.
+use Rattle.std.proofs.Common.{◌≡◌, ◌∙◌, ◌<◌, ◌≤◌, ◌+◌, ℕ, Bool, true, false, refl, sym, ap, subst, arith, length, IsTrue}
+use Rattle.std.proofs.lemmas.Bool.{false_from_ne_true}
+use Rattle.http_hub.specs.Hubs.{IsAt, IsOpenAt}
+use Rattle.http_hub.specs.Links.{has_expired}
+use Rattle.http_hub.specs.declared.slot.Slot.{Slot}
+use Rattle.http_hub.proofs.PlaceLemmas.{found_within}
+use Rattle.hub_server.specs.EndpointRuns.{EndpointRelation, ReachesByActs}
+use Rattle.hub_server.specs.Endpoints.EndpointEvent.{CloseEvent}
+use Rattle.hub_server.specs.Expiries.{ExpiresAt, HasExpiredAt, KeepsTurnsOver}
+use Rattle.hub_server.specs.Needs.{KeepsOthers, LeavesPlace}
+use Rattle.hub_server.specs.Seats.{SeatValue}
+use Rattle.hub_server.specs.Servers.{IsSeatedAt, NoneExpired, ServerValue}
+use Rattle.hub_server.specs.declared.limits.ServeLimits.{ServeLimits}
+use Rattle.hub_server.proofs.KeepingLemmas.{all_unexpired, fact_more, left_is_free, turns_left}
+use Rattle.hub_server.proofs.NeedLemmas.{same_slot, seat_there}
+use Rattle.hub_server.proofs.PlaceCountLemmas.{acts_places}
+use Rattle.hub_server.proofs.PlaceStepLemmas.{acts_expired, keeps_none, leaves_keeps}
+use Rattle.hub_server.proofs.RunLemmas.{acts_none, acts_on}
+
+-- ---- whether a connection has expired
+
+-- what a test of the connection at a place says
+pub expired_by_test : (limits : ServeLimits) (server : ServerValue) (place : ℕ) (test : Bool) → place < length server.seats → (open_there : IsOpenAt server.hub place)
+    → ((slot : Slot) → IsAt server.hub place slot → test ≡ has_expired slot.link server.time limits.patience)
+    → (IsTrue test → HasExpiredAt limits server place) × (HasExpiredAt limits server place → IsTrue test)
+expired_by_test limits server place test within open_there tells =
+    let there = seat_there server.seats place within in (
+      λ yes. record { slot = open_there.0; seat = there.0; seated = record { at_slot = open_there.1; at_seat = there.1 }; expired = sym (tells open_there.0 open_there.1) ∙ yes },
+      λ expired. tells expired.slot expired.seated.at_slot ∙ expired.expired,
+    )
+
+-- there is no connection
+pub expired_unless_open : (limits : ServeLimits) (server : ServerValue) (place : ℕ) → (IsOpenAt server.hub place → ⊥) → (IsTrue false → HasExpiredAt limits server place) × (HasExpiredAt limits server place → IsTrue false)
+expired_unless_open limits server place free = (λ yes. absurd (cc yes), λ expired. absurd (free (expired.slot, expired.seated.at_slot)))
+
+-- there is no place
+pub expired_past_end : (limits : ServeLimits) (server : ServerValue) (place : ℕ) → length server.seats ≤ place → (IsTrue false → HasExpiredAt limits server place) × (HasExpiredAt limits server place → IsTrue false)
+expired_past_end limits server place past = (
+  λ yes. absurd (cc yes),
+  λ expired. let within : place < length server.seats = found_within server.seats place expired.seat expired.seated.at_seat in absurd (omega (arith, within, past)),
+)
+
+module _ {Endpoint : Type 0} (calls : EndpointRelation Endpoint) where
+  -- ---- one place
+
+  pub expires_one : (limits : ServeLimits) (place : ℕ) (a b : ServerValue) (s t : Endpoint) → HasExpiredAt limits a place → LeavesPlace a place b → calls s (CloseEvent place) t → ExpiresAt calls limits place a s b t
+  expires_one limits place a b s t has left closed = record {
+    acts = acts_expired calls limits a b place has.slot has.seat s t has.seated has.expired left closed;
+    others = leaves_keeps a b place left;
+    turns = turns_left a b place left;
+    not_expired = λ still. left_is_free a b place still.slot still.seat left still.seated;
+  }
+
+  pub expires_none : (limits : ServeLimits) (place : ℕ) (a : ServerValue) (s : Endpoint) → (HasExpiredAt limits a place → ⊥) → ExpiresAt calls limits place a s a s
+  expires_none limits place a s not_expired = record { acts = acts_none calls limits a s; others = keeps_none place a; turns = λ before. before; not_expired = not_expired }
+
+  -- ---- all places in order
+
+  pub record ExpiresBelow (limits : ServeLimits) (count : ℕ) (a : ServerValue) (s : Endpoint) (b : ServerValue) (t : Endpoint) : Type 0 where
+    pub acts : ReachesByActs calls limits a s b t
+    pub turns : KeepsTurnsOver a b
+    pub below : (place : ℕ) (slot : Slot) (seat : SeatValue) → place < count → IsSeatedAt b place slot seat → has_expired slot.link b.time limits.patience ≡ false
+
+  pub expires_nothing : (limits : ServeLimits) (a : ServerValue) (s : Endpoint) → ExpiresBelow limits 0 a s a s
+  expires_nothing limits a s = record { acts = acts_none calls limits a s; turns = λ before. before; below = λ place slot seat within seated. absurd (let no : place < 0 = within in omega (arith, no)) }
+
+  pub expires_more : (limits : ServeLimits) (place : ℕ) (a b c : ServerValue) (s t u : Endpoint) → ExpiresBelow limits place a s b t → ExpiresAt calls limits place b t c u → ExpiresBelow limits (place + 1) a s c u
+  expires_more limits place a b c s t u far next = record {
+    acts = acts_on calls limits a b c s t u far.acts next.acts;
+    turns = λ before. next.turns (far.turns before);
+    below = fact_more (λ slot seat. has_expired slot.link c.time limits.patience ≡ false) place b c next.others
+        (λ other slot seat within seated. ap (λ n. has_expired slot.link n limits.patience) next.others.time ∙ far.below other slot seat within seated)
+        (λ slot seat seated. false_from_ne_true (has_expired slot.link c.time limits.patience) (λ yes. next.not_expired (record { slot = slot; seat = seat; seated = seated; expired = yes })));
+  }
+
+  pub expires_all : (limits : ServeLimits) (count : ℕ) (a b : ServerValue) (s t : Endpoint) → length a.seats ≤ count → ExpiresBelow limits count a s b t → NoneExpired limits b
+  expires_all limits count a b s t all far =
+      let places : length b.seats ≡ length a.seats = acts_places calls limits a b s t far.acts in
+      all_unexpired limits b count (omega (arith, all, places)) far.below

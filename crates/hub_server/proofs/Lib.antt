@@ -1,0 +1,12 @@
+pub mod SeatLemmas
+pub mod NeedLemmas
+pub mod RunLemmas
+pub mod PlaceCountLemmas
+pub mod PlaceStepLemmas
+pub mod KeepingLemmas
+pub mod ExpiringLemmas
+pub mod AwaitingLemmas
+pub mod AcceptingLemmas
+pub mod ServingLemmas
+pub mod NumberLemmas
+pub mod ServerLawLemmas

@@ -1,0 +1,12 @@
+pub mod Endpoints
+pub mod Seats
+pub mod Servers
+pub mod ServerActs
+pub mod Needs
+pub mod Expiries
+pub mod Acceptings
+pub mod ServerRuns
+pub mod EndpointRuns
+pub mod Rounds
+pub mod ServedEndpoints
+pub mod ServerLaws

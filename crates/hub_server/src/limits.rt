@@ -1,0 +1,12 @@
+//! The limits of a server.
+
+/// What a server is asked to do.
+#[derive(Clone, Copy, Debug, PartialEq, Eq)]
+pub struct ServeLimits {
+    /// The number of connections that it accepts in all.
+    pub connections: u64,
+    /// The most connections that are open at once.
+    pub together: usize,
+    /// The milliseconds after which a silent connection is closed.
+    pub patience: u64,
+}

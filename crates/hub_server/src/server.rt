@@ -1,0 +1,158 @@
+//! A server with many connections: one step of one of them.
+ghost use Rattle.std.specs.Prelude.{◌≡◌, ◌<◌, ◌↔◌, ℕ, List, length, IfOk, IsTrue};
+ghost use Rattle.http_hub.specs.Hubs.{IsOpenAt};
+ghost use Rattle.hub_server.specs.EndpointRuns.{ReachesByActs};
+ghost use Rattle.hub_server.specs.Endpoints.EndpointEvent.{CloseEvent};
+ghost use Rattle.hub_server.specs.Needs.{HasTurnAt, IsNeed, KeepsOthers, LeavesPlace};
+ghost use Rattle.hub_server.specs.Needs.{NeedsClosing, NeedsFeeding, NeedsInput, NeedsOutput};
+ghost use Rattle.hub_server.specs.Needs.{steps_left};
+ghost use Rattle.hub_server.specs.ServerRuns.{FeedsNext};
+ghost use Rattle.hub_server.specs.Servers.{new_server};
+ghost use Rattle.hub_server.specs.declared.limits.ServeLimits.{ServeLimits};
+
+use crate::endpoint::Endpoint;
+use crate::listener_state::ListenerState;
+use crate::need::Need;
+use crate::outcome::{Received, Sent};
+use crate::seat::Seat;
+use base_types::NoMemory;
+use http_hub::Hub;
+use http_requests::Handler;
+use std::alloc::Global;
+use std::marker::Model;
+
+/// The connections of a server and what it keeps of each, what it knows of its listener, and the
+/// time of the last wait in milliseconds.
+#[derive(Debug, Drop)]
+pub struct Server {
+    pub(crate) hub: Hub,
+    pub(crate) seats: Vec<Seat>,
+    pub(crate) listener: ListenerState,
+    pub(crate) time: u64,
+}
+
+impl Model for Server {
+    ghost use Rattle.hub_server.specs.Servers.{ServerValue};
+
+    ghost Value = { ServerValue };
+
+    ghost view = { λ server. record {
+      hub = server.hub;
+      seats = server.seats.items;
+      listener = server.listener;
+      time = server.time;
+    } };
+}
+
+impl Server {
+    /// A server with `limit` places and no connections.
+    pub fn new(alloc: Global, limit: usize) -> Result<Server, NoMemory>
+        ensures { IfOk result (λ server. server ≡ new_server limit) }
+    {
+        let hub = Hub::new(alloc, limit)?;
+        let mut seats = Vec::new(alloc);
+        for _place in 0..limit {
+            seats.push(Seat::new(alloc)?)?;
+        }
+        Ok(Server {
+            hub,
+            seats,
+            listener: ListenerState::Idle,
+            time: 0,
+        })
+    }
+
+    /// Whether the place has a connection whose turn isn't over.
+    pub fn has_turn(&self, place: usize) -> bool
+        ensures { IsTrue result ↔ HasTurnAt self.now place }
+    {
+        place < self.seats.len() && self.hub.is_open(place) && self.seats[place].has_turn()
+    }
+
+    /// What the connection at the place needs next.
+    pub fn need(&self, place: usize) -> Need
+        requires { HasTurnAt self.now place }
+        ensures { IsNeed self.now place result }
+    {
+        if !self.hub.pending(place).is_empty() {
+            Need::Output
+        } else if self.hub.session_is_closed(place) {
+            Need::Closing
+        } else if !self.seats[place].unfed().is_empty() {
+            Need::Feeding
+        } else {
+            Need::Input
+        }
+    }
+
+    /// Closes the connection at the place.
+    pub fn close<E: Endpoint>(&mut self, endpoint: &mut E, place: usize)
+        requires is_open { IsOpenAt self.old.hub place }
+        requires has_seat { place < length self.old.seats }
+        ensures left { LeavesPlace self.old place self.new }
+        ensures event { E.calls endpoint.old (CloseEvent place) endpoint.new }
+    {
+        self.hub.end(place);
+        self.seats[place].clear();
+        endpoint.close(place);
+    }
+
+    /// Reads from the connection at the place. If its input has ended or reading fails, it is
+    /// closed.
+    pub fn read<E: Endpoint>(&mut self, endpoint: &mut E, place: usize)
+        requires { NeedsInput self.old place }
+        ensures acts { (limits : ServeLimits) →
+            ReachesByActs E.calls limits self.old endpoint.old self.new endpoint.new }
+        ensures others { KeepsOthers place self.old self.new }
+        ensures less { steps_left self.new place < steps_left self.old place }
+    {
+        match self.seats[place].read(endpoint, place) {
+            Received::Octets(_) | Received::NoneNow => {}
+            Received::End | Received::Failed => self.close(endpoint, place),
+        }
+    }
+
+    /// Writes pending octets to the connection at the place. If writing fails, it is closed.
+    pub fn write<E: Endpoint>(&mut self, endpoint: &mut E, place: usize)
+        requires { NeedsOutput self.old place }
+        ensures acts { (limits : ServeLimits) →
+            ReachesByActs E.calls limits self.old endpoint.old self.new endpoint.new }
+        ensures others { KeepsOthers place self.old self.new }
+        ensures less { steps_left self.new place < steps_left self.old place }
+    {
+        match endpoint.write(place, self.hub.pending(place)) {
+            Sent::Octets(count) => {
+                self.hub.mark_sent(place, count, self.time);
+                self.seats[place].count_step();
+            }
+            Sent::NoneNow => self.seats[place].sleep(),
+            Sent::Failed => self.close(endpoint, place),
+        }
+    }
+
+    /// Closes the connection at the place, whose session is closed.
+    pub fn finish<E: Endpoint>(&mut self, endpoint: &mut E, place: usize)
+        requires { NeedsClosing self.old place }
+        ensures acts { (limits : ServeLimits) →
+            ReachesByActs E.calls limits self.old endpoint.old self.new endpoint.new }
+        ensures others { KeepsOthers place self.old self.new }
+        ensures less { steps_left self.new place < steps_left self.old place }
+    {
+        self.close(endpoint, place);
+    }
+
+    /// Feeds the next piece of what was read to the session of the connection at the place. Out of
+    /// memory the session is closed.
+    pub fn feed<H: Handler>(&mut self, alloc: Global, handler: &mut H, place: usize)
+        requires { NeedsFeeding self.old place }
+        ensures fed { (serial : ℕ) × (piece : List ℕ) × FeedsNext H.does H.fault_reply
+            self.old handler.old place serial piece handler.new self.new }
+        ensures others { KeepsOthers place self.old self.new }
+        ensures less { steps_left self.new place < steps_left self.old place }
+    {
+        let piece = self.seats[place].piece();
+        let count = piece.len();
+        let _fed = self.hub.receive(alloc, handler, place, piece, self.time);
+        self.seats[place].mark_fed(count);
+    }
+}

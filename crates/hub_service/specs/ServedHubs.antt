@@ -1,0 +1,47 @@
+-- Any number of connections as one run of the service over a store. This project's own.
+use Rattle.std.specs.Prelude.{◌≡◌, ℕ, List, [], ◌∷◌, ◌++◌}
+use Rattle.book_http.specs.OctetPromise.{ServiceStep, StartsAt}
+use Rattle.book_http.specs.OctetRuns.{IsReplyToRequest}
+use Rattle.book_http.specs.declared.service.Service.{Service}
+use Rattle.book_model.specs.Books.{Books}
+use Rattle.book_service.specs.Runs.{MatchesRows, Run, SystemState, TraceStep, end_of}
+use Rattle.http_hub.specs.HandledRequests.{HandledRequest}
+use Rattle.http_hub.specs.HubRuns.{HubRuns, HubStep, SeparatesConnections}
+use Rattle.http_hub.specs.Hubs.{HubValue, new_hub}
+use Rattle.http_replies.specs.Replies.{head_fault_octets}
+use Rattle.sync_core.specs.StoreModels.{StoreModel}
+
+-- the trace has the steps of these requests in turn and no others, and each reply is the request's
+unfoldable pub AreOwnReplies : List HandledRequest → List TraceStep → Type 0
+AreOwnReplies [] run = run ≡ []
+AreOwnReplies (one ∷ handled) run =
+    (own : List TraceStep) × (more : List TraceStep) × IsReplyToRequest one.request own one.reply
+    × AreOwnReplies handled more × (run ≡ own ++ more)
+
+-- From this state the requests ran: the trace is a run of the service, each request got its reply,
+-- the store has these rows afterwards, and no device was changed.
+pub record RunsHandled (now : SystemState) (handled : List HandledRequest) (books : Books)
+    : Type 0 where
+  pub run : List TraceStep
+  pub runs : Run now run
+  pub own_replies : AreOwnReplies handled run
+  pub at : MatchesRows (end_of now run) now.model.limits books
+  pub devices_are : (end_of now run).devices ≡ now.devices
+
+module _ {S : Type 0} (model : StoreModel S) where
+  -- Each connection is sent the replies to its own requests. The requests of all connections, in
+  -- the order of the pieces that complete them, are one run of the service, with these replies.
+  pub record RunsForEach
+      (now : SystemState) (limit : ℕ) (old : Service S) (steps : List HubStep) (new : Service S)
+      (after : HubValue) : Type 0 where
+    pub separate : SeparatesConnections (ServiceStep model) head_fault_octets
+        limit old steps new after
+    pub ran : RunsHandled now separate.one_run.handled (model.books new.store)
+
+  -- from each state of the store, every run of a hub that starts without connections is such a run
+  abbrev pub HubsAreOneRun : Type 0
+  HubsAreOneRun =
+      (now : SystemState) (limit : ℕ) (old new : Service S) (steps : List HubStep) →
+      (after : HubValue) → StartsAt model now old new →
+      HubRuns (ServiceStep model) head_fault_octets (new_hub limit) old steps new after →
+      RunsForEach now limit old steps new after
