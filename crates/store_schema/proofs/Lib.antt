@@ -2,3 +2,4 @@ pub mod SchemaLemmas
 pub mod MetaLemmas
 pub mod AnswerLemmas
 pub mod FaultLemmas
+pub mod LeftoverLemmas

@@ -2,7 +2,7 @@
 use Rattle.std.specs.Prelude.{◌≡◌, ◌⊎◌, ⊤, ℕ}
 use Rattle.sqlite.specs.declared.error.Error.{Error}
 use Rattle.sqlite.specs.declared.error.Error.TheVariants.{SqliteFailure}
-use Rattle.sqlite.specs.declared.error.ErrorCode.TheVariants.{NotADatabase, OutOfMemory}
+use Rattle.sqlite.specs.declared.error.ErrorCode.TheVariants.{OutOfMemory}
 use Rattle.store_schema.specs.declared.open_fault.OpenFault.{OpenFault}
 use Rattle.store_schema.specs.declared.open_fault.OpenFault.TheVariants.{Store, NotOurs}
 use Rattle.store_schema.specs.declared.open_fault.OpenFault.TheVariants.{OtherSchema, Damaged}
@@ -25,11 +25,6 @@ open_fault_of_error error = Store
 -- the fault is `Store` or `Memory`
 abbrev pub IsErrorFault : OpenFault → Type 0
 IsErrorFault fault = (fault ≡ Store) ⊎ (fault ≡ Memory)
-
--- opening a file can also fail because the file is not a database
-abbrev pub open_fault_of_file_error : Error → OpenFault
-open_fault_of_file_error (SqliteFailure NotADatabase) = NotOurs
-open_fault_of_file_error error = open_fault_of_error error
 
 -- the faults of creating a store
 abbrev pub IsCreationFault : OpenFault → Type 0

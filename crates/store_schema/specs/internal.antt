@@ -1,2 +1,3 @@
 pub mod SchemaTests
 pub mod StatedNumber
+pub mod MetaCursor

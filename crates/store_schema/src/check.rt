@@ -14,7 +14,7 @@ use sqlite::{Alter, Connection};
 use store_tables::meta::SCHEMA_NUMBER;
 
 /// The number of the first schema, which has no table `keeping`.
-const FIRST_SCHEMA_NUMBER: i64 = 1;
+pub(crate) const FIRST_SCHEMA_NUMBER: i64 = 1;
 
 /// Tests whether the connection has the tables of schema 2, and the schema number 2.
 ///

@@ -3,9 +3,11 @@
 
 mod check;
 mod forms;
+mod leftover;
 mod meta;
 mod open_fault;
 mod schema;
 
 pub use check::{test_first_schema, test_schema};
-pub use open_fault::{OpenFault, fault_of_file, open_fault_of};
+pub use leftover::{FileRefusal, fault_of_first_leftover, fault_of_leftover, load_schema};
+pub use open_fault::{OpenFault, open_fault_of};

@@ -45,7 +45,7 @@ fn is_schema_row(row: &Row) -> bool
 }
 
 /// Returns the number of the row if its name is `schema`.
-fn stated_number(row: &Row) -> Option<i64>
+pub(crate) fn stated_number(row: &Row) -> Option<i64>
     ensures { MatchOption result ((number : ℤ) → ¬ RowStates row.now number) (RowStates row.now) }
 {
     if !is_schema_row(row) {

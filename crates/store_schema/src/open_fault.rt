@@ -1,7 +1,6 @@
 //! The reasons why a store cannot be opened or created.
-ghost use Rattle.store_schema.specs.OpenFaults.{IsErrorFault, IsCreationFault};
-ghost use Rattle.store_schema.specs.OpenFaults.{open_fault_of_file_error, open_fault_of_error};
-ghost use Rattle.store_schema.specs.OpenFaults.{open_fault_number};
+ghost use Rattle.store_schema.specs.OpenFaults.{IsErrorFault, open_fault_number};
+ghost use Rattle.store_schema.specs.OpenFaults.{open_fault_of_error};
 ghost use Rattle.std.specs.Prelude.{◌≡◌};
 
 use sqlite::{Error, ErrorCode};
@@ -50,17 +49,5 @@ pub fn open_fault_of(error: Error) -> OpenFault
     match error {
         Error::SqliteFailure(ErrorCode::OutOfMemory) => OpenFault::Memory,
         _ => OpenFault::Store,
-    }
-}
-
-/// Converts the error of opening a file: `NotOurs` if the file is not a database, otherwise as
-/// [`open_fault_of`].
-pub fn fault_of_file(error: Error) -> OpenFault
-    ensures value { result ≡ open_fault_of_file_error error }
-    ensures kind { IsCreationFault result }
-{
-    match error {
-        Error::SqliteFailure(ErrorCode::NotADatabase) => OpenFault::NotOurs,
-        error => open_fault_of(error),
     }
 }
