@@ -4,3 +4,4 @@ pub mod RestateLemmas
 pub mod WriteLemmas
 pub mod PlanLemmas
 pub mod MigrateLemmas
+pub mod RefusalLemmas

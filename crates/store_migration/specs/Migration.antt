@@ -1,10 +1,15 @@
 -- The contract of the migration from the first schema to the second. This project's own.
-use Rattle.std.specs.Prelude.{◌≡◌, ⊤, ℕ, List, length, Err}
+use Rattle.std.specs.Prelude.{◌≡◌, ⊤, ℕ, List, length, Option, Err}
 use Rattle.sqlite.specs.Effect.{Database}
+use Rattle.sqlite.specs.declared.error.Error.{Error}
+use Rattle.sqlite.specs.declared.file.Leftover.{Leftover}
+use Rattle.sqlite.specs.Files.{image_of}
 use Rattle.sqlite.specs.Recovery.{Image}
 use Rattle.sqlite.specs.Start.{FindsIn}
 use Rattle.sqlite.specs.State.{State, Survives}
 use Rattle.sqlite.specs.Tree.{Trees}
+use Rattle.sqlite_disk.specs.declared.Disk.{Ghosts}
+use Rattle.sqlite_disk.specs.declared.Files.{Files}
 use Rattle.book_model.specs.Bounds.{Bounds}
 use Rattle.store_tables.specs.Keeps.{KeepRow, HoldKeeps}
 use Rattle.store_tables.specs.Meta.{schema_number}
@@ -13,6 +18,7 @@ use Rattle.store_rows.specs.SoundTables.{HoldsWellFormed}
 use Rattle.store_rows.specs.TableRows.{rows_in}
 use Rattle.store_check.specs.OpenResults.{max_limits}
 use Rattle.store_migration.specs.InitialKeeps.{initial_keeps}
+use Rattle.store_schema.specs.FileFaults.{IsFileFault, IsFileRefusal, IsLeftOf}
 use Rattle.store_schema.specs.FirstSchema.{IsFirstSchema, ClassifiesFirstSchema}
 use Rattle.store_schema.specs.StoredSchema.{HasSchemaNumber}
 use Rattle.store_schema.specs.declared.open_fault.OpenFault.{OpenFault}
@@ -72,3 +78,23 @@ IsMigrationRefusal limits db Damaged =
     IsFirstSchema db × ((new : Database) → IsMigrated db new → ¬ HoldsWellFormed limits new)
 IsMigrationRefusal limits db NotEmpty = ⊥
 IsMigrationRefusal limits db Memory = ⊤
+
+-- a migration of the tables would hold well-formed books
+abbrev pub MigratesWellFormed : Bounds → Database → Type 0
+MigratesWellFormed limits db = (new : Database) × IsMigrated db new × HoldsWellFormed limits new
+
+-- ---- why files are not migrated
+
+module _ {D : Type 0} {g : Ghosts D} where
+  -- Opening a connection over files failed with the error, and the fault is right for them. First
+  -- `old` was left of them, and now `new`.
+  abbrev pub IsFaultAfter : Error → Leftover D g → Leftover D g → OpenFault → Type 0
+  IsFaultAfter error old new fault =
+      (files : Files D) → IsLeftOf files error old → IsFileFault (image_of g files) new
+      ClassifiesFirstSchema (MigratesWellFormed max_limits) fault
+
+  -- The fault of migrating files is that of the database if none were opened. Otherwise it is right
+  -- for files with these bytes, of which this is left.
+  abbrev pub IsFileMigrationRefusal : Image → OpenFault → Option (Leftover D g) → Type 0
+  IsFileMigrationRefusal image =
+      IsFileRefusal image ClassifiesFirstSchema (MigratesWellFormed max_limits)

@@ -2,47 +2,78 @@
 ghost use Rattle.sqlite.specs.Files.{file_state};
 ghost use Rattle.sqlite.specs.State.{HasCleanDisk};
 ghost use Rattle.sqlite.specs.WalFiles.{image_at};
-ghost use Rattle.std.specs.Prelude.{IfOk};
-ghost use Rattle.store_migration.specs.Migration.{MigratesFrom};
+ghost use Rattle.std.specs.Prelude.{IfErr, IfOk};
+ghost use Rattle.store_migration.specs.Migration.{
+  IsFaultAfter,
+  IsFileMigrationRefusal,
+  MigratesFrom,
+};
 
 use crate::migrating::migrate_connection;
-use sqlite::{Connection, FileStore};
+use sqlite::{Connection, Error, ErrorCode, FileStore, Leftover};
 use sqlite_std_file::{FileFrom, Start, Unknown};
+use std::alloc::Global;
 use std::fs;
-use store_schema::{OpenFault, fault_of_file};
+use store_schema::{FileRefusal, OpenFault, fault_of_first_leftover, open_fault_of};
+
+/// Returns why files are not migrated over which opening a connection failed with the error. `left`
+/// is what is left of them.
+fn fault_after<S: Start>(alloc: Global, error: Error, left: &mut Leftover<FileFrom<S>>) -> OpenFault
+    ensures { IsFaultAfter error left.old left.new result }
+{
+    match error {
+        Error::SqliteFailure(ErrorCode::NotADatabase) => fault_of_first_leftover(alloc, left),
+        error => open_fault_of(error),
+    }
+}
 
 /// Migrates the store in the file from the first schema to the second, in one transaction. Returns
 /// the number of books, and the connection to the file. `start` represents the octets that the file
 /// and its log held; no code can read it.
 ///
-/// Fails as [`migrate_connection`] does; with `NotOurs` if the file is not a database or is empty;
-/// with `Memory` if memory runs out; and with `Store` if there is no file or it can't be used:
-/// another process has it open, it has two names, or the disk fails.
+/// Fails as [`migrate_connection`] does for the tables in the file, with `Damaged` also if their
+/// rows break their declarations; with `NotOurs` if the file is not a database or is empty; with
+/// `Memory` if memory runs out; and with `Store` if there is no file or it can't be used: another
+/// process has it open, it has two names, or the disk fails. An error returns what is left of the
+/// files, if they were opened.
 pub fn migrate_from<S: Start>(
     rt: &HostRuntime,
     path: &str,
     start: S,
-) -> Result<(u64, Connection<FileStore<FileFrom<S>>>), OpenFault>
-    ensures { IfOk result (λ done. HasCleanDisk (file_state done.1)
+) -> Result<(u64, Connection<FileStore<FileFrom<S>>>), FileRefusal<S>>
+    ensures migrates { IfOk result (λ done. HasCleanDisk (file_state done.1)
         → MigratesFrom file_state (image_at S.Start) done.0 done.1) }
+
+    // The fault is right for what the file and its log held.
+    ensures refused { IfErr result (λ refused.
+        IsFileMigrationRefusal (image_at S.Start) refused.0 refused.1) }
 {
     // Opening a connection would create the file.
     if !fs::exists(rt, path).unwrap_or(false) {
-        return Err(OpenFault::Store);
+        return Err((OpenFault::Store, None));
     }
     match Connection::open_from(rt, path, false, start) {
         Ok(connection) => {
             let mut conn = connection;
-            let books = migrate_connection(rt.alloc(), &mut conn)?;
-            Ok((books, conn))
+            match migrate_connection(rt.alloc(), &mut conn) {
+                Ok(books) => Ok((books, conn)),
+                Err(fault) => Err((fault, Some(Leftover::Store(conn.into_store())))),
+            }
         }
-        Err((error, _)) => Err(fault_of_file(error)),
+        Err((error, Some(left))) => {
+            let mut left = left;
+            let fault = fault_after(rt.alloc(), error, &mut left);
+            Err((fault, Some(left)))
+        }
+        Err((error, None)) => Err((open_fault_of(error), None)),
     }
 }
 
 /// `migrate_from`, for a program that proves nothing about the contents of the file. Returns the
 /// number of books.
 pub fn migrate(rt: &HostRuntime, path: &str) -> Result<u64, OpenFault> {
-    let (books, _conn) = migrate_from(rt, path, Unknown)?;
-    Ok(books)
+    match migrate_from(rt, path, Unknown) {
+        Ok((books, _conn)) => Ok(books),
+        Err((fault, _left)) => Err(fault),
+    }
 }
