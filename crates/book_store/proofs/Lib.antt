@@ -3,3 +3,4 @@ pub mod StoreLemmas
 pub mod FileLemmas
 pub mod FaultlessLemmas
 pub mod CrashLemmas
+pub mod RefusalLemmas

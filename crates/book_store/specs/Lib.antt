@@ -1,4 +1,5 @@
 pub mod OpenOutcomes
 pub mod StoreViews
 pub mod Crashes
+pub mod FileRefusals
 pub mod OnConnections

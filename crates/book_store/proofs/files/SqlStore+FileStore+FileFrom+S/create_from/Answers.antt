@@ -1,8 +1,22 @@
 use Rattle.sqlite.specs.Files.{file_state}
-use Rattle.book_store.specs.StoreViews.{StoreView}
-use Rattle.book_store.proofs.FileLemmas.{adopted_new_start}
+use Rattle.sqlite.specs.WalFiles.{image_at}
+use Rattle.store_schema.proofs.LeftoverLemmas.{seen_alike}
+use Rattle.book_store.proofs.FileLemmas.{created_start}
+use Rattle.book_store.proofs.RefusalLemmas.{created_fault, fails_over, refused_kind}
 use Rattle.book_store.proofs.files.SqlStore+FileStore+FileFrom+S.create_from.Goals as goal
 
-pub returns-in-Ok-clause-found : goal.returns-in-Ok-clause-found
-returns-in-Ok-clause-found g c =
-    adopted_new_start file_state _ c.in-Ok.connection (λ (store : StoreView _). store.conn) c.adopt_new.result c.in-Ok.ensures.found c.adopt_new.ensures.premise c.adopt_new.ensures.was_empty c.adopt_new.ensures.crash
+pub returns-in-Ok-try_adopt_new-clause-found : goal.returns-in-Ok-try_adopt_new-clause-found
+returns-in-Ok-try_adopt_new-clause-found g c =
+    let e = c.in-Ok-try_adopt_new.ensures in
+    created_start file_state _ c.in-Ok.connection c.in-Ok-try_adopt_new.store.conn c.in-Ok.ensures.found e.premise e.was_empty e.crash
+
+pub returns-in-Err-try_adopt_new-clause-fault : goal.returns-in-Err-try_adopt_new-clause-fault
+returns-in-Err-try_adopt_new-clause-fault g c = refused_kind c.in-Ok.connection c.in-Err-try_adopt_new.conn c.in-Err-try_adopt_new.fault c.in-Err-try_adopt_new.ensures.refused
+
+pub returns-in-Err-try_adopt_new-clause-refused : goal.returns-in-Err-try_adopt_new-clause-refused
+returns-in-Err-try_adopt_new-clause-refused g c =
+    created_fault (image_at g.S.Start) c.in-Ok.connection c.in-Err-try_adopt_new.conn c.into_store.result c.in-Ok.ensures.opened c.in-Ok.ensures.found c.into_store.ensures.quiet c.in-Err-try_adopt_new.fault c.in-Err-try_adopt_new.ensures.refused
+
+pub returns-in-Err-clause-refused : goal.returns-in-Err-clause-refused
+returns-in-Err-clause-refused g c =
+    c.creation_refusal.ensures.refused (image_at g.S.Start) (fails_over _ _ (image_at g.S.Start) c.in-Err.error c.in-Err.left c.in-Err.ensures.cause (λ files log db. seen_alike g.S.Start.log g.S.Start.db log.0 log.1 db.0 db.1))

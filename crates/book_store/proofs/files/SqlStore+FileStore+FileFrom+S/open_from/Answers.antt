@@ -1,12 +1,24 @@
 use Rattle.sqlite.specs.Files.{file_state}
-use Rattle.book_store.specs.StoreViews.{StoreView}
-use Rattle.book_store.proofs.FileLemmas.{adopted_found, adopted_well_formed}
+use Rattle.sqlite.specs.WalFiles.{image_at}
+use Rattle.store_schema.proofs.LeftoverLemmas.{seen_alike}
+use Rattle.book_store.proofs.FileLemmas.{found_in_files, found_well_formed}
+use Rattle.book_store.proofs.RefusalLemmas.{fails_over, opened_fault}
 use Rattle.book_store.proofs.files.SqlStore+FileStore+FileFrom+S.open_from.Goals as goal
 
-pub returns-in-Ok-clause-well_formed : goal.returns-in-Ok-clause-well_formed
-returns-in-Ok-clause-well_formed g c =
-    adopted_well_formed (λ (store : StoreView _). file_state store.conn) (file_state c.in-Ok.connection) c.adopt.result c.in-Ok.ensures.opened c.adopt.ensures.changes_nothing c.adopt.ensures.premise c.adopt.ensures.well_formed
+pub returns-in-Ok-try_adopt-clause-well_formed : goal.returns-in-Ok-try_adopt-clause-well_formed
+returns-in-Ok-try_adopt-clause-well_formed g c =
+    let e = c.in-Ok-try_adopt.ensures in
+    found_well_formed (file_state c.in-Ok.connection) (file_state c.in-Ok-try_adopt.store.conn) e.changes_nothing c.in-Ok.ensures.opened e.premise e.well_formed
 
-pub returns-in-Ok-clause-found : goal.returns-in-Ok-clause-found
-returns-in-Ok-clause-found g c =
-    adopted_found _ (λ (store : StoreView _). file_state store.conn) (file_state c.in-Ok.connection) c.adopt.result c.in-Ok.ensures.opened c.in-Ok.ensures.found c.adopt.ensures.changes_nothing c.adopt.ensures.premise
+pub returns-in-Ok-try_adopt-clause-found : goal.returns-in-Ok-try_adopt-clause-found
+returns-in-Ok-try_adopt-clause-found g c =
+    let e = c.in-Ok-try_adopt.ensures in
+    found_in_files (image_at g.S.Start) (file_state c.in-Ok.connection) (file_state c.in-Ok-try_adopt.store.conn) e.changes_nothing c.in-Ok.ensures.opened c.in-Ok.ensures.found e.premise
+
+pub returns-in-Err-try_adopt-clause-refused : goal.returns-in-Err-try_adopt-clause-refused
+returns-in-Err-try_adopt-clause-refused g c =
+    opened_fault (image_at g.S.Start) c.in-Ok.connection c.in-Err-try_adopt.conn c.into_store.result c.in-Ok.ensures.opened c.in-Ok.ensures.found c.into_store.ensures.quiet c.in-Err-try_adopt.fault c.in-Err-try_adopt.ensures.refused
+
+pub returns-in-Err-clause-refused : goal.returns-in-Err-clause-refused
+returns-in-Err-clause-refused g c =
+    c.open_refusal.ensures (image_at g.S.Start) (fails_over _ _ (image_at g.S.Start) c.in-Err.error c.in-Err.left c.in-Err.ensures.cause (λ files log db. seen_alike g.S.Start.log g.S.Start.db log.0 log.1 db.0 db.1))
