@@ -13,7 +13,7 @@ from office_files import QuickFolder, fault, is_damaged, renew, serve
 from program import Server, run
 from table_damage import store_damage
 from tables import NOTE, Tables, in_memory, setUpModule, small_store  # noqa: F401
-from well_formed import DAMAGED, NOT_OURS, open_fault
+from well_formed import NOT_EMPTY, open_fault
 
 # The changes by which the small store came to be, each of which is done.
 CHANGES = [
@@ -72,8 +72,8 @@ class Damage(unittest.TestCase):
             with self.subTest(label), self.copy(foreign_keys=False) as tables:
                 if is_damaged(tables, statements) and tables.rows("PRAGMA foreign_key_check"):
                     done += 1
-                    tables.close()
-                    self.check_refused(fault(NOT_OURS), fault(DAMAGED))
+                    self.check(tables)
+                    self.check_not_made()
         self.assertGreater(done, 10)
 
     def check(self, tables):
@@ -86,9 +86,15 @@ class Damage(unittest.TestCase):
         else:
             self.check_served(*wanted)
 
-    def check_refused(self, *refusals):
+    def check_refused(self, refusal):
         before = self.file.read_bytes()
-        self.assertIn(run("tally", self.file, "staff"), refusals)
+        self.assertEqual(refusal, run("tally", self.file, "staff"))
+        self.assertEqual(before, self.file.read_bytes())
+
+    def check_not_made(self):
+        """No store is made where there are tables."""
+        before = self.file.read_bytes()
+        self.assertEqual(fault(NOT_EMPTY), run("init", self.file))
         self.assertEqual(before, self.file.read_bytes())
 
     def check_served(self, requests, replies):

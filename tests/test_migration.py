@@ -217,6 +217,17 @@ class Refusals(MigrationTest):
                     self.check(tables)
         self.assertGreater(done, 200)
 
+    def test_missing_books(self):
+        """A file with a row of a book that isn't there is damaged, or not of the first schema."""
+        self.lay(first_store())
+        octets, done = self.file.read_bytes(), 0
+        for label, statements in first_damage():
+            with self.subTest(label), Tables(renew(self.file, octets), False) as tables:
+                if is_damaged(tables, statements) and tables.rows("PRAGMA foreign_key_check"):
+                    done += 1
+                    self.check(tables)
+        self.assertGreater(done, 5)
+
     def check(self, tables):
         number, rows = open_fault(tables, schema=1), tables.all_rows()
         keeps = None if number else due_keeps(tables)

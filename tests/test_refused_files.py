@@ -15,7 +15,7 @@ from program import PROGRAM, Ended, Folder, Server, run
 from tables import DECLARED, Tables, first_store, setUpModule, small_store  # noqa: F401
 
 # The faults of opening, by their numbers.
-UNUSABLE, NOT_OURS, OTHER_SCHEMA, NOT_EMPTY = 1, 2, 3, 5
+UNUSABLE, NOT_OURS, OTHER_SCHEMA, DAMAGED, NOT_EMPTY = 1, 2, 3, 4, 5
 MADE = Ended(0, b"made\n", b"")
 NOBODY = 65_534
 PAGE = 4096
@@ -50,6 +50,35 @@ OTHER_TABLES = [
      + "; INSERT INTO meta VALUES ('schema', 2)"),
 ]
 
+# A row of a book that isn't there, in each table whose rows name a book.
+NO_BOOK = 9
+ORPHANS = [
+    f"INSERT INTO member VALUES ({NO_BOOK}, 'zoe', 1, NULL)",
+    f"INSERT INTO import_key VALUES ({NO_BOOK}, 'k1', 0, 0, 0, 0)",
+    f"INSERT INTO keeping VALUES ({NO_BOOK}, 4)",
+]
+# The number of the schema, the tables, and with which faults they are opened and migrated where
+# such a row is in them.
+ORPHANED = [
+    (2, small_store(), DAMAGED, OTHER_SCHEMA),
+    (1, small_store(), OTHER_SCHEMA, NOT_OURS),
+    (7, small_store(), OTHER_SCHEMA, OTHER_SCHEMA),
+    (1, first_store(), OTHER_SCHEMA, DAMAGED),
+    (2, first_store(), NOT_OURS, OTHER_SCHEMA),
+    (7, first_store(), OTHER_SCHEMA, OTHER_SCHEMA),
+]
+# Databases of others, or that have lost their number, with such a row: their statements.
+OTHER_ORPHANS = [
+    ("tables of someone else", "CREATE TABLE shelf (id INTEGER PRIMARY KEY); "
+     "CREATE TABLE title (shelf INTEGER NOT NULL REFERENCES shelf(id)); "
+     "INSERT INTO title VALUES (9)"),
+    ("no number of the schema", "; ".join([*DECLARED, ORPHANS[0]])),
+    ("two numbers of the schema", "; ".join([*DECLARED, ORPHANS[1]])
+     + "; INSERT INTO meta VALUES ('schema', 2), ('more', 2)"),
+    ("a table too many", "; ".join([*DECLARED, ORPHANS[2]])
+     + "; INSERT INTO meta VALUES ('schema', 2); CREATE TABLE more (n INTEGER NOT NULL) STRICT"),
+]
+
 
 class RefusedFile(unittest.TestCase):
     folder_type = QuickFolder
@@ -71,6 +100,11 @@ class RefusedFile(unittest.TestCase):
         file = file or self.file
         with self.unchanged(file):
             self.assertEqual(fault(number), run("init", file))
+
+    def assert_not_migrated(self, number, file):
+        """The file can't be migrated, for the reason with this number; it is left as it was."""
+        with self.unchanged(file):
+            self.assertEqual(fault(number), run("migrate", file))
 
     def assert_faults(self, number, file):
         for order, *more in ORDERS:
@@ -128,6 +162,27 @@ class OtherFiles(RefusedFile):
                 with Tables(file) as tables:
                     tables.lay(filled).run(f"UPDATE meta SET val = {schema}")
                 self.assert_refused(OTHER_SCHEMA, file)
+                self.assert_not_made(NOT_EMPTY, file)
+
+    def test_rows_of_no_book(self):
+        for schema, filled, opened, migrated in ORPHANED:
+            for orphan in ORPHANS[:len(filled) - 2]:
+                with self.subTest(orphan, schema=schema, tables=len(filled)):
+                    file = self.folder / f"{schema} {len(filled)} {orphan.split()[2]}.db"
+                    with Tables(file, foreign_keys=False) as tables:
+                        tables.lay(filled).run(f"UPDATE meta SET val = {schema}; {orphan}")
+                    self.assert_refused(opened, file)
+                    self.assert_not_migrated(migrated, file)
+                    self.assert_not_made(NOT_EMPTY, file)
+
+    def test_rows_of_no_book_in_files_of_others(self):
+        for number, (label, statements) in enumerate(OTHER_ORPHANS):
+            with self.subTest(label):
+                file = self.folder / f"{number}.db"
+                with Tables(file, foreign_keys=False) as tables:
+                    tables.run(statements)
+                self.assert_refused(NOT_OURS, file)
+                self.assert_not_migrated(NOT_OURS, file)
                 self.assert_not_made(NOT_EMPTY, file)
 
     def test_store(self):

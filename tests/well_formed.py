@@ -11,7 +11,7 @@ from tables import BOOK, DECLARED, IMPORT, KEEPING, MEMBER, META, NUMBERS, canon
 CHANGES_MAX, BOOKS_MAX, KEEP = 10**12, 100, 10_000
 
 # The numbers of the faults of opening.
-NOT_OURS, OTHER_SCHEMA, DAMAGED = 2, 3, 4
+NOT_OURS, OTHER_SCHEMA, DAMAGED, NOT_EMPTY = 2, 3, 4, 5
 
 BOOK_NAME = re.compile(rb"[a-z0-9-]{1,40}")
 IMPORT_KEY = re.compile(rb"[A-Za-z0-9._-]{1,64}")
