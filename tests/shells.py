@@ -84,12 +84,13 @@ def free_port():
 
 
 class Shell:
-    """A shell in a folder, with the program, the examples, and another port in place of 8080."""
+    """A shell in a folder with the program, examples and clients. 8080 is another port there."""
 
     def __init__(self, folder):
         self.port = free_port()
-        for name, target in [("contacts", PROGRAM), ("examples", ROOT / "examples")]:
-            (folder / name).symlink_to(target)
+        (folder / "contacts").symlink_to(PROGRAM)
+        for name in "examples", "clients":
+            (folder / name).symlink_to(ROOT / name)
         (folder / ".curlrc").write_text("silent\nshow-error\n")
         path = f"{folder}{os.pathsep}{os.environ.get('PATH', os.defpath)}"
         self.process = subprocess.Popen(

@@ -1,6 +1,6 @@
 """The pages for users: the requests and commands that they show are sent and run.
 
-The replies and the output must be those that README.md, docs/API.md and docs/OPERATING.md show.
+The replies and the output must be those that the pages show.
 """
 
 import json
@@ -16,7 +16,7 @@ from program import Folder, ROOT, Server, run
 from refused_requests import BAD_CARDS, BAD_IMPORTS, ROWS
 from shells import Shell, missing_tools, steps_of
 
-PAGES = ["README.md", "docs/API.md", "docs/OPERATING.md"]
+PAGES = ["README.md", "docs/API.md", "docs/CLIENTS.md", "docs/OPERATING.md"]
 API = Page("docs/API.md")
 # Refusals that no request by itself can bring about: a trillion changes, a bad disk, little memory.
 NOT_TRIED = {13, 19, 20}
@@ -257,6 +257,9 @@ class Shells(unittest.TestCase):
 
     def test_the_api(self):
         self.try_page("docs/API.md", 10)
+
+    def test_the_clients(self):
+        self.try_page("docs/CLIENTS.md", 14)
 
     def test_operating(self):
         self.try_page("docs/OPERATING.md", 10)
