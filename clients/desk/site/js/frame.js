@@ -1,0 +1,176 @@
+// What is around the cards: the search, the books, how the copy is, and short messages.
+import { button, el, fill } from "./dom.js";
+import { count, faultText, number, t, timeText } from "./texts.js";
+
+const by = (id) => document.getElementById(id);
+
+export class Frame {
+  constructor() {
+    this.search = by("search");
+    this.pane = by("pane");
+    this.listRoot = by("list");
+    this.states = new Map();
+    this.progress = null;
+    this.drawn = "";
+    this.saying = 0;
+    this.showing = 0;
+  }
+
+  /** Puts the texts of the page in place. */
+  label(run) {
+    document.title = t("title");
+    by("skip").textContent = t("skip");
+    by("search-label").textContent = t("searchLabel");
+    this.search.placeholder = t("searchHint");
+    by("books").setAttribute("aria-label", t("books"));
+    by("cards").setAttribute("aria-label", t("listLabel"));
+    this.listRoot.setAttribute("aria-label", t("listLabel"));
+    const add = by("new");
+    add.textContent = t("newCard");
+    add.title = t("newCardKey");
+    add.addEventListener("click", run.newCard);
+    fill(by("state"), el("span"), button(t("update"), run.update, { class: "quiet" }));
+    by("skip").addEventListener("click", (event) => {
+      event.preventDefault();
+      this.search.focus();
+    });
+  }
+
+  /** The pane that a narrow page shows: "list" or "card". */
+  showPane(name) {
+    document.body.dataset.pane = name;
+  }
+
+  get isNarrow() {
+    return matchMedia("(max-width: 47.99rem)").matches;
+  }
+
+  /** The books, with the chosen one ("" for all) and what they hold. */
+  showBooks(books, chosen, shelf, run) {
+    const one = (name, text) => {
+      const isChosen = name === chosen;
+      const state = this.states.get(name)?.state ?? "";
+      return el(
+        "li",
+        { class: `book ${state}` },
+        button([el("span", { class: "book-name" }, text),
+          el("span", { class: "book-count" }, number(shelf.count(name)))],
+        () => run.choose(name), { class: "choose", "aria-pressed": isChosen ? "true" : "false" }),
+        name && this.menu(name, run),
+      );
+    };
+    const states = books.map((it) => [it.name, this.states.get(it.name)?.state]);
+    const drawn = JSON.stringify([chosen, states, books.map((it) => shelf.count(it.name))]);
+    if (drawn === this.drawn) return;
+    this.drawn = drawn;
+    // Who has come to one of the buttons by keyboard stays there.
+    const place = [...by("books").querySelectorAll("button")].indexOf(document.activeElement);
+    fill(
+      by("books"),
+      el("h2", {}, t("books")),
+      el("ul", {},
+        books.length > 1 ? one("", t("allBooks")) : null,
+        books.map((it) => one(it.name, it.name))),
+      button(t("addBook"), run.add, { class: "quiet add" }),
+    );
+    if (place >= 0) by("books").querySelectorAll("button")[place]?.focus();
+  }
+
+  menu(name, run) {
+    const text = t("bookMenu", { book: name });
+    return button("⋯", () => run.menu(name), {
+      class: "quiet menu", "aria-label": text, title: text,
+    });
+  }
+
+  showCount(rows, isSearch) {
+    by("count").textContent = isSearch ? count("resultsCount", rows) : count("cardsCount", rows);
+    const empty = by("empty");
+    empty.hidden = rows > 0;
+    empty.textContent = isSearch ? t("noCards") : t("emptyBook");
+    if (isSearch) this.sayLater(count("resultsCount", rows));
+  }
+
+  /** How a book is followed. `books` are the records of the copy. */
+  setState(name, state, fault) {
+    // While it tries again, what was wrong is still the case.
+    const before = this.states.get(name)?.state;
+    if (state === "busy" && (before === "waiting" || before === "refused")) return;
+    this.states.set(name, { state, fault });
+    if (state !== "busy" && this.progress?.book === name) this.setProgress(null);
+  }
+
+  setProgress(progress) {
+    this.progress = progress;
+    by("progress").hidden = !progress;
+    if (progress) by("bar").value = Math.min(1, progress.done / Math.max(1, progress.total));
+  }
+
+  showState(books) {
+    const [text, kind] = this.stateOf(books);
+    by("state").className = `state ${kind}`;
+    const words = by("state").firstElementChild;
+    // It is read out when it changes, so it is left alone when it doesn't.
+    if (words.textContent !== text) words.textContent = text;
+  }
+
+  stateOf(books) {
+    const states = [...this.states.entries()];
+    const oldest = Math.min(...books.map((it) => it.synced));
+    const time = timeText(Number.isFinite(oldest) ? oldest : 0);
+    const [broken] = states.filter(([, it]) => it.fault && !it.fault.from);
+    if (broken) return [t("stateBroken", { why: broken[1].fault.message }), "bad"];
+    const [refused] = states.filter(([, it]) => it.state === "refused");
+    if (refused) {
+      const why = faultText(refused[1].fault);
+      return [refused[0] ? t("stateRefused", { book: refused[0], why }) : why, "bad"];
+    }
+    if (states.some(([, it]) => it.state === "waiting")) {
+      if (books.every((it) => !it.synced)) return [t("stateNoCopy"), "off"];
+      const passing = states.find(([, it]) => it.state === "waiting")[1].fault;
+      const isOff = !navigator.onLine || passing.from === "none";
+      return [t(isOff ? "stateOffline" : "stateDown", { time }), "off"];
+    }
+    if (this.progress) {
+      const { book, done, total } = this.progress;
+      // The text is read out when it changes, so it changes ten times; the bar is beside it.
+      const tenth = Math.ceil(total / 10);
+      const about = Math.min(total, Math.floor(done / tenth) * tenth);
+      return [t("stateFirst", { book, done: number(about), total: number(total) }), "busy"];
+    }
+    if (!books.length) return [t("noBooks"), ""];
+    if (books.some((it) => !it.synced)) return [t("stateBusy"), "busy"];
+    return [t("stateOk", { time }), "ok"];
+  }
+
+  /** Says something to a screen reader. */
+  say(text) {
+    by("said").textContent = text;
+  }
+
+  sayLater(text) {
+    clearTimeout(this.saying);
+    this.saying = setTimeout(() => this.say(text), 700);
+  }
+
+  /** Shows a short message, with a button if there is something to do about it. */
+  toast(text, action = null) {
+    const node = by("toast");
+    clearTimeout(this.showing);
+    const hide = () => fill(node);
+    fill(node, el("div", { class: "note" }, el("span", {}, text),
+      action && button(action.text, () => {
+        hide();
+        action.run();
+      }),
+      button("×", hide, { class: "quiet", "aria-label": t("close") })));
+    this.showing = setTimeout(hide, action ? 15000 : 6000);
+  }
+
+  welcome() {
+    fill(this.pane, el("div", { class: "welcome" },
+      el("p", {}, t("welcome")),
+      el("dl", { class: "keys" }, t("keys").map(([key, what]) =>
+        el("div", {}, el("dt", {}, el("kbd", {}, key)), el("dd", {}, what))))));
+  }
+}

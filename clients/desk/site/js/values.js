@@ -1,0 +1,145 @@
+// What the values of properties mean: escaped texts, parts, dates, numbers, links and photos.
+
+/** The text of an escaped value: \n is a line end, and a backslash before another sign goes. */
+export function unescapeText(value) {
+  return value.replace(/\\([^])/g, (_, it) => (it === "n" || it === "N" ? "\n" : it));
+}
+
+/** A value for a text. Control characters that no card may have become spaces. */
+export function escapeText(text) {
+  return clean(text)
+    .replace(/\\/g, "\\\\")
+    .replace(/\n/g, "\\n")
+    .replace(/[,;]/g, (it) => `\\${it}`);
+}
+
+/** The text with line ends as \n, and without other control characters. */
+export function clean(text) {
+  // eslint-disable-next-line no-control-regex
+  return text.replace(/\r\n?/g, "\n").replace(/[\u0000-\u0009\u000b-\u001f\u007f]/g, " ");
+}
+
+/** The parts of a value between separators that aren't escaped, as written. */
+export function partsOf(value, separator) {
+  const parts = [""];
+  for (let at = 0; at < value.length; at += 1) {
+    if (value[at] === "\\" && at + 1 < value.length) {
+      parts[parts.length - 1] += value[at] + value[at + 1];
+      at += 1;
+    } else if (value[at] === separator) {
+      parts.push("");
+    } else {
+      parts[parts.length - 1] += value[at];
+    }
+  }
+  return parts;
+}
+
+/** A component of N or ADR as people read it: its values, with commas between. */
+export function componentText(part) {
+  return partsOf(part, ",").map(unescapeText).filter(Boolean).join(", ");
+}
+
+/** A component for a text in which commas separate values. */
+export function componentOfList(text) {
+  return text.split(",").map((it) => escapeText(it.trim())).filter(Boolean).join(",");
+}
+
+/** A phone number as people read it, from a text or a tel: URI (RFC 3966). */
+export function telText(line) {
+  const value = line.value;
+  if (!/^tel:/i.test(value)) return unescapeText(value).trim();
+  const [number, ...rest] = value.slice(4).split(";");
+  const ext = rest.find((it) => /^ext=/i.test(it));
+  return decode(number) + (ext ? ` ext. ${decode(ext.slice(4))}` : "");
+}
+
+/** A tel: URI for what a user typed, or null if it has other signs than a number has. */
+export function telUri(text) {
+  const found = /^(\+?[0-9][0-9 ().\-/]*)(?:\s*(?:ext\.?|x|;ext=)\s*([0-9]+))?$/i.exec(text.trim());
+  if (!found) return null;
+  const number = found[1].trim().replace(/[ /]+/g, "-");
+  return `tel:${number}${found[2] ? `;ext=${found[2]}` : ""}`;
+}
+
+/** The digits of a number, without an extension; letters and signs are left out. */
+export function digitsOf(text) {
+  return text.replace(/(?:ext\.?|x)\s*[0-9]+\s*$/i, "").replace(/[^0-9]/g, "");
+}
+
+function decode(text) {
+  try {
+    return decodeURIComponent(text);
+  } catch {
+    return text;
+  }
+}
+
+const SAFE = ["http:", "https:", "mailto:", "tel:", "sms:", "sip:", "sips:", "xmpp:"];
+
+/** The address of a link if its scheme is known to be harmless, and null otherwise. */
+export function safeLink(text) {
+  // Browsers drop tabs and line ends in addresses, so "java\tscript:" would be a script.
+  if (/[\u0000-\u0020\u007f]/.test(text) || text.length > 4000) return null;
+  let url;
+  try {
+    url = new URL(text);
+  } catch {
+    return null;
+  }
+  return SAFE.includes(url.protocol) ? url.href : null;
+}
+
+export function telLink(line) {
+  if (/^tel:/i.test(line.value)) return safeLink(line.value);
+  const number = telText(line).replace(/(?:ext\.?|x)\s*[0-9]+\s*$/i, "");
+  const dialled = number.replace(/[^0-9+*#]/g, "");
+  return dialled.length >= 3 ? safeLink(`tel:${dialled.replace(/#/g, "%23")}`) : null;
+}
+
+export function mailLink(text) {
+  return /^[^\s@<>"]+@[^\s@<>"]+$/.test(text)
+    ? safeLink(`mailto:${encodeURIComponent(text).replace(/%40/g, "@")}`)
+    : null;
+}
+
+/** The photo as a data: address of a type that can't have scripts, or null. */
+export function photoOf(line) {
+  if (!line) return null;
+  const shape = /^data:image\/(jpeg|jpg|png|gif|webp);base64,([A-Za-z0-9+/=\s]+)$/i;
+  const found = shape.exec(line.value);
+  return found ? `data:image/${found[1].toLowerCase()};base64,${found[2]}` : null;
+}
+
+/** A date of RFC 6350 ("19800412", "--0412", "1980-04", "1980"), or null. */
+export function dateParts(value) {
+  const day = value.split("T")[0];
+  const found =
+    /^(\d{4})-?(\d{2})-?(\d{2})$/.exec(day) ??
+    /^(\d{4})-(\d{2})$/.exec(day) ??
+    /^(\d{4})$/.exec(day);
+  if (found) return whole({ year: +found[1], month: +(found[2] ?? 0), day: +(found[3] ?? 0) });
+  const yearless = /^--(\d{2})-?(\d{2})$/.exec(day);
+  return yearless ? whole({ year: 0, month: +yearless[1], day: +yearless[2] }) : null;
+}
+
+function whole(parts) {
+  return parts.month <= 12 && parts.day <= 31 ? parts : null;
+}
+
+/** What a form shows of a date: 1980-04-12, --04-12, or the value as it is. */
+export function dateField(value) {
+  const parts = dateParts(value);
+  if (!parts || value.includes("T")) return value;
+  const two = (number) => String(number).padStart(2, "0");
+  const year = parts.year ? String(parts.year).padStart(4, "0") : "-";
+  const given = [parts.month, parts.day].filter(Boolean).map(two);
+  return [year, ...given].join("-");
+}
+
+/** A value for what the form has, or null if it isn't a date of these forms. */
+export function dateValue(text) {
+  const typed = text.trim();
+  if (!dateParts(typed)) return null;
+  return /^\d{4}-\d{2}$/.test(typed) ? typed : typed.replace(/^(--)|-/g, "$1");
+}

@@ -1,0 +1,185 @@
+// A card as people read it.
+import { bdi, button, el } from "../dom.js";
+import { initials } from "../person.js";
+import { count, dateText, t, usesText } from "../texts.js";
+
+/**
+ * The view of a card: `seen` of `describe`, its `row`, its text, the members and groups that the
+ * copy has. `act` has the actions.
+ */
+export function cardView({ seen, row, text, members, groups, act }) {
+  return el(
+    "article",
+    { class: "card", "aria-labelledby": "card-name" },
+    head(seen, row, act),
+    phones(seen, act),
+    section(t("mail"), seen.mails.map((it) => line(it, act))),
+    section(t("chat"), seen.chats.map((it) => line(it, act))),
+    section(t("web"), seen.webs.map((it) => line(it, null))),
+    section(t("address"), seen.addresses.map(address)),
+    section(t("dates"), seen.dates.map(dateLine)),
+    section(t("note"), seen.notes.map((it) => el("p", { class: "note" }, bdi(it)))),
+    section(t("categories"), [
+      tags(seen.categories.map((it) => tag(it, act))),
+    ]),
+    section(t("related"), seen.related.map((it) => line(it, null))),
+    section(t("languages"), [joined([...seen.languages, ...seen.zones])]),
+    seen.kind === "group" ? group(members, act) : null,
+    section(t("inGroups"), [tags(groups.map((it) => link(it, act)))]),
+    more(seen, text),
+    el("footer", {}, t("cardFooter", { book: row.book, version: row.version })),
+  );
+}
+
+function head(seen, row, act) {
+  const roles = [...seen.titles, ...seen.orgs].join(" · ");
+  const nick = seen.nicknames.join(", ");
+  return el(
+    "header",
+    {},
+    picture(seen),
+    el(
+      "div",
+      { class: "title" },
+      el("h2", { id: "card-name", tabindex: "-1" }, bdi(seen.name || t("nameless"))),
+      roles && el("p", { class: "roles" }, bdi(roles)),
+      nick && el("p", { class: "roles" }, bdi(`“${nick}”`)),
+    ),
+    el(
+      "div",
+      { class: "actions", role: "group", "aria-label": t("actions") },
+      button(t("edit"), act.edit, { class: "main", title: t("editKey") }),
+      act.move && button(t("move"), act.move),
+      button(t("saveVcf"), act.download),
+      button(t("remove"), act.remove, { class: "danger" }),
+    ),
+  );
+}
+
+function picture(seen) {
+  const alt = t("photoOf", { name: seen.name });
+  if (seen.photo) return el("img", { class: "photo", src: seen.photo, alt });
+  const letters = seen.kind === "group" ? "…" : initials(seen.name);
+  return el("div", { class: `photo letters ${seen.kind}`, "aria-hidden": "true" }, letters);
+}
+
+function section(title, rows) {
+  const some = rows.filter(Boolean);
+  if (!some.length) return null;
+  return el("section", {}, el("h3", {}, title), el("div", { class: "lines" }, some));
+}
+
+function phones(seen, act) {
+  if (!seen.phones.length) return null;
+  const node = section(t("phone"), seen.phones.map((it) => line(it, act)));
+  node.classList.add("phones");
+  return node;
+}
+
+/** A value with its label, a link if it has a harmless one, and a button to copy it. */
+function line(it, act) {
+  const value = it.href
+    ? el("a", { href: it.href, ...outside(it.href) }, bdi(it.text))
+    : bdi(it.text);
+  const label = usesText(it.label);
+  return el(
+    "div",
+    { class: "line" },
+    el("div", { class: "value" }, value, label && el("span", { class: "label" }, bdi(label))),
+    act && button(t("copy"), () => act.copy(it.text), {
+      class: "quiet", "aria-label": t("copyThis", { text: it.text }),
+    }),
+  );
+}
+
+function outside(href) {
+  return /^https?:/.test(href) ? { target: "_blank", rel: "noopener noreferrer" } : {};
+}
+
+function address(it) {
+  const label = usesText(it.label);
+  return el(
+    "div",
+    { class: "line" },
+    el(
+      "div",
+      { class: "value" },
+      el("div", { class: "address" }, it.lines.map((text) => el("div", {}, bdi(text)))),
+      label && el("span", { class: "label" }, bdi(label)),
+    ),
+  );
+}
+
+function dateLine(it) {
+  const label = t(it.name === "BDAY" ? "birthday" : "anniversary");
+  return line({ text: it.date ? dateText(it.date) : it.text, label: { text: label } }, null);
+}
+
+function joined(texts) {
+  return texts.length ? el("p", {}, bdi(texts.join(", "))) : null;
+}
+
+function tags(buttons) {
+  return buttons.length ? el("p", { class: "tags" }, buttons) : null;
+}
+
+function tag(text, act) {
+  return button(bdi(text), () => act.search(text), { class: "tag" });
+}
+
+function link(row, act) {
+  return button(bdi(row.name || t("nameless")), () => act.open(row), { class: "tag" });
+}
+
+function group(members, act) {
+  const list = members.map(([value, row]) =>
+    el("li", {}, row ? link(row, act) : el("span", { class: "missing" }, bdi(value))),
+  );
+  const people = el("div", { class: "people", "aria-live": "polite" });
+  return el(
+    "section",
+    {},
+    el("h3", {}, count("membersCount", members.length)),
+    el(
+      "div",
+      { class: "lines" },
+      el("ul", { class: "members" }, list),
+      button(t("askPeople"), () => act.people(people)),
+      people,
+    ),
+  );
+}
+
+/** What the server says of the people of a group: `[uid, row or null]`, and the missing values. */
+export function peopleView(people, missing, act) {
+  return [
+    el("h4", {}, count("peopleCount", people.length)),
+    el("ul", { class: "members" }, people.map(([uid, row]) =>
+      el("li", {}, row ? link(row, act) : el("span", { class: "missing" }, bdi(uid))),
+    )),
+    missing.length ? el("h4", {}, count("missingCount", missing.length)) : null,
+    missing.length
+      ? el("ul", { class: "members" }, missing.map((it) => el("li", { class: "missing" }, bdi(it))))
+      : null,
+  ];
+}
+
+function more(seen, text) {
+  const photo = !seen.photo && seen.photoLink
+    ? el("p", {}, el("a", { href: seen.photoLink, ...outside(seen.photoLink) },
+      t("photoElsewhere")))
+    : null;
+  const clip = (it) => (it.length > 400 ? `${it.slice(0, 400)}…` : it);
+  const others = seen.others.length
+    ? el("ul", { class: "others" }, seen.others.map((it) => el("li", {}, bdi(clip(it)))))
+    : null;
+  const source = text.length > 20000 ? `${text.slice(0, 20000)}\n…` : text;
+  return el(
+    "details",
+    {},
+    el("summary", {}, seen.others.length ? count("othersCount", seen.others.length) : t("source")),
+    photo,
+    others,
+    el("pre", { tabindex: "0", "aria-label": t("source") }, source),
+  );
+}

@@ -1,0 +1,128 @@
+// The list of cards. Only the rows in sight are elements, so that 10,000 cards scroll like ten.
+import { bdi, el } from "../dom.js";
+import { keyOf } from "../shelf.js";
+import { count, t, usesText } from "../texts.js";
+
+const AROUND = 6;
+
+export class CardList {
+  /** `pick(row, isFinal)` is called when a row is chosen; it is final by a click or Enter. */
+  constructor(root, pick) {
+    this.root = root;
+    this.pick = pick;
+    this.rows = [];
+    this.at = -1;
+    this.withBooks = false;
+    this.space = el("div", { class: "space", role: "presentation" });
+    this.root.replaceChildren(this.space);
+    this.drawn = "";
+    this.root.addEventListener("scroll", () => this.draw(), { passive: true });
+    this.root.addEventListener("click", (event) => this.clicked(event));
+    new ResizeObserver(() => this.measure()).observe(this.root);
+  }
+
+  /** Shows other rows. The selected card stays selected if it is among them. */
+  show(rows, { withBooks, keep = null }) {
+    this.rows = rows;
+    this.withBooks = withBooks;
+    this.at = keep === null ? -1 : rows.findIndex((row) => keyOf(row) === keep);
+    this.drawn = "";
+    this.measure();
+  }
+
+  measure() {
+    this.height = Number.parseFloat(getComputedStyle(this.root).getPropertyValue("--row")) *
+      Number.parseFloat(getComputedStyle(document.documentElement).fontSize);
+    this.space.style.height = `${this.rows.length * this.height}px`;
+    this.draw();
+  }
+
+  get selected() {
+    return this.rows[this.at] ?? null;
+  }
+
+  draw() {
+    const top = Math.floor(this.root.scrollTop / this.height);
+    const first = Math.max(0, top - AROUND);
+    const last = Math.min(
+      this.rows.length,
+      top + Math.ceil(this.root.clientHeight / this.height) + AROUND,
+    );
+    const drawn = `${first} ${last} ${this.at}`;
+    if (drawn === this.drawn) return;
+    this.drawn = drawn;
+    const options = [];
+    for (let at = first; at < last; at += 1) options.push(this.option(at));
+    this.space.replaceChildren(...options);
+  }
+
+  option(at) {
+    const row = this.rows[at];
+    const phone = row.phones[0];
+    const under = [row.title, row.org].filter(Boolean).join(" · ") || row.mail;
+    const isGroup = row.kind === "group";
+    const side = isGroup ? count("membersCount", row.members.length) : (phone?.text ?? "");
+    const option = el(
+      "div",
+      {
+        class: `row${isGroup ? " group" : ""}`,
+        id: `row-${at}`,
+        role: "option",
+        "aria-selected": at === this.at ? "true" : "false",
+        "aria-posinset": at + 1,
+        "aria-setsize": this.rows.length,
+      },
+      el("div", { class: "who" }, bdi(row.name || t("nameless"), "name"), bdi(under, "under")),
+      el(
+        "div",
+        { class: "side" },
+        bdi(side, isGroup ? "members" : "number"),
+        el("span", { class: "under" }, this.withBooks ? row.book : usesText(phone?.label)),
+      ),
+    );
+    option.style.top = `${at * this.height}px`;
+    return option;
+  }
+
+  clicked(event) {
+    const option = event.target.closest("[role=option]");
+    if (option) this.select(Number(option.id.slice(4)), true);
+  }
+
+  /** Selects a row and brings it into sight. */
+  select(at, isFinal = false) {
+    if (at < 0 || at >= this.rows.length) return;
+    this.at = at;
+    const top = at * this.height;
+    if (top < this.root.scrollTop) this.root.scrollTop = top;
+    const below = top + this.height - this.root.clientHeight;
+    if (below > this.root.scrollTop) this.root.scrollTop = below;
+    this.draw();
+    this.pick(this.rows[at], isFinal);
+  }
+
+  top() {
+    this.root.scrollTop = 0;
+  }
+
+  /** Moves the selection for a key, and says whether the key was one for the list. */
+  key(event) {
+    if (event.altKey || event.ctrlKey || event.metaKey || event.isComposing) return false;
+    const page = Math.max(1, Math.floor(this.root.clientHeight / this.height) - 1);
+    const steps = { ArrowDown: 1, ArrowUp: -1, PageDown: page, PageUp: -page };
+    if (event.key === "Enter") {
+      if (this.at < 0 && this.rows.length) this.select(0, true);
+      else this.select(this.at, true);
+      return true;
+    }
+    if (!(event.key in steps) || !this.rows.length) return false;
+    const wanted = this.at < 0 ? 0 : this.at + steps[event.key];
+    this.select(Math.min(this.rows.length - 1, Math.max(0, wanted)));
+    return true;
+  }
+
+  /** The id of the selected option, for aria-activedescendant. */
+  get activeId() {
+    return this.at < 0 ? "" : `row-${this.at}`;
+  }
+}

@@ -1,0 +1,48 @@
+// Lets the desk open without the network: it keeps the desk's own files, and nothing of the books.
+// With the network the files come from the server, so that a new desk is seen at the next start.
+
+const CACHE = "desk-files";
+const PATIENCE = 2500;
+const FILES = [
+  "./", "icon.svg", "manifest.json",
+  "style/base.css", "style/card.css", "style/frame.css", "style/narrow.css",
+  "js/api.js", "js/actions.js", "js/dom.js", "js/edit.js", "js/files.js", "js/frame.js",
+  "js/main.js", "js/merge.js", "js/person.js", "js/photo.js", "js/push.js", "js/search.js",
+  "js/shelf.js", "js/store.js", "js/sync.js", "js/texts.js", "js/values.js", "js/vcard.js",
+  "js/views/card.js", "js/views/dialogs.js", "js/views/form.js", "js/views/list.js",
+];
+const OWN = new Set(FILES.map((file) => new URL(file, self.registration.scope).href));
+let slowUntil = 0;
+
+self.addEventListener("install", (event) => {
+  const requests = FILES.map((file) => new Request(file, { cache: "reload" }));
+  event.waitUntil(caches.open(CACHE).then((cache) => cache.addAll(requests)));
+  self.skipWaiting();
+});
+
+self.addEventListener("activate", (event) => event.waitUntil(self.clients.claim()));
+
+self.addEventListener("fetch", (event) => {
+  const url = new URL(event.request.url);
+  url.hash = "";
+  url.search = "";
+  if (event.request.method !== "GET" || !OWN.has(url.href)) return;
+  event.respondWith(answer(event.request, url.href));
+});
+
+/** The file of the server, or the kept one if the server can't be reached or takes too long. */
+async function answer(request, address) {
+  const cache = await caches.open(CACHE);
+  const kept = await cache.match(address);
+  if (kept && Date.now() < slowUntil) return kept;
+  const asked = fetch(request, { cache: "no-cache" }).then((reply) => {
+    if (reply.ok && reply.type === "basic") cache.put(address, reply.clone());
+    return reply;
+  });
+  if (!kept) return asked;
+  const late = new Promise((resolve) => { setTimeout(resolve, PATIENCE, null); });
+  const reply = await Promise.race([asked.catch(() => null), late]);
+  if (reply && reply.status < 500) return reply;
+  slowUntil = Date.now() + 30_000;
+  return kept;
+}
