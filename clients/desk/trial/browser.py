@@ -1,0 +1,251 @@
+"""Drives a headless Chromium by its DevTools protocol, with Python's standard library alone."""
+
+import base64
+import json
+import os
+import shutil
+import socket
+import struct
+import subprocess
+import tempfile
+import time
+from pathlib import Path
+
+SECONDS = 90  # that a page has for each thing, on a machine that is busy with others
+KEYS = {
+    "Enter": (13, "\r"),
+    "Escape": (27, None),
+    "ArrowDown": (40, None),
+    "ArrowUp": (38, None),
+    "F2": (113, None),
+    "Tab": (9, None),
+}
+
+
+class Socket:
+    """A WebSocket (RFC 6455), as far as a client of DevTools needs one."""
+
+    def __init__(self, port, path):
+        self.stream = socket.create_connection(("127.0.0.1", port))
+        key = base64.b64encode(os.urandom(16)).decode()
+        self.stream.sendall(
+            f"GET {path} HTTP/1.1\r\nHost: 127.0.0.1:{port}\r\nUpgrade: websocket\r\n"
+            f"Connection: Upgrade\r\nSec-WebSocket-Key: {key}\r\n"
+            "Sec-WebSocket-Version: 13\r\n\r\n".encode()
+        )
+        self.file = self.stream.makefile("rb")
+        status = self.file.readline()
+        if b" 101 " not in status:
+            raise RuntimeError(f"no WebSocket: {status!r}")
+        while self.file.readline() not in (b"\r\n", b""):
+            pass
+
+    def send(self, text):
+        data = text.encode()
+        size = len(data)
+        if size < 126:
+            head = struct.pack("!BB", 0x81, 0x80 | size)
+        elif size < 65536:
+            head = struct.pack("!BBH", 0x81, 0x80 | 126, size)
+        else:
+            head = struct.pack("!BBQ", 0x81, 0x80 | 127, size)
+        # A mask of zeros is a mask, and leaves the octets as they are.
+        self.stream.sendall(head + b"\0\0\0\0" + data)
+
+    def receive(self):
+        """One message, its fragments put together."""
+        parts = []
+        while True:
+            first, second = self.file.read(2)
+            size = second & 0x7F
+            if size == 126:
+                (size,) = struct.unpack("!H", self.file.read(2))
+            elif size == 127:
+                (size,) = struct.unpack("!Q", self.file.read(8))
+            data = self.file.read(size)
+            if first & 0x0F in (8, 9, 10):
+                continue
+            parts.append(data)
+            if first & 0x80:
+                return b"".join(parts).decode()
+
+
+class Browser:
+    def __init__(self, program, arguments=()):
+        self.folder = Path(tempfile.mkdtemp(prefix="desk-chromium-"))
+        command = [
+            program, "--headless=new", "--no-sandbox", "--disable-gpu", "--hide-scrollbars",
+            "--no-first-run", "--disable-background-networking", "--disable-component-update",
+            "--disable-dev-shm-usage", "--remote-debugging-port=0", "--lang=en-GB",
+            f"--user-data-dir={self.folder}", *arguments, "about:blank",
+        ]
+        log = open(self.folder / "log", "wb")
+        self.process = subprocess.Popen(command, stdout=log, stderr=log)
+        port_file = self.folder / "DevToolsActivePort"
+        for _ in range(900):
+            if port_file.exists() and port_file.read_text().count("\n"):
+                break
+            time.sleep(0.1)
+        port, path = port_file.read_text().split("\n")[:2]
+        self.socket = Socket(int(port), path)
+        self.number = 0
+        self.pages = {}
+        self.events = []
+
+    def call(self, method, session=None, **parameters):
+        self.number += 1
+        number = self.number
+        message = {"id": number, "method": method, "params": parameters}
+        if session:
+            message["sessionId"] = session
+        self.socket.send(json.dumps(message))
+        while True:
+            reply = json.loads(self.socket.receive())
+            if reply.get("id") == number:
+                if "error" in reply:
+                    raise RuntimeError(f"{method}: {reply['error']}")
+                return reply["result"]
+            self.events.append(reply)
+            page = self.pages.get(reply.get("sessionId"))
+            if page:
+                page.heard(reply)
+
+    def context(self):
+        """A new profile: its own storage, as of another user."""
+        return self.call("Target.createBrowserContext")["browserContextId"]
+
+    def page(self, context, width=1280, height=800):
+        target = self.call(
+            "Target.createTarget", url="about:blank", browserContextId=context, newWindow=True,
+        )["targetId"]
+        session = self.call("Target.attachToTarget", targetId=target, flatten=True)["sessionId"]
+        page = Page(self, session, context)
+        self.pages[session] = page
+        for domain in ("Page", "Runtime", "Log", "Network"):
+            page.call(f"{domain}.enable")
+        page.size(width, height)
+        return page
+
+    def close(self):
+        try:
+            self.call("Browser.close")
+            self.process.wait(20)
+        except Exception:
+            self.process.kill()
+            self.process.wait()
+        shutil.rmtree(self.folder, ignore_errors=True)
+
+
+class Page:
+    def __init__(self, browser, session, context):
+        self.browser = browser
+        self.session = session
+        self.context = context
+        self.said = []  # errors of scripts and of the console
+        self.dialogs = []
+        self.asked = []  # addresses of requests
+
+    def call(self, method, **parameters):
+        return self.browser.call(method, self.session, **parameters)
+
+    def heard(self, event):
+        method, given = event["method"], event["params"]
+        if method == "Runtime.exceptionThrown":
+            details = given["exceptionDetails"]
+            text = details.get("exception", {}).get("description") or details["text"]
+            self.said.append(text)
+        elif method == "Log.entryAdded" and given["entry"]["level"] == "error":
+            entry = given["entry"]
+            self.said.append(f"{entry['text']} {entry.get('url', '')}")
+        elif method == "Page.javascriptDialogOpening":
+            self.dialogs.append(given["message"])
+        elif method == "Network.requestWillBeSent":
+            self.asked.append(given["request"]["url"])
+
+    def size(self, width, height, mobile=False):
+        self.call(
+            "Emulation.setDeviceMetricsOverride",
+            width=width, height=height, deviceScaleFactor=1, mobile=mobile,
+        )
+
+    def scheme(self, name):
+        features = [{"name": "prefers-color-scheme", "value": name}]
+        self.call("Emulation.setEmulatedMedia", features=features)
+
+    def go(self, address):
+        """Loads the address, and waits until its scripts have run."""
+        self.run("window.isOld = true")
+        self.call("Page.navigate", url=address)
+        self.wait("!window.isOld && document.readyState === 'complete'")
+
+    def run(self, expression):
+        """The value of an expression, awaited if it is a promise."""
+        result = self.call(
+            "Runtime.evaluate", expression=expression, awaitPromise=True, returnByValue=True,
+            userGesture=True,
+        )
+        if "exceptionDetails" in result:
+            raise RuntimeError(result["exceptionDetails"].get("exception", result))
+        return result["result"].get("value")
+
+    def wait(self, expression, seconds=SECONDS):
+        """Waits until an expression is true. Returns its value."""
+        end = time.monotonic() + seconds
+        while True:
+            try:
+                value = self.run(expression)
+            except RuntimeError:
+                value = None
+            # An element comes as {}.
+            if value or value == {}:
+                return value
+            if time.monotonic() > end:
+                raise AssertionError(f"never true: {expression}\n{self.said}")
+            time.sleep(0.05)
+
+    def type(self, text):
+        self.call("Input.insertText", text=text)
+
+    def key(self, name, modifiers=0, code=None):
+        number, text = KEYS[name] if name in KEYS else (ord(name.upper()), None)
+        given = {"key": name, "code": code or name, "windowsVirtualKeyCode": number,
+                 "modifiers": modifiers}
+        if text:
+            given["text"] = text
+        self.call("Input.dispatchKeyEvent", type="keyDown", **given)
+        self.call("Input.dispatchKeyEvent", type="keyUp", **given)
+
+    def press(self, text, within="document"):
+        """Clicks the button or link with this text, with the mouse."""
+        find = (
+            f"[...({within}).querySelectorAll('button, a, summary, label, [role=option]')]"
+            ".find((it) => it.offsetParent &&"
+            f" it.textContent.trim().startsWith({json.dumps(text)}))"
+        )
+        place = self.wait(
+            f"(() => {{ const it = {find}; if (!it) return null;"
+            "it.scrollIntoView({block: 'nearest'});"
+            "const box = it.getBoundingClientRect();"
+            "return [box.x + box.width / 2, box.y + box.height / 2]; })()"
+        )
+        for kind in ("mousePressed", "mouseReleased"):
+            self.call(
+                "Input.dispatchMouseEvent", type=kind, x=place[0], y=place[1], button="left",
+                clickCount=1,
+            )
+
+    def choose_file(self, selector, path):
+        self.call("DOM.enable")
+        root = self.call("DOM.getDocument")["root"]["nodeId"]
+        node = self.call("DOM.querySelector", nodeId=root, selector=selector)["nodeId"]
+        self.call("DOM.setFileInputFiles", nodeId=node, files=[str(path)])
+
+    def keep_downloads(self, folder):
+        self.browser.call(
+            "Browser.setDownloadBehavior", behavior="allow", browserContextId=self.context,
+            downloadPath=str(folder),
+        )
+
+    def picture(self, path):
+        data = self.call("Page.captureScreenshot", format="png")["data"]
+        Path(path).write_bytes(base64.b64decode(data))

@@ -1,0 +1,241 @@
+"""More steps of the trial: hostile cards, no network, looks, a full book."""
+
+import json
+import time
+
+from cards import EVIL, MARK, hostile_cards, many_cards
+from office import card
+from steps import ROWS, STATE, TITLE, fill, search, step, toast, up_to_date
+
+
+@step
+def hostile(trial):
+    """No string of a card becomes markup, a script, a request or an address of one."""
+    admin, cards = trial.desks["admin"], hostile_cards()
+    trial.office.fill("staff", cards.values())
+    admin.press("staff", "document.querySelector('#books')")
+    up_to_date(admin)
+    search(admin, "hostile")
+    admin.wait("document.querySelectorAll('#list [role=option]').length > 5")
+    admin.picture(trial.pictures / "hostile-list.png")
+    for uid in cards:
+        admin.run(f"location.hash = '#/card/staff/' + encodeURIComponent({json.dumps(uid)})")
+        admin.wait(f"location.hash.includes('card') && ({TITLE} ?? '').startsWith('Hostile')")
+        admin.run("new Promise((done) => setTimeout(done, 60))")
+        found = admin.run("""(() => {
+            const pane = document.querySelector('#pane');
+            const names = [...pane.querySelectorAll('*')].map((it) => it.localName);
+            const known = new Set([
+                'article', 'header', 'div', 'h2', 'h3', 'h4', 'p', 'bdi', 'button', 'section', 'a',
+                'img', 'span', 'ul', 'li', 'details', 'summary', 'pre', 'footer',
+            ]);
+            return {
+                odd: names.filter((it) => !known.has(it)),
+                links: [...pane.querySelectorAll('a')].map((it) => it.href),
+                pictures: [...document.querySelectorAll('img')].map((it) => it.src.slice(0, 24)),
+                wide: document.documentElement.scrollWidth > innerWidth,
+                handlers: [...document.querySelectorAll('*')].filter((it) =>
+                    it.getAttributeNames().some((name) => name.startsWith('on'))).length,
+            };
+        })()""")
+        assert not found["odd"] and not found["handlers"] and not found["wide"], (uid, found)
+        assert all(it.startswith(("https:", "mailto:", "tel:")) for it in found["links"]), found
+        assert all(it.startswith("data:image/png;base64,") for it in found["pictures"]), found
+        admin.run(f"location.hash = '#/edit/staff/' + encodeURIComponent({json.dumps(uid)})")
+        admin.wait("document.querySelector('.form')")
+        admin.press("Cancel", "document.querySelector('.form')")
+        admin.wait("!document.querySelector('.form')")
+    admin.run("location.hash = '#/card/staff/h-markup'")
+    admin.wait(f"{TITLE} === {json.dumps('Hostile ' + MARK)}")
+    admin.picture(trial.pictures / "hostile.png")
+    assert not [it for it in admin.asked if EVIL in it]
+    # Each can be edited under its own address, but the two that no browser can ask for.
+    for uid in ("a/b?c=d&e#f%2F%2e%2e", "__proto__", "'\"><b>", "\u202eüñí 😀"):
+        admin.run(f"location.hash = '#/edit/staff/' + encodeURIComponent({json.dumps(uid)})")
+        fill(admin, "Position", "edited")
+        admin.press("Save")
+        admin.wait("!document.querySelector('.form')")
+        assert "TITLE:edited" in trial.office.card("staff", uid)["card"]
+    admin.run("location.hash = '#/edit/staff/..'")
+    fill(admin, "Position", "edited")
+    admin.press("Save")
+    toast(admin, "No browser can ask")
+    admin.press("Cancel", "document.querySelector('.form')")
+
+
+@step
+def forgotten(trial):
+    """A book that forgot what a desk had missed: its token is refused, and it starts again."""
+    ann, office = trial.desks["ann"], trial.office
+    up_to_date(ann)
+    office.put("clients", "gone", card("gone", "FN:Gone Soon"))
+    up_to_date(ann)
+    search(ann, "gone soon")
+    ann.wait(f"{TITLE} === 'Gone Soon'")
+    office.ask("DELETE", "/clients/cards/gone")
+    office.ask("DELETE", "/clients/cards/c24")
+    office.put("clients", "late", card("late", "FN:Late Comer"))
+    number = office.ask("GET", "/clients/tally")["number"]
+    office.ask("POST", f"/clients/forget?upto={number}")
+    up_to_date(ann)
+    for text, wanted in (("gone soon", 0), ("yusuf", 0), ("late comer", 1), ("miriam", 1)):
+        search(ann, text)
+        ann.wait(f"{ROWS}.length === {wanted}")
+
+
+@step
+def offline(trial):
+    """The network goes: the desk opens, finds, says so, keeps an edit, and comes back."""
+    ann, office = trial.desks["ann"], trial.office
+    ann.wait("navigator.serviceWorker.controller && caches.open('desk-files')"
+             ".then((it) => it.keys()).then((it) => it.length > 20)")
+    office.shut()
+    ann.go(office.front)
+    ann.wait("document.querySelector('#books button')")
+    search(ann, "mir")
+    ann.wait(f"{TITLE} === 'Miriam O’Hara'")
+    ann.wait(f"{STATE}.startsWith('Offline')")
+    ann.picture(trial.pictures / "offline.png")
+    ann.key("F2")
+    fill(ann, "Position", "Treasurer")
+    ann.press("Save")
+    toast(ann, "kept here")
+    ann.go("about:blank")
+    office.open()
+    ann.go(office.front)
+    ann.wait(f"{STATE}.startsWith('Up to date')")
+    search(ann, "mir")
+    ann.wait(f"{TITLE} === 'Miriam O’Hara'")
+    ann.key("F2")
+    ann.wait("document.querySelector('.draft')")
+    ann.press("Save")
+    toast(ann, "Saved: Miriam")
+    assert "TITLE:Treasurer" in office.card("clients", "c12")["card"]
+
+
+@step
+def looks(trial):
+    """Pictures: dark and light, middle and narrow widths. Nothing may be wider than the page."""
+    admin = trial.desks["admin"]
+    admin.press("clients", "document.querySelector('#books')")
+    for scheme in ("light", "dark"):
+        admin.scheme(scheme)
+        for name, width, height in SIZES:
+            admin.size(width, height, mobile=width < 500)
+            admin.run("location.hash = '#/'")
+            search(admin, "")
+            admin.run("new Promise((done) => setTimeout(done, 400))")
+            admin.picture(trial.pictures / f"{name}-{scheme}-list.png")
+            admin.run("location.hash = '#/card/clients/c12'")
+            admin.wait(f"{TITLE} === 'Miriam O’Hara'")
+            admin.run("new Promise((done) => setTimeout(done, 300))")
+            admin.picture(trial.pictures / f"{name}-{scheme}-card.png")
+            assert not admin.run("document.documentElement.scrollWidth > innerWidth"), name
+            admin.run("location.hash = '#/edit/clients/c12'")
+            admin.wait("document.querySelector('.form')")
+            admin.picture(trial.pictures / f"{name}-{scheme}-form.png")
+            assert not admin.run("document.documentElement.scrollWidth > innerWidth"), name
+            admin.press("Cancel", "document.querySelector('.form')")
+            contrast = admin.run(CONTRAST)
+            assert not contrast, (scheme, contrast)
+    admin.scheme("light")
+    admin.size(1280, 800)
+
+
+SIZES = [("wide", 1360, 850), ("middle", 900, 700), ("narrow", 390, 780), ("least", 320, 640)]
+# Texts whose colour and ground differ by less than 4.5 to 1 (WCAG 2, 1.4.3).
+CONTRAST = """(() => {
+    const light = (text) => {
+        const part = text.match(/[\\d.]+/g).map(Number);
+        const [r, g, b] = part.slice(0, 3).map((it) => it / 255)
+            .map((it) => (it <= 0.03928 ? it / 12.92 : ((it + 0.055) / 1.055) ** 2.4));
+        return [0.2126 * r + 0.7152 * g + 0.0722 * b, part[3] ?? 1];
+    };
+    const found = [];
+    for (const node of document.querySelectorAll('body *')) {
+        const own = [...node.childNodes].some((it) => it.nodeType === 3 && it.textContent.trim());
+        const hidden = !node.checkVisibility() || node.closest('.unseen, .skip, noscript');
+        if (!own || hidden) continue;
+        let ground = node;
+        const behind = () => light(getComputedStyle(ground).backgroundColor);
+        while (ground && behind()[1] < 1) ground = ground.parentElement;
+        const [a] = light(getComputedStyle(node).color);
+        const [b] = ground ? behind() : [1];
+        const ratio = (Math.max(a, b) + 0.05) / (Math.min(a, b) + 0.05);
+        if (ratio < 4.5) found.push([node.textContent.trim().slice(0, 30), ratio.toFixed(2)]);
+    }
+    return found.length ? found : null;
+})()"""
+
+
+@step
+def names(trial):
+    """All that can be used has a name for a screen reader: in the list, a card, a form."""
+    admin = trial.desks["admin"]
+    admin.call("Accessibility.enable")
+    wanted = {"button", "textbox", "combobox", "searchbox", "listbox", "option", "link", "radio",
+              "dialog", "navigation", "main", "article", "spinbutton"}
+    places = ["#/", "#/card/clients/c12", "#/edit/clients/c12", "#/edit/clients/g1"]
+    for place in [*places, "#/new/clients/group"]:
+        admin.run(f"location.hash = {json.dumps(place)}")
+        admin.run("new Promise((done) => setTimeout(done, 400))")
+        nodes = admin.call("Accessibility.getFullAXTree")["nodes"]
+        unnamed = [
+            it["role"]["value"] for it in nodes
+            if not it.get("ignored") and it.get("role", {}).get("value") in wanted - {"main"}
+            and not it.get("name", {}).get("value", "").strip()
+        ]
+        assert not unnamed, (place, unnamed)
+    admin.press("Cancel", "document.querySelector('.form')")
+
+
+LARGE_BOOK = (
+    "[...document.querySelectorAll('#books li')].find((it) => it.innerText.includes('large'))"
+)
+LARGE = f"{LARGE_BOOK}?.querySelector('.book-count').textContent"
+
+
+@step
+def ten_thousand(trial):
+    """A full book: how long its first copy takes, and how long a search."""
+    office = trial.office
+    office.order_book("large")
+    office.fill("large", many_cards())
+    page = trial.desk("admin", width=1280, height=800)
+    page.wait(f"{STATE}.startsWith('Up to date') && {LARGE} === '10,000'", 300)
+    page.press("⋯", f"{LARGE_BOOK}")
+    page.press("Remove the copy", "document.querySelector('dialog')")
+    page.wait(f"!{LARGE_BOOK}")
+    begun = time.monotonic()
+    page.press("Update now")
+    page.wait("!document.querySelector('#progress').hidden")
+    page.picture(trial.pictures / "progress.png")
+    page.wait(f"{STATE}.startsWith('Up to date') && {LARGE} === '10,000'", 300)
+    print(f"  first copy of 10,000 cards: {time.monotonic() - begun:.1f} s")
+    page.press("large", "document.querySelector('#books')")
+    took = page.run("""(async () => {
+        const box = document.querySelector('#search');
+        const all = [];
+        const texts = ['j', 'ju', 'jun', 'jun a', 'company 12', '7946 0012', 'arviso', '99', 'zz'];
+        for (const text of texts) {
+            box.value = text;
+            const begun = performance.now();
+            box.dispatchEvent(new Event('input', { bubbles: true }));
+            document.querySelector('#list').getBoundingClientRect();
+            all.push([text, performance.now() - begun]);
+            await new Promise((done) => setTimeout(done, 120));
+        }
+        return all;
+    })()""")
+    worst = max(it[1] for it in took)
+    print(f"  search in 10,000 cards, with the list drawn: at most {worst:.0f} ms; "
+          + ", ".join(f"{text!r} {ms:.0f}" for text, ms in took))
+    assert worst < 50, took
+    search(page, "jun ha")
+    page.wait(f"{TITLE}?.startsWith('Jun')")
+    page.picture(trial.pictures / "large.png")
+    begun = time.monotonic()
+    page.go(office.front)
+    page.wait("document.querySelectorAll('#list [role=option]').length > 5")
+    print(f"  opening it again until the list is there: {time.monotonic() - begun:.2f} s")
+    page.wait(f"{STATE}.startsWith('Up to date')")

@@ -1,0 +1,360 @@
+"""The steps of the trial, in order. Each finds something out by what a user would see."""
+
+import json
+import time
+
+from cards import office_cards
+from office import card, logical
+
+STEPS = {}
+ROWS = "[...document.querySelectorAll('#list [role=option] .name')].map((it) => it.textContent)"
+STATE = "document.querySelector('#state span')?.textContent ?? ''"
+TITLE = "document.querySelector('#card-name')?.textContent"
+ROLES = "document.querySelector('.roles').textContent"
+MENU = "[...document.querySelectorAll('#books li')].find((it) => it.innerText.includes('staff'))"
+IMPORT = "document.querySelector('dialog .import').innerText"
+
+
+def step(function):
+    STEPS[function.__name__.replace("_", "-")] = function
+    return function
+
+
+class Trial:
+    def __init__(self, office, browser, pictures):
+        self.office = office
+        self.browser = browser
+        self.pictures = pictures
+        self.desks = {}
+
+    def desk(self, user, **size):
+        """A desk of a user, with a profile of its own. The password goes in by the address."""
+        page = self.browser.page(self.browser.context(), **size)
+        scheme, rest = self.office.front.split("://")
+        page.go(f"{scheme}://{user}:{user}-pw@{rest}")
+        page.go(self.office.front)
+        page.wait("document.querySelector('#books button')")
+        self.desks[user] = page
+        return page
+
+    def quiet(self):
+        """No script failed, nothing was alerted, and no other server was asked."""
+        for user, page in self.desks.items():
+            loud = [it for it in page.said if "Failed to load resource" not in it]
+            assert not loud, f"{user}: {loud}"
+            assert not page.dialogs, page.dialogs
+            near = (self.office.front, "data:", "blob:", "about:blank")
+            far = [it for it in page.asked if not it.startswith(near) and "@127.0.0.1" not in it]
+            assert not far, far
+
+    def failed(self, name):
+        for user, page in self.desks.items():
+            try:
+                page.picture(self.pictures / f"failed-{name}-{user}.png")
+                page.said.clear()
+            except Exception:
+                pass  # the browser is gone
+
+
+def search(page, text):
+    page.run("(() => { const it = document.querySelector('#search'); it.focus(); it.select(); })()")
+    if text:
+        page.type(text)
+    else:
+        page.run("(() => { const it = document.querySelector('#search'); it.value = '';"
+                 "it.dispatchEvent(new Event('input', { bubbles: true })); })()")
+
+
+def fill(page, label, text):
+    """Types into the field with this label, in place of what it has."""
+    page.wait(f"""(() => {{
+        const label = [...document.querySelectorAll('.form label, dialog label')]
+            .find((it) => it.textContent.trim() === {json.dumps(label)});
+        const field = label && document.getElementById(label.htmlFor);
+        if (!field) return false;
+        field.focus();
+        field.select();
+        return true;
+    }})()""")
+    page.type(text)
+
+
+def up_to_date(page):
+    page.press("Update now")
+    page.wait(f"{STATE}.startsWith('Up to date')")
+    time.sleep(0.4)
+
+
+def toast(page, text):
+    page.wait(f"document.querySelector('#toast').textContent.includes({json.dumps(text)})")
+
+
+@step
+def start(trial):
+    """admin sees all books; ann, who may not list them, adds hers by name."""
+    trial.office.fill("clients", office_cards())
+    trial.office.put("staff", "s1", card("s1", "FN:Ann Keeper", "TEL;TYPE=work:020 7946 0001"))
+    admin = trial.desk("admin")
+    admin.wait(f"{STATE}.startsWith('Up to date')")
+    admin.wait("document.querySelectorAll('#books li').length === 3")
+    admin.wait(f"{ROWS}.length > 10")
+    ann = trial.desk("ann")
+    for book in ("staff", "clients"):
+        ann.press("Add a book")
+        fill(ann, "Name of the book", book)
+        ann.key("Enter")
+        ann.wait(f"document.querySelector('#books').textContent.includes('{book}')")
+    ann.press("All books")
+    ann.wait(f"{STATE}.startsWith('Up to date')")
+    admin.picture(trial.pictures / "start.png")
+
+
+@step
+def look_up(trial):
+    """Three letters or a few digits, and the number is there, without leaving the search."""
+    admin = trial.desks["admin"]
+    for typed, name, number in (
+        ("oha", "Liam O’Hara", "028 9018 0228"),
+        ("mir o", "Miriam O’Hara", "020 7946 0236"),
+        ("ang", "Kerstin Ångström", "+46 8 465 004 42"),
+        ("7946 0317", "Viktor Sokolov", "020 7946 0317"),
+        ("+442079460192", "Hugo Petit", "020 7946 0192"),
+        ("papada", "Xanthe Papadaki", "01632 960338"),
+    ):
+        search(admin, typed)
+        admin.wait(f"{TITLE} === {json.dumps(name)}")
+        assert number in admin.run("document.querySelector('.phones').textContent"), number
+        assert admin.run("document.activeElement.id") == "search"
+    search(admin, "oha")
+    admin.wait(f"{TITLE} === 'Liam O’Hara'")
+    admin.key("ArrowDown")
+    admin.wait(f"{TITLE} === 'Miriam O’Hara'")
+    admin.picture(trial.pictures / "card.png")
+    admin.key("Enter")
+    admin.wait("document.activeElement.id === 'card-name'")
+    admin.key("Escape")
+    admin.wait("document.activeElement.id === 'search'")
+    # The address of a call link, and what the photo is.
+    link = admin.run("document.querySelector('.phones a').getAttribute('href')")
+    assert link == "tel:02079460236", link
+    assert admin.run("document.querySelector('img.photo').src").startswith("data:image/png")
+
+
+@step
+def edit(trial):
+    """An edit keeps what the form doesn't know, and reaches the other desk."""
+    admin, ann = trial.desks["admin"], trial.desks["ann"]
+    before = logical(trial.office.card("clients", "c12")["card"])
+    search(admin, "miriam")
+    admin.wait(f"{TITLE} === 'Miriam O’Hara'")
+    admin.key("F2")
+    fill(admin, "Position", "Finance director")
+    admin.picture(trial.pictures / "form.png")
+    admin.press("Save")
+    admin.wait(f"{TITLE} === 'Miriam O’Hara' && {ROLES}.includes('Finance')")
+    after = logical(trial.office.card("clients", "c12")["card"])
+    changed = [it for it in zip(before, after) if it[0] != it[1]]
+    assert changed == [("TITLE:Head of accounts", "TITLE:Finance director")], changed
+    up_to_date(ann)
+    search(ann, "miriam")
+    ann.wait("document.querySelector('.roles')?.textContent.includes('Finance director')")
+
+
+@step
+def new_card(trial):
+    """A new card by keyboard alone, with two numbers."""
+    admin = trial.desks["admin"]
+    admin.press("clients", "document.querySelector('#books')")
+    admin.key("n", modifiers=1, code="KeyN")
+    admin.wait("document.activeElement.closest('.form')")
+    fill(admin, "Given name", "Petra")
+    fill(admin, "Family name", "van Dijk")
+    assert admin.run("document.querySelector('#field-fn').value") == "Petra van Dijk"
+    admin.run("document.querySelectorAll('fieldset')[1].querySelector('input').focus()")
+    admin.type("+31 20 555 0101")
+    admin.press("Add", "document.querySelectorAll('fieldset')[1]")
+    admin.type("+31 6 5550 0102")
+    fill(admin, "Organisation", "Dijk, Zoon; Co")
+    admin.key("Enter")
+    admin.wait(f"{TITLE} === 'Petra van Dijk'")
+    uid = admin.run("decodeURIComponent(location.hash.split('/')[3])")
+    text = logical(trial.office.card("clients", uid)["card"])
+    assert "ORG:Dijk\\, Zoon\\; Co" in text and "TEL;TYPE=work:+31 20 555 0101" in text, text
+    assert "TEL;TYPE=work:+31 6 5550 0102" in text, text
+    assert "N:van Dijk;Petra;;;" in text, text
+
+
+@step
+def conflict(trial):
+    """Two desks and curl edit one card: both are shown, and somebody chooses."""
+    admin, ann, office = trial.desks["admin"], trial.desks["ann"], trial.office
+    search(ann, "samir")
+    ann.wait(f"{TITLE} === 'Samir Aziz'")
+    ann.key("F2")
+    fill(ann, "Position", "Head dispatcher")
+    ann.run("document.querySelectorAll('.form textarea')[0].focus()")
+    ann.type("Rings before nine")
+    theirs = office.card("clients", "c18")["card"]
+    theirs = theirs.replace("TITLE:Dispatcher", "TITLE:Night dispatcher")
+    theirs = theirs.replace("07700 900290", "07700 900999")
+    office.put("clients", "c18", theirs)
+    ann.press("Save")
+    ann.wait("document.querySelector('dialog table.conflict')")
+    shown = ann.run("document.querySelector('dialog').innerText")
+    for text in ("Head dispatcher", "Night dispatcher", "07700 900999", "Rings before nine"):
+        assert text in shown, (text, shown)
+    ann.press("Save what is chosen")
+    assert ann.run("document.querySelector('dialog .error').textContent"), "nothing was chosen yet"
+    ann.picture(trial.pictures / "conflict.png")
+    # The card changes once more while the question is open.
+    office.put("clients", "c18", theirs.replace("Aziz Couriers", "Aziz & Sons"))
+    ann.run("document.querySelector('.clash td:last-child label').click()")
+    ann.press("Save what is chosen")
+    ann.wait("document.querySelector('dialog')?.innerText.includes('Aziz & Sons')")
+    ann.press("Save what is chosen")
+    ann.wait(f"{TITLE} === 'Samir Aziz'")
+    text = office.card("clients", "c18")["card"]
+    for part in ("TITLE:Night dispatcher", "07700 900999", "NOTE:Rings before nine", "Aziz & Sons"):
+        assert part in text, text
+    up_to_date(admin)
+    search(admin, "samir")
+    admin.wait("document.querySelector('.card')?.innerText.includes('Rings before nine')")
+
+
+@step
+def removed_meanwhile(trial):
+    """Somebody deletes the card that is edited: the edit isn't lost."""
+    ann, office = trial.desks["ann"], trial.office
+    search(ann, "quentin")
+    ann.wait(f"{TITLE} === 'Quentin Marsh'")
+    ann.key("F2")
+    fill(ann, "Position", "Master glazier")
+    office.ask("DELETE", "/clients/cards/c16")
+    ann.press("Save")
+    ann.press("Store it again")
+    ann.wait(f"{TITLE} === 'Quentin Marsh'")
+    assert "Master glazier" in office.card("clients", "c16")["card"]
+
+
+@step
+def lost_reply(trial):
+    """The reply to a PUT is lost: the desk asks again and finds its edit made, once."""
+    admin, office = trial.desks["admin"], trial.office
+    search(admin, "jonas")
+    admin.wait(f"{TITLE} === 'Jonas Weber'")
+    admin.key("F2")
+    fill(admin, "Position", "Chief of scales")
+    was = office.ask("GET", "/clients/tally")["number"]
+    admin.run("""(() => {
+        const real = window.fetch;
+        window.fetch = async (...all) => {
+            const reply = await real(...all);
+            if (all[1]?.method !== 'PUT') return reply;
+            window.fetch = real;
+            throw new TypeError('lost');
+        };
+    })()""")
+    admin.press("Save")
+    toast(admin, "Saved: Jonas Weber")
+    assert "Chief of scales" in office.card("clients", "c09")["card"]
+    assert office.ask("GET", "/clients/tally")["number"] == was + 1
+
+
+@step
+def delete_move_undo(trial):
+    """Delete with undo, a deletion of a card that changed, and a move."""
+    admin, office = trial.desks["admin"], trial.office
+    text = office.card("clients", "c23")["card"]
+    search(admin, "xanthe")
+    admin.wait(f"{TITLE} === 'Xanthe Papadaki'")
+    admin.press("Delete")
+    admin.press("Delete", "document.querySelector('dialog')")
+    admin.press("Undo")
+    admin.wait(f"{TITLE} === 'Xanthe Papadaki'")
+    assert office.card("clients", "c23")["card"] == text
+    office.put("clients", "c23", text.replace("Potter", "Tile maker"))
+    admin.press("Delete")
+    admin.press("Delete", "document.querySelector('dialog')")
+    admin.wait("document.querySelector('dialog h2')?.textContent.includes('changed')")
+    admin.press("Look at it")
+    admin.wait("document.querySelector('.roles').textContent.includes('Tile maker')")
+    admin.press("Move")
+    admin.press("staff", "document.querySelector('dialog')")
+    toast(admin, "Moved to staff")
+    assert "Tile maker" in office.card("staff", "c23")["card"]
+
+
+@step
+def groups(trial):
+    """Members of a group, groups of a person, and the people that the server finds."""
+    admin = trial.desks["admin"]
+    search(admin, "invite")
+    admin.wait(f"{TITLE} === 'Everybody to invite'")
+    admin.press("Who is in it")
+    admin.wait("document.querySelector('.people').innerText.includes('5 people')")
+    people = admin.run("document.querySelector('.people').innerText")
+    assert "Rosa Delgado" in people and "nobody" in people, people
+    admin.picture(trial.pictures / "group.png")
+    admin.press("Accounts and law")
+    admin.wait(f"{TITLE} === 'Accounts and law'")
+    admin.press("Hugo Petit", "document.querySelector('.card')")
+    admin.wait(f"{TITLE} === 'Hugo Petit'")
+    assert "In groups" in admin.run("document.querySelector('.card').innerText")
+
+
+@step
+def files(trial):
+    """Imports of CSV and .vcf, with the first fault in words; the tally; exports."""
+    admin, folder = trial.desks["admin"], trial.office.folder
+    header = "uid,fn,family,given,email,tel,org,note\n"
+    bad = [
+        ("semicolons.csv", header.replace(",", ";") + "a;b\n", "separated by semicolons"),
+        ("header.csv", "name,phone\nA,1\n", "has to be exactly"),
+        ("latin.csv", "uid,vcard\n\udce9,\n".encode("utf-8", "surrogateescape"), "UTF-8"),
+        ("empty.csv", header + "x1,Good One,,,,,,\nx2,,,,,,,\n", "Row 2: The name (fn) is empty."),
+        ("twice.csv", header + "x1,One,,,,,,\nx1,Two,,,,,,\n", "Row 2 (Two): An earlier one"),
+        ("old.vcf", card("v1", "FN:New") + card("v2", "FN:Old Olga").replace("4.0", "3.0"),
+         "Card 2 (Old Olga): It isn't vCard 4.0."),
+        ("cut.vcf", card("v1", "FN:Cut")[:-14], "END:VCARD is missing"),
+    ]
+    admin.press("⋯", MENU)
+    admin.wait("document.querySelector('.tally caption')")
+    admin.picture(trial.pictures / "book.png")
+    admin.press("Import a file")
+    for name, text, words in bad:
+        path = folder / name
+        path.write_bytes(text if isinstance(text, bytes) else text.encode())
+        admin.choose_file("dialog input[type=file]", path)
+        admin.wait(f"{IMPORT} !== ''")
+        if admin.run("!document.querySelector('dialog .bar .main').disabled"):
+            admin.press("Import", "document.querySelector('dialog .bar')")
+        admin.wait(f"{IMPORT}.includes({json.dumps(words)})")
+        admin.picture(trial.pictures / "import.png")
+    good = folder / "good.vcf"
+    good.write_text(
+        "BEGIN:VCARD\nVERSION:4.0\nFN:Vera Without Uid\nTEL:01632 960777\nEND:VCARD\n"
+        "\nBEGIN:VCARD\nVERSION:4.0\nUID:v9\nFN:Walt Nine\nEND:VCARD\n"
+    )
+    admin.choose_file("dialog input[type=file]", good)
+    admin.wait("!document.querySelector('dialog .bar .main').disabled")
+    admin.press("Import", "document.querySelector('dialog .bar')")
+    admin.wait(f"{IMPORT} === '2 new cards, 0 changed, 0 as they were'")
+    admin.press("Close", "document.querySelector('dialog')")
+    admin.press("All books")
+    search(admin, "01632 960777")
+    admin.wait(f"{TITLE} === 'Vera Without Uid'")
+    downloads = folder / "downloads"
+    downloads.mkdir()
+    admin.keep_downloads(downloads)
+    for text, name, has in (
+        ("Export whole", "staff.csv", "uid,vcard\n"),
+        ("Export columns", "staff-columns.csv", header),
+        ("Export the copy", "staff.vcf", "BEGIN:VCARD\r\n"),
+    ):
+        admin.press("⋯", MENU)
+        admin.press(text, "document.querySelector('dialog')")
+        end = time.monotonic() + 40
+        while not (downloads / name).exists() and time.monotonic() < end:
+            admin.run("new Promise((done) => setTimeout(done, 100))")
+        content = (downloads / name).read_bytes().decode()
+        assert content.startswith(has) and "Vera Without Uid" in content, content[:200]
