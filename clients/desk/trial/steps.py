@@ -8,7 +8,7 @@ from office import card, logical
 
 STEPS = {}
 ROWS = "[...document.querySelectorAll('#list [role=option] .name')].map((it) => it.textContent)"
-STATE = "document.querySelector('#state span')?.textContent ?? ''"
+STATE = "(document.querySelector('#state span')?.textContent ?? '')"
 TITLE = "document.querySelector('#card-name')?.textContent"
 ROLES = "document.querySelector('.roles').textContent"
 MENU = "[...document.querySelectorAll('#books li')].find((it) => it.innerText.includes('staff'))"
