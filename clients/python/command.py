@@ -1,6 +1,6 @@
 """The commands of `tosculai.py`.
 
-Usage: python3 tosculai.py COMMAND URL [BOOK ..]     `COMMAND --help` tells more
+Usage: python3 tosculai.py COMMAND URL [BOOK ..]     `COMMAND --help` says more
 
 A user and a password are part of the URL, or of the file ~/.netrc. The status is 0 if all is well,
 1 if the server refused something or a sync left something to look at, 2 if the arguments are wrong,

@@ -51,7 +51,7 @@ export async function syncBook(api, store, name, tell = () => {}, lock = withBoo
   }
 }
 
-/** Keeps all books of the copy up to date, and tells how it goes. */
+/** Keeps all books of the copy up to date, and reports how it goes. */
 export class Follower {
   /**
    * `tell` has the functions `change(book, change)`, `progress(book, done, total)` and
