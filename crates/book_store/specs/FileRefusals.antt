@@ -54,7 +54,8 @@ module _ {D : Type 0} {g : Ghosts D} where
   -- right for them. First `old` was left of them, and now `new`.
   abbrev pub IsCreationFaultAfter : Error → Leftover D g → Leftover D g → OpenFault → Type 0
   IsCreationFaultAfter error old new fault =
-      (files : Files D) → IsLeftOf files error old → IsFileCreationFault (image_of g files) new fault
+      (files : Files D) → IsLeftOf files error old
+      → IsFileCreationFault (image_of g files) new fault
 
   -- The fault of creating a store is that of the database if no files were opened. Otherwise it is
   -- right for files with these bytes, of which this is left.
