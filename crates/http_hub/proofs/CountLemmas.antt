@@ -13,7 +13,7 @@ count_cons : (slot : Option Slot) (slots : List (Option Slot)) → count_by is_s
 count_cons slot slots = sum_by-cons one_if_open slot slots
 
 -- at a place that is written, what was there is no longer counted, and what is there now is
-count_set : (slots : List (Option Slot)) (place : ℕ) (old new : Option Slot) → slice_get slots place ≡ Some old
+pub count_set : (slots : List (Option Slot)) (place : ℕ) (old new : Option Slot) → slice_get slots place ≡ Some old
     → count_by is_some (slice_set slots place new) + one_if_open old ≡ count_by is_some slots + one_if_open new
 count_set [] place old new found = cc found
 count_set (slot ∷ slots) zero old new found =

@@ -6,4 +6,5 @@ pub mod HubLemmas
 pub mod ExpiryLemmas
 pub mod CallLemmas
 pub mod CountLemmas
+pub mod PlaceCountLemmas
 pub mod PieceRequestLemmas

@@ -2,5 +2,6 @@ pub mod HandledRequests
 pub mod FedPieces
 pub mod Links
 pub mod Hubs
+pub mod PlaceCounts
 pub mod HubRuns
 pub mod PieceRequests

@@ -49,7 +49,7 @@ impl Hub {
         ensures { IsFirstTime (λ now. any_expired self.now.slots now patience) result }
     {
         let mut next = None;
-        for slot in &self.slots {
+        for slot in &self.slots[..self.places_end] {
             next = earlier(next, slot_expiry(slot, patience));
         }
         next

@@ -6,6 +6,7 @@ ghost use Rattle.http_hub.specs.Hubs.{EndsAt, FailsAt, IsAt, IsFreeAt, IsOpenAt,
 ghost use Rattle.http_hub.specs.Hubs.{SendsAt, link_at, new_hub, with_slot};
 ghost use Rattle.http_hub.specs.declared.slot.Slot.{Slot};
 
+use crate::places::last_end;
 use crate::slot::Slot;
 use base_types::NoMemory;
 use http_requests::Handler;
@@ -15,18 +16,26 @@ use std::marker::Model;
 /// The open connections of a server, at most as many as it has places. A place is used again once
 /// its connection was ended; each connection has a serial number of its own, which is the number of
 /// connections that were opened before it.
+///
+/// It counts its open connections, and keeps a bound on their places, so that nobody goes over all
+/// places to find them.
 #[derive(Debug, Drop)]
 pub struct Hub {
     pub(crate) slots: Vec<Option<Slot>>,
     pub(crate) opened: u64,
+    pub(crate) open_count: usize,
+    pub(crate) places_end: usize,
 }
 
 impl Model for Hub {
     ghost use Rattle.http_hub.specs.Hubs.{HubValue};
+    ghost use Rattle.http_hub.specs.PlaceCounts.{CountsPlaces};
 
     ghost Value = { HubValue };
 
     ghost view = { λ hub. record { slots = hub.slots.items; opened = hub.opened } };
+
+    ghost invariant = { λ hub. CountsPlaces hub.slots.items hub.open_count hub.places_end };
 }
 
 impl Hub {
@@ -38,7 +47,12 @@ impl Hub {
         for _place in 0..limit {
             slots.push(None)?;
         }
-        Ok(Hub { slots, opened: 0 })
+        Ok(Hub {
+            slots,
+            opened: 0,
+            open_count: 0,
+            places_end: 0,
+        })
     }
 
     /// Takes the connection from the place, which is then free.
@@ -48,17 +62,22 @@ impl Hub {
         ensures freed { self.new ≡ with_slot self.old place None }
     {
         match self.slots[place].take() {
-            Some(slot) => slot,
+            Some(slot) => {
+                self.open_count -= 1;
+                slot
+            }
             None => unreachable!(),
         }
     }
 
     /// Puts the connection at the place.
-    fn put_slot(&mut self, place: usize, slot: Slot)
+    pub(crate) fn put_slot(&mut self, place: usize, slot: Slot)
         requires { IsFreeAt self.old place }
         ensures { self.new ≡ with_slot self.old place (Some slot) }
     {
         self.slots[place] = Some(slot);
+        self.open_count += 1;
+        self.places_end = self.places_end.max(place + 1);
     }
 
     /// Whether the place has a connection.
@@ -149,5 +168,7 @@ impl Hub {
         ensures { EndsAt place self.old self.new }
     {
         self.slots[place] = None;
+        self.open_count -= 1;
+        self.places_end = last_end(&self.slots, self.places_end);
     }
 }

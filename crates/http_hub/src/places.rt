@@ -1,6 +1,7 @@
 //! The places of a hub: how many have a connection, and how one is opened at a free place.
-ghost use Rattle.std.specs.Prelude.{◌≡◌, ◌<◌, None, Some, MatchOption};
+ghost use Rattle.std.specs.Prelude.{◌≡◌, ◌<◌, ◌≤◌, None, Some, MatchOption};
 ghost use Rattle.std.specs.Prelude.{count_by, is_some, length, slice_get};
+ghost use Rattle.http_hub.specs.PlaceCounts.{AreOpenBelow};
 ghost use Rattle.http_hub.specs.Hubs.{IsFreeAt, OpensAt, is_full, most_opened, open_count};
 
 use crate::hub::Hub;
@@ -21,12 +22,38 @@ fn first_free(slots: &[Option<Slot>]) -> Option<usize>
     None
 }
 
+/// A smaller bound on the places that have a connection, if the places below this one are free.
+pub(crate) fn last_end(slots: &[Option<Slot>], end: usize) -> usize
+    requires below { AreOpenBelow slots.now end }
+    requires within { end ≤ length slots.now }
+    ensures below { AreOpenBelow slots.now result }
+    ensures less { result ≤ end }
+{
+    let mut last = end;
+    for _place in 0..end {
+        if last == 0 || slots[last - 1].is_some() {
+            return last;
+        }
+        last -= 1;
+    }
+    last
+}
+
 impl Hub {
     /// The number of open connections.
     pub fn len(&self) -> usize
         ensures { result ≡ open_count self.now }
     {
-        self.slots.iter().filter(|slot| slot.is_some()).count()
+        self.open_count
+    }
+
+    /// A number that the place of every connection is below. It is the least one, unless the
+    /// connection at the last of these places is being served.
+    pub fn places_end(&self) -> usize
+        ensures below { AreOpenBelow self.now.slots result }
+        ensures within { result ≤ length self.now.slots }
+    {
+        self.places_end
     }
 
     /// The number of connections that were opened so far.
@@ -59,10 +86,13 @@ impl Hub {
         ensures { OpensAt place self.old now self.new }
     {
         let serial = self.opened;
-        self.slots[place] = Some(Slot {
-            serial,
-            link: Link::new(alloc, now),
-        });
+        self.put_slot(
+            place,
+            Slot {
+                serial,
+                link: Link::new(alloc, now),
+            },
+        );
         self.opened += 1;
     }
 }

@@ -1,14 +1,16 @@
-use Rattle.std.proofs.Common.{◌≡◌, ◌∙◌, ◌<◌, ◌≤◌, ◌+◌, ◌||◌, List, Option, length, ap, subst, take, arith}
+use Rattle.std.proofs.Common.{◌≡◌, ◌∙◌, ◌<◌, ◌≤◌, ◌+◌, ◌||◌, List, Option, length, ap, sym, subst, take, arith}
 use Rattle.std.proofs.lemmas.List.{take_all}
 use Rattle.http_hub.specs.Hubs.{HubValue, any_expired, is_expired_slot}
 use Rattle.http_hub.specs.Links.{IsFirstTime}
+use Rattle.http_hub.specs.PlaceCounts.{AreOpenBelow}
 use Rattle.http_hub.specs.declared.slot.Slot.{Slot}
 use Rattle.http_hub.proofs.ExpiryLemmas.{any_more, first_time_as}
+use Rattle.http_hub.proofs.PlaceCountLemmas.{any_below}
 use Rattle.http_hub.proofs.hub.Hub.next_expiry.Goals as goal
 
 pub loop-slot-preserved : goal.loop-slot-preserved
 loop-slot-preserved c =
-    let items = c.deref-slot-items.result.now in
+    let items = take c.self.inside.places_end c.deref.result.now in
     let i = c.loop-slot.slot-index in
     let within : i < length items = omega arith in
     first_time_as (λ now. any_expired (take i items) now c.args.patience || is_expired_slot now c.args.patience c.slot-item.result)
@@ -19,8 +21,12 @@ loop-slot-preserved c =
 
 pub returns : goal.returns
 returns c =
-    let items = c.deref-slot-items.result.now in
+    let items = take c.self.inside.places_end c.deref.result.now in
     let i = c.loop-slot.slot-index in
     let past : length items ≤ i = omega arith in
-    let slots_are : items ≡ c.args.self.now.slots = c.deref-slot-items.ensures.value ∙ ap (λ (h : HubValue). h.slots) c.self.view_is in
-    subst (λ (xs : List (Option Slot)). IsFirstTime (λ now. any_expired xs now c.args.patience) c.loop-slot.next) (take_all i items past ∙ slots_are) c.loop-slot.invariant
+    let slots_are : c.deref.result.now ≡ c.args.self.now.slots = c.deref.ensures.value ∙ ap (λ (h : HubValue). h.slots) c.self.view_is in
+    let some : IsFirstTime (λ now. any_expired items now c.args.patience) c.loop-slot.next =
+    subst (λ (xs : List (Option Slot)). IsFirstTime (λ now. any_expired xs now c.args.patience) c.loop-slot.next) (take_all i items past) c.loop-slot.invariant in
+    subst (λ (xs : List (Option Slot)). IsFirstTime (λ now. any_expired xs now c.args.patience) c.loop-slot.next) slots_are
+    (first_time_as (λ now. any_expired items now c.args.patience) (λ now. any_expired c.deref.result.now now c.args.patience) c.loop-slot.next
+    (λ now. any_below c.deref.result.now c.self.inside.places_end now c.args.patience (subst (λ (xs : List (Option Slot)). AreOpenBelow xs c.self.inside.places_end) (sym c.deref.ensures.value) c.self.invariant.below)) some)
