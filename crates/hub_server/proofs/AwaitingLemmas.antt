@@ -1,21 +1,18 @@
 -- When a wait ends.
-use Rattle.std.proofs.Common.{◌≡◌, ◌∙◌, ◌==◌, ◌<◌, ◌≤◌, ◌+◌, ◌^◌, ◌&&◌, ◌||◌, ℕ, Bool, true, false, List, Option, Some, None, refl, sym, ap, subst, arith, get_or, length, min, not, slice_get, IsTrue, nat_le}
-use Rattle.std.proofs.lemmas.Bool.{eqb-false, eqb-true, lt-leb, le-leb}
+use Rattle.std.proofs.Common.{◌≡◌, ◌∙◌, ◌==◌, ◌<◌, ◌+◌, ◌&&◌, ◌||◌, ℕ, Bool, true, false, List, Option, Some, refl, sym, ap, subst, arith, get_or, length, slice_get, IsTrue}
+use Rattle.std.proofs.lemmas.Bool.{eqb-false, eqb-true, le-leb}
 use Rattle.http_hub.specs.Hubs.{IsAt, IsOpenAt, any_expired}
 use Rattle.http_hub.specs.Links.{IsFirstTime}
 use Rattle.http_hub.specs.declared.slot.Slot.{Slot}
 use Rattle.http_hub.proofs.ExpiryLemmas.{first_time_as}
-use Rattle.http_hub.proofs.PlaceLemmas.{found_within}
 use Rattle.hub_server.specs.EndpointRuns.{EndpointRelation, FailsAtWait, ReachesByWait}
 use Rattle.hub_server.specs.Endpoints.EndpointEvent.{WaitEvent, WaitFault}
 use Rattle.hub_server.specs.Seats.{SeatValue, is_awake_turn}
 use Rattle.hub_server.specs.ServerActs.{IsLeft, MayWait, server_after_wait}
-use Rattle.hub_server.specs.Servers.{IsReadyToWait, IsSeatedAt, IsServerDone, ServerValue, has_room, is_due, is_listener_due, later_milliseconds}
+use Rattle.hub_server.specs.Servers.{AreSeatedBelow, IsReadyToWait, IsSeatedAt, IsServerDone, ServerValue, has_room, is_due, is_listener_due}
 use Rattle.hub_server.specs.declared.endpoint_fault.EndpointFault.{EndpointFault}
 use Rattle.hub_server.specs.declared.endpoint_fault.EndpointFault.TheVariants.{Wait}
 use Rattle.hub_server.specs.declared.limits.ServeLimits.{ServeLimits}
-use Rattle.hub_server.specs.declared.listener_state.ListenerState.{ListenerState}
-use Rattle.hub_server.specs.declared.listener_state.ListenerState.TheVariants.{Deferred}
 use Rattle.hub_server.proofs.NeedLemmas.{read_at, same_seat}
 
 -- ---- times
@@ -86,12 +83,10 @@ none_there seen a place slot seat test same seated tells free =
     let yes : test ≡ true = tells.1 (slot, at) in
     cc (free, yes)
 
-left_below : (server : ServerValue) (count : ℕ) → length server.seats ≤ count → NoneLeftBelow server count → (place : ℕ) (slot : Slot) (seat : SeatValue) → IsSeatedAt server place slot seat → is_awake_turn seat.turn ≡ true → ⊥
-left_below server count all none place slot seat seated awake =
-    let within : place < length server.seats = found_within server.seats place seat seated.at_seat in
-    none place slot seat (omega (arith, within, all)) seated awake
+left_below : (server : ServerValue) (count : ℕ) → AreSeatedBelow server count → NoneLeftBelow server count → (place : ℕ) (slot : Slot) (seat : SeatValue) → IsSeatedAt server place slot seat → is_awake_turn seat.turn ≡ true → ⊥
+left_below server count all none place slot seat seated awake = none place slot seat (all place slot seat seated) seated awake
 
-pub none_left : (server : ServerValue) (count : ℕ) → length server.seats ≤ count → NoneLeftBelow server count → (IsTrue false → IsLeft server) × (IsLeft server → IsTrue false)
+pub none_left : (server : ServerValue) (count : ℕ) → AreSeatedBelow server count → NoneLeftBelow server count → (IsTrue false → IsLeft server) × (IsLeft server → IsTrue false)
 none_left server count all none = (λ yes. absurd (cc yes), λ left. absurd (left_below server count all none left.0 left.1 left.2 left.3 left.4))
 
 -- ---- a wait

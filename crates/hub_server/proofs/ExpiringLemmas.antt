@@ -1,5 +1,5 @@
 -- A pass that closes the connections that have expired.
-use Rattle.std.proofs.Common.{◌≡◌, ◌∙◌, ◌<◌, ◌≤◌, ◌+◌, ℕ, Bool, true, false, refl, sym, ap, subst, arith, length, IsTrue}
+use Rattle.std.proofs.Common.{◌≡◌, ◌∙◌, ◌<◌, ◌≤◌, ◌+◌, ℕ, Bool, false, sym, ap, arith, length, IsTrue}
 use Rattle.std.proofs.lemmas.Bool.{false_from_ne_true}
 use Rattle.http_hub.specs.Hubs.{IsAt, IsOpenAt}
 use Rattle.http_hub.specs.Links.{has_expired}
@@ -8,13 +8,12 @@ use Rattle.http_hub.proofs.PlaceLemmas.{found_within}
 use Rattle.hub_server.specs.EndpointRuns.{EndpointRelation, ReachesByActs}
 use Rattle.hub_server.specs.Endpoints.EndpointEvent.{CloseEvent}
 use Rattle.hub_server.specs.Expiries.{ExpiresAt, HasExpiredAt, KeepsTurnsOver}
-use Rattle.hub_server.specs.Needs.{KeepsOthers, LeavesPlace}
+use Rattle.hub_server.specs.Needs.{LeavesPlace}
 use Rattle.hub_server.specs.Seats.{SeatValue}
-use Rattle.hub_server.specs.Servers.{IsSeatedAt, NoneExpired, ServerValue}
+use Rattle.hub_server.specs.Servers.{AreSeatedBelow, IsSeatedAt, NoneExpired, ServerValue}
 use Rattle.hub_server.specs.declared.limits.ServeLimits.{ServeLimits}
-use Rattle.hub_server.proofs.KeepingLemmas.{all_unexpired, fact_more, left_is_free, turns_left}
-use Rattle.hub_server.proofs.NeedLemmas.{same_slot, seat_there}
-use Rattle.hub_server.proofs.PlaceCountLemmas.{acts_places}
+use Rattle.hub_server.proofs.KeepingLemmas.{all_unexpired, fact_more, left_is_free, seated_kept, seated_more, turns_left}
+use Rattle.hub_server.proofs.NeedLemmas.{seat_there}
 use Rattle.hub_server.proofs.PlaceStepLemmas.{acts_expired, keeps_none, leaves_keeps}
 use Rattle.hub_server.proofs.RunLemmas.{acts_none, acts_on}
 
@@ -57,16 +56,19 @@ module _ {Endpoint : Type 0} (calls : EndpointRelation Endpoint) where
 
   -- ---- all places in order
 
-  pub record ExpiresBelow (limits : ServeLimits) (count : ℕ) (a : ServerValue) (s : Endpoint) (b : ServerValue) (t : Endpoint) : Type 0 where
+  pub record ExpiresBelow (limits : ServeLimits) (end count : ℕ) (a : ServerValue) (s : Endpoint) (b : ServerValue) (t : Endpoint) : Type 0 where
     pub acts : ReachesByActs calls limits a s b t
     pub turns : KeepsTurnsOver a b
     pub below : (place : ℕ) (slot : Slot) (seat : SeatValue) → place < count → IsSeatedAt b place slot seat → has_expired slot.link b.time limits.patience ≡ false
+    pub seated : AreSeatedBelow b end
 
-  pub expires_nothing : (limits : ServeLimits) (a : ServerValue) (s : Endpoint) → ExpiresBelow limits 0 a s a s
-  expires_nothing limits a s = record { acts = acts_none calls limits a s; turns = λ before. before; below = λ place slot seat within seated. absurd (let no : place < 0 = within in omega (arith, no)) }
+  pub expires_nothing : (limits : ServeLimits) (end : ℕ) (a : ServerValue) (s : Endpoint) → AreSeatedBelow a end → ExpiresBelow limits end 0 a s a s
+  expires_nothing limits end a s seated_below = record { acts = acts_none calls limits a s; turns = λ before. before; below = λ place slot seat within seated. absurd (let no : place < 0 = within in omega (arith, no)); seated = seated_below }
 
-  pub expires_more : (limits : ServeLimits) (place : ℕ) (a b c : ServerValue) (s t u : Endpoint) → ExpiresBelow limits place a s b t → ExpiresAt calls limits place b t c u → ExpiresBelow limits (place + 1) a s c u
-  expires_more limits place a b c s t u far next = record {
+  pub expires_more : (limits : ServeLimits) (end place : ℕ) (a b c : ServerValue) (s t u : Endpoint) → place < end → ExpiresBelow limits end place a s b t → ExpiresAt calls limits place b t c u
+      → ExpiresBelow limits end (place + 1) a s c u
+  expires_more limits end place a b c s t u here far next = record {
+    seated = seated_kept place end b c next.others here far.seated;
     acts = acts_on calls limits a b c s t u far.acts next.acts;
     turns = λ before. next.turns (far.turns before);
     below = fact_more (λ slot seat. has_expired slot.link c.time limits.patience ≡ false) place b c next.others
@@ -74,7 +76,5 @@ module _ {Endpoint : Type 0} (calls : EndpointRelation Endpoint) where
         (λ slot seat seated. false_from_ne_true (has_expired slot.link c.time limits.patience) (λ yes. next.not_expired (record { slot = slot; seat = seat; seated = seated; expired = yes })));
   }
 
-  pub expires_all : (limits : ServeLimits) (count : ℕ) (a b : ServerValue) (s t : Endpoint) → length a.seats ≤ count → ExpiresBelow limits count a s b t → NoneExpired limits b
-  expires_all limits count a b s t all far =
-      let places : length b.seats ≡ length a.seats = acts_places calls limits a b s t far.acts in
-      all_unexpired limits b count (omega (arith, all, places)) far.below
+  pub expires_all : (limits : ServeLimits) (end count : ℕ) (a b : ServerValue) (s t : Endpoint) → end ≤ count → ExpiresBelow limits end count a s b t → NoneExpired limits b
+  expires_all limits end count a b s t all far = all_unexpired limits b count (seated_more b end count far.seated all) far.below

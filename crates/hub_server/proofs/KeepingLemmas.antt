@@ -1,14 +1,14 @@
 -- What a change of one place keeps of all places.
-use Rattle.std.proofs.Common.{◌≡◌, ◌∙◌, ◌==◌, ◌<◌, ◌≤◌, ◌+◌, ℕ, Bool, true, false, List, [], ◌∷◌, Option, Some, None, refl, sym, ap, subst, arith, length, slice_get, slice_set}
+use Rattle.std.proofs.Common.{◌≡◌, ◌∙◌, ◌==◌, ◌<◌, ◌≤◌, ◌+◌, ℕ, Bool, true, false, Some, None, refl, sym, ap, subst, arith, slice_get, slice_set}
 use Rattle.std.proofs.lemmas.Bool.{eqb-false, eqb-true}
-use Rattle.http_hub.specs.Hubs.{HubValue, IsAt, IsOpenAt, with_slot}
+use Rattle.http_hub.specs.Hubs.{HubValue, with_slot}
 use Rattle.http_hub.specs.Links.{has_expired}
 use Rattle.http_hub.specs.declared.slot.Slot.{Slot}
-use Rattle.http_hub.proofs.PlaceLemmas.{found_within, set_same}
-use Rattle.hub_server.specs.Expiries.{KeepsNoneExpired, KeepsTurnsOver}
+use Rattle.http_hub.proofs.PlaceLemmas.{set_same}
+use Rattle.hub_server.specs.Expiries.{KeepsTurnsOver}
 use Rattle.hub_server.specs.Needs.{HasTurnAt, KeepsOthers, LeavesPlace}
-use Rattle.hub_server.specs.Seats.{HasTurn, IsTurnOver, SeatValue, new_seat}
-use Rattle.hub_server.specs.Servers.{AreTurnsOver, IsSeatedAt, NoneExpired, ServerValue, with_seat}
+use Rattle.hub_server.specs.Seats.{IsTurnOver, SeatValue}
+use Rattle.hub_server.specs.Servers.{AreSeatedBelow, AreTurnsOver, IsSeatedAt, NoneExpired, ServerValue}
 use Rattle.hub_server.specs.declared.limits.ServeLimits.{ServeLimits}
 use Rattle.hub_server.proofs.PlaceStepLemmas.{leaves_keeps}
 
@@ -54,6 +54,19 @@ module _ (Fact : Slot → SeatValue → Type 0) (place : ℕ) (a b : ServerValue
   pub fact_more : (other : ℕ) (slot : Slot) (seat : SeatValue) → other < place + 1 → IsSeatedAt b other slot seat → Fact slot seat
   fact_more other slot seat within seated = below_by other slot seat (other == place) refl within seated
 
+-- ---- places below a number
+
+pub seated_more : (a : ServerValue) (end count : ℕ) → AreSeatedBelow a end → end ≤ count → AreSeatedBelow a count
+seated_more a end count below more place slot seat seated = let within : place < end = below place slot seat seated in omega (arith, within, more)
+
+-- a change of a place below it keeps this
+pub seated_kept : (place end : ℕ) (a b : ServerValue) → KeepsOthers place a b → place < end → AreSeatedBelow a end → AreSeatedBelow b end
+seated_kept place end a b keeps here below other slot seat seated = by_place (other == place) refl
+  where
+    by_place : (t : Bool) → (other == place) ≡ t → other < end
+    by_place true is = let same : other ≡ place = eqb-true other place is in omega (arith, same, here)
+    by_place false is = below other slot seat (seated_before place other a b slot seat keeps (eqb-false other place is) seated)
+
 -- ---- a place that its connection leaves
 
 -- the place is free
@@ -80,14 +93,11 @@ no_turn_more place a b keeps below here other within has = by_place (other == pl
         below other (omega (arith, within, apart)) (turn_before place other a b keeps apart has)
 
 -- all places had their turn
-pub turns_over : (a : ServerValue) (count : ℕ) → length a.seats ≤ count → ((other : ℕ) → other < count → HasTurnAt a other → ⊥) → AreTurnsOver a
+pub turns_over : (a : ServerValue) (count : ℕ) → AreSeatedBelow a count → ((other : ℕ) → other < count → HasTurnAt a other → ⊥) → AreTurnsOver a
 turns_over a count all below place slot seat seated has =
-    let within : place < length a.seats = found_within a.seats place seat seated.at_seat in
-    below place (omega (arith, within, all)) (record { slot = slot; seat = seat; seated = seated; has_turn = has })
+    below place (all place slot seat seated) (record { slot = slot; seat = seat; seated = seated; has_turn = has })
 
 -- no place has a connection that has expired
-pub all_unexpired : (limits : ServeLimits) (a : ServerValue) (count : ℕ) → length a.seats ≤ count
+pub all_unexpired : (limits : ServeLimits) (a : ServerValue) (count : ℕ) → AreSeatedBelow a count
     → ((place : ℕ) (slot : Slot) (seat : SeatValue) → place < count → IsSeatedAt a place slot seat → has_expired slot.link a.time limits.patience ≡ false) → NoneExpired limits a
-all_unexpired limits a count all below place slot seat seated =
-    let within : place < length a.seats = found_within a.seats place seat seated.at_seat in
-    below place slot seat (omega (arith, within, all)) seated
+all_unexpired limits a count all below place slot seat seated = below place slot seat (all place slot seat seated) seated

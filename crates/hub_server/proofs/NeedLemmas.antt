@@ -1,5 +1,5 @@
 -- What the connection at a place needs, and what a hub shows of it.
-use Rattle.std.proofs.Common.{◌≡◌, ◌∙◌, ◌<◌, ℕ, List, [], ◌∷◌, Option, Some, None, ap, length, get_or, slice_get, arith}
+use Rattle.std.proofs.Common.{◌≡◌, ◌∙◌, ◌<◌, ℕ, List, [], ◌∷◌, Option, Some, ap, length, get_or, slice_get, arith}
 use Rattle.std.proofs.lemmas.Option.{slice_get-get_or}
 use Rattle.http_hub.specs.HubRuns.{pending_of}
 use Rattle.http_hub.specs.Hubs.{HubValue, IsAt, link_at, link_in}

@@ -6,7 +6,7 @@ use Rattle.hub_server.specs.EndpointRuns.{ActRuns, EndpointRelation, ReachesByAc
 use Rattle.hub_server.specs.Seats.{SeatValue, new_seat, seat_after_step, seat_asleep, seats_after_wait}
 use Rattle.hub_server.specs.ServerActs.{DoesAct, ServerAct}
 use Rattle.hub_server.specs.ServerActs.ServerAct.{Awaits, AcceptsAt, FindsNoConnection, DefersAccepting, ReadsFrom, FindsNoInput, WritesTo, FindsNoOutput, ClosesAt}
-use Rattle.hub_server.specs.ServerRuns.{DoesServerStep, FeedsNext, ReachesBySteps, ServerRuns, ServerStep}
+use Rattle.hub_server.specs.ServerRuns.{DoesServerStep, ReachesBySteps, ServerRuns, ServerStep}
 use Rattle.hub_server.specs.ServerRuns.ServerStep.{Acts, Feeds}
 use Rattle.hub_server.specs.Servers.{ServerValue}
 use Rattle.hub_server.specs.declared.limits.ServeLimits.{ServeLimits}

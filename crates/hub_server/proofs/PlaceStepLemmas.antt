@@ -1,17 +1,16 @@
 -- The steps of the connection at one place.
-use Rattle.std.proofs.Common.{◌≡◌, ◌∙◌, ◌⊎◌, ◌<◌, ◌≤◌, ◌-◌, ℕ, suc, Bool, true, false, List, [], Option, Some, None, Result, Ok, Err, refl, sym, ap, subst, inl, inr, arith, drop, length, slice_get, slice_set}
+use Rattle.std.proofs.Common.{◌≡◌, ◌∙◌, ◌⊎◌, ◌<◌, ◌≤◌, ℕ, true, List, Option, Some, None, Result, Ok, Err, refl, sym, ap, subst, inl, inr, arith, drop, length, slice_get}
 use Rattle.std.specs.Prelude.{IfOk, OnErr}
 use Rattle.std.proofs.lemmas.List.{set-set}
 use Rattle.http_requests.specs.HandlerRuns.{HandlerRelation, FaultReplies}
-use Rattle.http_hub.specs.Hubs.{EndsAt, FailsAt, HubValue, ReceivesAt, SendsAt, with_slot}
+use Rattle.http_hub.specs.Hubs.{FailsAt, HubValue, ReceivesAt, SendsAt, with_slot}
 use Rattle.http_hub.specs.Links.{has_expired, link_after_failure, link_after_sent}
 use Rattle.http_hub.specs.declared.slot.Slot.{Slot}
 use Rattle.http_hub.proofs.PlaceLemmas.{set_same, set_other}
 use Rattle.hub_server.specs.EndpointRuns.{EndpointRelation, ReachesByActs}
 use Rattle.hub_server.specs.Endpoints.EndpointEvent.{CloseEvent, ReadEvent, ReadNone, ReadEnd, ReadFault, WriteEvent, WriteNone, WriteFault}
-use Rattle.hub_server.specs.Needs.{HasTurnAt, KeepsOthers, LeavesPlace, NeedsClosing, NeedsFeeding, NeedsInput, NeedsOutput, steps_left, steps_left_of_seat, steps_left_of_turn}
-use Rattle.hub_server.specs.Seats.{HasTurn, ReadsIntoSeat, SeatValue, most_steps, most_read, new_seat, next_piece, seat_after_step, seat_asleep, turn_after_step}
-use Rattle.hub_server.specs.ServerActs.{EndCause, HasCause}
+use Rattle.hub_server.specs.Needs.{KeepsOthers, LeavesPlace, NeedsClosing, NeedsFeeding, NeedsInput, NeedsOutput, steps_left, steps_left_of_seat, steps_left_of_turn}
+use Rattle.hub_server.specs.Seats.{HasTurn, ReadsIntoSeat, SeatValue, most_read, new_seat, next_piece, seat_after_step, seat_asleep, turn_after_step}
 use Rattle.hub_server.specs.ServerActs.EndCause.{InputEnded, ReadFailed, WriteFailed, SessionClosed, Expired}
 use Rattle.hub_server.specs.ServerActs.ServerAct.{ReadsFrom, FindsNoInput, WritesTo, FindsNoOutput, ClosesAt}
 use Rattle.hub_server.specs.Servers.{IsSeatedAt, ServerValue, with_seat}
@@ -20,8 +19,8 @@ use Rattle.hub_server.specs.declared.limits.ServeLimits.{ServeLimits}
 use Rattle.hub_server.specs.declared.outcome.Received.{Received}
 use Rattle.hub_server.specs.declared.outcome.Received.TheVariants as received
 use Rattle.hub_server.specs.declared.turn.Turn.{Turn}
-use Rattle.hub_server.specs.declared.turn.Turn.TheVariants.{Asleep, Awake}
-use Rattle.hub_server.proofs.NeedLemmas.{same_seat, same_slot}
+use Rattle.hub_server.specs.declared.turn.Turn.TheVariants.{Asleep}
+use Rattle.hub_server.proofs.NeedLemmas.{same_seat}
 use Rattle.hub_server.proofs.RunLemmas.{act_one, act_two}
 use Rattle.hub_server.proofs.SeatLemmas.{piece_some, piece_within}
 

@@ -5,7 +5,7 @@ use Rattle.hub_server.specs.Endpoints.{EndpointEvent}
 use Rattle.hub_server.specs.EndpointRuns.{ActRuns, EndpointRelation, EndpointRuns, ReachesByActs, ReachesByWait, events_of_acts, wait_count_of_act, wait_count_of_acts}
 use Rattle.hub_server.specs.ServerActs.{DoesAct, ServerAct, events_of_act}
 use Rattle.hub_server.specs.ServerActs.ServerAct.{Awaits}
-use Rattle.hub_server.specs.ServerRuns.{DoesServerStep, FeedsNext, ReachesBySteps, ServerRuns, ServerStep, events_of_step, events_of_steps, wait_count}
+use Rattle.hub_server.specs.ServerRuns.{FeedsNext, ReachesBySteps, ServerRuns, ServerStep, events_of_step, events_of_steps, wait_count}
 use Rattle.hub_server.specs.ServerRuns.ServerStep.{Acts, Feeds}
 use Rattle.hub_server.specs.Servers.{ServerValue}
 use Rattle.hub_server.specs.declared.limits.ServeLimits.{ServeLimits}

@@ -1,12 +1,12 @@
 -- Every run of a server is a run of its hub.
-use Rattle.std.proofs.Common.{◌≡◌, ◌∙◌, ◌==◌, ◌⊎◌, ◌<◌, ◌≤◌, ◌+◌, ℕ, zero, suc, Bool, true, false, List, [], ◌∷◌, ◌++◌, Option, Some, None, refl, sym, ap, subst, inl, inr, append_assoc, arith, cond, drop, length, replicate, slice_get, slice_set, take}
+use Rattle.std.proofs.Common.{◌≡◌, ◌∙◌, ◌==◌, ◌⊎◌, ◌<◌, ◌≤◌, ℕ, zero, suc, Bool, true, false, List, [], ◌∷◌, ◌++◌, Option, Some, None, refl, sym, ap, subst, inl, inr, append_assoc, arith, cond, drop, length, slice_get, slice_set, take}
 use Rattle.std.proofs.lemmas.Bool.{eqb-false, eqb-true, eq-eqb, ne_eqb}
 use Rattle.std.proofs.lemmas.List.{append-nil, length-take-le, take-append-drop}
 use Rattle.http_requests.specs.HandlerRuns.{HandlerRelation, FaultReplies}
 use Rattle.http_hub.specs.FedPieces.{FedPiece, octets_in, pieces_of}
-use Rattle.http_hub.specs.HubRuns.{AreAllLinks, DoesStep, HubRuns, HubStep, pieces_in, sent_to}
+use Rattle.http_hub.specs.HubRuns.{DoesStep, HubRuns, HubStep, pieces_in, sent_to}
 use Rattle.http_hub.specs.HubRuns.HubStep.{Opens, Receives, Fails, Sends, Ends}
-use Rattle.http_hub.specs.Hubs.{EndsAt, FailsAt, HubValue, IsAt, OpensAt, ReceivesAt, SendsAt, new_hub, with_link, with_slot}
+use Rattle.http_hub.specs.Hubs.{EndsAt, FailsAt, HubValue, IsAt, OpensAt, ReceivesAt, SendsAt, with_link, with_slot}
 use Rattle.http_hub.specs.Links.{LinkValue, link_after_failure, link_after_sent, new_link}
 use Rattle.http_hub.specs.declared.slot.Slot.{Slot}
 use Rattle.http_hub.proofs.HubLemmas.{hubs_separate_connections}
@@ -14,10 +14,10 @@ use Rattle.http_hub.proofs.PlaceLemmas.{set_other, set_same}
 use Rattle.hub_server.specs.Seats.{SeatValue, new_seat, next_piece, seat_after_step, seat_asleep}
 use Rattle.hub_server.specs.ServerActs.{AcceptsConnection, ClosesConnection, DoesAct, EndCause, ReadsOctets, ServerAct, WritesOctets}
 use Rattle.hub_server.specs.ServerActs.ServerAct.{Awaits, AcceptsAt, FindsNoConnection, DefersAccepting, ReadsFrom, FindsNoInput, WritesTo, FindsNoOutput, ClosesAt}
-use Rattle.hub_server.specs.ServerLaws.{IsRunOfHub, ServerRunsAreHubRuns, input_of, octets_read_by, octets_written_by, output_of}
-use Rattle.hub_server.specs.ServerRuns.{DoesServerStep, FeedsNext, ServerRuns, ServerStep}
+use Rattle.hub_server.specs.ServerLaws.{ServerRunsAreHubRuns, input_of, octets_read_by, octets_written_by, output_of}
+use Rattle.hub_server.specs.ServerRuns.{ServerRuns, ServerStep}
 use Rattle.hub_server.specs.ServerRuns.ServerStep.{Acts, Feeds}
-use Rattle.hub_server.specs.Servers.{IsSeatedAt, ServerValue, new_server, with_listener, with_seat}
+use Rattle.hub_server.specs.Servers.{IsSeatedAt, ServerValue, new_server, with_seat}
 use Rattle.hub_server.specs.declared.limits.ServeLimits.{ServeLimits}
 use Rattle.hub_server.proofs.NumberLemmas.{AreNumbered, none_there, numbered_changed, numbered_ended, numbered_new, numbered_opened}
 use Rattle.hub_server.proofs.NeedLemmas.{same_slot}

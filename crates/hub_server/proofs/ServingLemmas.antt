@@ -1,5 +1,5 @@
 -- The rounds of a server.
-use Rattle.std.proofs.Common.{◌≡◌, ◌∙◌, ◌<◌, ◌≤◌, ◌+◌, ◌&&◌, ℕ, zero, suc, Bool, true, false, List, Option, Some, None, Result, Ok, Err, refl, sym, ap, subst, inl, inr, arith, length, replicate, slice_get}
+use Rattle.std.proofs.Common.{◌≡◌, ◌∙◌, ◌<◌, ◌≤◌, ◌+◌, ℕ, zero, suc, false, Some, None, Result, Ok, Err, refl, sym, subst, inl, inr, arith, length, replicate, slice_get}
 use Rattle.std.specs.Prelude.{OnOk}
 use Rattle.std.proofs.lemmas.Bool.{and_right}
 use Rattle.std.proofs.lemmas.List.{length-replicate}
@@ -12,15 +12,15 @@ use Rattle.hub_server.specs.Expiries.{KeepsNoneExpired, KeepsTurnsOver}
 use Rattle.hub_server.specs.Needs.{HasTurnAt, KeepsOthers}
 use Rattle.hub_server.specs.Rounds.{FailsAfterSteps, FailsInRound, ServesRound}
 use Rattle.hub_server.specs.Seats.{new_seat}
-use Rattle.hub_server.specs.ServedEndpoints.{FailsToAccept, FailsToAwait, StopsAtEndpoint, most_waits}
+use Rattle.hub_server.specs.ServedEndpoints.{FailsToAccept, FailsToAwait, StopsAtEndpoint}
 use Rattle.hub_server.specs.ServerRuns.{ReachesBySteps}
-use Rattle.hub_server.specs.Servers.{AreTurnsOver, IsReadyToWait, IsSeatedAt, NoneExpired, ServerValue, accepts_at, has_room, new_server}
+use Rattle.hub_server.specs.Servers.{AreSeatedBelow, AreTurnsOver, IsReadyToWait, NoneExpired, ServerValue, accepts_at, has_room, new_server}
 use Rattle.hub_server.specs.declared.endpoint_fault.EndpointFault.{EndpointFault}
 use Rattle.hub_server.specs.declared.endpoint_fault.EndpointFault.TheVariants as fault
 use Rattle.hub_server.specs.declared.limits.ServeLimits.{ServeLimits}
-use Rattle.hub_server.proofs.KeepingLemmas.{no_turn_more, turns_over}
+use Rattle.hub_server.proofs.KeepingLemmas.{no_turn_more, seated_kept, seated_more, turns_over}
 use Rattle.hub_server.proofs.PlaceCountLemmas.{steps_places}
-use Rattle.hub_server.proofs.PlaceStepLemmas.{StepsAt, keeps_none, keeps_on}
+use Rattle.hub_server.proofs.PlaceStepLemmas.{keeps_none, keeps_on}
 use Rattle.hub_server.proofs.RunLemmas.{steps_none, steps_of_acts, steps_of_wait, steps_on}
 
 pub on_ok_four : {A E : Type 0} (P Q R T U : Type 0) (result : Result A E) → (P → Q → R → T → U) → OnOk result P → OnOk result Q → OnOk result R → OnOk result T → OnOk result U
@@ -63,28 +63,28 @@ module _ {S Endpoint : Type 0} (does : HandlerRelation S) (fault_reply : FaultRe
 
   -- ---- all places in order
 
-  pub record ServesBelow (count : ℕ) (a : ServerValue) (w : S) (s : Endpoint) (b : ServerValue) (v : S) (t : Endpoint) : Type 0 where
+  pub record ServesBelow (end count : ℕ) (a : ServerValue) (w : S) (s : Endpoint) (b : ServerValue) (v : S) (t : Endpoint) : Type 0 where
     pub steps : (limits : ServeLimits) → ReachesBySteps does fault_reply calls limits 0 a w s b v t
     pub below : (place : ℕ) → place < count → HasTurnAt b place → ⊥
+    pub seated : AreSeatedBelow b end
 
-  pub places_none : (a : ServerValue) (w : S) (s : Endpoint) → ServesBelow 0 a w s a w s
-  places_none a w s = record {
+  pub places_none : (end : ℕ) (a : ServerValue) (w : S) (s : Endpoint) → AreSeatedBelow a end → ServesBelow end 0 a w s a w s
+  places_none end a w s seated = record {
     steps = λ limits. steps_none calls does fault_reply limits a w s;
     below = λ place within has. let no : place < 0 = within in omega (arith, no);
+    seated = seated;
   }
 
-  pub places_more : (place : ℕ) (a b c : ServerValue) (w v x : S) (s t u : Endpoint) → ServesBelow place a w s b v t → ((limits : ServeLimits) → ReachesBySteps does fault_reply calls limits 0 b v t c x u) → KeepsOthers place b c
-      → (HasTurnAt c place → ⊥) → ServesBelow (place + 1) a w s c x u
-  places_more place a b c w v x s t u far steps others here = record {
+  pub places_more : (end place : ℕ) (a b c : ServerValue) (w v x : S) (s t u : Endpoint) → place < end → ServesBelow end place a w s b v t → ((limits : ServeLimits) → ReachesBySteps does fault_reply calls limits 0 b v t c x u) → KeepsOthers place b c
+      → (HasTurnAt c place → ⊥) → ServesBelow end (place + 1) a w s c x u
+  places_more end place a b c w v x s t u within far steps others here = record {
     steps = λ limits. steps_on calls does fault_reply limits 0 0 a b c w v x s t u (far.steps limits) (steps limits);
     below = no_turn_more place b c others far.below here;
+    seated = seated_kept place end b c others within far.seated;
   }
 
-  pub places_over : (count : ℕ) (a b : ServerValue) (w v : S) (s t : Endpoint) → length a.seats ≤ count → ServesBelow count a w s b v t → AreTurnsOver b
-  places_over count a b w v s t all far =
-      let limits : ServeLimits = record { connections = 0; together = 0; patience = 0 } in
-      let places : length b.seats ≡ length a.seats = steps_places does fault_reply calls limits 0 a b w v s t (far.steps limits) in
-      turns_over b count (omega (arith, all, places)) far.below
+  pub places_over : (end count : ℕ) (a b : ServerValue) (w v : S) (s t : Endpoint) → end ≤ count → ServesBelow end count a w s b v t → AreTurnsOver b
+  places_over end count a b w v s t all far = turns_over b count (seated_more b end count far.seated all) far.below
 
   -- ---- a round
 

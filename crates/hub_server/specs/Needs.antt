@@ -1,5 +1,5 @@
 -- What a connection of a server needs next. This project's own.
-use Rattle.std.specs.Prelude.{◌≡◌, ◌<◌, ◌-◌, ℕ, List, [], Option, Some, None, slice_get}
+use Rattle.std.specs.Prelude.{◌≡◌, ◌-◌, ℕ, [], Option, Some, None, slice_get}
 use Rattle.http_hub.specs.Hubs.{EndsAt, HubValue}
 use Rattle.http_hub.specs.declared.slot.Slot.{Slot}
 use Rattle.hub_server.specs.Seats.{HasTurn, SeatValue, most_steps, new_seat}

@@ -1,5 +1,5 @@
 -- What a server keeps of the connection at a place, beside its link. This project's own.
-use Rattle.std.specs.Prelude.{◌≡◌, ◌<◌, ◌≤◌, ℕ, suc, Bool, true, false, List, [], ◌∷◌, map, length}
+use Rattle.std.specs.Prelude.{◌≡◌, ◌<◌, ◌≤◌, ℕ, suc, Bool, true, false, List, [], ◌∷◌, length}
 use Rattle.std.specs.Prelude.{nat_eq, if◌then◌else◌}
 use Rattle.hub_server.specs.Endpoints.{EndpointEvent}
 use Rattle.hub_server.specs.Endpoints.EndpointEvent.{ReadEvent, ReadNone, ReadEnd, ReadFault}

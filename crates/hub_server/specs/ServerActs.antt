@@ -1,6 +1,6 @@
 -- What a server does at its endpoint without its handler. This project's own.
-use Rattle.std.specs.Prelude.{◌≡◌, ◌<◌, ◌≤◌, ◌↔◌, ◌⊎◌, ℕ, Bool, true, false, List, [], ◌∷◌, Option}
-use Rattle.std.specs.Prelude.{Some, None, IsTrue, length, slice_get, if◌then◌else◌}
+use Rattle.std.specs.Prelude.{◌≡◌, ◌<◌, ◌≤◌, ◌↔◌, ℕ, Bool, true, List, [], ◌∷◌, Option}
+use Rattle.std.specs.Prelude.{Some, None, IsTrue, length, if◌then◌else◌}
 use Rattle.hub_server.specs.Endpoints.{EndpointEvent}
 use Rattle.hub_server.specs.Endpoints.EndpointEvent.{WaitEvent, AcceptEvent, AcceptNone}
 use Rattle.hub_server.specs.Endpoints.EndpointEvent.{AcceptLater}

@@ -1,5 +1,5 @@
 -- Runs of a server: what it does at its endpoint and with its handler. This project's own.
-use Rattle.std.specs.Prelude.{◌≡◌, ◌⊎◌, ◌+◌, ℕ, suc, List, [], ◌∷◌, ◌++◌, Option, drop, length}
+use Rattle.std.specs.Prelude.{◌≡◌, ◌⊎◌, ◌+◌, ℕ, List, [], ◌∷◌, ◌++◌, drop, length}
 use Rattle.http_requests.specs.HandlerRuns.{HandlerRelation, FaultReplies}
 use Rattle.http_hub.specs.Hubs.{FailsAt, HubValue, ReceivesAt}
 use Rattle.http_hub.specs.declared.slot.Slot.{Slot}

@@ -1,5 +1,5 @@
 -- A server with many connections: its state, and when it is to act. This project's own.
-use Rattle.std.specs.Prelude.{◌≡◌, ◌+◌, ◌&&◌, ◌||◌, ℕ, Bool, true, false, List, [], Option, Some}
+use Rattle.std.specs.Prelude.{◌≡◌, ◌+◌, ◌<◌, ◌&&◌, ◌||◌, ℕ, Bool, true, false, List, Some}
 use Rattle.std.specs.Prelude.{not, nat_le, nat_lt, replicate, slice_get, slice_set}
 use Rattle.hub_server.specs.Seats.{IsTurnOver, SeatValue, new_seat}
 use Rattle.hub_server.specs.declared.listener_state.ListenerState.{ListenerState}
@@ -32,6 +32,11 @@ pub record IsSeatedAt (server : ServerValue) (place : ℕ) (slot : Slot) (seat :
     : Type 0 where
   pub at_slot : IsAt server.hub place slot
   pub at_seat : slice_get server.seats place ≡ Some seat
+
+-- every connection has a place below this number
+abbrev pub AreSeatedBelow : ServerValue → ℕ → Type 0
+AreSeatedBelow server end = (place : ℕ) (slot : Slot) (seat : SeatValue)
+    → IsSeatedAt server place slot seat → place < end
 
 -- the server with this hub and this seat at the place
 abbrev pub with_seat : ServerValue → ℕ → HubValue → SeatValue → ServerValue

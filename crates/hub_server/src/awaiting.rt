@@ -61,7 +61,7 @@ impl Server {
     fn is_left(&self) -> bool
         ensures { IsTrue result ↔ IsLeft self.now }
     {
-        for place in 0..self.seats.len() {
+        for place in 0..self.places_end() {
             if self.hub.is_open(place) && self.seats[place].is_awake() {
                 return true;
             }

@@ -39,7 +39,7 @@ impl Server {
         ensures none_expired { NoneExpired limits self.new }
         ensures turns { KeepsTurnsOver self.old self.new }
     {
-        for place in 0..self.seats.len() {
+        for place in 0..self.places_end() {
             self.expire_at(endpoint, place, limits);
         }
     }

@@ -1,5 +1,5 @@
 //! A server with many connections: one step of one of them.
-ghost use Rattle.std.specs.Prelude.{◌≡◌, ◌<◌, ◌↔◌, ℕ, List, length, IfOk, IsTrue};
+ghost use Rattle.std.specs.Prelude.{◌≡◌, ◌<◌, ◌≤◌, ◌↔◌, ℕ, List, length, IfOk, IsTrue};
 ghost use Rattle.http_hub.specs.Hubs.{IsOpenAt};
 ghost use Rattle.hub_server.specs.EndpointRuns.{ReachesByActs};
 ghost use Rattle.hub_server.specs.Endpoints.EndpointEvent.{CloseEvent};
@@ -7,7 +7,7 @@ ghost use Rattle.hub_server.specs.Needs.{HasTurnAt, IsNeed, KeepsOthers, LeavesP
 ghost use Rattle.hub_server.specs.Needs.{NeedsClosing, NeedsFeeding, NeedsInput, NeedsOutput};
 ghost use Rattle.hub_server.specs.Needs.{steps_left};
 ghost use Rattle.hub_server.specs.ServerRuns.{FeedsNext};
-ghost use Rattle.hub_server.specs.Servers.{new_server};
+ghost use Rattle.hub_server.specs.Servers.{AreSeatedBelow, new_server};
 ghost use Rattle.hub_server.specs.declared.limits.ServeLimits.{ServeLimits};
 
 use crate::endpoint::Endpoint;
@@ -60,6 +60,14 @@ impl Server {
             listener: ListenerState::Idle,
             time: 0,
         })
+    }
+
+    /// A number that the place of every connection is below, so that nobody goes over all places.
+    pub fn places_end(&self) -> usize
+        ensures below { AreSeatedBelow self.now result }
+        ensures within { result ≤ length self.now.seats }
+    {
+        self.hub.places_end().min(self.seats.len())
     }
 
     /// Whether the place has a connection whose turn isn't over.

@@ -81,7 +81,7 @@ impl Server {
             self.old handler.old endpoint.old self.new handler.new endpoint.new }
         ensures over { AreTurnsOver self.new }
     {
-        for place in 0..self.seats.len() {
+        for place in 0..self.places_end() {
             self.serve_place(alloc, handler, endpoint, place);
         }
     }

@@ -1,4 +1,4 @@
-use Rattle.std.proofs.Common.{◌≡◌, ◌∙◌, ◌<◌, ap, arith, false, get_or, length, sym}
+use Rattle.std.proofs.Common.{◌∙◌, ◌<◌, ap, arith, false, get_or, length, sym}
 use Rattle.hub_server.specs.Seats.{SeatValue, seat_after_wait}
 use Rattle.hub_server.proofs.SeatLemmas.{begins_more, wait_none}
 use Rattle.hub_server.proofs.awaiting.begin_turns.Goals as goal

@@ -1,8 +1,7 @@
-use Rattle.std.proofs.Common.{◌≡◌, ◌∙◌, ap, subst, sym}
-use Rattle.http_hub.specs.Hubs.{HubValue, OpensAt}
+use Rattle.std.proofs.Common.{◌≡◌, ◌∙◌, ap, subst}
+use Rattle.http_hub.specs.Hubs.{OpensAt}
 use Rattle.hub_server.specs.Seats.{new_seat}
 use Rattle.hub_server.specs.Servers.{ServerValue, with_listener, with_seat}
-use Rattle.hub_server.specs.declared.listener_state.ListenerState.{ListenerState}
 use Rattle.hub_server.specs.declared.listener_state.ListenerState.TheVariants.{Deferred, Idle, Ready}
 use Rattle.hub_server.proofs.AcceptingLemmas.{accepts_later, accepts_none, accepts_one}
 use Rattle.hub_server.proofs.server.Server.accept_next.Goals as goal

@@ -1,4 +1,4 @@
-use Rattle.std.proofs.Common.{◌≡◌, ◌∙◌, ◌⊎◌, ◌<◌, Some, ap, arith, length, slice_get, subst, sym}
+use Rattle.std.proofs.Common.{◌≡◌, ◌∙◌, ◌⊎◌, ◌<◌, Some, ap, arith, length, slice_get, subst}
 use Rattle.http_hub.proofs.PlaceLemmas.{found_within}
 use Rattle.http_hub.specs.Hubs.{FailsAt, ReceivesAt}
 use Rattle.hub_server.specs.Seats.{HasTurn, SeatValue, next_piece}

@@ -1,6 +1,6 @@
-use Rattle.std.proofs.Common.{◌≡◌, ◌≤◌, ap, arith, length}
 use Rattle.hub_server.specs.Servers.{ServerValue}
 use Rattle.hub_server.proofs.AwaitingLemmas.{asleep_there, none_left, none_left_more, none_there}
+use Rattle.hub_server.proofs.KeepingLemmas.{seated_more}
 use Rattle.hub_server.proofs.server.Server.is_left.Goals as goal
 use Rattle.hub_server.proofs.server.Server.is_left.Goals.{else-is_open-via-then-is_open+else-is_awake, else-is_open-via-else-is_open}
 
@@ -16,6 +16,4 @@ loop-place-preserved c =
 
 pub returns : goal.returns
 returns c =
-    let places : length c.self.inside.seats.items ≡ length c.args.self.now.seats = ap (λ (x : ServerValue). length x.seats) c.self.view_is in
-    let all : length c.args.self.now.seats ≤ c.loop-place.place = omega (arith, places, c.self.inside.seats.ok.0, c.len-place-end.ensures, c.loop-place-test.false) in
-    none_left c.args.self.now c.loop-place.place all c.loop-place.invariant
+    none_left c.args.self.now c.loop-place.place (seated_more c.args.self.now c.places_end-place-end.result c.loop-place.place c.places_end-place-end.ensures.below c.loop-place-test.false) c.loop-place.invariant

@@ -1,4 +1,4 @@
-use Rattle.std.proofs.Common.{◌≡◌, ◌∙◌, Some, ap, slice_get, subst, sym}
+use Rattle.std.proofs.Common.{◌≡◌, ◌∙◌, Some, ap, slice_get, subst}
 use Rattle.http_hub.specs.HubRuns.{pending_of}
 use Rattle.http_hub.specs.Hubs.{SendsAt, link_at}
 use Rattle.hub_server.specs.Seats.{SeatValue, seat_after_step, seat_asleep}
