@@ -1,16 +1,22 @@
 -- The matches of `clap`.
-use Rattle.std.proofs.Common.{arith, false, ◌≡◌, inl, inr, true, false, List, [], ◌∷◌, Option, Some, None, Err, refl, option_map}
-use Rattle.std.specs.Prelude.{if◌then◌else◌}
+use Rattle.std.proofs.Common.{arith, false, ◌≡◌, ◌∙◌, ap, sym, inl, inr, true, false, List, [], ◌∷◌, Option, Some, None, Err, refl, option_map}
+use Rattle.std.specs.Prelude.{find, if◌then◌else◌, option_and_then}
+use Rattle.std.specs.Str.{bytes_eq}
 use Rattle.clap.specs.Kinds.{HasKind, IsAmong, Kinds}
 use Rattle.clap.specs.Faults.{fault_of, is_simple_and_free}
 use Rattle.clap.specs.Simple.{is_simple, subcommand_of}
-use Rattle.clap.specs.Walk.{Row, Text, is_empty}
+use Rattle.clap.specs.Facts.{Entry}
+use Rattle.clap.specs.Matches.{matched_of}
+use Rattle.clap.specs.Walk.{Row, Text, is_empty, row_of, rows_of}
 use Rattle.clap.specs.Values.{kind_of}
 use Rattle.clap.specs.declared.error.Error.{Error}
 use Rattle.clap.specs.declared.error.kind.ErrorKind.{ErrorKind}
+use Rattle.clap.specs.declared.parser.matches.Found.{Found}
+use Rattle.clap.specs.declared.parser.matches.MatchedArg.{MatchedArg}
 use Rattle.clap.proofs.OnLiterals.{clap_on_literals}
+use Rattle.clap.proofs.WalkLemmas.{find_row}
 use Rattle.cli_args.specs.Subcommands.{contacts_command}
-use Rattle.cli_args.specs.ParsedOrders.{ParsesTo, IsFaultOfKind, order_from, matched_order}
+use Rattle.cli_args.specs.ParsedOrders.{ParsesTo, IsFaultOfKind, order_from, matched_order, source_of}
 use Rattle.cli_args.specs.declared.fault.LineFault.{LineFault}
 use Rattle.cli_args.specs.declared.fault.LineFault.TheVariants.{Bad, Memory}
 use Rattle.cli_args.specs.declared.order.Order.{Order}
@@ -37,6 +43,14 @@ fault-asked words error (Bad text) has is_of_kind = elim has [
   | inl out ↦ absurd (is_of_kind out)
   | inr among ↦ nothing (fault_of contacts_command words) (kind_of error) (matched_order (subcommand_of contacts_command words)) among
 ]
+
+-- where a value came from, by its entry and by its row
+pub source-rows : (f : Found) (id : Text) → option_and_then (λ (a : MatchedArg). a.source) (matched_of f id) ≡ source_of id (rows_of f)
+source-rows f id = go (find (λ (e : Entry). bytes_eq e.0.now id) f.entries.items) ∙ ap (option_and_then (λ (r : Row). r.source)) (sym (find_row f.entries.items id))
+  where
+    go : (o : Option Entry) → option_and_then (λ (a : MatchedArg). a.source) (option_map (λ (e : Entry). e.1) o) ≡ option_and_then (λ (r : Row). r.source) (option_map row_of o)
+    go None = refl
+    go (Some e) = refl
 
 -- a matched subcommand, by its name and its rows
 pub named : {B : Type 0} (name : B → Text) (rows : B → List Row) (o : Option B) (n : Text) (r : List Row)

@@ -1,7 +1,8 @@
 -- The order that a command line gives: the value of its matches, by `clap`'s definitions. This
 -- project's own.
-use Rattle.std.specs.Prelude.{ℕ, ◌≡◌, ◌≢◌, ◌-◌, ◌^◌, ⊤, List, [], Option, Some, None, Result, Ok}
-use Rattle.std.specs.Prelude.{Err, codes, option_map, option_and_then, if◌then◌else◌}
+use Rattle.std.specs.Prelude.{ℕ, ◌≡◌, ◌≢◌, ◌-◌, ◌^◌, ◌||◌, ⊤, Bool, true, false, List, [], Option}
+use Rattle.std.specs.Prelude.{Some, None, Result, Ok, Err, codes, find, option_map, option_and_then}
+use Rattle.std.specs.Prelude.{if◌then◌else◌}
 use Rattle.std.specs.Str.{bytes_eq}
 use Rattle.std.specs.Str.Parse.{digits_value, without_leading_plus}
 use Rattle.clap.specs.Walk.{Row, Text, first_of, is_empty, one_of}
@@ -10,14 +11,17 @@ use Rattle.clap.specs.Faults.{fault_of}
 use Rattle.clap.specs.ValueTests.{is_unsigned_in}
 use Rattle.clap.specs.declared.error.kind.ErrorKind.{ErrorKind}
 use Rattle.clap.specs.declared.error.kind.ErrorKind.TheVariants.{OutOfMemory}
+use Rattle.clap.specs.declared.parser.matches.ValueSource.{ValueSource}
+use Rattle.clap.specs.declared.parser.matches.ValueSource.TheVariants.{CommandLine, DefaultValue}
 use Rattle.csv_cards.specs.declared.form.Form.{Form}
 use Rattle.csv_cards.specs.declared.form.Form.TheVariants.{Cards, Columns}
 use Rattle.cli_args.specs.Subcommands.{contacts_command}
 use Rattle.cli_args.specs.declared.fault.LineFault.{LineFault}
 use Rattle.cli_args.specs.declared.fault.LineFault.TheVariants.{Bad, Memory}
 use Rattle.cli_args.specs.declared.order.Order.{Order}
-use Rattle.cli_args.specs.declared.order.Order.TheVariants.{Try, Init, Book, Serve, Import, Export}
-use Rattle.cli_args.specs.declared.order.Order.TheVariants.{Tally, Forget, Mirror, Expand, Migrate}
+use Rattle.cli_args.specs.declared.order.Order.TheVariants.{Try, Init, Book, Serve, ServeWithLimits}
+use Rattle.cli_args.specs.declared.order.Order.TheVariants.{Import, Export, Tally, Forget, Mirror}
+use Rattle.cli_args.specs.declared.order.Order.TheVariants.{Expand, Migrate}
 
 -- ---- the values of arguments and options
 
@@ -42,6 +46,19 @@ port_arg rows = option_and_then (number_upto (2 ^ 16 - 1)) (one_of (codes "P") r
 abbrev pub form_arg : List Row → Option Form
 form_arg rows = option_and_then form_of (first_of (codes "F") rows)
 
+-- where the value came from: the command line, or the default
+abbrev pub source_of : Text → List Row → Option ValueSource
+source_of id rows = option_and_then (λ r. r.source) (find (λ r. bytes_eq r.id id) rows)
+
+abbrev pub is_command_line : Option ValueSource → Bool
+is_command_line (Some CommandLine) = true
+is_command_line (Some DefaultValue) = false
+is_command_line None = false
+
+-- the option was given on the command line
+abbrev pub is_given : Text → List Row → Bool
+is_given id rows = is_command_line (source_of id rows)
+
 -- ---- the orders
 
 abbrev pub with_file : (Text → Option Order) → List Row → Option Order
@@ -57,9 +74,20 @@ init_order = with_file (λ file. Some (Init file))
 abbrev pub book_order : List Row → Option Order
 book_order = with_book (λ file book. Some (Book file book))
 
+abbrev pub default_serve_order : List Row → Option Order
+default_serve_order rows = with_file (λ file. option_and_then (λ port.
+    option_map (Serve file port) (u64_arg (codes "N") rows)) (port_arg rows)) rows
+
+abbrev pub limited_serve_order : List Row → Option Order
+limited_serve_order rows = with_file (λ file. option_and_then (λ port.
+    option_and_then (λ connections. option_and_then (λ together.
+    option_map (ServeWithLimits file port connections together) (u64_arg (codes "S") rows))
+    (u64_arg (codes "M") rows)) (u64_arg (codes "N") rows)) (port_arg rows)) rows
+
+-- with the limits if one of them was given
 abbrev pub serve_order : List Row → Option Order
-serve_order rows = with_file (λ file. option_and_then (λ port. option_map (Serve file port)
-    (u64_arg (codes "N") rows)) (port_arg rows)) rows
+serve_order rows = if is_given (codes "M") rows || is_given (codes "S") rows
+    then limited_serve_order rows else default_serve_order rows
 
 abbrev pub import_order : List Row → Option Order
 import_order rows = with_book (λ file book. option_and_then (λ key.

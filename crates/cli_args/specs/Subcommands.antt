@@ -49,10 +49,19 @@ init_command = order_command (codes "init") (file_arg ∷ [])
 abbrev pub book_command : Shape
 book_command = order_command (codes "book") (file_arg ∷ book_arg ∷ [])
 
+-- the maximum number of connections open at once
+abbrev pub together_option : Rule
+together_option = number_option (codes "M") (codes "together") 1 1000 (codes "256")
+
+-- the seconds after which an idle connection is closed
+abbrev pub patience_option : Rule
+patience_option = number_option (codes "S") (codes "patience") 1 3600 (codes "60")
+
 abbrev pub serve_command : Shape
 serve_command = order_command (codes "serve")
     (file_arg ∷ number_option (codes "P") (codes "port") 0 65535 (codes "0")
-    ∷ number_option (codes "N") (codes "connections") 1 1000000 (codes "1") ∷ [])
+    ∷ number_option (codes "N") (codes "connections") 1 1000000 (codes "1")
+    ∷ together_option ∷ patience_option ∷ [])
 
 abbrev pub import_command : Shape
 import_command =

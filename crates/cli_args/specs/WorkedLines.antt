@@ -52,6 +52,22 @@ WorkedConnections =
     × (order_from (over_file (codes "serve") (codes "--connections=1000001" ∷ [])) ≡ None)
     × (order_from (over_file (codes "serve") (codes "--connections=0" ∷ [])) ≡ None)
 
+abbrev pub WorkedLimits : Type 0
+WorkedLimits =
+    (order_from (over_file (codes "serve") (codes "--together=1" ∷ []))
+    ≡ Some (order.ServeWithLimits db 0 1 1 60))
+    × (order_from (over_file (codes "serve") (codes "--together=256" ∷ []))
+    ≡ Some (order.ServeWithLimits db 0 1 256 60))
+    × (order_from (over_file (codes "serve") (codes "--together=1001" ∷ [])) ≡ None)
+    × (order_from (over_file (codes "serve") (codes "--together=0" ∷ [])) ≡ None)
+    × (order_from (over_file (codes "serve") (codes "--patience" ∷ codes "1" ∷ []))
+    ≡ Some (order.ServeWithLimits db 0 1 256 1))
+    × (order_from (over_file (codes "serve") (codes "--patience=3601" ∷ [])) ≡ None)
+    × (order_from (over_file (codes "serve") (codes "--patience=0" ∷ [])) ≡ None)
+    × (order_from (over_file (codes "serve")
+    (codes "--patience=3600" ∷ codes "--together=1000" ∷ codes "--connections=9" ∷ []))
+    ≡ Some (order.ServeWithLimits db 0 9 1000 3600))
+
 abbrev pub WorkedForms : Type 0
 WorkedForms =
     (order_from (over_book (codes "export") (codes "--form=columns" ∷ []))

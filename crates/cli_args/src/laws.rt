@@ -1,14 +1,17 @@
 //! Worked examples: the orders of some command lines, computed from the definitions. They are
 //! stated in `specs/WorkedLines.antt`.
 ghost use Rattle.cli_args.specs.WorkedLines.{WorkedConnections, WorkedDefaults, WorkedFaults};
-ghost use Rattle.cli_args.specs.WorkedLines.{WorkedForms, WorkedNumbers, WorkedOrders};
-ghost use Rattle.cli_args.specs.WorkedLines.{WorkedPages, WorkedPorts};
+ghost use Rattle.cli_args.specs.WorkedLines.{WorkedForms, WorkedLimits, WorkedNumbers};
+ghost use Rattle.cli_args.specs.WorkedLines.{WorkedOrders, WorkedPages, WorkedPorts};
 
 /// Some command lines and their orders, or none.
 /// - `orders`: no argument, `try`, `init`, `book`, `import`, `tally`, `expand` and `migrate`.
 /// - `defaults`: `serve`, `export` and `mirror` without options.
 /// - `ports`: 8 and 65535 are ports; 65536 is none.
 /// - `connections`: 1000000 is accepted; 1000001 and 0 are not.
+/// - `limits`: with `--together` or `--patience`, even if it gives the default, `serve` has limits,
+///   and the default of the other; 1 and 1000 connections are accepted, 0 and 1001 are not; 1 and
+///   3600 seconds are accepted, 0 and 3601 are not.
 /// - `forms`: `columns` is a form; `rows` is none.
 /// - `numbers`: `forget` accepts 999999999999999, and not one more.
 /// - `pages`: `mirror` accepts a limit of 0 with 1000000 pages; not 1000001 or 0 pages, nor a limit
@@ -20,6 +23,7 @@ pub fn worked_lines_are_orders()
     ensures defaults { WorkedDefaults }
     ensures ports { WorkedPorts }
     ensures connections { WorkedConnections }
+    ensures limits { WorkedLimits }
     ensures forms { WorkedForms }
     ensures numbers { WorkedNumbers }
     ensures pages { WorkedPages }

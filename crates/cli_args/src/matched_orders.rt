@@ -5,7 +5,7 @@ ghost use Rattle.cli_args.specs.ParsedOrders.{ParsesTo};
 
 use crate::fault::LineFault;
 use crate::order::Order;
-use crate::values::{form_arg, port_arg, refuse, text_arg, u64_arg};
+use crate::values::{form_arg, is_given, port_arg, refuse, text_arg, u64_arg};
 use clap::ArgMatches;
 use std::alloc::Global;
 
@@ -24,8 +24,8 @@ fn book_order(alloc: Global, matches: &ArgMatches<'_>) -> Result<Order, LineFaul
     Ok(Order::Book { file, book })
 }
 
-fn serve_order(alloc: Global, matches: &ArgMatches<'_>) -> Result<Order, LineFault>
-    ensures { ParsesTo (parsed.serve_order (rows_of (found_of matches.now))) result }
+fn default_serve_order(alloc: Global, matches: &ArgMatches<'_>) -> Result<Order, LineFault>
+    ensures { ParsesTo (parsed.default_serve_order (rows_of (found_of matches.now))) result }
 {
     let file = text_arg(alloc, matches, "FILE")?;
     let port = port_arg(alloc, matches)?;
@@ -35,6 +35,34 @@ fn serve_order(alloc: Global, matches: &ArgMatches<'_>) -> Result<Order, LineFau
         port,
         connections,
     })
+}
+
+fn limited_serve_order(alloc: Global, matches: &ArgMatches<'_>) -> Result<Order, LineFault>
+    ensures { ParsesTo (parsed.limited_serve_order (rows_of (found_of matches.now))) result }
+{
+    let file = text_arg(alloc, matches, "FILE")?;
+    let port = port_arg(alloc, matches)?;
+    let connections = u64_arg(alloc, matches, "N")?;
+    let together = u64_arg(alloc, matches, "M")?;
+    let patience = u64_arg(alloc, matches, "S")?;
+    Ok(Order::ServeWithLimits {
+        file,
+        port,
+        connections,
+        together,
+        patience,
+    })
+}
+
+/// The order `serve`, with the limits if one of them was given.
+fn serve_order(alloc: Global, matches: &ArgMatches<'_>) -> Result<Order, LineFault>
+    ensures { ParsesTo (parsed.serve_order (rows_of (found_of matches.now))) result }
+{
+    if is_given(matches, "M") || is_given(matches, "S") {
+        limited_serve_order(alloc, matches)
+    } else {
+        default_serve_order(alloc, matches)
+    }
 }
 
 fn import_order(alloc: Global, matches: &ArgMatches<'_>) -> Result<Order, LineFault>

@@ -3,7 +3,8 @@ ghost use Rattle.std.specs.Prelude.{[], ◌≡◌, ◌∷◌, ◌++◌, IfOk, Li
 ghost use Rattle.clap.specs.Simple.{Shape};
 ghost use Rattle.clap.specs.Words.{Rule, app_of};
 ghost use Rattle.cli_args.specs.Subcommands as lines;
-ghost use Rattle.cli_args.specs.Subcommands.{AreOrderCommands, AreArguments, IsOrderCommand};
+ghost use Rattle.cli_args.specs.Subcommands.{AreOrderCommands, AreArguments, IsArgument};
+ghost use Rattle.cli_args.specs.Subcommands.{IsOrderCommand};
 
 use crate::arguments::{argument, book_arg, file_arg, number_arg, number_option, option_arg};
 use clap::{Arg, Command};
@@ -68,6 +69,35 @@ fn book_command<'a>(alloc: Global) -> Result<Command<'a>, AllocError>
     )
 }
 
+fn together_option<'a>(alloc: Global) -> Arg<'a>
+    ensures { IsArgument lines.together_option result }
+{
+    number_option(
+        alloc,
+        "M",
+        "together",
+        1,
+        1_000,
+        "256",
+        "Maximum number of connections open at once, 1 to 1000",
+    )
+}
+
+fn patience_option<'a>(alloc: Global) -> Arg<'a>
+    ensures { IsArgument lines.patience_option result }
+{
+    number_option(
+        alloc,
+        "S",
+        "patience",
+        1,
+        3_600,
+        "60",
+        "Seconds after which an idle connection is closed, or one whose request headers are \
+         incomplete, 1 to 3600",
+    )
+}
+
 fn serve_command<'a>(alloc: Global) -> Result<Command<'a>, AllocError>
     ensures { IfOk result (IsOrderCommand lines.serve_command) }
 {
@@ -92,11 +122,20 @@ fn serve_command<'a>(alloc: Global) -> Result<Command<'a>, AllocError>
     order_command(
         alloc,
         "serve",
-        "Serve the books over HTTP on 127.0.0.1, one connection at a time",
+        "Serve the books over HTTP on 127.0.0.1",
         "Example:\n  contacts serve office.db --port 8080 --connections 1000000\n\nPrints the \
          address and port before accepting connections. A request body may have up to 8,388,608 \
          bytes.",
-        Vec::from_array(alloc, [file_arg(alloc), port, connections])?,
+        Vec::from_array(
+            alloc,
+            [
+                file_arg(alloc),
+                port,
+                connections,
+                together_option(alloc),
+                patience_option(alloc),
+            ],
+        )?,
     )
 }
 

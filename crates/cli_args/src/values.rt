@@ -7,6 +7,7 @@ ghost use Rattle.cli_args.specs.ParsedOrders.{ParsesTo};
 use crate::fault::LineFault;
 use base_types::Text;
 use clap::ArgMatches;
+use clap::parser::ValueSource;
 use csv_cards::Form;
 use std::alloc::{AllocError, Global};
 
@@ -42,6 +43,23 @@ pub(crate) fn u64_arg(alloc: Global, matches: &ArgMatches<'_>, id: &str) -> Resu
     match matches.get_one::<u64>(id) {
         Some(number) => Ok(number),
         None => refuse(alloc, id, ""),
+    }
+}
+
+/// Where the value of an argument or option came from.
+fn source_of(matches: &ArgMatches<'_>, id: &str) -> Option<ValueSource>
+    ensures { result ≡ parsed.source_of id.now (rows_of (found_of matches.now)) }
+{
+    matches.value_source(id)
+}
+
+/// Whether the option was given on the command line. Its default doesn't count.
+pub(crate) fn is_given(matches: &ArgMatches<'_>, id: &str) -> bool
+    ensures { result ≡ parsed.is_given id.now (rows_of (found_of matches.now)) }
+{
+    match source_of(matches, id) {
+        Some(ValueSource::CommandLine) => true,
+        Some(ValueSource::DefaultValue) | None => false,
     }
 }
 

@@ -18,6 +18,10 @@ pub returns-clause-connections : goal.returns-clause-connections
 unfolding clap_on_literals
 returns-clause-connections c = (refl, refl, refl)
 
+pub returns-clause-limits : goal.returns-clause-limits
+unfolding clap_on_literals
+returns-clause-limits c = (refl, refl, refl, refl, refl, refl, refl, refl)
+
 pub returns-clause-forms : goal.returns-clause-forms
 unfolding clap_on_literals
 returns-clause-forms c = (refl, refl)
