@@ -17,7 +17,7 @@ Commands:
 book's initial report
   init     Create a store file; an existing file must be empty
   book     Create an empty book and print its id
-  serve    Serve the books over HTTP on 127.0.0.1, one connection at a time
+  serve    Serve the books over HTTP on 127.0.0.1
   import   Import cards from a CSV file into a book
   export   Write the cards of a book to standard output as CSV
   tally    Print how many cards a book has, and counts of its changes by kind
@@ -88,7 +88,7 @@ A store may have up to 100 books, and a book up to 10,000 cards.
 """
 
 HELP["serve"] = """\
-Serve the books over HTTP on 127.0.0.1, one connection at a time
+Serve the books over HTTP on 127.0.0.1
 
 Usage: contacts serve [OPTIONS] <FILE>
 
@@ -98,6 +98,9 @@ Arguments:
 Options:
       --port <P>         Port to listen on, 0 to 65535; 0 picks a free port [default: 0]
       --connections <N>  Number of connections to serve before exiting, 1 to 1000000 [default: 1]
+      --together <M>     Maximum number of connections open at once, 1 to 1000 [default: 256]
+      --patience <S>     Seconds after which an idle connection is closed, or one whose request \
+headers are incomplete, 1 to 3600 [default: 60]
   -h, --help             Print help
 
 Example:
