@@ -7,7 +7,7 @@ use Rattle.std.proofs.lemmas.Bool.{and_parts}
 use Rattle.matchit.specs.Seek.{has_slash, slash}
 use Rattle.http_routes.proofs.RouterLemmas.{book-is, books-is, card_in_book, first-in_book, export_in_book, forget_in_book, import_in_book, move_in_book, people_in_book, route_in_book, sync_in_book, tally_in_book}
 use Rattle.http_routes.specs.Paths.{fits_part, fits_parts, is_placeholder, is_path_of, parts_of, route_of, routes}
-use Rattle.http_routes.specs.internal.RouterRows.{matched_route}
+use Rattle.http_routes.specs.RouterRows.{matched_route}
 use Rattle.http_routes.specs.Routes.{path_of}
 use Rattle.http_routes.specs.declared.route.Route.{Route}
 use Rattle.http_routes.specs.declared.route.Route.TheVariants as route
@@ -249,6 +249,11 @@ looked_at-is path small = looked path (find (λ r. is_path_of r path) routes) sm
 -- the answer of each way that the look-up goes
 pub route-none : (path : List ℕ) → AreOctets path → None ≡ matched_route path → None ≡ route_of path
 route-none path small led = ap (λ one. looked_at one path) led ∙ looked_at-is path small
+
+-- the comparison with the route's parts, as the code has them
+pub fits-is : (to : Route) (own parts : List (List ℕ)) (fits is : Bool) → own ≡ parts_of (path_of to) → fits ≡ fits_parts own parts → fits ≡ is → fits_parts (parts_of (path_of to)) parts ≡ is
+fits-is to own parts fits is same at gives =
+    ap (λ others. fits_parts others parts) (sym same) ∙ sym at ∙ gives
 
 pub route-yes : (path : List ℕ) (parts : List (List ℕ)) (to : Route) → AreOctets path → Some to ≡ matched_route path → fits_parts (parts_of (path_of to)) parts ≡ true → parts ≡ parts_of path → Some to ≡ route_of path
 route-yes path parts to small led fits same =

@@ -5,7 +5,7 @@ use Rattle.matchit.specs.Rows.{RowsOf, param_token}
 use Rattle.matchit.specs.Router.{RouteOf}
 use Rattle.matchit.specs.Seek.{first, has_slash, slash, step, with_suffix}
 use Rattle.http_routes.proofs.SeekLemmas.{AllEnd, after_text, after_param, cuts-slash, first-end, first-octet, first-slash, first-stop, first-text, continues, longest-slash, stops}
-use Rattle.http_routes.specs.internal.RouterRows.{router_rows}
+use Rattle.http_routes.specs.RouterRows.{router_rows}
 use Rattle.http_routes.specs.declared.route.Route.{Route}
 use Rattle.http_routes.specs.declared.route.Route.TheVariants as route
 

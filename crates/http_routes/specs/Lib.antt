@@ -1,6 +1,7 @@
 pub mod Routes
 pub mod RouteFaults
 pub mod Paths
+pub mod RouterRows
 pub mod Actions
 pub mod Queries
 pub mod Commands

@@ -1,2 +1,1 @@
-pub mod RouterRows
 pub mod Results

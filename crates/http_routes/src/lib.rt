@@ -18,3 +18,4 @@ pub use fault::RouteFault;
 pub use no_command::NoCommand;
 pub use request::read_request;
 pub use route::Route;
+pub use router::Routes;

@@ -3,14 +3,12 @@ ghost use Rattle.std.specs.Prelude.{◌≡◌, [], IfOk, get_or, map};
 ghost use Rattle.http_routes.specs.Commands.{decode_part};
 ghost use Rattle.http_routes.specs.internal.Results.{MatchesExpected};
 ghost use Rattle.http_routes.specs.Paths as paths;
-ghost use Rattle.http_routes.specs.internal.RouterRows.{matched_route};
-ghost use Rattle.http_routes.specs.Routes.{path_of};
 
 use crate::fault::RouteFault;
 use crate::no_command::NoCommand;
 use crate::route::Route;
-use crate::router::router;
-use base_types::{NoMemory, Text};
+use crate::router::Routes;
+use base_types::Text;
 use percent_encoding::{DecodeError, percent_decode};
 use std::alloc::{AllocError, Global};
 
@@ -57,39 +55,18 @@ fn fits_parts(own: &[&str], parts: &[&str]) -> bool
     fits_part(name, part) && fits_parts(others, rest)
 }
 
-/// Whether the parts match the route.
-fn is_path_of(alloc: Global, route: Route, parts: &[&str]) -> Result<bool, NoMemory>
-    ensures { IfOk result (λ is. is ≡ paths.fits_parts (paths.parts_of (path_of route))
-        (map (λ part. part.now) parts.now)) }
-{
-    let own = parts_of(alloc, route.path())?;
-    Ok(fits_parts(&own, parts))
-}
-
-/// The route that the router finds for the path.
-fn match_route(alloc: Global, path: &str) -> Result<Option<Route>, NoMemory>
-    ensures { IfOk result (λ route. route ≡ matched_route path.now) }
-{
-    let Ok(router) = router(alloc) else {
-        return Err(NoMemory);
-    };
-    match router.at(path) {
-        Ok(found) => Ok(Some(*found.value)),
-        Err(_) => Ok(None),
-    }
-}
-
-/// The route of the path. The parts are those of the path.
-pub(crate) fn route_of(alloc: Global, path: &str, parts: &[&str]) -> Result<Option<Route>, NoMemory>
+/// The route of the path. The parts are those of the path. The router finds each path of a route,
+/// and the comparison refuses a path of any other form that it might find.
+pub(crate) fn route_of(routes: &Routes, path: &str, parts: &[&str]) -> Option<Route>
     ensures { map (λ part. part.now) parts.now ≡ paths.parts_of path.now →
-        IfOk result (λ route. route ≡ paths.route_of path.now) }
+        result ≡ paths.route_of path.now }
 {
-    let found = match_route(alloc, path)?;
+    let found = routes.match_path(path);
     let Some(route) = found else {
-        return Ok(None);
+        return None;
     };
-    let fits = is_path_of(alloc, route, parts)?;
-    if fits { Ok(Some(route)) } else { Ok(None) }
+    let fits = fits_parts(route.parts(), parts);
+    if fits { Some(route) } else { None }
 }
 
 /// The percent-decoded text of a part (RFC 3986, section 2.1). `BadPath` if it isn't UTF-8.

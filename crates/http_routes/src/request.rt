@@ -13,6 +13,7 @@ use crate::path::{decode_part, part_at, parts_of, route_of};
 use crate::query::{
     export_form_of, has_valid_names, number_of, pairs_of, parse_number, value_or_empty,
 };
+use crate::router::Routes;
 use base_types::{Items, Text};
 use book_commands::Command;
 use std::alloc::Global;
@@ -110,8 +111,8 @@ fn command_with(
     command_of(alloc, action, book, uid, body, &pairs)
 }
 
-/// The command of a complete request, by its method, target and body. A command with a body has a
-/// copy of the octets.
+/// The command of a complete request, by its method, target and body, with routes that were built
+/// before. A command with a body has a copy of the octets.
 ///
 /// Returns the first fault in this order: `NoRoute` if no route matches the path, which ends at
 /// the first question mark and isn't decoded; `BadMethod` if the route doesn't have the method;
@@ -121,6 +122,7 @@ fn command_with(
 /// if an allocation fails, in place of any result.
 pub fn read_request(
     alloc: Global,
+    routes: &Routes,
     method: &str,
     target: &str,
     body: &[u8],
@@ -135,7 +137,7 @@ pub fn read_request(
 {
     let (path, query) = split_target(target);
     let parts = parts_of(alloc, path)?;
-    let found = route_of(alloc, path, &parts)?;
+    let found = route_of(routes, path, &parts);
     let Some(route) = found else {
         return Err(NoCommand::Fault(RouteFault::NoRoute));
     };

@@ -1,5 +1,6 @@
 //! The table of routes.
-ghost use Rattle.std.specs.Prelude.{◌≡◌};
+ghost use Rattle.std.specs.Prelude.{◌≡◌, map};
+ghost use Rattle.http_routes.specs.Paths.{parts_of};
 ghost use Rattle.http_routes.specs.Routes.{allow_of, path_of};
 
 /// A route: a form of paths, with its methods.
@@ -43,6 +44,24 @@ impl Route {
             Route::Card => "/books/{book}/cards/{uid}",
             Route::Move => "/books/{book}/cards/{uid}/move",
             Route::People => "/books/{book}/cards/{uid}/people",
+        }
+    }
+
+    /// The parts of `path` between its slashes, so that no request has to split it.
+    pub(crate) fn parts(self) -> &'static [&'static str]
+        ensures { map (λ part. part.now) result.now ≡ parts_of (path_of self) }
+    {
+        match self {
+            Route::Books => &["", "books"],
+            Route::Book => &["", "books", "{book}"],
+            Route::Tally => &["", "books", "{book}", "tally"],
+            Route::Sync => &["", "books", "{book}", "sync"],
+            Route::Import => &["", "books", "{book}", "import"],
+            Route::Export => &["", "books", "{book}", "export"],
+            Route::Forget => &["", "books", "{book}", "forget"],
+            Route::Card => &["", "books", "{book}", "cards", "{uid}"],
+            Route::Move => &["", "books", "{book}", "cards", "{uid}", "move"],
+            Route::People => &["", "books", "{book}", "cards", "{uid}", "people"],
         }
     }
 

@@ -1,4 +1,5 @@
--- The rows of the router, as the library `matchit` parses the paths of the routes.
+-- The rows of a router that has all routes and nothing else. A row of the library `matchit` is a
+-- path as the library parses it, with its value, here the route. This project's own.
 use Rattle.std.specs.Prelude.{ℕ, List, [], Option, Result, Ok, Err, fold, option_map}
 use Rattle.matchit.specs.Order.{placed}
 use Rattle.matchit.specs.Route.{Scan, parse_route}
@@ -19,6 +20,7 @@ placed_scan (Err error) route rows = rows
 abbrev pub with_route : RowsOf (RouteOf Route) → Route → RowsOf (RouteOf Route)
 with_route rows route = placed_scan (parse_route (path_of route)) route rows
 
+-- the rows with all routes
 unfoldable pub router_rows : RowsOf (RouteOf Route)
 router_rows = fold with_route [] routes
 
