@@ -8,7 +8,6 @@ use Rattle.http_requests.specs.SessionFeeding.{FeedsSession, HandlesAllRequests,
 use Rattle.http_requests.specs.Requests.{Request}
 use Rattle.http_requests.proofs.PieceLemmas.{cuts_agree, pieces_are_fed}
 use Rattle.http_requests.proofs.CutLemmas.{determined}
-use Rattle.book_http.specs.declared.service.Service.{Service}
 use Rattle.book_http.specs.OctetRuns.{RunsRequests}
 use Rattle.book_http.specs.OctetPromise.{CutsRunAlike, RanAlike, ServiceStep, StartsAt}
 use Rattle.book_http.proofs.OctetRunLemmas.{requests_run}
@@ -32,8 +31,8 @@ module _ {S : Type 0} (model : StoreModel S) (law : AreReadInOneWay) where
   end_alike ended rest last other (inr a) (inl b) = absurd (cc (a.0, b.0))
   end_alike ended rest last other (inr a) (inr b) = inr (a.1, b.1)
 
-  module _ (now : SystemState) (octets replies others : List ℕ) (old new other : Service S) where
-    abbrev All : Service S → List ℕ → Bool → List ℕ → Type 0
+  module _ (now : SystemState) (octets replies others : List ℕ) (old new other : S) where
+    abbrev All : S → List ℕ → Bool → List ℕ → Type 0
     All end run_replies ended rest = HandlesAllRequests (ServiceStep model) head_fault_octets octets old run_replies end ended rest
 
     ran_alike : StartsAt model now old new → StartsAt model now old other
@@ -41,12 +40,12 @@ module _ {S : Type 0} (model : StoreModel S) (law : AreReadInOneWay) where
         → All new run_replies ended rest → All other run_replies_too ended_too rest_too
         → replies ≡ run_replies ++ last → others ≡ run_replies_too ++ last_too
         → (ended_too ≡ ended → rest_too ≡ rest → EndAlike rest last last_too)
-        → RanAlike model now octets replies others (model.books new.store) (model.books other.store)
+        → RanAlike model now octets replies others (model.books new) (model.books other)
     ran_alike starts starts_too run_replies run_replies_too last last_too ended ended_too rest rest_too one two is is_too ends =
         let same = determined octets two.requests one.requests ended_too ended rest_too rest two.requests_are one.requests_are in
-        let ran : RunsRequests now one.requests run_replies (model.books new.store) = requests_run model now old new one.requests run_replies starts one.handles in
-        let ran_too : RunsRequests now one.requests run_replies_too (model.books other.store) =
-        subst (λ (rs : List Request). RunsRequests now rs run_replies_too (model.books other.store)) same.0
+        let ran : RunsRequests now one.requests run_replies (model.books new) = requests_run model now old new one.requests run_replies starts one.handles in
+        let ran_too : RunsRequests now one.requests run_replies_too (model.books other) =
+        subst (λ (rs : List Request). RunsRequests now rs run_replies_too (model.books other)) same.0
         (requests_run model now old other two.requests run_replies_too starts_too two.handles) in
         record {
           requests = one.requests;
@@ -57,7 +56,7 @@ module _ {S : Type 0} (model : StoreModel S) (law : AreReadInOneWay) where
           ran = ran;
           other_run_replies = run_replies_too;
           other_ran = ran_too;
-          alike = ran_once law now one.requests run_replies run_replies_too (model.books new.store) (model.books other.store) ran ran_too;
+          alike = ran_once law now one.requests run_replies run_replies_too (model.books new) (model.books other) ran ran_too;
           last = last;
           replies_are = is;
           other_last = last_too;
@@ -69,7 +68,7 @@ module _ {S : Type 0} (model : StoreModel S) (law : AreReadInOneWay) where
         → (session left : Option (List ℕ)) → session ≡ left
         → FeedsSession (ServiceStep model) head_fault_octets octets old replies new session
         → FeedsSession (ServiceStep model) head_fault_octets octets old others other left
-        → RanAlike model now octets replies others (model.books new.store) (model.books other.store)
+        → RanAlike model now octets replies others (model.books new) (model.books other)
     fed_alike starts starts_too (Some rest) (Some left) same fed fed_too =
         ran_alike starts starts_too replies others [] [] false false rest left fed.0 fed_too.0 (sym (append-nil replies)) (sym (append-nil others))
         (λ _ _. inl (refl, refl))

@@ -3,7 +3,6 @@ use Rattle.std.proofs.Common.{◌≡◌, ◌∙◌, ℕ, false, List, [], ◌∷
 use Rattle.std.proofs.lemmas.List.{append-nil}
 use Rattle.std.specs.Io.KnownBytes.{Appends, Consumes}
 use Rattle.book_http.specs.declared.serve_fault.ServeFault.{ServeFault}
-use Rattle.book_http.specs.declared.service.Service.{Service}
 use Rattle.book_http.specs.OctetPromise.{ServiceStep, StartsAt}
 use Rattle.book_http.proofs.ConnectionLemmas.{handles_read, part_of_fed}
 use Rattle.book_http.proofs.OctetRunLemmas.{all_limits, all_premise, requests_run}
@@ -20,27 +19,27 @@ module _ {S Connection : Type 0} (model : StoreModel S)
     (stream : ConnectionModel Connection) where
   -- ---- the premise
 
-  part_premise : (octets : List ℕ) (old new : Service S) → HandlesSomePrefix (ServiceStep model) head_fault_octets octets old new → model.premise new.store → model.premise old.store
+  part_premise : (octets : List ℕ) (old new : S) → HandlesSomePrefix (ServiceStep model) head_fault_octets octets old new → model.premise new → model.premise old
   part_premise octets old new part holds = all_premise model part.runs.requests old new part.replies part.runs.handles holds
 
-  ended_premise : (end : Option ServeFault) (before connection_after : Connection) (old new : Service S) → ServesConnection (ServiceStep model) head_fault_octets stream end before connection_after old new
-      → model.premise new.store → model.premise old.store
+  ended_premise : (end : Option ServeFault) (before connection_after : Connection) (old new : S) → ServesConnection (ServiceStep model) head_fault_octets stream end before connection_after old new
+      → model.premise new → model.premise old
   ended_premise None before connection_after old new all holds =
       part_premise all.serves.octets old new (part_of_fed (ServiceStep model) head_fault_octets all.serves.octets all.serves.replies old new all.session all.serves.fed) holds
   ended_premise (Some fault) before connection_after old new broke holds =
       let h = handles_read (ServiceStep model) head_fault_octets fault (stream.remaining before) (stream.remaining connection_after) (stream.contents before) (stream.contents connection_after) old new broke in
       part_premise h.octets old new h.part holds
 
-  turns_premise : (turns : List (ServedConnection Connection)) (old new : Service S) → ServesInTurn (ServiceStep model) head_fault_octets stream old turns new → model.premise new.store → model.premise old.store
+  turns_premise : (turns : List (ServedConnection Connection)) (old new : S) → ServesInTurn (ServiceStep model) head_fault_octets stream old turns new → model.premise new → model.premise old
   unfolding ServesInTurn
-  turns_premise [] old new same holds = subst (λ (s : Service S). model.premise s.store) (sym same) holds
+  turns_premise [] old new same holds = subst model.premise (sym same) holds
   turns_premise (turn ∷ turns) old new (middle, one, others) holds =
       ended_premise turn.end turn.connection one.connection_after old middle one.ended (turns_premise turns middle new others holds)
 
   -- ---- one connection
 
   -- the store is where its run ended
-  at_end : (now end : SystemState) (old new : Service S) → MatchesRows now (model.limits old.store) (model.books old.store) → model.limits new.store ≡ model.limits old.store → MatchesRows end now.model.limits (model.books new.store) → MatchesRows end (model.limits new.store) (model.books new.store)
+  at_end : (now end : SystemState) (old new : S) → MatchesRows now (model.limits old) (model.books old) → model.limits new ≡ model.limits old → MatchesRows end now.model.limits (model.books new) → MatchesRows end (model.limits new) (model.books new)
   at_end now end old new at same ended = record { limits_are = ended.limits_are ∙ at.limits_are ∙ sym same; histories = ended.histories }
 
   -- what happened by a connection
@@ -52,9 +51,9 @@ module _ {S Connection : Type 0} (model : StoreModel S)
     pub devices_are : (end_of now own).devices ≡ now.devices
 
   -- it was served to its end
-  fed_happens : (session : Option (List ℕ)) (now : SystemState) (before connection_after : Connection) (old new : Service S) (octets replies : List ℕ) → StartsAt model now old new
+  fed_happens : (session : Option (List ℕ)) (now : SystemState) (before connection_after : Connection) (old new : S) (octets replies : List ℕ) → StartsAt model now old new
       → Consumes (stream.remaining before) (stream.remaining connection_after) octets → FeedsSession (ServiceStep model) head_fault_octets octets old replies new session → Appends (stream.contents before) (stream.contents connection_after) replies
-      → TurnHappens now before None new.store
+      → TurnHappens now before None new
   fed_happens (Some rest) now before connection_after old new octets replies starts read fed sent =
       let a = fed.0 in
       let ran = requests_run model now old new a.requests replies starts a.handles in
@@ -102,8 +101,8 @@ module _ {S Connection : Type 0} (model : StoreModel S)
       last_of (inl why) = inl why.1
       last_of (inr why) = inr why.1
 
-  end_happens : (end : Option ServeFault) (now : SystemState) (before connection_after : Connection) (old new : Service S) → StartsAt model now old new
-      → ServesConnection (ServiceStep model) head_fault_octets stream end before connection_after old new → TurnHappens now before end new.store
+  end_happens : (end : Option ServeFault) (now : SystemState) (before connection_after : Connection) (old new : S) → StartsAt model now old new
+      → ServesConnection (ServiceStep model) head_fault_octets stream end before connection_after old new → TurnHappens now before end new
   end_happens None now before connection_after old new starts all =
       let s = all.serves in
       fed_happens all.session now before connection_after old new s.octets s.replies starts s.read s.fed s.sent
@@ -137,7 +136,7 @@ module _ {S Connection : Type 0} (model : StoreModel S)
   connections_are_one_run now old new [] starts same = record {
     run = [];
     runs = tt;
-    in_turn = (refl, record { limits_are = refl; histories = (subst (λ (s : Service S). MatchesRows now (model.limits s.store) (model.books s.store)) same (record { limits_are = starts.at.limits_are; histories = starts.at.histories })).histories });
+    in_turn = (refl, record { limits_are = refl; histories = (subst (λ (s : S). MatchesRows now (model.limits s) (model.books s)) same (record { limits_are = starts.at.limits_are; histories = starts.at.histories })).histories });
   }
   connections_are_one_run now old new (turn ∷ turns) starts (middle, one, others) =
       let held = turns_premise turns middle new others starts.premise_holds in

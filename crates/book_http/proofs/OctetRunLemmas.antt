@@ -13,7 +13,6 @@ use Rattle.http_requests.specs.Requests.{Request}
 use Rattle.http_requests.specs.declared.head_fault.HeadFault.{HeadFault}
 use Rattle.http_routes.specs.Commands.{requested_command}
 use Rattle.http_routes.specs.declared.fault.RouteFault.{RouteFault}
-use Rattle.book_http.specs.declared.service.Service.{Service}
 use Rattle.book_http.specs.RequestAnswers.{AnswersCommand}
 use Rattle.book_http.specs.OctetRuns.{RunsRequests, RunsAllRequests, AreReplies, IsReplyToCommand, IsReplyGivenFault, IsReplyToRequest}
 use Rattle.book_http.specs.OctetPromise.{LostPiecesRun, RequestsRun, ServiceStep, SessionsRun, StartsAt}
@@ -26,15 +25,15 @@ module _ {S : Type 0} (model : StoreModel S) where
   asked_premise old new (Ok command) close octets answers holds = answers.1.terms.premise holds
   asked_premise old new (Err found) close octets answers holds = subst model.premise (sym answers.1) holds
 
-  found_premise : (old new : Service S) (request : Request) (found : Option HeadFault) (octets : List ℕ)
-      → RepliesGivenFault (ServiceStep model) head_fault_octets old request octets new found → model.premise new.store → model.premise old.store
+  found_premise : (old new : S) (request : Request) (found : Option HeadFault) (octets : List ℕ)
+      → RepliesGivenFault (ServiceStep model) head_fault_octets old request octets new found → model.premise new → model.premise old
   found_premise old new request None octets replied holds =
-      asked_premise old.store new.store (requested_command request.head.method request.head.target request.body) (head_of request.head).close octets replied holds
-  found_premise old new request (Some found) octets replied holds = subst (λ (s : Service S). model.premise s.store) (sym replied.1) holds
+      asked_premise old new (requested_command request.head.method request.head.target request.body) (head_of request.head).close octets replied holds
+  found_premise old new request (Some found) octets replied holds = subst model.premise (sym replied.1) holds
 
-  pub all_premise : (requests : List Request) (old new : Service S) (octets : List ℕ) → HandlesRequests (ServiceStep model) head_fault_octets old requests octets new → model.premise new.store → model.premise old.store
+  pub all_premise : (requests : List Request) (old new : S) (octets : List ℕ) → HandlesRequests (ServiceStep model) head_fault_octets old requests octets new → model.premise new → model.premise old
   unfolding HandlesRequests
-  all_premise [] old new octets handles holds = subst (λ (s : Service S). model.premise s.store) (sym handles.1) holds
+  all_premise [] old new octets handles holds = subst model.premise (sym handles.1) holds
   all_premise (request ∷ requests) old new octets handles holds =
       found_premise old handles.2 request (fault_of_head request.head) handles.0 handles.3 (all_premise requests handles.2 new handles.1 handles.4 holds)
 
@@ -44,16 +43,16 @@ module _ {S : Type 0} (model : StoreModel S) where
   asked_limits old new (Ok command) close octets answers = answers.1.terms.limits
   asked_limits old new (Err found) close octets answers = ap model.limits (sym answers.1)
 
-  found_limits : (old new : Service S) (request : Request) (found : Option HeadFault) (octets : List ℕ)
-      → RepliesGivenFault (ServiceStep model) head_fault_octets old request octets new found → model.limits new.store ≡ model.limits old.store
+  found_limits : (old new : S) (request : Request) (found : Option HeadFault) (octets : List ℕ)
+      → RepliesGivenFault (ServiceStep model) head_fault_octets old request octets new found → model.limits new ≡ model.limits old
   found_limits old new request None octets replied =
-      asked_limits old.store new.store (requested_command request.head.method request.head.target request.body) (head_of request.head).close octets replied
-  found_limits old new request (Some found) octets replied = ap (λ (s : Service S). model.limits s.store) (sym replied.1)
+      asked_limits old new (requested_command request.head.method request.head.target request.body) (head_of request.head).close octets replied
+  found_limits old new request (Some found) octets replied = ap model.limits (sym replied.1)
 
   -- requests change no limits
-  pub all_limits : (requests : List Request) (old new : Service S) (octets : List ℕ) → HandlesRequests (ServiceStep model) head_fault_octets old requests octets new → model.limits new.store ≡ model.limits old.store
+  pub all_limits : (requests : List Request) (old new : S) (octets : List ℕ) → HandlesRequests (ServiceStep model) head_fault_octets old requests octets new → model.limits new ≡ model.limits old
   unfolding HandlesRequests
-  all_limits [] old new octets handles = ap (λ (s : Service S). model.limits s.store) (sym handles.1)
+  all_limits [] old new octets handles = ap model.limits (sym handles.1)
   all_limits (request ∷ requests) old new octets handles =
       all_limits requests handles.2 new handles.1 handles.4 ∙ found_limits old handles.2 request (fault_of_head request.head) handles.0 handles.3
 
@@ -85,23 +84,23 @@ module _ {S : Type 0} (model : StoreModel S) where
   asked_happens now old new (Err found) close octets answers holds at =
       nothing_happens now (λ own. IsReplyToCommand (Err found) close own octets) old new (refl, answers.0) answers.1 at
 
-  found_happens : (now : SystemState) (old new : Service S) (request : Request) (found : Option HeadFault) (octets : List ℕ)
+  found_happens : (now : SystemState) (old new : S) (request : Request) (found : Option HeadFault) (octets : List ℕ)
       → RepliesGivenFault (ServiceStep model) head_fault_octets old request octets new found
-      → model.premise new.store → MatchesRows now (model.limits old.store) (model.books old.store) → Happens now (λ own. IsReplyGivenFault found request own octets) new.store
+      → model.premise new → MatchesRows now (model.limits old) (model.books old) → Happens now (λ own. IsReplyGivenFault found request own octets) new
   found_happens now old new request None octets replied holds at =
-      asked_happens now old.store new.store (requested_command request.head.method request.head.target request.body) (head_of request.head).close octets replied holds at
+      asked_happens now old new (requested_command request.head.method request.head.target request.body) (head_of request.head).close octets replied holds at
   found_happens now old new request (Some found) octets replied holds at =
-      nothing_happens now (λ own. IsReplyGivenFault (Some found) request own octets) old.store new.store (refl, replied.0) (ap (λ (s : Service S). s.store) replied.1) at
+      nothing_happens now (λ own. IsReplyGivenFault (Some found) request own octets) old new (refl, replied.0) replied.1 at
 
   -- ---- requests in turn
 
-  runs_none : (now : SystemState) (old new : Service S) (octets : List ℕ) → octets ≡ [] → old ≡ new → MatchesRows now (model.limits old.store) (model.books old.store) → RunsRequests now [] octets (model.books new.store)
+  runs_none : (now : SystemState) (old new : S) (octets : List ℕ) → octets ≡ [] → old ≡ new → MatchesRows now (model.limits old) (model.books old) → RunsRequests now [] octets (model.books new)
   unfolding AreReplies
   runs_none now old new octets none same at = record {
     run = [];
     runs = tt;
     are_replies = (refl, none);
-    at = record { limits_are = refl; histories = (subst (λ (s : Service S). MatchesRows now (model.limits s.store) (model.books s.store)) same at).histories };
+    at = record { limits_are = refl; histories = (subst (λ (s : S). MatchesRows now (model.limits s) (model.books s)) same at).histories };
     devices_are = refl;
   }
 
@@ -119,23 +118,23 @@ module _ {S : Type 0} (model : StoreModel S) where
         devices_are = ap (λ (m : SystemState). m.devices) end ∙ more.devices_are ∙ h.devices_are;
       }
 
-  handled_run : (requests : List Request) (now : SystemState) (old new : Service S) (octets : List ℕ) → model.premise new.store → MatchesRows now (model.limits old.store) (model.books old.store)
-      → HandlesRequests (ServiceStep model) head_fault_octets old requests octets new → RunsRequests now requests octets (model.books new.store)
+  handled_run : (requests : List Request) (now : SystemState) (old new : S) (octets : List ℕ) → model.premise new → MatchesRows now (model.limits old) (model.books old)
+      → HandlesRequests (ServiceStep model) head_fault_octets old requests octets new → RunsRequests now requests octets (model.books new)
   unfolding HandlesRequests
   handled_run [] now old new octets holds at handles = runs_none now old new octets handles.0 handles.1 at
   handled_run (request ∷ requests) now old new octets holds at handles =
-      let middle : Service S = handles.2 in
+      let middle : S = handles.2 in
       let held = all_premise requests middle new handles.1 handles.4 holds in
       let h = found_happens now old middle request (fault_of_head request.head) handles.0 handles.3 held at in
-      runs_on now middle.store new.store request requests handles.0 handles.1 octets h (handled_run requests (end_of now h.own) middle new handles.1 holds h.at handles.4) handles.5
+      runs_on now middle new request requests handles.0 handles.1 octets h (handled_run requests (end_of now h.own) middle new handles.1 holds h.at handles.4) handles.5
 
   pub requests_run : RequestsRun model
   requests_run now old new requests octets starts handles = handled_run requests now old new octets starts.premise_holds starts.at handles
 
   -- ---- sessions
 
-  pub all_run : (now : SystemState) (old new : Service S) (octets replies : List ℕ) (ended : Bool) (rest : List ℕ) → StartsAt model now old new
-      → HandlesAllRequests (ServiceStep model) head_fault_octets octets old replies new ended rest → RunsAllRequests now octets replies (model.books new.store) ended rest
+  pub all_run : (now : SystemState) (old new : S) (octets replies : List ℕ) (ended : Bool) (rest : List ℕ) → StartsAt model now old new
+      → HandlesAllRequests (ServiceStep model) head_fault_octets octets old replies new ended rest → RunsAllRequests now octets replies (model.books new) ended rest
   all_run now old new octets replies ended rest starts all = record {
     requests = all.requests;
     requests_are = all.requests_are;

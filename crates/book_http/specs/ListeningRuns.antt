@@ -2,7 +2,6 @@
 use Rattle.std.specs.Prelude.{◌≡◌, ◌⊎◌, ℕ, Bool, List, [], ◌∷◌, ◌++◌, Option, None}
 use Rattle.std.specs.Io.KnownBytes.{Appends, Consumes}
 use Rattle.book_http.specs.declared.serve_fault.ServeFault.{ServeFault}
-use Rattle.book_http.specs.declared.service.Service.{Service}
 use Rattle.book_http.specs.OctetPromise.{ServiceStep, StartsAt}
 use Rattle.book_http.specs.OctetRuns.{AreReplies}
 use Rattle.book_model.specs.Books.{Books}
@@ -64,7 +63,7 @@ module _ {S Connection : Type 0} (model : StoreModel S) (stream : ConnectionMode
   -- from each state of the store, connections that are served in turn are such a run
   abbrev pub ConnectionsAreOneRun : Type 0
   ConnectionsAreOneRun =
-      (now : SystemState) (old new : Service S) (turns : List (ServedConnection Connection)) →
+      (now : SystemState) (old new : S) (turns : List (ServedConnection Connection)) →
       StartsAt model now old new →
       ServesInTurn (ServiceStep model) head_fault_octets stream old turns new →
-      RunsOverAll now turns (model.books new.store)
+      RunsOverAll now turns (model.books new)

@@ -19,7 +19,6 @@ use Rattle.http_requests.specs.HandlerRuns.{HandlerRelation, HandlesRequests}
 use Rattle.http_requests.specs.Requests.{Request, AreAllRequests}
 use Rattle.page_json.specs.PageJson.{IsTextOfPage}
 use Rattle.book_http.specs.declared.serve_fault.ServeFault.{ServeFault}
-use Rattle.book_http.specs.declared.service.Service.{Service}
 use Rattle.book_http.specs.RequestAnswers.{AnswersRequest}
 use Rattle.book_http.specs.OctetRuns.{IsFaultless, RunsRequests, RunsAllRequests, RunsFirstRequests}
 use Rattle.book_http.specs.ServedConnections.{AbortsConnection, ServesToEnd}
@@ -28,23 +27,22 @@ use Rattle.book_http.specs.ServedConnections.{AbortsConnection, ServesToEnd}
 
 module _ {S : Type 0} (model : StoreModel S) where
   -- one step of the service by a request
-  abbrev pub ServiceStep : HandlerRelation (Service S)
-  ServiceStep old head body octets new =
-      AnswersRequest model old.store head body octets new.store
+  abbrev pub ServiceStep : HandlerRelation S
+  ServiceStep = AnswersRequest model
 
   -- The store was in this state, and its premise holds now, so that it held before.
-  pub record StartsAt (now : SystemState) (old new : Service S) : Type 0 where
-    pub at : MatchesRows now (model.limits old.store) (model.books old.store)
-    pub premise_holds : model.premise new.store
+  pub record StartsAt (now : SystemState) (old new : S) : Type 0 where
+    pub at : MatchesRows now (model.limits old) (model.books old)
+    pub premise_holds : model.premise new
 
   -- ---- requests
 
   -- requests that were handled in turn are a run, and the octets are its replies
   abbrev pub RequestsRun : Type 0
   RequestsRun =
-      (now : SystemState) (old new : Service S) (requests : List Request) (octets : List ℕ) →
+      (now : SystemState) (old new : S) (requests : List Request) (octets : List ℕ) →
       StartsAt now old new → HandlesRequests ServiceStep head_fault_octets old requests octets new →
-      RunsRequests now requests octets (model.books new.store)
+      RunsRequests now requests octets (model.books new)
 
   -- ---- sessions
 
@@ -70,17 +68,17 @@ module _ {S : Type 0} (model : StoreModel S) where
   -- all requests of the octets that a session held and of those that it was fed ran
   abbrev pub SessionsRun : Type 0
   SessionsRun =
-      (now : SystemState) (old new : Service S) (octets replies : List ℕ) →
+      (now : SystemState) (old new : S) (octets replies : List ℕ) →
       (session : Option (List ℕ)) → StartsAt now old new →
       FeedsSession ServiceStep head_fault_octets octets old replies new session →
-      RunsAsFed now octets replies (model.books new.store) session
+      RunsAsFed now octets replies (model.books new) session
 
   -- if memory runs out, some requests, from the first on, ran
   abbrev pub LostPiecesRun : Type 0
   LostPiecesRun =
-      (now : SystemState) (old new : Service S) (octets : List ℕ) → StartsAt now old new →
+      (now : SystemState) (old new : S) (octets : List ℕ) → StartsAt now old new →
       HandlesSomePrefix ServiceStep head_fault_octets octets old new →
-      RunsFirstRequests now octets (model.books new.store)
+      RunsFirstRequests now octets (model.books new)
 
   -- ---- cuts
 
@@ -111,14 +109,14 @@ module _ {S : Type 0} (model : StoreModel S) where
   -- However octets are cut, the same requests run, and the session has the same value.
   abbrev pub CutsRunAlike : Type 0
   CutsRunAlike =
-      (now : SystemState) (old new other : Service S) (turns others : List (List ℕ × List ℕ)) →
+      (now : SystemState) (old new other : S) (turns others : List (List ℕ × List ℕ)) →
       (session left : Option (List ℕ)) → StartsAt now old new → StartsAt now old other →
       FeedsPieces ServiceStep head_fault_octets (Some []) old turns new session →
       FeedsPieces ServiceStep head_fault_octets (Some []) old others other left →
       flat_map (λ turn. turn.0) turns ≡ flat_map (λ turn. turn.0) others →
       (session ≡ left)
       × RanAlike now (flat_map (λ turn. turn.0) turns) (flat_map (λ turn. turn.1) turns)
-      (flat_map (λ turn. turn.1) others) (model.books new.store) (model.books other.store)
+      (flat_map (λ turn. turn.1) others) (model.books new) (model.books other)
 
   -- ---- connections
 
@@ -136,19 +134,19 @@ module _ {S : Type 0} (model : StoreModel S) where
   -- this holds of each connection that was served to its end
   abbrev pub ConnectionsRun : Type 0
   ConnectionsRun =
-      (now : SystemState) (old new : Service S) (input left output written : Option (List ℕ)) →
+      (now : SystemState) (old new : S) (input left output written : Option (List ℕ)) →
       StartsAt now old new →
       ServesToEnd ServiceStep head_fault_octets input left output written old new →
-      RunsConnection now input left output written (model.books new.store)
+      RunsConnection now input left output written (model.books new)
 
   -- after a fault, some requests of the octets read, from the first on, ran
   abbrev pub FaultsLeaveRuns : Type 0
   FaultsLeaveRuns =
-      (now : SystemState) (old new : Service S) (input left output written : Option (List ℕ)) →
+      (now : SystemState) (old new : S) (input left output written : Option (List ℕ)) →
       (why : ServeFault) → StartsAt now old new →
       AbortsConnection ServiceStep head_fault_octets why input left output written old new →
       (octets : List ℕ) × Consumes input left octets
-      × RunsFirstRequests now octets (model.books new.store)
+      × RunsFirstRequests now octets (model.books new)
 
 -- ---- devices
 

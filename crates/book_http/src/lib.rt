@@ -15,7 +15,7 @@ mod service;
 mod serving;
 mod streams;
 
-pub use answering::answer;
+pub use answering::{answer, answer_with};
 pub use connection::Connection;
 pub use listen_fault::ListenFault;
 pub use listener::Listener;

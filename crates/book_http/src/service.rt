@@ -1,31 +1,52 @@
 //! The handler of HTTP requests over a store of books.
-ghost use Rattle.std.specs.Prelude.{◌≡◌};
+ghost use Rattle.std.specs.Prelude.{◌≡◌, IfOk};
 
-use crate::answering::answer;
+use crate::answering::answer_with;
 use base_types::NoMemory;
 use http_replies::head_fault_bytes;
 use http_requests::{Handler, Head, HeadFault};
+use http_routes::Routes;
 use std::alloc::Global;
+use std::marker::Model;
 use sync_core::BookStore;
 
-/// Handles the requests of connections over a store of books.
+/// Handles the requests of connections over a store of books. It builds the router of their routes
+/// once. In contracts it is its store.
 #[derive(Drop)]
 pub struct Service<S> {
+    routes: Routes,
     /// The store.
     pub store: S,
+}
+
+impl<S> Model for Service<S> {
+    ghost Value = { S };
+
+    ghost coded = { S.code };
+
+    ghost view = { λ service. service.store };
+}
+
+impl<S: Drop> Service<S> {
+    /// The service over the store. `NoMemory` if an allocation fails; the store is dropped then.
+    pub fn new(alloc: Global, store: S) -> Result<Service<S>, NoMemory>
+        ensures { IfOk result (λ service. service ≡ store) }
+    {
+        let routes = Routes::new(alloc)?;
+        Ok(Service { routes, store })
+    }
 }
 
 impl<S: BookStore> Handler for Service<S> {
     ghost use Rattle.book_http.specs.RequestAnswers.{AnswersRequest};
     ghost use Rattle.http_replies.specs.Replies.{head_fault_octets};
 
-    ghost does = { λ old head body reply new.
-        AnswersRequest S.model old.store head body reply new.store };
+    ghost does = { AnswersRequest S.model };
 
     ghost fault_reply = { head_fault_octets };
 
     fn handle(&mut self, alloc: Global, head: &Head, body: &[u8]) -> Result<Vec<u8>, NoMemory> {
-        answer(alloc, &mut self.store, head, body)
+        answer_with(alloc, &self.routes, &mut self.store, head, body)
     }
 
     fn refuse(&self, alloc: Global, fault: HeadFault) -> Result<Vec<u8>, NoMemory> {

@@ -2,7 +2,6 @@
 use Rattle.std.specs.Prelude.{◌≡◌, ℕ, List, [], ◌∷◌, ◌++◌}
 use Rattle.book_http.specs.OctetPromise.{ServiceStep, StartsAt}
 use Rattle.book_http.specs.OctetRuns.{IsReplyToRequest}
-use Rattle.book_http.specs.declared.service.Service.{Service}
 use Rattle.book_model.specs.Books.{Books}
 use Rattle.book_service.specs.Runs.{MatchesRows, Run, SystemState, TraceStep, end_of}
 use Rattle.http_hub.specs.HandledRequests.{HandledRequest}
@@ -32,16 +31,16 @@ module _ {S : Type 0} (model : StoreModel S) where
   -- Each connection is sent the replies to its own requests. The requests of all connections, in
   -- the order of the pieces that complete them, are one run of the service, with these replies.
   pub record RunsForEach
-      (now : SystemState) (limit : ℕ) (old : Service S) (steps : List HubStep) (new : Service S)
+      (now : SystemState) (limit : ℕ) (old : S) (steps : List HubStep) (new : S)
       (after : HubValue) : Type 0 where
     pub separate : SeparatesConnections (ServiceStep model) head_fault_octets
         limit old steps new after
-    pub ran : RunsHandled now separate.one_run.handled (model.books new.store)
+    pub ran : RunsHandled now separate.one_run.handled (model.books new)
 
   -- from each state of the store, every run of a hub that starts without connections is such a run
   abbrev pub HubsAreOneRun : Type 0
   HubsAreOneRun =
-      (now : SystemState) (limit : ℕ) (old new : Service S) (steps : List HubStep) →
+      (now : SystemState) (limit : ℕ) (old new : S) (steps : List HubStep) →
       (after : HubValue) → StartsAt model now old new →
       HubRuns (ServiceStep model) head_fault_octets (new_hub limit) old steps new after →
       RunsForEach now limit old steps new after

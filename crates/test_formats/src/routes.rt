@@ -3,7 +3,7 @@
 use base_types::{Items, NoMemory};
 use book_service::Command;
 use csv_cards::Form;
-use http_routes::{NoCommand, RouteFault, read_request};
+use http_routes::{NoCommand, RouteFault, Routes, read_request};
 use std::alloc::{AllocError, Global};
 
 /// Converts the error of an allocation.
@@ -121,7 +121,8 @@ fn format_route_fault(alloc: Global, fault: RouteFault) -> Result<String, NoMemo
 /// `route METHOD|TARGET`: the command of the request, whose body is `body`, or its fault.
 pub(crate) fn route(alloc: Global, input: &str) -> Result<String, NoMemory> {
     let (method, target) = input.split_once('|').unwrap_or((input, ""));
-    match read_request(alloc, method, target, b"body") {
+    let routes = Routes::new(alloc)?;
+    match read_request(alloc, &routes, method, target, b"body") {
         Ok(command) => {
             let output = format_command(alloc, &command);
             drop(command);

@@ -114,9 +114,8 @@ fn outcome_at(
     device: Device,
     fails_at: u64,
 ) -> Result<Outcome, NoMemory> {
-    let mut service = Service {
-        store: PlainStore::new(alloc, Limits::standard()),
-    };
+    let store = PlainStore::new(alloc, Limits::standard());
+    let mut service = Service::new(alloc, store)?;
     let connections = row.connections.as_slice();
     outcome_of(alloc, &mut service, connections, device, fails_at)
 }

@@ -20,15 +20,14 @@ fn push_over_failing(
 ) -> Result<(), NoMemory> {
     let mut store = FailingStore::new(alloc);
     store.set_fault(Some(fault));
-    let mut service = Service { store };
+    let mut service = Service::new(alloc, store)?;
     push_connections(alloc, &mut service, row.connections.as_slice(), out)
 }
 
 /// Adds the replies if nothing fails, and then those if the reader or the writer fails.
 fn push_with_devices(alloc: Global, row: &Row, out: &mut Vec<u8>) -> Result<(), NoMemory> {
-    let mut service = Service {
-        store: PlainStore::new(alloc, Limits::standard()),
-    };
+    let store = PlainStore::new(alloc, Limits::standard());
+    let mut service = Service::new(alloc, store)?;
     let pushed = push_connections(alloc, &mut service, row.connections.as_slice(), out);
     drop(service);
     pushed?;

@@ -163,9 +163,8 @@ fn is_as_twin<S: BookStore>(
 }
 
 fn new_service<K: Stores>(alloc: Global, kind: &K) -> Result<Service<K::Store>, Stop> {
-    Ok(Service {
-        store: kind.new_store(alloc, limits()?)?,
-    })
+    let store = kind.new_store(alloc, limits()?)?;
+    Ok(Service::new(alloc, store)?)
 }
 
 /// Whether the result and the books are those of this subset.

@@ -1,3 +1,4 @@
+mod answers;
 mod calls;
 mod connections;
 mod event_lists;
@@ -19,10 +20,8 @@ fn new_store(alloc: Global) -> PlainStore {
 }
 
 /// A service over a new store.
-fn new_service(alloc: Global) -> Service<PlainStore> {
-    Service {
-        store: new_store(alloc),
-    }
+fn new_service(rt: &impl Abort, alloc: Global) -> Service<PlainStore> {
+    Service::new(alloc, new_store(alloc)).expect(rt, "memory")
 }
 
 /// The events of a script, one a line.

@@ -46,7 +46,7 @@ fn replies(rt: &impl Abort, alloc: Global, interrupted: u64) -> Vec<u8> {
         reads: 0,
         interrupted,
     };
-    let mut service = new_service(alloc);
+    let mut service = new_service(rt, alloc);
     let mut writer = Vec::new(alloc);
     let done = serve(alloc, &mut service, &mut reader, &mut writer);
     assert_eq!(rt; done, Ok(()));
@@ -89,7 +89,7 @@ impl Write for HoldingWriter {
 fn flushes_replies(rt: HostRuntime) {
     let expected = replies(&rt, rt.alloc(), 0);
     let mut reader = REQUESTS.as_bytes();
-    let mut service = new_service(rt.alloc());
+    let mut service = new_service(&rt, rt.alloc());
     let mut writer = HoldingWriter {
         held: Vec::new(rt.alloc()),
         sent: Vec::new(rt.alloc()),
@@ -119,7 +119,7 @@ impl<'a> Read for EndlessReader<'a> {
 #[test]
 fn gives_up_after_too_many_reads(rt: HostRuntime) {
     let head = "PUT /books/staff HTTP/1.1\r\nHost: office\r\nContent-Length: 8388608\r\n\r\n";
-    let mut service = new_service(rt.alloc());
+    let mut service = new_service(&rt, rt.alloc());
     let mut reader = EndlessReader {
         head: head.as_bytes(),
     };

@@ -66,7 +66,7 @@ fn serve_count(
 fn serves_connections_in_turn(rt: HostRuntime) {
     let alloc = rt.alloc();
     let listener = listen(&rt).expect(&rt, "an answer");
-    let mut service = new_service(alloc);
+    let mut service = new_service(&rt, alloc);
     let mut first = send_requests(&rt, &listener, MAKE_AND_PUT).expect(&rt, "an answer");
     // A session must not continue the request of the one before: this connection leaves half a one.
     let mut half = send_requests(&rt, &listener, "PUT /books/half HTTP/1.1\r\n").expect(
@@ -96,7 +96,7 @@ fn break_connection(rt: &HostRuntime, listener: &TcpListener) -> io::Result<()> 
 #[test]
 fn serves_others_when_one_breaks(rt: HostRuntime) {
     let listener = listen(&rt).expect(&rt, "an answer");
-    let mut service = new_service(rt.alloc());
+    let mut service = new_service(&rt, rt.alloc());
     break_connection(&rt, &listener).expect(&rt, "an answer");
     let mut other = send_requests(&rt, &listener, MAKE_CLIENTS).expect(&rt, "an answer");
     let done = serve_listener(rt.alloc(), &mut service, &listener, 2);
@@ -144,7 +144,7 @@ const REPORT: &str = "HTTP/1.1 200 OK\r\nContent-Type: application/json\r\n\
 #[test]
 fn reports_to_a_device_that_wrote_before(rt: HostRuntime) {
     let alloc = rt.alloc();
-    let mut service = new_service(alloc);
+    let mut service = new_service(&rt, alloc);
     let output = run_script(alloc, &mut service.store, CHANGES).expect(&rt, "memory");
     assert_eq!(rt; output.as_str(), REPLIES);
     let listener = listen(&rt).expect(&rt, "an answer");

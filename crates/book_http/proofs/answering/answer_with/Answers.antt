@@ -3,7 +3,7 @@ use Rattle.http_replies.specs.Replies.{reply_octets}
 use Rattle.http_routes.specs.Commands.{requested_command}
 use Rattle.book_http.specs.StoreCommands.{PerformsOnStore}
 use Rattle.book_http.proofs.AnsweringLemmas.{on_err, performed}
-use Rattle.book_http.proofs.answering.answer.Goals as goal
+use Rattle.book_http.proofs.answering.answer_with.Goals as goal
 
 pub returns-in-Ok-clause-no_memory : goal.returns-in-Ok-clause-no_memory
 returns-in-Ok-clause-no_memory g c =
