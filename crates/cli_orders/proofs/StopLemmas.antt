@@ -1,16 +1,17 @@
 -- Why an order stops, and what is written then.
-use Rattle.std.proofs.Common.{◌≡◌, ℕ, List, Option, Some, None, inl, inr, refl, subst, sym}
+use Rattle.std.proofs.Common.{◌≡◌, ◌⊎◌, ℕ, List, Option, Some, None, inl, inr, refl, subst, sym}
 use Rattle.std.specs.Io.KnownBytes.{Appends, Keeps}
-use Rattle.book_http.specs.ConnectionModels.{ConnectionModel}
-use Rattle.book_http.specs.Listening.{AbortsSome, FailsToWait, IfAborted, IfWaitFailed}
-use Rattle.book_http.specs.declared.listen_fault.ListenFault.{ListenFault}
-use Rattle.book_http.specs.declared.listen_fault.ListenFault.TheVariants.{Serve as Aborted, Device as ListenerFailed}
 use Rattle.book_commands.specs.declared.reply.Reply.{Reply}
 use Rattle.http_requests.specs.HandlerRuns.{HandlerRelation, FaultReplies}
+use Rattle.hub_server.specs.EndpointRuns.{EndpointRelation}
+use Rattle.hub_server.specs.ServedEndpoints.{StopsAtEndpoint}
+use Rattle.hub_server.specs.declared.endpoint_fault.EndpointFault.{EndpointFault}
+use Rattle.hub_server.specs.declared.endpoint_fault.EndpointFault.TheVariants as endpoint
+use Rattle.hub_server.specs.declared.limits.ServeLimits.{ServeLimits}
 use Rattle.cli_orders.specs.declared.stop.Stop.{Stop}
 use Rattle.cli_orders.specs.declared.stop.Stop.TheVariants.{Refused, Fault, Open, Serve, Device}
-use Rattle.cli_orders.specs.Announcements.{StopsServing, listening_line}
-use Rattle.cli_orders.specs.Stops.{out_of_memory, stop_of_listening}
+use Rattle.cli_orders.specs.Announcements.{StopsServing, WritesListeningLine, listening_line}
+use Rattle.cli_orders.specs.Stops.{out_of_memory, stop_of_endpoint}
 use Rattle.book_http.specs.Streams.{WritesPrefix}
 use Rattle.cli_orders.specs.ReplyTexts.{KeepsOutput, StopsOnReply}
 
@@ -41,26 +42,30 @@ stop_leaves r stop before after (inr cut) = output_kept_by_device stop before af
 
 -- ---- of connections
 
-module _ {State Connection : Type 0} (does : HandlerRelation State) (fault_reply : FaultReplies) (stream : ConnectionModel Connection) where
-  abbrev Stopped : ℕ → ℕ → Option (List (Option Connection)) → State → Option (List ℕ) → Option (List ℕ) → Stop → State → Type 0
-  Stopped port connections coming old before after stop new = StopsServing does fault_reply stream port connections coming old before after stop new
+module _ {State Endpoint : Type 0} (does : HandlerRelation State) (fault_reply : FaultReplies) (calls : EndpointRelation Endpoint) where
+  abbrev Stopped : ℕ → ServeLimits → State → Endpoint → Option (List ℕ) → Option (List ℕ) → Stop → State → Endpoint → Type 0
+  Stopped port limits old start before after stop new end = StopsServing does fault_reply calls port limits old start before after stop new end
 
-  pub stops_unannounced : (port connections : ℕ) (coming : Option (List (Option Connection))) (old : State) (w : Option (List ℕ)) (stop : Stop) → stop ≡ out_of_memory → Stopped port connections coming old w w stop old
-  stops_unannounced port connections coming old w stop is = subst (λ (s : Stop). Stopped port connections coming old w w s old) (sym is) (refl, kept_same w, refl)
+  pub stops_without_line : (port : ℕ) (limits : ServeLimits) (old : State) (start : Endpoint) (w : Option (List ℕ)) → Stopped port limits old start w w out_of_memory old start
+  stops_without_line port limits old start w = inl (record { stop_is = refl; unwritten = kept_same w; unhandled = refl; uncalled = refl })
 
-  pub stops_mute : (port connections : ℕ) (coming : Option (List (Option Connection))) (old : State) (before after : Option (List ℕ)) (stop : Stop) → stop ≡ Device → WritesPrefix (listening_line port) before after
-      → Stopped port connections coming old before after stop old
-  stops_mute port connections coming old before after stop is front = subst (λ (s : Stop). Stopped port connections coming old before after s old) (sym is) (inr (record { front = front; kept = refl }))
+  pub stops_mute : (port : ℕ) (limits : ServeLimits) (old : State) (start : Endpoint) (before after : Option (List ℕ)) (stop : Stop) → stop ≡ Device → WritesPrefix (listening_line port) before after
+      → Stopped port limits old start before after stop old start
+  stops_mute port limits old start before after stop is front = inr (inl (record { stop_is = is; front = front; unhandled = refl; uncalled = refl }))
 
-  pub stops_listening : (port connections : ℕ) (coming : Option (List (Option Connection))) (old new : State) (before after : Option (List ℕ)) (fault : ListenFault) → Appends before after (listening_line port)
-      → IfAborted (λ f. AbortsSome does fault_reply stream f connections coming old new) fault → IfWaitFailed (FailsToWait does fault_reply stream connections coming old new) fault
-      → Stopped port connections coming old before after (stop_of_listening fault) new
-  stops_listening port connections coming old new before after (Aborted fault) written aborted failed = record { written = written; serves = aborted }
-  stops_listening port connections coming old new before after ListenerFailed written aborted failed = inl (record { written = written; serves = failed })
+  pub stops_announced : (port : ℕ) (limits : ServeLimits) (old new : State) (start end : Endpoint) (before after : Option (List ℕ)) (fault : EndpointFault) → Appends before after (listening_line port)
+      → StopsAtEndpoint does fault_reply calls limits fault old start new end → Stopped port limits old start before after (stop_of_endpoint fault) new end
+  stops_announced port limits old new start end before after fault written serves = inr (inr (record { written = written; fault = fault; stop_is = refl; serves = serves }))
 
-  pub serving_stop_leaves : (port connections : ℕ) (coming : Option (List (Option Connection))) (old new : State) (before after : Option (List ℕ)) (stop : Stop) → Stopped port connections coming old before after stop new → KeepsOutput stop before after
-  serving_stop_leaves port connections coming old new before after (Refused refusal) s = absurd s
-  serving_stop_leaves port connections coming old new before after (Fault fault) s = s.1
-  serving_stop_leaves port connections coming old new before after (Open fault) s = absurd s
-  serving_stop_leaves port connections coming old new before after (Serve fault) s = tt
-  serving_stop_leaves port connections coming old new before after Device s = tt
+  -- a fault may have come after the line was written; no other stop but `Device` comes then
+  pub serving_stop_leaves : (port : ℕ) (limits : ServeLimits) (old new : State) (start end : Endpoint) (before after : Option (List ℕ)) (stop : Stop) → Stopped port limits old start before after stop new end
+      → KeepsOutput stop before after ⊎ ((stop ≡ out_of_memory) × WritesListeningLine before after)
+  serving_stop_leaves port limits old new start end before after stop (inl s) = inl (keeps_leaves stop before after s.unwritten)
+  serving_stop_leaves port limits old new start end before after stop (inr (inl s)) = inl (output_kept_by_device stop before after s.stop_is)
+  serving_stop_leaves port limits old new start end before after stop (inr (inr s)) = by_fault s.fault s.stop_is
+    where
+      by_fault : (fault : EndpointFault) → stop ≡ stop_of_endpoint fault → KeepsOutput stop before after ⊎ ((stop ≡ out_of_memory) × WritesListeningLine before after)
+      by_fault endpoint.Wait is = inl (output_kept_by_device stop before after is)
+      by_fault endpoint.Accept is = inl (output_kept_by_device stop before after is)
+      by_fault endpoint.TooManyWaits is = inl (output_kept_by_device stop before after is)
+      by_fault endpoint.Memory is = inr (is, record { port = port; written = s.written })

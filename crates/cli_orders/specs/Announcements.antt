@@ -2,49 +2,64 @@
 use Rattle.std.specs.Prelude.{◌≡◌, ◌⊎◌, ℕ, List, [], ◌∷◌, ◌++◌, codes, decimal, Option}
 use Rattle.std.specs.Io.KnownBytes.{Appends, Keeps}
 use Rattle.base_types.specs.Octets.{line_feed}
-use Rattle.book_http.specs.ConnectionModels.{ConnectionModel}
-use Rattle.book_http.specs.Listening.{AbortsSome, FailsToWait, ServesEach}
-use Rattle.http_requests.specs.HandlerRuns.{HandlerRelation, FaultReplies}
-use Rattle.cli_orders.specs.declared.stop.Stop.{Stop}
-use Rattle.cli_orders.specs.declared.stop.Stop.TheVariants.{Refused, Fault, Open, Serve, Device}
-use Rattle.cli_orders.specs.Stops.{out_of_memory}
 use Rattle.book_http.specs.Streams.{WritesPrefix}
+use Rattle.http_requests.specs.HandlerRuns.{HandlerRelation, FaultReplies}
+use Rattle.hub_server.specs.EndpointRuns.{EndpointRelation}
+use Rattle.hub_server.specs.ServedEndpoints.{ServesAll, StopsAtEndpoint}
+use Rattle.hub_server.specs.declared.endpoint_fault.EndpointFault.{EndpointFault}
+use Rattle.hub_server.specs.declared.limits.ServeLimits.{ServeLimits}
+use Rattle.cli_orders.specs.declared.stop.Stop.{Stop}
+use Rattle.cli_orders.specs.declared.stop.Stop.TheVariants.{Device}
+use Rattle.cli_orders.specs.Stops.{out_of_memory, stop_of_endpoint}
 
 -- the line that announces the port
 abbrev pub listening_line : ℕ → List ℕ
 listening_line port = codes "listening 127.0.0.1:" ++ (decimal port ++ line_feed ∷ [])
 
--- the whole line was written, and this was done
-pub record Announces (port : ℕ) (before after : Option (List ℕ)) (Serves : Type 0) : Type 0 where
+-- the line that announces some port was written
+pub record WritesListeningLine (before after : Option (List ℕ)) : Type 0 where
+  pub port : ℕ
   pub written : Appends before after (listening_line port)
-  pub serves : Serves
 
-module _ {State Connection : Type 0} (does : HandlerRelation State) (fault_reply : FaultReplies)
-    (stream : ConnectionModel Connection) where
-  -- the port was announced, and the requested number of connections served, each to its end
-  abbrev pub AnnouncesAndServes : ℕ → ℕ → Option (List (Option Connection)) → State
-      → Option (List ℕ) → Option (List ℕ) → State → Type 0
-  AnnouncesAndServes port connections coming old before after new =
-      Announces port before after
-      (ServesEach does fault_reply stream connections coming old new)
+-- A handler is represented by what it does, and an endpoint by the effect of each call.
+module _ {State Endpoint : Type 0} (does : HandlerRelation State) (fault_reply : FaultReplies)
+    (calls : EndpointRelation Endpoint) where
+  -- the line was written, and all connections were served
+  pub record AnnouncesAndServes (port : ℕ) (limits : ServeLimits)
+      (old : State) (start : Endpoint) (before after : Option (List ℕ))
+      (new : State) (end : Endpoint) : Type 0 where
+    pub written : Appends before after (listening_line port)
+    pub serves : ServesAll does fault_reply calls limits old start new end
 
-  -- the line wasn't written completely, and no connection was accepted
-  pub record FailsToAnnounce (port : ℕ) (old : State) (before after : Option (List ℕ)) (new : State)
-      : Type 0 where
+  -- memory ran out for the line: nothing was written, handled or called
+  pub record LacksLine (old : State) (start : Endpoint) (before after : Option (List ℕ))
+      (stop : Stop) (new : State) (end : Endpoint) : Type 0 where
+    pub stop_is : stop ≡ out_of_memory
+    pub unwritten : Keeps before after
+    pub unhandled : new ≡ old
+    pub uncalled : end ≡ start
+
+  -- the writer failed: a prefix of the line is written, and nothing was handled or called
+  pub record FailsToAnnounce (port : ℕ) (old : State) (start : Endpoint)
+      (before after : Option (List ℕ)) (stop : Stop) (new : State) (end : Endpoint) : Type 0 where
+    pub stop_is : stop ≡ Device
     pub front : WritesPrefix (listening_line port) before after
-    pub kept : new ≡ old
+    pub unhandled : new ≡ old
+    pub uncalled : end ≡ start
 
-  -- why not all connections were served to their ends
-  abbrev pub StopsServing : ℕ → ℕ → Option (List (Option Connection)) → State
-      → Option (List ℕ) → Option (List ℕ) → Stop → State → Type 0
-  StopsServing port connections coming old before after (Serve fault) new =
-      Announces port before after
-      (AbortsSome does fault_reply stream fault connections coming old new)
-  StopsServing port connections coming old before after Device new =
-      Announces port before after
-      (FailsToWait does fault_reply stream connections coming old new)
-      ⊎ FailsToAnnounce port old before after new
-  StopsServing port connections coming old before after (Fault fault) new =
-      (Fault fault ≡ out_of_memory) × Keeps before after × (new ≡ old)
-  StopsServing port connections coming old before after (Refused refusal) new = ⊥
-  StopsServing port connections coming old before after (Open fault) new = ⊥
+  -- the line was written, and then serving ended with this fault
+  pub record FailsToServe (port : ℕ) (limits : ServeLimits)
+      (old : State) (start : Endpoint) (before after : Option (List ℕ))
+      (stop : Stop) (new : State) (end : Endpoint) : Type 0 where
+    pub written : Appends before after (listening_line port)
+    pub fault : EndpointFault
+    pub stop_is : stop ≡ stop_of_endpoint fault
+    pub serves : StopsAtEndpoint does fault_reply calls limits fault old start new end
+
+  -- why not all connections were served
+  abbrev pub StopsServing : ℕ → ServeLimits → State → Endpoint
+      → Option (List ℕ) → Option (List ℕ) → Stop → State → Endpoint → Type 0
+  StopsServing port limits old start before after stop new end =
+      LacksLine old start before after stop new end
+      ⊎ (FailsToAnnounce port old start before after stop new end
+      ⊎ FailsToServe port limits old start before after stop new end)

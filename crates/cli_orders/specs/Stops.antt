@@ -11,6 +11,8 @@ use Rattle.book_model.specs.declared.denied.Fault.TheVariants.{Memory}
 use Rattle.book_http.specs.declared.listen_fault.ListenFault.{ListenFault}
 use Rattle.book_http.specs.declared.listen_fault.ListenFault.TheVariants.{Serve as Aborted}
 use Rattle.book_http.specs.declared.listen_fault.ListenFault.TheVariants.{Device as ListenerFailed}
+use Rattle.hub_server.specs.declared.endpoint_fault.EndpointFault.{EndpointFault}
+use Rattle.hub_server.specs.declared.endpoint_fault.EndpointFault.TheVariants as endpoint
 use Rattle.cli_orders.specs.declared.stop.Stop.{Stop}
 use Rattle.cli_orders.specs.declared.stop.Stop.TheVariants.{Refused, Fault, Open, Serve, Device}
 use Rattle.store_schema.specs.OpenFaults.{open_fault_number}
@@ -23,7 +25,14 @@ abbrev pub stop_of : Denied → Stop
 stop_of (WasRefused refusal) = Refused refusal
 stop_of (WasFault fault) = Fault fault
 
--- the stop for an error of serving connections
+-- the stop for an error of serving connections together
+abbrev pub stop_of_endpoint : EndpointFault → Stop
+stop_of_endpoint endpoint.Wait = Device
+stop_of_endpoint endpoint.Accept = Device
+stop_of_endpoint endpoint.TooManyWaits = Device
+stop_of_endpoint endpoint.Memory = out_of_memory
+
+-- the stop for an error of serving connections one after another
 abbrev pub stop_of_listening : ListenFault → Stop
 stop_of_listening (Aborted fault) = Serve fault
 stop_of_listening ListenerFailed = Device

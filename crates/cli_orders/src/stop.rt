@@ -3,6 +3,7 @@ ghost use Rattle.std.specs.Prelude.{◌≡◌};
 ghost use Rattle.cli_orders.specs.Stops.{out_of_memory, status_of};
 
 use book_http::{ListenFault, ServeFault};
+use hub_server::EndpointFault;
 use std::alloc::AllocError;
 use std::fmt;
 use store_schema::OpenFault;
@@ -19,8 +20,9 @@ pub enum Stop {
     Fault(Fault),
     /// The file can't be opened as a store of books, or no store can be created in it.
     Open(OpenFault),
-    /// The fault of the first connection that was aborted. The connections after it were accepted
-    /// and served too, each to its end unless it was aborted itself.
+    /// The fault of the first connection that `serve_listener` aborted. The connections after it
+    /// were accepted and served too, each to its end unless it was aborted itself. The program
+    /// serves its connections together, so it never has this one.
     Serve(ServeFault),
     /// A file, a socket, or standard input or output can't be used.
     Device,
@@ -106,6 +108,22 @@ impl From<OpenFault> for Stop {
 
     fn from(fault: OpenFault) -> Stop {
         Stop::Open(fault)
+    }
+}
+
+impl From<EndpointFault> for Stop {
+    ghost use Rattle.std.specs.Prelude.{◌≡◌};
+    ghost use Rattle.cli_orders.specs.Stops.{stop_of_endpoint};
+
+    ghost from_gives = { λ fault stop. stop ≡ stop_of_endpoint fault };
+
+    fn from(fault: EndpointFault) -> Stop {
+        match fault {
+            EndpointFault::Wait | EndpointFault::Accept | EndpointFault::TooManyWaits => {
+                Stop::Device
+            }
+            EndpointFault::Memory => Stop::out_of_memory(),
+        }
     }
 }
 
