@@ -1,0 +1,18 @@
+//! The endpoint of a server over TCP sockets that don't block.
+#![tactic(auto)]
+
+mod accept_causes;
+mod bind_fault;
+mod dropping;
+mod endpoint;
+mod linger;
+mod lingerers;
+mod poll_times;
+mod polling;
+mod reports;
+mod stopwatch;
+mod subject;
+mod transfers;
+
+pub use bind_fault::BindFault;
+pub use endpoint::SocketEndpoint;
