@@ -2,7 +2,6 @@
 use Rattle.std.proofs.Common.{◌≡◌, ◌≢◌, ◌⊎◌, ℕ, List, [], ◌∷◌, Option, Result, Ok, Err, IfErr, OnOk, inl, inr, refl}
 use Rattle.std.specs.Io.KnownBytes.{Appends}
 use Rattle.book_commands.specs.declared.command.Command.TheVariants.{Import as ImportRows}
-use Rattle.book_http.specs.ConnectionModels.{ConnectionModel}
 use Rattle.book_http.specs.OctetPromise.{ServiceStep}
 use Rattle.cli_orders.specs.Announcements.{AnnouncesAndServes, StopsServing}
 use Rattle.cli_orders.specs.CommandRuns.{PrintsCommand, StopsCommand}
@@ -12,21 +11,27 @@ use Rattle.book_http.specs.Streams.{WritesPrefix}
 use Rattle.cli_orders.specs.declared.stop.Stop.{Stop}
 use Rattle.cli_orders.specs.declared.stop.Stop.TheVariants.{Open, Device}
 use Rattle.cli_orders.proofs.StopLemmas.{kept_same}
-use Rattle.cli_host.specs.Hosts.{HostCall, Creates, Opens, Migrates, ReadsRows, Binds, HasLog, LogsCalls}
-use Rattle.cli_host.specs.OrdersOnHost.{DoesInFile, DoesStoreWork, ImportsRows, MakesStore, MigratesFile, ServesFile, StopsInFile, StopsMaking, StopsMigrating, StopsOnImport, StopsReadingRows, StopsServe, StopsStoreWork, StopsUnopened}
+use Rattle.cli_host.specs.Hosts.{HostCall, Creates, Opens, Migrates, ReadsRows, Binds, Finishes, HasLog, LogsCalls}
+use Rattle.cli_host.specs.OrdersOnHost.{DoesInFile, DoesStoreWork, ImportsRows, MakesStore, MigratesFile, ServesFile, StopsInFile, StopsMaking, StopsMigrating, StopsOnImport, StopsReadingRows, StopsServe, StopsStoreWork, StopsUnbound, StopsUnopened}
 use Rattle.cli_host.specs.declared.work.StoreWork.{StoreWork}
 use Rattle.http_replies.specs.Replies.{head_fault_octets}
+use Rattle.hub_server.specs.EndpointRuns.{EndpointRelation}
+use Rattle.hub_server.specs.declared.limits.ServeLimits.{ServeLimits}
 use Rattle.store_schema.specs.declared.open_fault.OpenFault.{OpenFault}
 use Rattle.sync_core.specs.StoreModels.{StoreModel}
 
 unopened : (fault : OpenFault) (w : Option (List ℕ)) → StopsUnopened fault (Open fault) w w
 unopened fault w = record { stop_is = refl; unwritten = kept_same w }
 
-module _ {S L H : Type 0} (calls : HostCall S L → H → H → Type 0) where
-  one_call : (old new : H) (call : HostCall S L) (Holds : List (HostCall S L) → Type 0) → calls call old new → Holds (call ∷ []) → LogsCalls calls old new Holds
+unbound : (stop : Stop) (w : Option (List ℕ)) → (stop ≡ out_of_memory) ⊎ (stop ≡ Device) → StopsUnbound stop w w
+unbound stop w (inl is) = inl (record { stop_is = is; unwritten = kept_same w })
+unbound stop w (inr is) = inr (record { stop_is = is; unwritten = kept_same w })
+
+module _ {S P H : Type 0} (calls : HostCall S P → H → H → Type 0) where
+  one_call : (old new : H) (call : HostCall S P) (Holds : List (HostCall S P) → Type 0) → calls call old new → Holds (call ∷ []) → LogsCalls calls old new Holds
   one_call old new call Holds made holds = record { log = call ∷ []; made = (new, made, refl); holds = holds }
 
-  pub log_of : (old new : H) (Holds : List (HostCall S L) → Type 0) → LogsCalls calls old new Holds → HasLog Holds
+  pub log_of : (old new : H) (Holds : List (HostCall S P) → Type 0) → LogsCalls calls old new Holds → HasLog Holds
   log_of old new Holds calls_made = record { log = calls_made.log; holds = calls_made.holds }
 
   -- ---- a new store
@@ -65,8 +70,8 @@ module _ {S L H : Type 0} (calls : HostCall S L → H → H → Type 0) where
 
 -- ---- stores
 
-module _ {S L H : Type 0} (model : StoreModel S) (calls : HostCall S L → H → H → Type 0) where
-  abbrev StopsImport : S → List ℕ → List ℕ → List ℕ → Stop → Option (List ℕ) → Option (List ℕ) → S → List (HostCall S L) → Type 0
+module _ {S P H : Type 0} (model : StoreModel S) (calls : HostCall S P → H → H → Type 0) where
+  abbrev StopsImport : S → List ℕ → List ℕ → List ℕ → Stop → Option (List ℕ) → Option (List ℕ) → S → List (HostCall S P) → Type 0
   StopsImport old book key csv stop before after new log = StopsReadingRows model old csv stop before after new log ⊎ StopsOnImport model old book key csv stop before after new log
 
   pub rows_unread : (host_old host_new : H) (old : S) (book key csv : List ℕ) (stop : Stop) (w : Option (List ℕ)) → calls (ReadsRows csv (Err stop)) host_old host_new → (stop ≡ out_of_memory) ⊎ (stop ≡ Device)
@@ -110,39 +115,43 @@ module _ {S L H : Type 0} (model : StoreModel S) (calls : HostCall S L → H →
 
 -- ---- serving
 
-module _ {S Connection L H : Type 0} (model : StoreModel S)
-    (stream : ConnectionModel Connection) (coming : L → Option (List (Option Connection))) (calls : HostCall S L → H → H → Type 0) where
-  pub serve_unopened : (old new : H) (file : List ℕ) (requested connections : ℕ) (fault : OpenFault) (w : Option (List ℕ)) → calls (Opens file (Err fault)) old new
-      → LogsCalls calls old new (StopsServe model stream coming file requested connections (Open fault) w w)
-  serve_unopened old new file requested connections fault w made =
-      one_call calls old new (Opens file (Err fault)) (StopsServe model stream coming file requested connections (Open fault) w w) made (inl (fault, refl, unopened fault w))
+module _ {S P H : Type 0} (model : StoreModel S) (effects : EndpointRelation P) (calls : HostCall S P → H → H → Type 0) where
+  pub serve_unopened : (old new : H) (file : List ℕ) (requested : ℕ) (limits : ServeLimits) (fault : OpenFault) (w : Option (List ℕ)) → calls (Opens file (Err fault)) old new
+      → LogsCalls calls old new (StopsServe model effects file requested limits (Open fault) w w)
+  serve_unopened old new file requested limits fault w made =
+      one_call calls old new (Opens file (Err fault)) (StopsServe model effects file requested limits (Open fault) w w) made (inl (fault, refl, unopened fault w))
 
-  pub serve_unbound : (old opened new : H) (file : List ℕ) (requested connections : ℕ) (store : S) (stop : Stop) (w : Option (List ℕ)) → calls (Opens file (Ok store)) old opened → calls (Binds requested (Err stop)) opened new → stop ≡ Device
-      → LogsCalls calls old new (StopsServe model stream coming file requested connections stop w w)
-  serve_unbound old opened new file requested connections store stop w made binds stop_is = record {
-    log = Opens file (Ok store) ∷ Binds requested (Err stop) ∷ [];
+  pub serve_without_memory : (old new : H) (file : List ℕ) (requested : ℕ) (limits : ServeLimits) (store : S) (w : Option (List ℕ)) → calls (Opens file (Ok store)) old new
+      → LogsCalls calls old new (StopsServe model effects file requested limits out_of_memory w w)
+  serve_without_memory old new file requested limits store w made =
+      one_call calls old new (Opens file (Ok store)) (StopsServe model effects file requested limits out_of_memory w w) made (inr (inl (store, refl, record { stop_is = refl; unwritten = kept_same w })))
+
+  pub serve_unbound : (old opened new : H) (file : List ℕ) (requested : ℕ) (limits : ServeLimits) (store : S) (stop : Stop) (w : Option (List ℕ)) → calls (Opens file (Ok store)) old opened → calls (Binds requested limits.together (Err stop)) opened new
+      → (stop ≡ out_of_memory) ⊎ (stop ≡ Device) → LogsCalls calls old new (StopsServe model effects file requested limits stop w w)
+  serve_unbound old opened new file requested limits store stop w made binds stop_is = record {
+    log = Opens file (Ok store) ∷ Binds requested limits.together (Err stop) ∷ [];
     made = (opened, made, (new, binds, refl));
-    holds = inr (inl (store, refl, record { stop_is = stop_is; unwritten = kept_same w }));
+    holds = inr (inr (inl (store, refl, unbound stop w stop_is)));
   }
 
-  pub file_served : (result : Result (Unit {0}) Stop) (old opened new : H) (file : List ℕ) (requested port connections : ℕ) (store store_after : S) (listener : L) (before after : Option (List ℕ))
-      → calls (Opens file (Ok store)) old opened → calls (Binds requested (Ok (listener, port))) opened new → (requested ≢ 0 → port ≡ requested)
-      → OnOk result (AnnouncesAndServes (ServiceStep model) head_fault_octets stream port connections (coming listener) (record { store = store }) before after (record { store = store_after }))
-      → OnOk result (LogsCalls calls old new (ServesFile model stream coming file requested connections before after))
-  file_served (Ok done) old opened new file requested port connections store store_after listener before after made binds is_requested announces = record {
-    log = Opens file (Ok store) ∷ Binds requested (Ok (listener, port)) ∷ [];
-    made = (opened, made, (new, binds, refl));
-    holds = record { store = store; listener = listener; port = port; calls = refl; is_requested = is_requested; store_after = store_after; announces = announces };
+  pub file_served : (result : Result (Unit {0}) Stop) (old opened bound new : H) (file : List ℕ) (requested port : ℕ) (limits : ServeLimits) (store store_after : S) (endpoint endpoint_after : P) (before after : Option (List ℕ))
+      → calls (Opens file (Ok store)) old opened → calls (Binds requested limits.together (Ok (endpoint, port))) opened bound → calls (Finishes endpoint_after) bound new → (requested ≢ 0 → port ≡ requested)
+      → OnOk result (AnnouncesAndServes (ServiceStep model) head_fault_octets effects port limits store endpoint before after store_after endpoint_after)
+      → OnOk result (LogsCalls calls old new (ServesFile model effects file requested limits before after))
+  file_served (Ok done) old opened bound new file requested port limits store store_after endpoint endpoint_after before after made binds finishes is_requested announces = record {
+    log = Opens file (Ok store) ∷ Binds requested limits.together (Ok (endpoint, port)) ∷ Finishes endpoint_after ∷ [];
+    made = (opened, made, (bound, binds, (new, finishes, refl)));
+    holds = record { store = store; endpoint = endpoint; port = port; store_after = store_after; endpoint_after = endpoint_after; calls = refl; is_requested = is_requested; announces = announces };
   }
-  file_served (Err stop) old opened new file requested port connections store store_after listener before after made binds is_requested announces = tt
+  file_served (Err stop) old opened bound new file requested port limits store store_after endpoint endpoint_after before after made binds finishes is_requested announces = tt
 
-  pub file_unserved : (result : Result (Unit {0}) Stop) (old opened new : H) (file : List ℕ) (requested port connections : ℕ) (store store_after : S) (listener : L) (before after : Option (List ℕ))
-      → calls (Opens file (Ok store)) old opened → calls (Binds requested (Ok (listener, port))) opened new → (requested ≢ 0 → port ≡ requested)
-      → IfErr result (λ stop. StopsServing (ServiceStep model) head_fault_octets stream port connections (coming listener) (record { store = store }) before after stop (record { store = store_after }))
-      → IfErr result (λ stop. LogsCalls calls old new (StopsServe model stream coming file requested connections stop before after))
-  file_unserved (Ok done) old opened new file requested port connections store store_after listener before after made binds is_requested stops = tt
-  file_unserved (Err stop) old opened new file requested port connections store store_after listener before after made binds is_requested stops = record {
-    log = Opens file (Ok store) ∷ Binds requested (Ok (listener, port)) ∷ [];
-    made = (opened, made, (new, binds, refl));
-    holds = inr (inr (record { store = store; listener = listener; port = port; calls = refl; is_requested = is_requested; store_after = store_after; stops = stops }));
+  pub file_unserved : (result : Result (Unit {0}) Stop) (old opened bound new : H) (file : List ℕ) (requested port : ℕ) (limits : ServeLimits) (store store_after : S) (endpoint endpoint_after : P) (before after : Option (List ℕ))
+      → calls (Opens file (Ok store)) old opened → calls (Binds requested limits.together (Ok (endpoint, port))) opened bound → calls (Finishes endpoint_after) bound new → (requested ≢ 0 → port ≡ requested)
+      → IfErr result (λ stop. StopsServing (ServiceStep model) head_fault_octets effects port limits store endpoint before after stop store_after endpoint_after)
+      → IfErr result (λ stop. LogsCalls calls old new (StopsServe model effects file requested limits stop before after))
+  file_unserved (Ok done) old opened bound new file requested port limits store store_after endpoint endpoint_after before after made binds finishes is_requested stops = tt
+  file_unserved (Err stop) old opened bound new file requested port limits store store_after endpoint endpoint_after before after made binds finishes is_requested stops = record {
+    log = Opens file (Ok store) ∷ Binds requested limits.together (Ok (endpoint, port)) ∷ Finishes endpoint_after ∷ [];
+    made = (opened, made, (bound, binds, (new, finishes, refl)));
+    holds = inr (inr (inr (record { store = store; endpoint = endpoint; port = port; store_after = store_after; endpoint_after = endpoint_after; calls = refl; is_requested = is_requested; stops = stops })));
   }

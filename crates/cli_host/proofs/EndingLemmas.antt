@@ -1,15 +1,14 @@
 -- How what was done, or why it stopped, ends the program.
 use Rattle.std.proofs.Common.{◌⊎◌, ℕ, List, Option, Some, None, Result, Ok, Err, OnOk, IfErr, IfSome, inl, inr}
-use Rattle.book_http.specs.ConnectionModels.{ConnectionModel}
 use Rattle.cli_args.specs.declared.order.Order.{Order}
 use Rattle.cli_host.specs.Exits.{EndsOrder, IsTryDone, IsTryStopped, ReportsResult}
 use Rattle.cli_host.specs.Hosts.{HostCall, LogsCalls}
-use Rattle.cli_host.specs.OrdersOnHost.{RunsOnHost, StopsOnHost}
+use Rattle.cli_host.specs.OrdersOnHost.{KeepsOrderOutput, RunsOnHost, StopsOnHost}
 use Rattle.cli_host.specs.declared.exit.ProgramExit.{ProgramExit}
 use Rattle.cli_orders.specs.TryOutputs.{KeepsTryOutput, PrintsTryResult}
 use Rattle.cli_orders.specs.TryStops.{IsTryStop}
 use Rattle.cli_orders.specs.declared.stop.Stop.{Stop}
-use Rattle.cli_orders.specs.ReplyTexts.{KeepsOutput}
+use Rattle.hub_server.specs.EndpointRuns.{EndpointRelation}
 use Rattle.sync_core.specs.StoreModels.{StoreModel}
 
 pub tried_ends : (r : Result (Unit {0}) Stop) (a before after errors_before errors_after : Option (List ℕ)) (exit : ProgramExit) → OnOk r (IfSome a (λ input. PrintsTryResult input before after))
@@ -20,12 +19,11 @@ tried_ends (Ok done) (Some input) before after errors_before errors_after exit p
 tried_ends (Err stop) None before after errors_before errors_after exit printed stopped output_kept e = tt
 tried_ends (Err stop) (Some input) before after errors_before errors_after exit printed stopped output_kept e = inr (record { stop = stop; agrees = stopped; output_kept = output_kept; reports_stop = e })
 
-module _ {S Connection L H : Type 0} (model : StoreModel S)
-    (stream : ConnectionModel Connection) (coming : L → Option (List (Option Connection))) (calls : HostCall S L → H → H → Type 0) where
+module _ {S P H : Type 0} (model : StoreModel S) (effects : EndpointRelation P) (calls : HostCall S P → H → H → Type 0) where
   pub ran_ends : (r : Result (Unit {0}) Stop) (old new : H) (order : Order) (before after errors_before errors_after : Option (List ℕ)) (exit : ProgramExit)
-      → OnOk r (LogsCalls calls old new (RunsOnHost model stream coming order before after)) → IfErr r (λ stop. LogsCalls calls old new (StopsOnHost model stream coming order stop before after))
-      → IfErr r (λ stop. KeepsOutput stop before after) → ReportsResult r errors_before errors_after exit
-      → LogsCalls calls old new (EndsOrder model stream coming order before after errors_before errors_after exit)
+      → OnOk r (LogsCalls calls old new (RunsOnHost model effects order before after)) → IfErr r (λ stop. LogsCalls calls old new (StopsOnHost model effects order stop before after))
+      → IfErr r (λ stop. KeepsOrderOutput order stop before after) → ReportsResult r errors_before errors_after exit
+      → LogsCalls calls old new (EndsOrder model effects order before after errors_before errors_after exit)
   ran_ends (Ok done) old new order before after errors_before errors_after exit runs stops output_kept e = record {
     log = runs.log;
     made = runs.made;

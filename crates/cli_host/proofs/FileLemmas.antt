@@ -1,55 +1,60 @@
 -- What is left of the output where an order isn't done.
-use Rattle.std.proofs.Common.{ℕ, List, Option, Result, Ok, Err, IfErr, inl, inr}
-use Rattle.book_http.specs.ConnectionModels.{ConnectionModel}
+use Rattle.std.proofs.Common.{◌≡◌, ◌⊎◌, ℕ, List, Option, Result, Ok, Err, IfErr, inl, inr}
+use Rattle.hub_server.specs.EndpointRuns.{EndpointRelation}
+use Rattle.hub_server.specs.declared.limits.ServeLimits.{ServeLimits}
 use Rattle.sync_core.specs.StoreModels.{StoreModel}
 use Rattle.cli_orders.specs.declared.stop.Stop.{Stop}
 use Rattle.cli_host.specs.Hosts.{HostCall, LogsCalls}
-use Rattle.cli_host.specs.OrdersOnHost.{StopsInFile, StopsMaking, StopsMigrating, StopsServe, StopsStoreWork, StopsWork}
+use Rattle.cli_host.specs.OrdersOnHost.{HasAnnounced, StopsInFile, StopsMaking, StopsMigrating, StopsServe, StopsStoreWork, StopsWork}
 use Rattle.cli_host.specs.declared.work.StoreWork.{StoreWork}
 use Rattle.cli_host.specs.declared.work.StoreWork.TheVariants.{Perform, ImportFile, MirrorBook}
 use Rattle.cli_host.specs.declared.work.Work.{Work}
 use Rattle.cli_host.specs.declared.work.Work.TheVariants.{Nothing, CreateFile, MigrateFile, ServeFile, UseFile}
+use Rattle.cli_orders.specs.Announcements.{WritesListeningLine}
 use Rattle.cli_orders.specs.ReplyTexts.{KeepsOutput}
+use Rattle.cli_orders.specs.Stops.{out_of_memory}
 use Rattle.cli_orders.proofs.CommandLemmas.{mirror_stop_leaves}
 use Rattle.cli_orders.proofs.StopLemmas.{keeps_leaves, output_kept_by_device, serving_stop_leaves, stop_leaves}
 
-module _ {S L : Type 0} where
-  making_leaves : (file : List ℕ) (stop : Stop) (before after : Option (List ℕ)) (log : List (HostCall S L)) → StopsMaking file stop before after log → KeepsOutput stop before after
+module _ {S P : Type 0} where
+  making_leaves : (file : List ℕ) (stop : Stop) (before after : Option (List ℕ)) (log : List (HostCall S P)) → StopsMaking file stop before after log → KeepsOutput stop before after
   making_leaves file stop before after log (inl s) = keeps_leaves stop before after s.2.unwritten
   making_leaves file stop before after log (inr s) = output_kept_by_device stop before after s.2.stop_is
 
-  migrating_leaves : (file : List ℕ) (stop : Stop) (before after : Option (List ℕ)) (log : List (HostCall S L)) → StopsMigrating file stop before after log → KeepsOutput stop before after
+  migrating_leaves : (file : List ℕ) (stop : Stop) (before after : Option (List ℕ)) (log : List (HostCall S P)) → StopsMigrating file stop before after log → KeepsOutput stop before after
   migrating_leaves file stop before after log (inl s) = keeps_leaves stop before after s.2.unwritten
   migrating_leaves file stop before after log (inr (count, migrated, inl s)) = keeps_leaves stop before after s.unwritten
   migrating_leaves file stop before after log (inr (count, migrated, inr s)) = output_kept_by_device stop before after s.stop_is
 
-module _ {S L : Type 0} (model : StoreModel S) where
-  store_work_leaves : (work : StoreWork) (old new : S) (stop : Stop) (before after : Option (List ℕ)) (log : List (HostCall S L)) → StopsStoreWork model old work stop before after new log → KeepsOutput stop before after
+module _ {S P : Type 0} (model : StoreModel S) where
+  store_work_leaves : (work : StoreWork) (old new : S) (stop : Stop) (before after : Option (List ℕ)) (log : List (HostCall S P)) → StopsStoreWork model old work stop before after new log → KeepsOutput stop before after
   store_work_leaves (Perform command) old new stop before after log s = stop_leaves s.1.reply stop before after s.1.stops
   store_work_leaves (ImportFile book key csv) old new stop before after log (inl s) = keeps_leaves stop before after s.unwritten
   store_work_leaves (ImportFile book key csv) old new stop before after log (inr s) = stop_leaves s.stops.reply stop before after s.stops.stops
   store_work_leaves (MirrorBook book limit pages) old new stop before after log s = mirror_stop_leaves model old new book limit pages stop before after s.1
 
-  in_file_leaves : (file : List ℕ) (work : StoreWork) (stop : Stop) (before after : Option (List ℕ)) (log : List (HostCall S L)) → StopsInFile model file work stop before after log → KeepsOutput stop before after
+  in_file_leaves : (file : List ℕ) (work : StoreWork) (stop : Stop) (before after : Option (List ℕ)) (log : List (HostCall S P)) → StopsInFile model file work stop before after log → KeepsOutput stop before after
   in_file_leaves file work stop before after log (inl s) = keeps_leaves stop before after s.2.unwritten
   in_file_leaves file work stop before after log (inr s) = store_work_leaves work s.store s.store_after stop before after s.later s.stops
 
-module _ {S Connection L : Type 0} (model : StoreModel S)
-    (stream : ConnectionModel Connection) (coming : L → Option (List (Option Connection))) where
-  serve_leaves : (file : List ℕ) (requested connections : ℕ) (stop : Stop) (before after : Option (List ℕ)) (log : List (HostCall S L)) → StopsServe model stream coming file requested connections stop before after log
-      → KeepsOutput stop before after
-  serve_leaves file requested connections stop before after log (inl s) = keeps_leaves stop before after s.2.unwritten
-  serve_leaves file requested connections stop before after log (inr (inl s)) = keeps_leaves stop before after s.2.unwritten
-  serve_leaves file requested connections stop before after log (inr (inr s)) = serving_stop_leaves _ _ _ s.port connections (coming s.listener) (record { store = s.store }) (record { store = s.store_after }) before after stop s.stops
+module _ {S P : Type 0} (model : StoreModel S) (effects : EndpointRelation P) where
+  serve_leaves : (file : List ℕ) (requested : ℕ) (limits : ServeLimits) (stop : Stop) (before after : Option (List ℕ)) (log : List (HostCall S P)) → StopsServe model effects file requested limits stop before after log
+      → KeepsOutput stop before after ⊎ ((stop ≡ out_of_memory) × WritesListeningLine before after)
+  serve_leaves file requested limits stop before after log (inl s) = inl (keeps_leaves stop before after s.2.unwritten)
+  serve_leaves file requested limits stop before after log (inr (inl s)) = inl (keeps_leaves stop before after s.2.unwritten)
+  serve_leaves file requested limits stop before after log (inr (inr (inl (store, bound, inl s)))) = inl (keeps_leaves stop before after s.unwritten)
+  serve_leaves file requested limits stop before after log (inr (inr (inl (store, bound, inr s)))) = inl (keeps_leaves stop before after s.unwritten)
+  serve_leaves file requested limits stop before after log (inr (inr (inr s))) = serving_stop_leaves _ _ effects s.port limits s.store s.store_after s.endpoint s.endpoint_after before after stop s.stops
 
-  work_leaves : (work : Work) (stop : Stop) (before after : Option (List ℕ)) (log : List (HostCall S L)) → StopsWork model stream coming work stop before after log → KeepsOutput stop before after
-  work_leaves Nothing stop before after log s = keeps_leaves stop before after s.1.unwritten
-  work_leaves (CreateFile file) stop before after log s = making_leaves file stop before after log s
-  work_leaves (MigrateFile file) stop before after log s = migrating_leaves file stop before after log s
-  work_leaves (ServeFile file port connections) stop before after log s = serve_leaves file port connections stop before after log s
-  work_leaves (UseFile file work) stop before after log s = in_file_leaves model file work stop before after log s
+  work_leaves : (work : Work) (stop : Stop) (before after : Option (List ℕ)) (log : List (HostCall S P)) → StopsWork model effects work stop before after log
+      → KeepsOutput stop before after ⊎ ((stop ≡ out_of_memory) × HasAnnounced work before after)
+  work_leaves Nothing stop before after log s = inl (keeps_leaves stop before after s.1.unwritten)
+  work_leaves (CreateFile file) stop before after log s = inl (making_leaves file stop before after log s)
+  work_leaves (MigrateFile file) stop before after log s = inl (migrating_leaves file stop before after log s)
+  work_leaves (ServeFile file port limits) stop before after log s = serve_leaves file port limits stop before after log s
+  work_leaves (UseFile file work) stop before after log s = inl (in_file_leaves model file work stop before after log s)
 
-  pub stopped_work_leaves : {H : Type 0} (calls : HostCall S L → H → H → Type 0) (r : Result (Unit {0}) Stop) (old new : H) (work : Work) (before after : Option (List ℕ))
-      → IfErr r (λ stop. LogsCalls calls old new (StopsWork model stream coming work stop before after)) → IfErr r (λ stop. KeepsOutput stop before after)
+  pub stopped_work_leaves : {H : Type 0} (calls : HostCall S P → H → H → Type 0) (r : Result (Unit {0}) Stop) (old new : H) (work : Work) (before after : Option (List ℕ))
+      → IfErr r (λ stop. LogsCalls calls old new (StopsWork model effects work stop before after)) → IfErr r (λ stop. KeepsOutput stop before after ⊎ ((stop ≡ out_of_memory) × HasAnnounced work before after))
   stopped_work_leaves calls (Ok done) old new work before after s = tt
   stopped_work_leaves calls (Err stop) old new work before after s = work_leaves work stop before after s.log s.holds

@@ -7,40 +7,43 @@ use Rattle.cli_orders.specs.declared.stop.Stop.{Stop}
 use Rattle.store_schema.specs.declared.open_fault.OpenFault.{OpenFault}
 
 -- A call of a host, with the file or port that it is about, and its result. A store holds the books
--- of a file, and a listener accepts the connections to a port.
-pub data HostCall (Store Listener : Type 0) : Type 0 where
+-- of a file, and an endpoint has the connections to a port.
+pub data HostCall (Store Endpoint : Type 0) : Type 0 where
   -- creating a store without books in the file
-  Creates : List ℕ → Result Store OpenFault → HostCall Store Listener
+  Creates : List ℕ → Result Store OpenFault → HostCall Store Endpoint
   -- opening the store of the books in the file
-  Opens : List ℕ → Result Store OpenFault → HostCall Store Listener
+  Opens : List ℕ → Result Store OpenFault → HostCall Store Endpoint
   -- migrating the file to the current schema, which returns its number of books
-  Migrates : List ℕ → Result ℕ OpenFault → HostCall Store Listener
+  Migrates : List ℕ → Result ℕ OpenFault → HostCall Store Endpoint
   -- reading all octets of the file
-  ReadsRows : List ℕ → Result (List ℕ) Stop → HostCall Store Listener
-  -- binding a listener to the port, which returns the listener and its port
-  Binds : ℕ → Result (Listener × ℕ) Stop → HostCall Store Listener
+  ReadsRows : List ℕ → Result (List ℕ) Stop → HostCall Store Endpoint
+  -- binding an endpoint to the port, with places for this number of connections, which returns the
+  -- endpoint and its port
+  Binds : ℕ → ℕ → Result (Endpoint × ℕ) Stop → HostCall Store Endpoint
+  -- closing the endpoint, after its connections were served
+  Finishes : Endpoint → HostCall Store Endpoint
 
 -- A host is represented by what is known of each call: its result, and the host before and after
 -- it.
-module _ {S L Host : Type 0} (calls : HostCall S L → Host → Host → Type 0) where
+module _ {S P Host : Type 0} (calls : HostCall S P → Host → Host → Type 0) where
   -- these calls were made of the host, in this order, and no others
-  abbrev pub MakesCalls : Host → List (HostCall S L) → Host → Type 0
+  abbrev pub MakesCalls : Host → List (HostCall S P) → Host → Type 0
   MakesCalls old [] new = new ≡ old
   MakesCalls old (call ∷ log) new = (next : Host) × calls call old next × MakesCalls next log new
 
   -- all calls that were made of the host are this log, of which this holds
-  pub record LogsCalls (old new : Host) (Holds : List (HostCall S L) → Type 0) : Type 0 where
-    pub log : List (HostCall S L)
+  pub record LogsCalls (old new : Host) (Holds : List (HostCall S P) → Type 0) : Type 0 where
+    pub log : List (HostCall S P)
     pub made : MakesCalls old log new
     pub holds : Holds log
 
 -- of some log of calls, this holds
-pub record HasLog {S L : Type 0} (Holds : List (HostCall S L) → Type 0) : Type 0 where
-  pub log : List (HostCall S L)
+pub record HasLog {S P : Type 0} (Holds : List (HostCall S P) → Type 0) : Type 0 where
+  pub log : List (HostCall S P)
   pub holds : Holds log
 
 -- nothing is known of a call
-abbrev pub IsAnyCall : {S L Host : Type 0} → HostCall S L → Host → Host → Type 0
+abbrev pub IsAnyCall : {S P Host : Type 0} → HostCall S P → Host → Host → Type 0
 IsAnyCall call old new = ⊤
 
 -- 127.0.0.1, which only programs of the host can connect to

@@ -1,21 +1,49 @@
--- What an order does: the command, the file and the port that it names. This project's own.
+-- What an order does: the command, the file, the port and the limits that it names. This project's
+-- own.
+use Rattle.std.specs.Prelude.{ℕ, ◌*◌, ◌-◌, ◌^◌, min}
 use Rattle.book_commands.specs.declared.command.Command.TheVariants.{CreateBook, TallyOf, People}
 use Rattle.book_commands.specs.declared.command.Command.TheVariants.{Export as ExportRows}
 use Rattle.book_commands.specs.declared.command.Command.TheVariants.{Forget as ForgetUpto}
 use Rattle.cli_args.specs.declared.order.Order.{Order}
-use Rattle.cli_args.specs.declared.order.Order.TheVariants.{Try, Init, Book, Serve, Import, Export}
-use Rattle.cli_args.specs.declared.order.Order.TheVariants.{Tally, Forget, Mirror, Expand, Migrate}
+use Rattle.cli_args.specs.declared.order.Order.TheVariants.{Try, Init, Book, Serve, ServeWithLimits}
+use Rattle.cli_args.specs.declared.order.Order.TheVariants.{Import, Export, Tally, Forget, Mirror}
+use Rattle.cli_args.specs.declared.order.Order.TheVariants.{Expand, Migrate}
+use Rattle.hub_server.specs.declared.limits.ServeLimits.{ServeLimits}
 use Rattle.cli_host.specs.declared.work.Work.{Work}
 use Rattle.cli_host.specs.declared.work.Work.TheVariants.{Nothing, CreateFile, MigrateFile}
 use Rattle.cli_host.specs.declared.work.Work.TheVariants.{ServeFile, UseFile}
 use Rattle.cli_host.specs.declared.work.StoreWork.TheVariants.{Perform, ImportFile, MirrorBook}
+
+-- the most connections that are open at once, if the order names no limits
+abbrev pub together_default : ℕ
+together_default = 256
+
+-- the seconds after which a silent connection is closed, if the order names no limits
+abbrev pub patience_default : ℕ
+patience_default = 60
+
+-- This number of seconds in milliseconds; a number that has more than 64 bits is cut to 2^64 - 1.
+-- The command line allows at most 3,600 seconds.
+abbrev pub milliseconds_of : ℕ → ℕ
+milliseconds_of seconds = min (seconds * 1000) (2 ^ 64 - 1)
+
+-- the limits of a server, with its patience in seconds
+abbrev pub limits_of : ℕ → ℕ → ℕ → ServeLimits
+limits_of connections together patience = record {
+  connections = connections;
+  together = together;
+  patience = milliseconds_of patience;
+}
 
 -- each order's arguments in their places
 abbrev pub work_of : Order → Work
 work_of Try = Nothing
 work_of (Init file) = CreateFile file
 work_of (Migrate file) = MigrateFile file
-work_of (Serve file port connections) = ServeFile file port connections
+work_of (Serve file port connections) =
+    ServeFile file port (limits_of connections together_default patience_default)
+work_of (ServeWithLimits file port connections together patience) =
+    ServeFile file port (limits_of connections together patience)
 work_of (Book file book) = UseFile file (Perform (CreateBook book))
 work_of (Import file book key csv) = UseFile file (ImportFile book key csv)
 work_of (Export file book form) = UseFile file (Perform (ExportRows book form))

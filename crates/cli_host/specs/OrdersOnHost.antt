@@ -3,22 +3,24 @@
 use Rattle.std.specs.Prelude.{◌≡◌, ◌≢◌, ◌⊎◌, ℕ, List, [], ◌∷◌, Option, Ok, Err}
 use Rattle.std.specs.Io.KnownBytes.{Appends, Keeps}
 use Rattle.book_commands.specs.declared.command.Command.TheVariants.{Import as ImportRows}
-use Rattle.book_http.specs.ConnectionModels.{ConnectionModel}
 use Rattle.book_http.specs.OctetPromise.{ServiceStep}
 use Rattle.cli_args.specs.declared.order.Order.{Order}
 use Rattle.http_replies.specs.Replies.{head_fault_octets}
+use Rattle.hub_server.specs.EndpointRuns.{EndpointRelation}
+use Rattle.hub_server.specs.declared.limits.ServeLimits.{ServeLimits}
 use Rattle.cli_orders.specs.OrderOutputs.{made_output, migrate_output}
 use Rattle.cli_orders.specs.CommandRuns.{PrintsCommand, PrintsMirror, StopsCommand, StopsMirror}
 use Rattle.cli_orders.specs.declared.stop.Stop.{Stop}
 use Rattle.cli_orders.specs.declared.stop.Stop.TheVariants.{Open, Device}
-use Rattle.cli_host.specs.Hosts.{HostCall, Creates, Opens, Migrates, ReadsRows, Binds}
+use Rattle.cli_host.specs.Hosts.{HostCall, Creates, Opens, Migrates, ReadsRows, Binds, Finishes}
 use Rattle.cli_host.specs.OrderWork.{work_of}
 use Rattle.cli_host.specs.declared.work.StoreWork.{StoreWork}
 use Rattle.cli_host.specs.declared.work.StoreWork.TheVariants.{Perform, ImportFile, MirrorBook}
 use Rattle.cli_host.specs.declared.work.Work.{Work}
 use Rattle.cli_host.specs.declared.work.Work.TheVariants.{Nothing, CreateFile, MigrateFile}
 use Rattle.cli_host.specs.declared.work.Work.TheVariants.{ServeFile, UseFile}
-use Rattle.cli_orders.specs.Announcements.{AnnouncesAndServes, StopsServing}
+use Rattle.cli_orders.specs.Announcements.{AnnouncesAndServes, StopsServing, WritesListeningLine}
+use Rattle.cli_orders.specs.ReplyTexts.{KeepsOutput}
 use Rattle.cli_orders.specs.Stops.{out_of_memory}
 use Rattle.book_http.specs.Streams.{WritesPrefix}
 use Rattle.store_schema.specs.declared.open_fault.OpenFault.{OpenFault}
@@ -46,20 +48,35 @@ pub record StopsAtDevice (stop : Stop) (before after : Option (List ℕ)) : Type
   pub stop_is : stop ≡ Device
   pub unwritten : Keeps before after
 
+-- no endpoint was bound, for lack of memory or because the port can't be used
+abbrev pub StopsUnbound : Stop → Option (List ℕ) → Option (List ℕ) → Type 0
+StopsUnbound stop before after = StopsForMemory stop before after ⊎ StopsAtDevice stop before after
+
+-- the work is to serve, and the line that announces a port was written
+abbrev pub HasAnnounced : Work → Option (List ℕ) → Option (List ℕ) → Type 0
+HasAnnounced (ServeFile file port limits) before after = WritesListeningLine before after
+HasAnnounced work before after = ⊥
+
+-- Nothing is written on a refusal, on a fault, or if the file can't be opened. But the order to
+-- serve may have announced its port before memory ran out.
+abbrev pub KeepsOrderOutput : Order → Stop → Option (List ℕ) → Option (List ℕ) → Type 0
+KeepsOrderOutput order stop before after = KeepsOutput stop before after
+    ⊎ ((stop ≡ out_of_memory) × HasAnnounced (work_of order) before after)
+
 -- In each of these, `log` has all calls that were made of the host, in order.
-module _ {S L : Type 0} where
+module _ {S P : Type 0} where
   -- ---- a new store
 
   -- a store without books was created in the file, and that is printed
   pub record MakesStore
-      (file : List ℕ) (before after : Option (List ℕ)) (log : List (HostCall S L)) : Type 0 where
+      (file : List ℕ) (before after : Option (List ℕ)) (log : List (HostCall S P)) : Type 0 where
     pub store : S
     pub calls : log ≡ Creates file (Ok store) ∷ []
     pub printed : Appends before after made_output
 
   -- none was created in the file, or the writer failed
   abbrev pub StopsMaking : List ℕ → Stop → Option (List ℕ) → Option (List ℕ)
-      → List (HostCall S L) → Type 0
+      → List (HostCall S P) → Type 0
   StopsMaking file stop before after log =
       ((fault : OpenFault) × (log ≡ Creates file (Err fault) ∷ [])
       × StopsUnopened fault stop before after)
@@ -70,14 +87,14 @@ module _ {S L : Type 0} where
 
   -- the file was migrated to the current schema, and its number of books is printed
   pub record MigratesFile
-      (file : List ℕ) (before after : Option (List ℕ)) (log : List (HostCall S L)) : Type 0 where
+      (file : List ℕ) (before after : Option (List ℕ)) (log : List (HostCall S P)) : Type 0 where
     pub count : ℕ
     pub calls : log ≡ Migrates file (Ok count) ∷ []
     pub printed : Appends before after (migrate_output count)
 
   -- the file wasn't migrated, or memory ran out or the writer failed over the text
   abbrev pub StopsMigrating : List ℕ → Stop → Option (List ℕ) → Option (List ℕ)
-      → List (HostCall S L) → Type 0
+      → List (HostCall S P) → Type 0
   StopsMigrating file stop before after log =
       ((fault : OpenFault) × (log ≡ Migrates file (Err fault) ∷ [])
       × StopsUnopened fault stop before after)
@@ -86,26 +103,26 @@ module _ {S L : Type 0} where
       ⊎ StopsOverText (migrate_output count) stop before after))
 
 -- A store is represented by its books.
-module _ {S L : Type 0} (model : StoreModel S) where
+module _ {S P : Type 0} (model : StoreModel S) where
   -- ---- an import
 
   -- all octets of the file of rows were imported into the book, and the counts are printed
   pub record ImportsRows (old : S) (book key csv : List ℕ) (before after : Option (List ℕ))
-      (new : S) (log : List (HostCall S L)) : Type 0 where
+      (new : S) (log : List (HostCall S P)) : Type 0 where
     pub rows : List ℕ
     pub calls : log ≡ ReadsRows csv (Ok rows) ∷ []
     pub prints : PrintsCommand model old (ImportRows book key rows) before after new
 
   -- the import of all octets of the file of rows is why the order stops
   pub record StopsOnImport (old : S) (book key csv : List ℕ) (stop : Stop)
-      (before after : Option (List ℕ)) (new : S) (log : List (HostCall S L)) : Type 0 where
+      (before after : Option (List ℕ)) (new : S) (log : List (HostCall S P)) : Type 0 where
     pub rows : List ℕ
     pub calls : log ≡ ReadsRows csv (Ok rows) ∷ []
     pub stops : StopsCommand model old (ImportRows book key rows) stop before after new
 
   -- the file of rows couldn't be read: nothing was performed or written
   pub record StopsReadingRows (old : S) (csv : List ℕ) (stop : Stop)
-      (before after : Option (List ℕ)) (new : S) (log : List (HostCall S L)) : Type 0 where
+      (before after : Option (List ℕ)) (new : S) (log : List (HostCall S P)) : Type 0 where
     pub calls : log ≡ ReadsRows csv (Err stop) ∷ []
     pub unchanged : new ≡ old
     pub unwritten : Keeps before after
@@ -115,7 +132,7 @@ module _ {S L : Type 0} (model : StoreModel S) where
 
   -- The work was done on the store, and its result is printed. Only an import calls the host.
   abbrev pub DoesStoreWork : S → StoreWork → Option (List ℕ) → Option (List ℕ) → S
-      → List (HostCall S L) → Type 0
+      → List (HostCall S P) → Type 0
   DoesStoreWork old (Perform command) before after new log =
       (log ≡ []) × PrintsCommand model old command before after new
   DoesStoreWork old (ImportFile book key csv) before after new log =
@@ -125,7 +142,7 @@ module _ {S L : Type 0} (model : StoreModel S) where
 
   -- why the work wasn't done on the store, or its result wasn't printed
   abbrev pub StopsStoreWork : S → StoreWork → Stop → Option (List ℕ) → Option (List ℕ) → S
-      → List (HostCall S L) → Type 0
+      → List (HostCall S P) → Type 0
   StopsStoreWork old (Perform command) stop before after new log =
       (log ≡ []) × StopsCommand model old command stop before after new
   StopsStoreWork old (ImportFile book key csv) stop before after new log =
@@ -138,101 +155,106 @@ module _ {S L : Type 0} (model : StoreModel S) where
 
   -- the file's store was opened, and then the work was done on it
   pub record DoesInFile (file : List ℕ) (work : StoreWork) (before after : Option (List ℕ))
-      (log : List (HostCall S L)) : Type 0 where
+      (log : List (HostCall S P)) : Type 0 where
     pub store : S
-    pub later : List (HostCall S L)
+    pub later : List (HostCall S P)
     pub calls : log ≡ Opens file (Ok store) ∷ later
     pub store_after : S
     pub does : DoesStoreWork store work before after store_after later
 
   -- the file's store was opened, and this is why the work stopped
   pub record StopsOnFile (file : List ℕ) (work : StoreWork) (stop : Stop)
-      (before after : Option (List ℕ)) (log : List (HostCall S L)) : Type 0 where
+      (before after : Option (List ℕ)) (log : List (HostCall S P)) : Type 0 where
     pub store : S
-    pub later : List (HostCall S L)
+    pub later : List (HostCall S P)
     pub calls : log ≡ Opens file (Ok store) ∷ later
     pub store_after : S
     pub stops : StopsStoreWork store work stop before after store_after later
 
   -- the file wasn't opened, or it was and the work stopped
   abbrev pub StopsInFile : List ℕ → StoreWork → Stop → Option (List ℕ) → Option (List ℕ)
-      → List (HostCall S L) → Type 0
+      → List (HostCall S P) → Type 0
   StopsInFile file work stop before after log =
       ((fault : OpenFault) × (log ≡ Opens file (Err fault) ∷ [])
       × StopsUnopened fault stop before after)
       ⊎ StopsOnFile file work stop before after log
 
--- A store is represented by its books, a connection by its octets, and a listener by its arrivals.
-module _ {S Connection L : Type 0} (model : StoreModel S) (stream : ConnectionModel Connection)
-    (coming : L → Option (List (Option Connection))) where
+-- A store is represented by its books, and an endpoint by the effects of its calls.
+module _ {S P : Type 0} (model : StoreModel S) (effects : EndpointRelation P) where
   -- ---- serving a file
 
-  -- The file's store was opened, and a listener bound to the requested port, or to any port if that
-  -- is 0. The line that announces its port was written, and then connections of the listener were
-  -- served over the store.
-  pub record ServesFile (file : List ℕ) (requested connections : ℕ)
-      (before after : Option (List ℕ)) (log : List (HostCall S L)) : Type 0 where
+  -- The file's store was opened. An endpoint was bound to the requested port, or to any port if it
+  -- is 0, with a place for each connection that may be open at once. The line that announces its
+  -- port was written, and then all connections were served over the store. At last the endpoint,
+  -- as serving left it, was closed.
+  pub record ServesFile (file : List ℕ) (requested : ℕ) (limits : ServeLimits)
+      (before after : Option (List ℕ)) (log : List (HostCall S P)) : Type 0 where
     pub store : S
-    pub listener : L
+    pub endpoint : P
     pub port : ℕ
-    pub calls : log ≡ Opens file (Ok store) ∷ Binds requested (Ok (listener, port)) ∷ []
-    pub is_requested : requested ≢ 0 → port ≡ requested
     pub store_after : S
-    pub announces : AnnouncesAndServes (ServiceStep model) head_fault_octets
-        stream port connections (coming listener)
-        (record { store = store }) before after (record { store = store_after })
+    pub endpoint_after : P
+    pub calls : log ≡ Opens file (Ok store) ∷ Binds requested limits.together (Ok (endpoint, port))
+        ∷ Finishes endpoint_after ∷ []
+    pub is_requested : requested ≢ 0 → port ≡ requested
+    pub announces : AnnouncesAndServes (ServiceStep model) head_fault_octets effects port limits
+        store endpoint before after store_after endpoint_after
 
-  -- the same up to where serving stopped
-  pub record StopsServingFile (file : List ℕ) (requested connections : ℕ) (stop : Stop)
-      (before after : Option (List ℕ)) (log : List (HostCall S L)) : Type 0 where
+  -- the same, but not all connections were served
+  pub record StopsServingFile (file : List ℕ) (requested : ℕ) (limits : ServeLimits) (stop : Stop)
+      (before after : Option (List ℕ)) (log : List (HostCall S P)) : Type 0 where
     pub store : S
-    pub listener : L
+    pub endpoint : P
     pub port : ℕ
-    pub calls : log ≡ Opens file (Ok store) ∷ Binds requested (Ok (listener, port)) ∷ []
-    pub is_requested : requested ≢ 0 → port ≡ requested
     pub store_after : S
-    pub stops : StopsServing (ServiceStep model) head_fault_octets
-        stream port connections (coming listener) (record { store = store })
-        before after stop (record { store = store_after })
+    pub endpoint_after : P
+    pub calls : log ≡ Opens file (Ok store) ∷ Binds requested limits.together (Ok (endpoint, port))
+        ∷ Finishes endpoint_after ∷ []
+    pub is_requested : requested ≢ 0 → port ≡ requested
+    pub stops : StopsServing (ServiceStep model) head_fault_octets effects port limits
+        store endpoint before after stop store_after endpoint_after
 
-  -- the file wasn't opened, or it was and no listener was bound, or serving stopped
-  abbrev pub StopsServe : List ℕ → ℕ → ℕ → Stop → Option (List ℕ) → Option (List ℕ)
-      → List (HostCall S L) → Type 0
-  StopsServe file requested connections stop before after log =
+  -- the file wasn't opened; or it was, and then memory ran out, or no endpoint was bound, or the
+  -- server stopped
+  abbrev pub StopsServe : List ℕ → ℕ → ServeLimits → Stop → Option (List ℕ) → Option (List ℕ)
+      → List (HostCall S P) → Type 0
+  StopsServe file requested limits stop before after log =
       ((fault : OpenFault) × (log ≡ Opens file (Err fault) ∷ [])
       × StopsUnopened fault stop before after)
-      ⊎ (((store : S) × (log ≡ Opens file (Ok store) ∷ Binds requested (Err stop) ∷ [])
-      × StopsAtDevice stop before after)
-      ⊎ StopsServingFile file requested connections stop before after log)
+      ⊎ (((store : S) × (log ≡ Opens file (Ok store) ∷ []) × StopsForMemory stop before after)
+      ⊎ (((store : S)
+      × (log ≡ Opens file (Ok store) ∷ Binds requested limits.together (Err stop) ∷ [])
+      × StopsUnbound stop before after)
+      ⊎ StopsServingFile file requested limits stop before after log))
 
   -- ---- all orders
 
   -- the work was done, and its output is printed
-  abbrev pub DoesWork : Work → Option (List ℕ) → Option (List ℕ) → List (HostCall S L) → Type 0
+  abbrev pub DoesWork : Work → Option (List ℕ) → Option (List ℕ) → List (HostCall S P) → Type 0
   DoesWork Nothing before after log = ⊥
   DoesWork (CreateFile file) before after log = MakesStore file before after log
   DoesWork (MigrateFile file) before after log = MigratesFile file before after log
-  DoesWork (ServeFile file port connections) before after log =
-      ServesFile file port connections before after log
+  DoesWork (ServeFile file port limits) before after log =
+      ServesFile file port limits before after log
   DoesWork (UseFile file work) before after log = DoesInFile model file work before after log
 
   -- Why the work wasn't done, or its output wasn't printed. `try` has no work here, since it needs
   -- standard input.
   abbrev pub StopsWork : Work → Stop → Option (List ℕ) → Option (List ℕ)
-      → List (HostCall S L) → Type 0
+      → List (HostCall S P) → Type 0
   StopsWork Nothing stop before after log = (log ≡ []) × StopsAtDevice stop before after
   StopsWork (CreateFile file) stop before after log = StopsMaking file stop before after log
   StopsWork (MigrateFile file) stop before after log = StopsMigrating file stop before after log
-  StopsWork (ServeFile file port connections) stop before after log =
-      StopsServe file port connections stop before after log
+  StopsWork (ServeFile file port limits) stop before after log =
+      StopsServe file port limits stop before after log
   StopsWork (UseFile file work) stop before after log =
       StopsInFile model file work stop before after log
 
   -- the work of the order was done, and its output is printed
-  abbrev pub RunsOnHost : Order → Option (List ℕ) → Option (List ℕ) → List (HostCall S L) → Type 0
+  abbrev pub RunsOnHost : Order → Option (List ℕ) → Option (List ℕ) → List (HostCall S P) → Type 0
   RunsOnHost order before after log = DoesWork (work_of order) before after log
 
   -- why it wasn't
   abbrev pub StopsOnHost : Order → Stop → Option (List ℕ) → Option (List ℕ)
-      → List (HostCall S L) → Type 0
+      → List (HostCall S P) → Type 0
   StopsOnHost order stop before after log = StopsWork (work_of order) stop before after log

@@ -12,9 +12,9 @@ ghost use Rattle.book_http.specs.Streams.{ReadsAtMost};
 
 use crate::host::Host;
 use crate::running::run_on_host;
-use book_http::Listener;
 use cli_args::{LineFault, Order};
 use cli_orders::{Stop, run_try, write_out};
+use hub_server::Endpoint;
 use std::alloc::Global;
 use std::io::{Read, Write};
 use sync_core::BookStore;
@@ -96,7 +96,7 @@ fn run_try_order<R: Read, W: Write, E: Write>(
 }
 
 /// Runs another order, and reports a stop.
-fn run_other_order<S: BookStore + Drop, L: Listener + Drop, M: Host<S, L>, W: Write, E: Write>(
+fn run_other_order<S: BookStore + Drop, P: Endpoint, M: Host<S, P>, W: Write, E: Write>(
     alloc: Global,
     host: &mut M,
     order: Order,
@@ -104,7 +104,7 @@ fn run_other_order<S: BookStore + Drop, L: Listener + Drop, M: Host<S, L>, W: Wr
     errors: &mut E,
 ) -> ProgramExit
     ensures { LogsCalls M.calls host.old host.new
-        (EndsOrder S.model L.Stream.model L.coming order
+        (EndsOrder S.model P.calls order
         (W.contents writer.old) (W.contents writer.new)
         (E.contents errors.old) (E.contents errors.new) result) }
 {
@@ -113,14 +113,7 @@ fn run_other_order<S: BookStore + Drop, L: Listener + Drop, M: Host<S, L>, W: Wr
 }
 
 /// Runs an order on a host, and reports errors on standard error.
-pub fn run_and_report<
-    S: BookStore + Drop,
-    L: Listener + Drop,
-    M: Host<S, L>,
-    R: Read,
-    W: Write,
-    E: Write,
->(
+pub fn run_and_report<S: BookStore + Drop, P: Endpoint, M: Host<S, P>, R: Read, W: Write, E: Write>(
     alloc: Global,
     host: &mut M,
     order: Result<Order, LineFault>,
@@ -144,7 +137,7 @@ pub fn run_and_report<
     // whole log of calls that were made of the host is that of the order.
     ensures other_order { (other : TheOrder) → order ≡ Ok other → other ≢ TheOrder.Try →
         LogsCalls M.calls host.old host.new
-        (EndsOrder S.model L.Stream.model L.coming other
+        (EndsOrder S.model P.calls other
         (W.contents writer.old) (W.contents writer.new)
         (E.contents errors.old) (E.contents errors.new) result) }
 

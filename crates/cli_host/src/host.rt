@@ -1,29 +1,30 @@
 //! The trait of hosts: the files and ports that orders use.
 ghost use Rattle.std.specs.Prelude.{◌≡◌, ◌≢◌, ◌⊎◌, IfErr, IfOk, IfSome, OnErr};
 ghost use Rattle.cli_host.specs.Hosts.{HostCall, Creates, Opens, Migrates, ReadsRows, Binds};
-ghost use Rattle.cli_host.specs.Hosts.{loopback_ip, standard_limits};
+ghost use Rattle.cli_host.specs.Hosts.{Finishes, loopback_ip, standard_limits};
 ghost use Rattle.std.specs.Net.Socket.{socket_ip, socket_port};
 ghost use Rattle.cli_orders.specs.Stops.{out_of_memory};
 
 use base_types::Items;
 use book_store::{FileBooks, OpenFault, SqlStore};
 use cli_orders::{Stop, read_rows_of};
+use socket_endpoint::{BindFault, SocketEndpoint};
 use std::alloc::Global;
 use std::io::Read;
-use std::net::{IpAddr, Ipv4Addr, SocketAddr, TcpListener};
+use std::net::{IpAddr, Ipv4Addr, SocketAddr};
 use std::rt::HostRuntime;
 use std::{fs, io};
 use store_migration::migrate;
 use sync_core::Limits;
 
 /// The host that orders run on, with its files and ports. A store `S` holds the books of a file,
-/// and a listener `L` accepts the connections to a port.
+/// and an endpoint `P` has the connections to a port.
 ///
 /// The contracts of the real host say neither what a file holds nor who connects to a port. The
 /// contracts over any host say which calls are made of it, and one body runs orders on all hosts.
-pub trait Host<S, L> {
+pub trait Host<S, P> {
     /// What is known of a call: its result, and the host before and after it.
-    ghost calls: { HostCall S L → Self → Self → Type 0 };
+    ghost calls: { HostCall S P → Self → Self → Type 0 };
 
     /// Creates a new store without books in the file.
     fn create(&mut self, file: &str) -> Result<S, OpenFault>
@@ -43,12 +44,17 @@ pub trait Host<S, L> {
         ensures called { calls (ReadsRows file.now result) self.old self.new }
         ensures stop { IfErr result (λ stop. (stop ≡ out_of_memory) ⊎ (stop ≡ Stop.Device)) };
 
-    /// Binds a listener to the port, or to any free port for 0, and returns it with its port.
-    /// `Device` if this fails.
-    fn listen(&mut self, port: u16) -> Result<(L, u16), Stop>
-        ensures called { calls (Binds port result) self.old self.new }
+    /// Binds an endpoint to the port, or to any free port for 0, and returns it with its port. Its
+    /// places are those below `together`. `Device` if the port can't be used, and `Memory` if an
+    /// allocation fails.
+    fn listen(&mut self, alloc: Global, port: u16, together: usize) -> Result<(P, u16), Stop>
+        ensures called { calls (Binds port together result) self.old self.new }
         ensures port { IfOk result (λ bound. port ≢ 0 → bound.1 ≡ port) }
-        ensures stop { IfErr result (λ stop. stop ≡ Stop.Device) };
+        ensures stop { IfErr result (λ stop. (stop ≡ out_of_memory) ⊎ (stop ≡ Stop.Device)) };
+
+    /// Closes the endpoint, after its connections were served.
+    fn finish(&mut self, endpoint: P)
+        ensures { calls (Finishes endpoint) self.old self.new };
 }
 
 /// The socket address of the port at 127.0.0.1, which only programs of this host can connect to.
@@ -57,6 +63,16 @@ fn loopback(port: u16) -> SocketAddr
     ensures port { socket_port result ≡ port }
 {
     SocketAddr::new(IpAddr::V4(Ipv4Addr::LOCALHOST), port)
+}
+
+/// The stop for an endpoint that couldn't be bound.
+fn stop_of_binding(fault: BindFault) -> Stop
+    ensures { (result ≡ out_of_memory) ⊎ (result ≡ Stop.Device) }
+{
+    match fault {
+        BindFault::Memory => Stop::out_of_memory(),
+        BindFault::Device => Stop::Device,
+    }
 }
 
 /// The limits of the stores that the program creates and opens.
@@ -81,7 +97,7 @@ fn rows_from<R: Read + Drop>(alloc: Global, opened: io::Result<R>) -> Result<Ite
 }
 
 /// The host that the program runs on.
-impl Host<FileBooks, TcpListener> for HostRuntime {
+impl Host<FileBooks, SocketEndpoint> for HostRuntime {
     ghost use Rattle.cli_host.specs.Hosts.{IsAnyCall};
 
     ghost calls = { IsAnyCall };
@@ -106,16 +122,26 @@ impl Host<FileBooks, TcpListener> for HostRuntime {
         rows_from(alloc, fs::open(self, file))
     }
 
-    fn listen(&mut self, port: u16) -> Result<(TcpListener, u16), Stop> {
-        let Ok(listener) = TcpListener::bind(self, loopback(port)) else {
-            return Err(Stop::Device);
+    fn listen(
+        &mut self,
+        alloc: Global,
+        port: u16,
+        together: usize,
+    ) -> Result<(SocketEndpoint, u16), Stop> {
+        let endpoint = match SocketEndpoint::bind(self, alloc, loopback(port), together) {
+            Ok(endpoint) => endpoint,
+            Err(fault) => return Err(stop_of_binding(fault)),
         };
         if port != 0 {
-            return Ok((listener, port));
+            return Ok((endpoint, port));
         }
-        let Ok(address) = listener.local_addr() else {
+        let Ok(address) = endpoint.local_addr() else {
             return Err(Stop::Device);
         };
-        Ok((listener, address.port()))
+        Ok((endpoint, address.port()))
+    }
+
+    fn finish(&mut self, endpoint: SocketEndpoint) {
+        endpoint.finish()
     }
 }

@@ -2,30 +2,31 @@
 ghost use Rattle.std.specs.Prelude.{◌⊎◌, IfErr, OnOk};
 ghost use Rattle.cli_host.specs.Hosts.{HasLog, LogsCalls};
 ghost use Rattle.cli_host.specs.OrdersOnHost.{DoesInFile, DoesStoreWork, DoesWork, ImportsRows};
-ghost use Rattle.cli_host.specs.OrdersOnHost.{MakesStore, MigratesFile, RunsOnHost, ServesFile};
+ghost use Rattle.cli_host.specs.OrdersOnHost.{KeepsOrderOutput, MakesStore, MigratesFile};
+ghost use Rattle.cli_host.specs.OrdersOnHost.{RunsOnHost, ServesFile};
 ghost use Rattle.cli_host.specs.OrdersOnHost.{StopsInFile, StopsMaking, StopsMigrating};
 ghost use Rattle.cli_host.specs.OrdersOnHost.{StopsOnHost, StopsOnImport, StopsReadingRows};
 ghost use Rattle.cli_host.specs.OrdersOnHost.{StopsServe, StopsStoreWork, StopsWork};
-ghost use Rattle.cli_orders.specs.ReplyTexts.{KeepsOutput};
 
 use crate::host::Host;
 use crate::work::{StoreWork, Work, work_of};
 use base_types::Text;
-use book_http::{Connection, Listener, Service};
+use book_http::Service;
 use book_service::Command;
 use book_store::FileBooks;
 use cli_args::Order;
 use cli_orders::{
     Stop, announce_and_serve, made_text, migrate_text, run_command, run_mirror, write_out,
 };
+use hub_server::{Endpoint, ServeLimits};
+use socket_endpoint::SocketEndpoint;
 use std::alloc::Global;
 use std::io::Write;
-use std::net::{TcpListener, TcpStream};
 use std::rt::HostRuntime;
 use sync_core::BookStore;
 
 /// Creates a store without books in the file, and prints `made`.
-fn run_init<S: Drop, L, M: Host<S, L>, W: Write>(
+fn run_init<S: Drop, P, M: Host<S, P>, W: Write>(
     host: &mut M,
     file: Text,
     writer: &mut W,
@@ -41,7 +42,7 @@ fn run_init<S: Drop, L, M: Host<S, L>, W: Write>(
 
 /// Migrates the file to the current schema, and prints its number of books. The migration remains
 /// if this can't be written.
-fn run_migrate<S, L, M: Host<S, L>, W: Write>(
+fn run_migrate<S, P, M: Host<S, P>, W: Write>(
     alloc: Global,
     host: &mut M,
     file: Text,
@@ -57,30 +58,33 @@ fn run_migrate<S, L, M: Host<S, L>, W: Write>(
     write_out(writer, text.as_slice())
 }
 
-/// Serves the books in the file at the port. The store is opened first.
-fn run_serve<S: BookStore + Drop, L: Listener + Drop, M: Host<S, L>, W: Write>(
+/// Serves the books in the file at the port. The store is opened first, and the endpoint is closed
+/// last, however serving ended.
+fn run_serve<S: BookStore + Drop, P: Endpoint, M: Host<S, P>, W: Write>(
     alloc: Global,
     host: &mut M,
     file: Text,
     port: u16,
-    connections: u64,
+    limits: ServeLimits,
     writer: &mut W,
 ) -> Result<(), Stop>
     ensures done { OnOk result (LogsCalls M.calls host.old host.new
-        (ServesFile S.model L.Stream.model L.coming file port connections
+        (ServesFile S.model P.calls file port limits
         (W.contents writer.old) (W.contents writer.new))) }
     ensures stopped { IfErr result (λ stop. LogsCalls M.calls host.old host.new
-        (StopsServe S.model L.Stream.model L.coming file port connections stop
+        (StopsServe S.model P.calls file port limits stop
         (W.contents writer.old) (W.contents writer.new))) }
 {
     let store = host.open(file.as_str())?;
-    let (listener, port) = host.listen(port)?;
-    let mut service = Service { store };
-    announce_and_serve(alloc, &mut service, listener, port, connections, writer)
+    let mut service = Service::new(alloc, store)?;
+    let (mut endpoint, port) = host.listen(alloc, port, limits.together)?;
+    let served = announce_and_serve(alloc, &mut service, &mut endpoint, port, limits, writer);
+    host.finish(endpoint);
+    served
 }
 
 /// Imports a file of rows into a book of the store, and prints the counts.
-fn import_rows<S: BookStore, L, M: Host<S, L>, W: Write>(
+fn import_rows<S: BookStore, P, M: Host<S, P>, W: Write>(
     alloc: Global,
     host: &mut M,
     store: &mut S,
@@ -104,7 +108,7 @@ fn import_rows<S: BookStore, L, M: Host<S, L>, W: Write>(
 }
 
 /// Does an order's work on a store, and prints the result.
-fn do_store_work<S: BookStore, L, M: Host<S, L>, W: Write>(
+fn do_store_work<S: BookStore, P, M: Host<S, P>, W: Write>(
     alloc: Global,
     host: &mut M,
     store: &mut S,
@@ -130,7 +134,7 @@ fn do_store_work<S: BookStore, L, M: Host<S, L>, W: Write>(
 }
 
 /// Does an order's work on the store in the file, which is opened first.
-fn use_file<S: BookStore + Drop, L, M: Host<S, L>, W: Write>(
+fn use_file<S: BookStore + Drop, P, M: Host<S, P>, W: Write>(
     alloc: Global,
     host: &mut M,
     file: Text,
@@ -147,28 +151,26 @@ fn use_file<S: BookStore + Drop, L, M: Host<S, L>, W: Write>(
 }
 
 /// Does an order's work on a host, and prints its output.
-fn do_work<S: BookStore + Drop, L: Listener + Drop, M: Host<S, L>, W: Write>(
+fn do_work<S: BookStore + Drop, P: Endpoint, M: Host<S, P>, W: Write>(
     alloc: Global,
     host: &mut M,
     work: Work,
     writer: &mut W,
 ) -> Result<(), Stop>
     ensures done { OnOk result (LogsCalls M.calls host.old host.new
-        (DoesWork S.model L.Stream.model L.coming work
+        (DoesWork S.model P.calls work
         (W.contents writer.old) (W.contents writer.new))) }
     ensures stopped { IfErr result (λ stop. LogsCalls M.calls host.old host.new
-        (StopsWork S.model L.Stream.model L.coming work stop
+        (StopsWork S.model P.calls work stop
         (W.contents writer.old) (W.contents writer.new))) }
 {
     match work {
         Work::Nothing => Err(Stop::Device),
         Work::CreateFile { file } => run_init(host, file, writer),
         Work::MigrateFile { file } => run_migrate(alloc, host, file, writer),
-        Work::ServeFile {
-            file,
-            port,
-            connections,
-        } => run_serve(alloc, host, file, port, connections, writer),
+        Work::ServeFile { file, port, limits } => {
+            run_serve(alloc, host, file, port, limits, writer)
+        }
         Work::UseFile { file, work } => use_file(alloc, host, file, work, writer),
     }
 }
@@ -178,10 +180,11 @@ fn do_work<S: BookStore + Drop, L: Listener + Drop, M: Host<S, L>, W: Write>(
 /// port is written before the first connection is accepted.
 ///
 /// `Open` if the file can't be opened as a store of books; `Device` if the file of rows can't
-/// be read or has more than 8,388,608 octets, if the port can't be bound, or if the writer
-/// fails. Changes that were made remain if the output can't be written. `Device` for `Try`,
-/// which needs standard input.
-pub fn run_on_host<S: BookStore + Drop, L: Listener + Drop, M: Host<S, L>, W: Write>(
+/// be read or has more than 8,388,608 octets, if the port can't be bound, if waiting or accepting
+/// fails, or if the writer fails; `Memory` if an allocation fails, while connections are served
+/// only before the first is accepted. Changes that were made remain if the output can't be written.
+/// `Device` for `Try`, which needs standard input.
+pub fn run_on_host<S: BookStore + Drop, P: Endpoint, M: Host<S, P>, W: Write>(
     alloc: Global,
     host: &mut M,
     order: Order,
@@ -189,34 +192,36 @@ pub fn run_on_host<S: BookStore + Drop, L: Listener + Drop, M: Host<S, L>, W: Wr
 ) -> Result<(), Stop>
     // The whole log of calls that were made of the host is that of the order.
     ensures done { OnOk result (LogsCalls M.calls host.old host.new
-        (RunsOnHost S.model L.Stream.model L.coming order
+        (RunsOnHost S.model P.calls order
         (W.contents writer.old) (W.contents writer.new))) }
     ensures stopped { IfErr result (λ stop. LogsCalls M.calls host.old host.new
-        (StopsOnHost S.model L.Stream.model L.coming order stop
+        (StopsOnHost S.model P.calls order stop
         (W.contents writer.old) (W.contents writer.new))) }
 
-    // Nothing is written on a refusal, on a fault, or if the file can't be opened.
+    // Nothing is written on a refusal, on a fault, or if the file can't be opened. But the order to
+    // serve may have announced its port before memory ran out.
     ensures output_kept { IfErr result (λ stop.
-        KeepsOutput stop (W.contents writer.old) (W.contents writer.new)) }
+        KeepsOrderOutput order stop (W.contents writer.old) (W.contents writer.new)) }
 {
     do_work(alloc, host, work_of(order), writer)
 }
 
 /// `run_on_host`, on the host that the program runs on.
 ///
-/// No contract connects a store with a real file, or a listener with a socket. So the clauses only
-/// say that there are stores and listeners with which this is the order's log.
+/// No contract connects a store with a real file, or an endpoint with sockets. So the clauses only
+/// say that there are stores and endpoints with which this is the order's log.
 pub fn run_order<W: Write>(rt: &HostRuntime, order: Order, writer: &mut W) -> Result<(), Stop>
     ensures done { OnOk result (HasLog (RunsOnHost ⟦<FileBooks as BookStore>⟧.model
-        ⟦<TcpStream as Connection>⟧.model ⟦<TcpListener as Listener>⟧.coming order
+        ⟦<SocketEndpoint as Endpoint>⟧.calls order
         (W.contents writer.old) (W.contents writer.new))) }
     ensures stopped { IfErr result (λ stop. HasLog (StopsOnHost ⟦<FileBooks as BookStore>⟧.model
-        ⟦<TcpStream as Connection>⟧.model ⟦<TcpListener as Listener>⟧.coming order stop
+        ⟦<SocketEndpoint as Endpoint>⟧.calls order stop
         (W.contents writer.old) (W.contents writer.new))) }
 
-    // Nothing is written on a refusal, on a fault, or if the file can't be opened.
+    // Nothing is written on a refusal, on a fault, or if the file can't be opened. But the order to
+    // serve may have announced its port before memory ran out.
     ensures output_kept { IfErr result (λ stop.
-        KeepsOutput stop (W.contents writer.old) (W.contents writer.new)) }
+        KeepsOrderOutput order stop (W.contents writer.old) (W.contents writer.new)) }
 {
     let mut host = *rt;
     run_on_host(rt.alloc(), &mut host, order, writer)

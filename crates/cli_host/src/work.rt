@@ -1,10 +1,17 @@
 //! What an order does.
-ghost use Rattle.cli_host.specs.OrderWork.{work_of};
+ghost use Rattle.cli_host.specs.OrderWork.{limits_of, work_of};
 ghost use Rattle.std.specs.Prelude.{◌≡◌};
 
 use base_types::Text;
 use book_service::Command;
 use cli_args::Order;
+use hub_server::ServeLimits;
+
+/// The most connections that are open at once, if the order names no limits.
+const TOGETHER_DEFAULT: u64 = 256;
+
+/// The seconds after which a silent connection is closed, if the order names no limits.
+const PATIENCE_DEFAULT: u64 = 60;
 
 /// What an order does on a host.
 #[derive(Drop)]
@@ -27,8 +34,9 @@ pub enum Work {
         file: Text,
         /// The port, or 0 for any free one.
         port: u16,
-        /// The number of connections.
-        connections: u64,
+        /// The number of connections, the most that are open at once, and the patience with a
+        /// silent one in milliseconds.
+        limits: ServeLimits,
     },
     /// Uses the store in the file.
     UseFile {
@@ -64,6 +72,18 @@ pub enum StoreWork {
     },
 }
 
+/// The limits of a server, with its patience in seconds.
+fn limits_of(connections: u64, together: u64, patience: u64) -> ServeLimits
+    ensures { result ≡ limits_of connections together patience }
+{
+    ServeLimits {
+        connections,
+        // The checker proves that this cast loses nothing.
+        together: together as usize,
+        patience: patience.saturating_mul(1_000),
+    }
+}
+
 /// What the order does, with its arguments in their places.
 pub fn work_of(order: Order) -> Work
     ensures { result ≡ work_of order }
@@ -79,7 +99,18 @@ pub fn work_of(order: Order) -> Work
         } => Work::ServeFile {
             file,
             port,
+            limits: limits_of(connections, TOGETHER_DEFAULT, PATIENCE_DEFAULT),
+        },
+        Order::ServeWithLimits {
+            file,
+            port,
             connections,
+            together,
+            patience,
+        } => Work::ServeFile {
+            file,
+            port,
+            limits: limits_of(connections, together, patience),
         },
         Order::Book { file, book } => Work::UseFile {
             file,
