@@ -33,19 +33,22 @@ class ServedTest(unittest.TestCase):
         self.office = Office()
         self.start()
 
-    def start(self, connections=1_000_000):
-        """Starts the server of the file, which ends after that many connections."""
-        self.server = Server(self.file, connections)
+    def start(self, connections=1_000_000, more=()):
+        """Starts the server of the file, which ends after that many connections.
+
+        `more` are further arguments.
+        """
+        self.server = Server(self.file, connections, more=more)
         self.addCleanup(self.server.kill)
         self.status = None
         if os.path.isdir("/proc/self"):
             self.status = os.open(f"/proc/{self.server.process.pid}/stat", os.O_RDONLY)
             self.addCleanup(os.close, self.status)
 
-    def restart(self, connections=1_000_000):
+    def restart(self, connections=1_000_000, more=()):
         """Starts another server of the file in place of this one."""
         self.server.kill()
-        self.start(connections)
+        self.start(connections, more)
 
     def serve(self, *pieces):
         """Sends the pieces on a connection of their own, and compares all replies.
@@ -98,6 +101,17 @@ class ServedTest(unittest.TestCase):
                 connection.finish()
             return connection.rest()
 
+    def let_finish(self):
+        """Waits until the server has done what all clients sent before.
+
+        It serves all connections that are ready, and then accepts others. So after three replies
+        on a new connection it has gone through all of them since.
+        """
+        with self.connection() as connection:
+            for _ in range(3):
+                connection.send(books())
+                connection.reply()
+
     def settle(self):
         """Waits until the server has most likely read what was sent, so that pieces stay apart.
 
@@ -113,3 +127,31 @@ class ServedTest(unittest.TestCase):
             shown = octets if len(octets) < 2_000 else octets[:1_000] + b" .. " + octets[-1_000:]
             self.assertEqual(wanted[-4_000:], replied[-4_000:], f"after {shown!r}")
             self.fail(f"{len(replied)} octets in place of {len(wanted)} after {shown!r}")
+
+
+class Talk:
+    """A connection that stays open, and the same connection to the model."""
+
+    def __init__(self, test):
+        self.test, self.session = test, Session(test.office)
+        self.connection = test.server.connect()
+        test.addCleanup(self.connection.socket.close)
+
+    def ask(self, octets):
+        """Sends a whole request, and waits for its reply."""
+        self.connection.send(octets)
+        self.hear(octets)
+
+    def hear(self, octets):
+        """Waits for the reply to a request that was sent."""
+        try:
+            self.test.compare(octets, self.session.feed(octets), self.connection.reply())
+        except socket.timeout:
+            self.test.server.kill()
+            raise
+
+    def end(self):
+        """Ends the client's side. The server ends its own."""
+        self.connection.finish()
+        self.test.assertEqual(b"", self.connection.rest())
+        self.connection.socket.close()

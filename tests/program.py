@@ -52,9 +52,9 @@ class Folder:
 class Server:
     """`contacts serve FILE`, which is killed at the end of the context unless it has ended."""
 
-    def __init__(self, file, connections=1_000_000, port=0, arguments=None, **options):
-        """If `arguments` are given, nothing else follows `serve`."""
-        whole = [file, "--port", port, "--connections", connections]
+    def __init__(self, file, connections=1_000_000, port=0, more=(), arguments=None, **options):
+        """`more` are further arguments. If `arguments` are given, nothing else follows `serve`."""
+        whole = [file, "--port", port, "--connections", connections, *more]
         self.process = subprocess.Popen(
             [PROGRAM, "serve", *map(str, arguments or whole)],
             stdin=subprocess.DEVNULL,

@@ -100,7 +100,7 @@ def is_killed(call, seconds):
 
 
 class Lossy:
-    """A proxy that loses requests and replies. It serves one connection at a time, like the server.
+    """A proxy that loses requests and replies. It serves one connection at a time.
 
     `losses` says what happens to the next requests, one after another: "request" is lost before it
     reaches the server, "reply" after it was done, and "" arrives, as does all that follows.

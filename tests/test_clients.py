@@ -1,7 +1,7 @@
 """Clients that send much, break off, say nothing or don't read, each over raw sockets.
 
-A request that isn't whole when its client stops has changed nothing, and whoever comes next is
-served. The replies are those of the model.
+A request that isn't whole when its client stops has changed nothing, and all others are served. The
+replies are those of the model. test_together has many clients at once.
 """
 
 import copy
@@ -11,7 +11,7 @@ import threading
 import time
 import unittest
 
-from dialogue import ServedTest
+from dialogue import ServedTest, Talk
 from http_requests import (
     COLUMNS,
     books,
@@ -26,6 +26,7 @@ from http_requests import (
     tally,
 )
 from model.http import Session
+from program import PATIENCE, Ended
 
 BODY_MAX = 8_388_608
 NOTE = 240_000  # octets that a card's note may have, with its folds
@@ -65,7 +66,7 @@ class BigBodies(ServedTest):
         self.break_off_while_read_from()
 
     def break_off_while_read_from(self):
-        """A client resets while more is written to it than fits on the way. The next is served."""
+        """A client resets while more is written to it than fits on the way. It ends alone."""
         self.restart(2)
         with self.server.connect() as connection:
             connection.socket.setsockopt(socket.SOL_SOCKET, socket.SO_RCVBUF, 4096)
@@ -74,8 +75,7 @@ class BigBodies(ServedTest):
             self.assertEqual(b"H", connection.take(1)[:1])
             reset(connection)
         self.serve(tally("staff"))
-        ended = self.server.end()
-        self.assertEqual((3, b"fault serve 2\n"), (ended.status, ended.err))
+        self.assertEqual(Ended(0, self.server.line, b""), self.server.end())
 
     def test_one_octet_too_many(self):
         """It is refused before any of the body is sent, and whoever sends it sees the reply."""
@@ -157,21 +157,21 @@ class BreakingOff(ServedTest):
             with self.server.connect() as connection:
                 connection.send(octets)
                 reset(connection)
+            self.let_finish()
             replied = self.replies([tally("staff")], finish=True)
             if replied == Session(done).feed(tally("staff")):
                 self.office = done
             self.serve(tally("staff") + sync("staff"))
 
-    def test_fault_of_the_device(self):
-        """At its end a server reports that it gave up a connection; it has served the others."""
+    def test_end_of_the_server(self):
+        """A connection that failed is none of the server's faults."""
         self.restart(3)
         self.serve(tally("staff"))
         with self.server.connect() as connection:
             connection.send(put("staff", "b", "Bob")[:-1])
             reset(connection)
         self.serve(tally("staff"))
-        ended = self.server.end()
-        self.assertEqual((3, b"fault serve 1\n"), (ended.status, ended.err))
+        self.assertEqual(Ended(0, self.server.line, b""), self.server.end())
 
     def test_nothing_sent(self):
         for _ in range(3):
@@ -209,75 +209,82 @@ class Closing(ServedTest):
             sender.join()
         self.compare(octets, wanted, replied)
 
-    def close_and_wait(self, client):
-        """The seconds until the next client is served, while the first one does something else."""
-        with self.connection() as first:
-            first.send(self.octets)
-            self.compare(self.octets, Session(self.office).feed(self.octets), first.rest())
-            stops = threading.Event()
-            other = threading.Thread(target=client, args=[first, stops])
-            other.start()
-            begun = time.monotonic()
-            try:
-                self.serve(books())
-            finally:
-                stops.set()
-                other.join()
-            return time.monotonic() - begun
+    def close(self):
+        """A connection that the server has closed, with all of its replies."""
+        connection = self.server.connect()
+        self.addCleanup(connection.socket.close)
+        connection.send(self.octets)
+        self.compare(self.octets, Session(self.office).feed(self.octets), connection.rest())
+        return connection
 
-    def test_silent_client(self):
-        """A client that neither sends nor closes holds the server for about a second."""
-        self.assertLess(self.close_and_wait(lambda connection, stops: stops.wait()), 5)
+    def seconds_to_end(self, connection, octets):
+        """Sends on and on, and returns the seconds until the server takes no more of it."""
+        begun = time.monotonic()
+        try:
+            while time.monotonic() < begun + PATIENCE:
+                connection.socket.sendall(octets)
+                time.sleep(0.001 if len(octets) == 1 else 0)
+        except (BrokenPipeError, ConnectionResetError):
+            pass
+        return time.monotonic() - begun
+
+    def test_silent_clients(self):
+        """A client that neither sends nor closes after its last reply holds up nobody."""
+        begun = time.monotonic()
+        for _ in range(30):
+            self.close()
+            self.serve(books())
+        # Each is dropped after about a second.
+        self.assertLess(time.monotonic() - begun, 15)
 
     def test_client_that_sends_octet_by_octet(self):
-        """A client that sends octets without end holds the server for at most a thousand reads."""
-        def send(connection, stops):
-            while not stops.wait(0.001):
-                connection.send(b"x")
+        """A client that sends octets without end is given up after some 10 seconds. Meanwhile
+        others are served."""
+        seconds = []
+        sender = threading.Thread(
+            target=lambda: seconds.append(self.seconds_to_end(self.close(), b"x")))
+        sender.start()
+        while sender.is_alive():
+            self.serve(books())
+            sender.join(0.1)
+        self.assertLess(seconds[0], 20)
 
-        self.assertLess(self.close_and_wait(send), 20)
+    def test_client_that_sends_much(self):
+        """So is one that sends more than 16 MB."""
+        self.assertLess(self.seconds_to_end(self.close(), b"x" * 1_000_000), 9)
 
 
 class Waiting(ServedTest):
-    """One client after another: the next one is served once the first has gone."""
-
-    def setUp(self):
-        super().setUp()
-        self.session = Session(self.office)
-
-    def wait_for(self, connection, octets):
-        self.compare(octets, self.session.feed(octets), connection.reply())
-
-    def connect(self):
-        connection = self.server.connect()
-        self.addCleanup(connection.socket.close)
-        return connection
+    """Clients that wait for replies, for each other, or for nothing."""
 
     def test_silent_client_first(self):
-        """The second client is served once the first has ended, which is served until then."""
-        first, second = self.connect(), self.connect()
-        second.send(books())
-        first.send(create("staff"))
-        self.wait_for(first, create("staff"))
-        first.finish()
-        self.assertEqual(b"", first.rest())
-        self.compare(books(), Session(self.office).feed(books()), second.reply())
+        """The second client is served although the first is silent, and later the first is."""
+        first, second = Talk(self), Talk(self)
+        second.ask(books())
+        first.ask(create("staff"))
+        second.ask(books())
+        first.end()
+        second.ask(tally("staff"))
 
     def test_many_waiting_clients(self):
-        clients = [self.connect() for _ in range(50)]
+        """All of them send before any of them reads."""
+        clients = [Talk(self) for _ in range(50)]
         for number, client in enumerate(clients):
-            client.send(create(f"book-{number}"))
-            client.finish()
-        for number, client in enumerate(clients):
-            octets = create(f"book-{number}")
-            self.compare(octets, Session(self.office).feed(octets), client.rest())
+            client.connection.send(create(f"book-{number}"))
+            client.connection.finish()
+        replies = {client.connection.rest(): create(f"book-{number}")
+                   for number, client in enumerate(clients)}
+        # The ids of the books say in which order they were made.
+        session = Session(self.office)
+        for replied in sorted(replies, key=lambda it: (len(it), it)):
+            self.compare(replies[replied], session.feed(replies[replied]), replied)
+        self.serve(books())
 
     def test_replies_one_by_one(self):
         """A client that waits for each reply before it asks on."""
-        with self.server.connect() as connection:
-            for octets in [create("staff"), put("staff", "a", "Ann"), get("staff", "a")] * 5:
-                connection.send(octets)
-                self.wait_for(connection, octets)
+        client = Talk(self)
+        for octets in [create("staff"), put("staff", "a", "Ann"), get("staff", "a")] * 5:
+            client.ask(octets)
 
     def test_many_requests_in_one_go(self):
         """Thousands of requests at once, and a client that reads while it writes."""
@@ -285,7 +292,7 @@ class Waiting(ServedTest):
             put("staff", f"u{number % 7}", f"Name {number}") + get("staff", f"u{number % 5}")
             for number in range(1_000)
         )
-        wanted = self.session.feed(octets)
+        wanted = Session(self.office).feed(octets)
         with self.server.connect() as connection:
             def send():
                 connection.send(octets)

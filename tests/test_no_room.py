@@ -227,6 +227,8 @@ class FaultsTest(NoRoomTest):
         """What is too much to reply is refused, and the rest is replied to."""
         self.ask([("many cards", IMPORT_BIG, OK, BIG_IMPORTED)])
         self.serve_again()
+        # Once it replies, it has allocated what it needs for all connections.
+        self.ask(ANN_ALONE[:1])
         self.limit_memory()
         self.ask([
             ("a page", sync("staff"), UNAVAILABLE, NO_MEMORY),

@@ -215,15 +215,14 @@ class Rows(FaultTest):
 
 
 class Connections(FaultTest):
-    """Connections that are given up. The others are served; the first fault is reported last."""
+    """Connections that fail end alone: the others are served, and the order ends well."""
 
     def assert_served(self, server):
         self.assertIn(b'"name":"staff"', server.ask(books()))
 
-    def assert_ended(self, server, number):
+    def assert_ended(self, server):
         port = server.address[1]
-        err = b"fault serve %d\n" % number
-        self.assertEqual(Ended(3, b"listening 127.0.0.1:%d\n" % port, err), server.end())
+        self.assertEqual(Ended(0, b"listening 127.0.0.1:%d\n" % port, b""), server.end())
 
     @staticmethod
     def reset(connection):
@@ -254,22 +253,22 @@ class Connections(FaultTest):
             self.assert_served(server)
             self.break_off(server)
             self.assert_served(server)
-            self.assert_ended(server, 1)
+            self.assert_ended(server)
 
     def test_gone_early(self):
         self.put_long_card()
         with Server(self.file, 2) as server:
             self.go_early(server)
             self.assert_served(server)
-            self.assert_ended(server, 2)
+            self.assert_ended(server)
 
-    def test_first_of_two_faults(self):
+    def test_two_that_fail(self):
         self.put_long_card()
         with Server(self.file, 3) as server:
             self.go_early(server)
             self.break_off(server)
             self.assert_served(server)
-            self.assert_ended(server, 2)
+            self.assert_ended(server)
 
     @unittest.skipUnless(hasattr(resource, "prlimit"), "another process can't be limited here")
     def test_no_memory(self):
@@ -284,7 +283,7 @@ class Connections(FaultTest):
             body = 8_388_608 * b"x"
             self.assertEqual(b"", server.ask(request("PUT", "/books/staff/cards/a", body)))
             self.assert_served(server)
-            self.assert_ended(server, 4)
+            self.assert_ended(server)
         self.run_rows(rows.FIVE_CHANGES)
 
 
