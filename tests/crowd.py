@@ -209,8 +209,10 @@ def recover(clients, holds, begun, numbers):
     shown = [it for it in (shown_change(client, holds) for client in clients) if it]
     taken = {at for client in clients for change in client.done for at in change.numbers.items()}
     taken |= {(change.books[-1], number) for _, change, number in shown}
-    gaps = {book: iter([it for it in range(begun[book] + 1, numbers[book] + 1) if (book, it) not in taken])
-            for book in BOOKS}
+    gaps = {}
+    for book in BOOKS:
+        whole = range(begun[book] + 1, numbers[book] + 1)
+        gaps[book] = iter([it for it in whole if (book, it) not in taken])
     for client, change, number in sorted(shown, key=lambda it: it[2]):
         known = {book: next(gaps[book]) for book in change.books[:-1]}
         client.done.append(change._replace(numbers={**known, change.books[-1]: number}))
