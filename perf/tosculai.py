@@ -46,10 +46,10 @@ class Tosculai(Server):
             for book in BOOKS:
                 self._order("book", self.file, book)
 
-    def start(self, connections=1_000_000):
-        """Starts the server, and returns once it listens. By then it has opened the file and tested
-        all rows."""
-        serve = [self.program, "serve", str(self.file), "--connections", str(connections)]
+    def start(self, connections=1_000_000, more=()):
+        """Starts the server with these further arguments, and returns once it listens. By then it
+        has opened the file and tested all rows."""
+        serve = [self.program, "serve", str(self.file), "--connections", str(connections), *more]
         self.launch(self.before + serve, stdout=subprocess.PIPE)
         port = self.process.stdout.readline().rpartition(b":")[2].strip()
         if not port.isdigit():
