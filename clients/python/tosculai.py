@@ -23,7 +23,7 @@ from http.client import HTTPConnection, HTTPException, HTTPSConnection
 from typing import Any, Dict, Iterator, List, NamedTuple, Optional, Tuple, Type
 from urllib.parse import quote, unquote, urlencode, urlsplit
 
-BATCH = 50  # edits that a sync sends over one connection, for which other clients may wait
+BATCH = 50  # edits that a sync sends over one connection, before it notes which of them were done
 ROUNDS = 6  # how often a sync sends edits at most, if others change the same cards meanwhile
 WAIT_MAX = 300  # seconds between two attempts, at most
 
@@ -168,7 +168,7 @@ class Office:
 
     @contextmanager
     def connected(self) -> Iterator[None]:
-        """Sends what is asked within over one connection. Be quick: other clients may wait."""
+        """Sends what is asked within over one connection, as long as the server keeps it open."""
         self._keeps = True
         try:
             yield

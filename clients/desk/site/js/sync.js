@@ -1,5 +1,5 @@
 // Follows books by their sync tokens, as docs/API.md says under "Syncing a device". One request at
-// a time: the server serves one connection after another.
+// a time: a page goes on from the token of the page before it.
 import { Fault } from "./api.js";
 
 const MINUTE = 60_000;
