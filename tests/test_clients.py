@@ -230,12 +230,14 @@ class Closing(ServedTest):
 
     def test_silent_clients(self):
         """A client that neither sends nor closes after its last reply holds up nobody."""
-        begun = time.monotonic()
-        for _ in range(30):
+        times = []
+        for _ in range(11):
             self.close()
+            begun = time.monotonic()
             self.serve(books())
-        # Each is dropped after about a second.
-        self.assertLess(time.monotonic() - begun, 15)
+            times.append(time.monotonic() - begun)
+        # Each of the silent ones is dropped after a second.
+        self.assertLess(sorted(times)[5], 0.8)
 
     def test_client_that_sends_octet_by_octet(self):
         """A client that sends octets without end is given up after some 10 seconds. Meanwhile

@@ -15,7 +15,6 @@ import struct
 import subprocess
 import time
 import unittest
-from contextlib import contextmanager
 from pathlib import Path
 from threading import Thread
 
@@ -24,7 +23,7 @@ from dialogue import ServedTest, Talk
 from histories import Copy
 from http_requests import books, card, create, export, get, put, request, tally
 from model.http import Session
-from program import Ended, Server
+from program import PATIENCE, Ended
 
 SLACK = 12  # seconds that a busy machine may need beside what is measured
 HAS_PROC = os.path.isdir("/proc/self/fd")
@@ -412,7 +411,10 @@ class Crowds(TogetherTest):
             begun = self.numbers()
             wait = crowd.run_together(
                 self.server, clients, lambda client, connection: client.go(connection, 10_000))
-            time.sleep(0.15 + 0.1 * kill)
+            latest = time.monotonic() + PATIENCE
+            while sum(len(it.done) for it in clients) < 100 * kill + 50:
+                self.assertLess(time.monotonic(), latest)
+                time.sleep(0.001)
             self.server.kill()
             wait()
             self.start()
