@@ -1,0 +1,5 @@
+mod clients;
+mod counter;
+mod endpoints;
+mod serving;
+mod stage;
