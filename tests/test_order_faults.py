@@ -337,6 +337,14 @@ class Memory(FaultTest):
         self.assertIn(NO_MEMORY_TO_OPEN, outcomes)
         self.assertLessEqual(outcomes, {NO_MEMORY, NO_MEMORY_TO_OPEN})
 
+    def test_places(self):
+        """The places of 1,000 connections need 16 MB, of which a few are there. The order may have
+        announced its port by then."""
+        pages = self.least("tally a.db staff", lambda ended: ended.status == 0) + 1_000
+        ended = self.run_within("serve a.db --together 1000", pages)
+        self.assertEqual(NO_MEMORY, ended._replace(out=b""))
+        self.assertRegex(ended.out, rb"\A(listening 127\.0\.0\.1:[0-9]+\n)?\Z")
+
     def test_rows(self):
         """Room for the most octets of rows is more than opening the file needs."""
         outcomes = set(self.outcomes("import a.db staff k three.csv", count=24))
