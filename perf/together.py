@@ -165,13 +165,22 @@ def idle(office, plan):
     return [(f"wake-ups {what}", f"{woken}"), (f"processor time {what}", duration(ran))]
 
 
+def settled_memory(server):
+    """The octets of the server's memory, once they don't change any more."""
+    before, size = -1, 0
+    while size != before:
+        sleep(0.5)
+        before, size = size, status(server, "VmRSS") * 1024
+    return size
+
+
 def memory(office, _):
     """By the number of places, and by what connections hold."""
     found = []
     for together in (1, 256, 1_000):
         with office.serve("--together", str(together)) as server:
             server.miss()
-            size = octets(status(server, "VmRSS") * 1024)
+            size = octets(settled_memory(server))
             found.append((f"memory with `--together {together}`", size))
     with office.serve() as server:
         wires = [Wire(server.wire.port) for _ in range(100)]
@@ -179,8 +188,7 @@ def memory(office, _):
             wire.open()
             # All of a body but its last octet.
             wire.socket.sendall(request("PUT", "/books/staff/cards/u7", b"x" * 1_000_000)[:-1])
-        sleep(1)
-        size = octets(status(server, "VmRSS") * 1024)
+        size = octets(settled_memory(server))
         for wire in wires:
             wire.close()
     return found + [("memory with 100 bodies of 1,000,000 octets under way", size)]
