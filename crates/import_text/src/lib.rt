@@ -1,0 +1,20 @@
+//! Texts as other programs export them: the encodings of octets, the pieces of a file that are
+//! cards, and the physical and logical lines of a piece, all by octets.
+#![tactic(auto)]
+
+mod encodings;
+mod lines;
+mod pieces;
+mod quoted_printable;
+mod raw_line;
+mod utf16;
+
+pub use encodings::{read_latin1, read_text};
+pub use lines::{Folding, begins_with_word, read_raw_lines};
+pub use pieces::{count_lines, is_card, is_line, split_piece};
+pub use quoted_printable::read_quoted_printable;
+pub use raw_line::RawLine;
+pub use utf16::read_utf16;
+
+#[cfg(test)]
+mod tests;

@@ -1,0 +1,2 @@
+pub mod DerivedUid
+pub mod Reports
