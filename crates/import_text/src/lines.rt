@@ -120,7 +120,7 @@ fn unfolded(piece: &[u8], folding: Folding) -> &[u8]
     }
 }
 
-/// Appends a physical line to the line so far if it belongs to it. `None` if it doesn't.
+/// Appends a physical line to the line so far if it belongs to it. Returns whether it did.
 fn join(line: &mut Vec<u8>, piece: &[u8], folding: Folding) -> Result<bool, NoMemory>
     ensures test { IfOk result (λ is_joined_now. is_joined_now
         ≡ is_joined line.old.items piece.now) }
@@ -183,6 +183,9 @@ fn read_piece(
 }
 
 /// The logical lines of the octets, without the empty ones. The only `Err` is out of memory.
+///
+/// Each physical line that may continue one of base64 or quoted-printable costs a search of the
+/// head of the line so far. So the time grows with the square of the octets if a head is long.
 pub fn read_raw_lines(
     alloc: Global,
     octets: &[u8],
