@@ -1,7 +1,7 @@
 -- Quoted-printable octets: what is read one after another is what is defined for all of them.
-use Rattle.std.proofs.Common.{◌≡◌, ℕ, List, [], ◌∷◌, refl, sym, ap, ◌∙◌, Option, Some, None}
+use Rattle.std.proofs.Common.{◌≡◌, ℕ, List, [], ◌∷◌, refl, ap, ◌∙◌, Option, Some, None}
 use Rattle.import_text.specs.QuotedPrintable.{escaped_octet, put_octet, quoted_printable}
-use Rattle.import_text.specs.EscapeSteps.{and_rest, split_escape, or_first, split_octet}
+use Rattle.import_text.specs.internal.EscapeSteps.{and_rest, split_escape, or_first, split_octet}
 use Rattle.import_text.proofs.SplitLemmas.{same_split}
 
 decoded_by : (found : Option ℕ) (first : ℕ) (more plain : List ℕ) (octet : ℕ) (rest : List ℕ) → and_rest found more ≡ Some (octet, rest) → put_octet found first (quoted_printable more) plain ≡ octet ∷ quoted_printable rest

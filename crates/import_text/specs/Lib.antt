@@ -1,5 +1,5 @@
 pub mod Encodings
-pub mod EscapeSteps
 pub mod QuotedPrintable
 pub mod RawLines
 pub mod Units
+pub mod internal

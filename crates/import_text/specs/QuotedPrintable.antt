@@ -1,6 +1,6 @@
 -- Quoted-printable octets (RFC 2045, section 6.7): an equals sign and two hexadecimal digits encode
 -- an octet. Soft line breaks were joined before, as RawLines.antt says.
-use Rattle.std.specs.Prelude.{ℕ, Bool, ◌&&◌, ◌==◌, nat_le, ◌+◌, ◌-◌, ◌*◌, List, [], ◌∷◌}
+use Rattle.std.specs.Prelude.{ℕ, ◌&&◌, ◌==◌, nat_le, ◌+◌, ◌-◌, ◌*◌, List, [], ◌∷◌}
 use Rattle.std.specs.Prelude.{Option, Some, None, if◌then◌else◌}
 use Rattle.base_types.specs.Octets.{equals, is_digit}
 

@@ -1,7 +1,7 @@
 -- The logical lines of a card that another program exported, as octets. They are joined from
 -- physical lines as RFC 2425, section 5.8.1, vCard 2.1 and quoted-printable (RFC 2045, section 6.7)
 -- say, and as old telephones fold base64, without white space. This project's own.
-use Rattle.std.specs.Prelude.{ℕ, ◌-◌, suc, Bool, true, false, not, ◌&&◌, ◌||◌, ◌==◌, nat_le, List}
+use Rattle.std.specs.Prelude.{ℕ, ◌+◌, ◌-◌, Bool, false, not, ◌&&◌, ◌||◌, ◌==◌, nat_le, List}
 use Rattle.std.specs.Prelude.{[], ◌∷◌, ◌++◌, map, drop, take, length, codes, slice_index}
 use Rattle.std.specs.Prelude.{if◌then◌else◌, take_while}
 use Rattle.std.specs.List.{slice_split, list_any}
@@ -32,9 +32,16 @@ has_word word [] = false
 has_word word (octet ∷ octets) =
     begins_with_word word (octet ∷ octets) || has_word word octets
 
--- the line has the word before its first colon
+-- the head: the octets before the first colon
+abbrev pub head : List ℕ → List ℕ
+head line = take_while (λ octet. not (octet == colon)) line
+
+abbrev pub has_colon : List ℕ → Bool
+has_colon line = list_any (λ octet. octet == colon) line
+
+-- the line's head has the word
 abbrev pub is_encoded_as : List ℕ → List ℕ → Bool
-is_encoded_as word line = has_word word (take_while (λ octet. not (octet == colon)) line)
+is_encoded_as word line = has_word word (head line)
 
 -- ---- joining
 
@@ -51,8 +58,7 @@ continues (octet ∷ octets) = octet == space || octet == tab
 -- a physical line without a colon continues a line of base64
 abbrev pub continues_base64 : List ℕ → List ℕ → Bool
 continues_base64 line piece =
-    not (length piece == 0 || list_any (λ octet. octet == colon) piece)
-    && is_encoded_as (codes "BASE64") line
+    not (length piece == 0 || has_colon piece) && is_encoded_as (codes "BASE64") line
 
 -- the physical line belongs to the line so far
 abbrev pub is_joined : List ℕ → List ℕ → Bool
@@ -75,20 +81,20 @@ joined folding line piece =
 abbrev pub raw_line : ℕ → List ℕ → RawLine
 raw_line place octets = record { place = place; octets = octets }
 
--- the other lines after this one, which is left out if it is empty
-abbrev pub cons_nonempty : ℕ → List ℕ → List RawLine → List RawLine
-cons_nonempty start [] others = others
-cons_nonempty start (octet ∷ octets) others = raw_line start (octet ∷ octets) ∷ others
+-- the line, unless it is empty
+abbrev pub nonempty : RawLine → List RawLine
+nonempty line = if length line.octets == 0 then [] else line ∷ []
 
--- the logical lines of the line so far, which began at `start`, and of the physical lines after it,
--- the first of which is at `place`
-unfoldable pub join_from : Folding → ℕ → List ℕ → ℕ → List (List ℕ) → List RawLine
-join_from folding start line place [] = cons_nonempty start line []
-join_from folding start line place (piece ∷ pieces) =
-    if is_joined line piece
-    then join_from folding start (joined folding line piece) (suc place) pieces
-    else cons_nonempty start line (join_from folding place piece (suc place) pieces)
+-- The logical lines that `line` and the physical lines after it make, the first of which is at
+-- `place`. A physical line either belongs to the line before it or begins a line of its own.
+unfoldable pub lines_from : Folding → RawLine → ℕ → List (List ℕ) → List RawLine
+lines_from folding line place [] = nonempty line
+lines_from folding line place (piece ∷ pieces) =
+    if is_joined line.octets piece
+    then lines_from folding (raw_line line.place (joined folding line.octets piece)) (place + 1)
+    pieces
+    else nonempty line ++ lines_from folding (raw_line place piece) (place + 1) pieces
 
 -- the logical lines of the octets, without the empty ones
 abbrev pub raw_lines : Folding → List ℕ → List RawLine
-raw_lines folding octets = join_from folding 0 [] 0 (physical_lines octets)
+raw_lines folding octets = lines_from folding (raw_line 0 []) 0 (physical_lines octets)

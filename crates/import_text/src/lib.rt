@@ -3,15 +3,21 @@
 #![tactic(auto)]
 
 mod encodings;
+mod line_head;
 mod lines;
 mod pieces;
 mod quoted_printable;
 mod raw_line;
 mod utf16;
+mod words;
 
 pub use encodings::{read_latin1, read_text};
-pub use lines::{Folding, begins_with_word, read_raw_lines};
+pub use lines::{Folding, read_raw_lines};
 pub use pieces::{count_lines, is_card, is_line, split_piece};
 pub use quoted_printable::read_quoted_printable;
 pub use raw_line::RawLine;
 pub use utf16::read_utf16;
+pub use words::begins_with_word;
+
+#[cfg(test)]
+mod tests;

@@ -1,15 +1,15 @@
 //! Joins physical lines into logical lines, as octets.
-ghost use Rattle.std.specs.Prelude.{◌≡◌, ◌++◌, ◌+◌, ◌∷◌, ℕ, List, map, IfOk, OnOk, IsTrue};
-ghost use Rattle.std.specs.Prelude.{if◌then◌else◌};
-ghost use Rattle.std.specs.Prelude.{◌==◌, not, length, take_while};
-ghost use Rattle.std.specs.List.{slice_split, list_any};
+ghost use Rattle.std.specs.Prelude.{◌≡◌, ◌++◌, ◌+◌, ◌-◌, ◌∷◌, ℕ, List, map, IfOk, OnOk, IsTrue};
+ghost use Rattle.std.specs.Prelude.{if◌then◌else◌, ◌==◌, take, length};
+ghost use Rattle.std.specs.List.{slice_split};
 ghost use Rattle.std.specs.Str.Lines.{strip_carriage_return};
-ghost use Rattle.base_types.specs.Octets.{line_feed, colon};
-ghost use Rattle.import_text.specs.RawLines.{begins_with_word, has_word};
-ghost use Rattle.import_text.specs.RawLines.{is_encoded_as, has_soft_break, continues};
-ghost use Rattle.import_text.specs.RawLines.{continues_base64, is_joined, joined, cons_nonempty};
-ghost use Rattle.import_text.specs.RawLines.{unfolded, join_from, raw_lines};
+ghost use Rattle.base_types.specs.Octets.{line_feed};
+ghost use Rattle.import_text.specs.RawLines.{continues, continues_base64, has_soft_break};
+ghost use Rattle.import_text.specs.RawLines.{is_joined, joined, unfolded, nonempty, raw_line};
+ghost use Rattle.import_text.specs.RawLines.{lines_from, raw_lines};
+ghost use Rattle.import_text.specs.internal.Heads.{head_of};
 
+use crate::line_head::{Head, WORD_START_OCTETS_MAX, has_colon, searched};
 use crate::raw_line::RawLine;
 use base_types::{Items, NoMemory};
 use std::alloc::{AllocError, Global};
@@ -42,71 +42,11 @@ fn split_lines(alloc: Global, octets: &[u8]) -> Result<Vec<&[u8]>, AllocError>
     octets.split(|octet| *octet == b'\n').collect(alloc)
 }
 
-/// Whether the octets begin with the word, in any case.
-pub fn begins_with_word(octets: &[u8], word: &[u8]) -> bool
-    ensures { result ≡ begins_with_word word.now octets.now }
-{
-    word.len() <= octets.len() && octets[..word.len()].eq_ignore_ascii_case(word)
-}
-
-/// Whether the word is somewhere in the octets, in any case.
-fn has_word(octets: &[u8], word: &[u8]) -> bool
-    ensures { result ≡ has_word word.now octets.now }
-{
-    let mut rest = octets;
-    while let Some((_, tail)) = rest.split_first() {
-        if begins_with_word(rest, word) {
-            return true;
-        }
-        rest = tail;
-    }
-    false
-}
-
-/// The number of octets before the line's first colon.
-fn head_len(line: &[u8]) -> usize
-    ensures { result ≡ length (take_while (λ octet. not (octet == colon)) line.now) }
-{
-    line.iter().take_while(|octet| **octet != b':').count()
-}
-
-/// Whether the word is before the line's first colon, in any case.
-fn is_encoded_as(line: &[u8], word: &[u8]) -> bool
-    ensures { result ≡ is_encoded_as word.now line.now }
-{
-    let (head, _) = line.split_at(head_len(line));
-    has_word(head, word)
-}
-
-/// Whether a quoted-printable line goes on.
-fn has_soft_break(line: &[u8]) -> bool
-    ensures { result ≡ has_soft_break line.now }
-{
-    matches!(line.last(), Some(b'=')) && is_encoded_as(line, b"QUOTED-PRINTABLE")
-}
-
 /// Whether a physical line begins with a space or a tab.
 fn continues(piece: &[u8]) -> bool
     ensures { result ≡ continues piece.now }
 {
     matches!(piece.first(), Some(b' ' | b'\t'))
-}
-
-fn has_colon(piece: &[u8]) -> bool
-    ensures { result ≡ list_any (λ octet. octet == colon) piece.now }
-{
-    piece.iter().any(|octet| *octet == b':')
-}
-
-/// Whether a physical line without a colon continues a line of base64.
-fn continues_base64(line: &[u8], piece: &[u8]) -> bool
-    ensures { result ≡ continues_base64 line.now piece.now }
-{
-    if piece.is_empty() || has_colon(piece) {
-        false
-    } else {
-        is_encoded_as(line, b"BASE64")
-    }
 }
 
 /// A continuation line as it is joined.
@@ -120,72 +60,148 @@ fn unfolded(piece: &[u8], folding: Folding) -> &[u8]
     }
 }
 
-/// Appends a physical line to the line so far if it belongs to it. Returns whether it did.
-fn join(line: &mut Vec<u8>, piece: &[u8], folding: Folding) -> Result<bool, NoMemory>
-    ensures test { IfOk result (λ is_joined_now. is_joined_now
-        ≡ is_joined line.old.items piece.now) }
-    ensures line { IfOk result (λ is_joined_now. line.new.items
-        ≡ (if is_joined_now then joined folding line.old.items piece.now
-        else line.old.items)) }
-{
-    if has_soft_break(line.as_slice()) {
-        line.pop();
-        line.extend_from_slice(piece)?;
-        return Ok(true);
+/// A logical line as far as it is read.
+#[derive(Drop)]
+struct LineSoFar {
+    /// The place of its first physical line.
+    place: usize,
+    octets: Vec<u8>,
+    /// What its head says.
+    head: Head,
+}
+
+impl LineSoFar {
+    /// A line of these octets.
+    fn new(place: usize, octets: Vec<u8>) -> LineSoFar
+        ensures place { result.place ≡ place }
+        ensures octets { result.octets.items ≡ octets.items }
+        ensures head { result.head ≡ head_of octets.items }
+    {
+        let none = Head {
+            is_complete: false,
+            is_quoted_printable: false,
+            is_base64: false,
+        };
+        let head = searched(none, octets.as_slice());
+        LineSoFar {
+            place,
+            octets,
+            head,
+        }
     }
-    if continues(piece) {
-        line.extend_from_slice(unfolded(piece, folding))?;
-        return Ok(true);
+
+    /// Whether the line is quoted-printable and goes on.
+    fn has_soft_break(&self) -> bool
+        requires { self.now.head ≡ head_of self.now.octets.items }
+        ensures { result ≡ has_soft_break self.now.octets.items }
+    {
+        matches!(self.octets.last(), Some(b'=')) && self.head.is_quoted_printable
     }
-    if continues_base64(line.as_slice(), piece) {
-        line.extend_from_slice(piece)?;
-        return Ok(true);
+
+    /// Whether a physical line without a colon continues the line, which is base64.
+    fn continues_base64(&self, piece: &[u8]) -> bool
+        requires { self.now.head ≡ head_of self.now.octets.items }
+        ensures { result ≡ continues_base64 self.now.octets.items piece.now }
+    {
+        self.head.is_base64 && !piece.is_empty() && !has_colon(piece)
     }
-    Ok(false)
+
+    /// Appends octets.
+    fn append(&mut self, octets: &[u8]) -> Result<(), NoMemory>
+        requires { self.old.head ≡ head_of self.old.octets.items }
+        ensures place { self.new.place ≡ self.old.place }
+        ensures octets { OnOk result (self.new.octets.items
+            ≡ self.old.octets.items ++ octets.now) }
+        ensures head { OnOk result (self.new.head ≡ head_of self.new.octets.items) }
+    {
+        let from = self.octets.len().saturating_sub(WORD_START_OCTETS_MAX);
+        self.octets.extend_from_slice(octets)?;
+        self.head = searched(self.head, &self.octets.as_slice()[from..]);
+        Ok(())
+    }
+
+    /// Drops the equals sign of a soft line break.
+    fn drop_soft_break(&mut self)
+        requires head { self.old.head ≡ head_of self.old.octets.items }
+        requires soft { IsTrue (has_soft_break self.old.octets.items) }
+        ensures place { self.new.place ≡ self.old.place }
+        ensures octets { self.new.octets.items
+            ≡ take (length self.old.octets.items - 1) self.old.octets.items }
+        ensures head { self.new.head ≡ head_of self.new.octets.items }
+    {
+        self.octets.pop();
+    }
+
+    /// Appends a physical line if it belongs to the line. Returns whether it did.
+    fn join(&mut self, piece: &[u8], folding: Folding) -> Result<bool, NoMemory>
+        requires { self.old.head ≡ head_of self.old.octets.items }
+        ensures test { IfOk result (λ is_joined_now. is_joined_now
+            ≡ is_joined self.old.octets.items piece.now) }
+        ensures place { self.new.place ≡ self.old.place }
+        ensures octets { IfOk result (λ is_joined_now. self.new.octets.items
+            ≡ (if is_joined_now then joined folding self.old.octets.items piece.now
+            else self.old.octets.items)) }
+        ensures head { OnOk result (self.new.head ≡ head_of self.new.octets.items) }
+    {
+        if self.has_soft_break() {
+            self.drop_soft_break();
+            self.append(piece)?;
+            return Ok(true);
+        }
+        if continues(piece) {
+            self.append(unfolded(piece, folding))?;
+            return Ok(true);
+        }
+        if self.continues_base64(piece) {
+            self.append(piece)?;
+            return Ok(true);
+        }
+        Ok(false)
+    }
 }
 
 /// Appends the line, unless it is empty.
-fn push_nonempty(lines: &mut Vec<RawLine>, place: usize, octets: Vec<u8>) -> Result<(), NoMemory>
-    ensures { OnOk result ((others : List RawLine) → lines.new.items ++ others
-        ≡ lines.old.items ++ cons_nonempty place octets.items others) }
+fn push_nonempty(lines: &mut Vec<RawLine>, line: LineSoFar) -> Result<(), NoMemory>
+    ensures { OnOk result (lines.new.items
+        ≡ lines.old.items ++ nonempty (raw_line line.place line.octets.items)) }
 {
-    if octets.is_empty() {
+    if line.octets.is_empty() {
         return Ok(());
     }
-    let octets = Items::from_vec(octets);
-    lines.push(RawLine { place, octets })?;
+    let octets = Items::from_vec(line.octets);
+    lines.push(RawLine {
+        place: line.place,
+        octets,
+    })?;
     Ok(())
 }
 
-/// Joins one more physical line, the one at `place`, to the line so far, which began at `start`, or
-/// begins a new line with it.
+/// Joins one more physical line, the one at `place`, to the line so far, or begins a new line with
+/// it.
 fn read_piece(
     lines: &mut Vec<RawLine>,
-    start: &mut usize,
-    line: &mut Vec<u8>,
+    line: &mut LineSoFar,
     place: usize,
     piece: &[u8],
     folding: Folding,
 ) -> Result<(), NoMemory>
-    ensures { OnOk result ((pieces : List (List ℕ)) → lines.new.items
-        ++ join_from folding start.new line.new.items (place + 1) pieces
-        ≡ lines.old.items
-        ++ join_from folding start.old line.old.items place (piece.now ∷ pieces)) }
+    requires { line.old.head ≡ head_of line.old.octets.items }
+    ensures head { OnOk result (line.new.head ≡ head_of line.new.octets.items) }
+    ensures lines { OnOk result ((pieces : List (List ℕ)) → lines.new.items
+        ++ lines_from folding (raw_line line.new.place line.new.octets.items) (place + 1) pieces
+        ≡ lines.old.items ++ lines_from folding
+        (raw_line line.old.place line.old.octets.items) place (piece.now ∷ pieces)) }
 {
-    if join(line, piece, folding)? {
+    if line.join(piece, folding)? {
         return Ok(());
     }
-    let next = Vec::from_slice(*line.allocator(), piece)?;
-    let ended = mem::replace(line, next);
-    push_nonempty(lines, *start, ended)?;
-    *start = place;
+    let octets = Vec::from_slice(*line.octets.allocator(), piece)?;
+    let ended = mem::replace(line, LineSoFar::new(place, octets));
+    push_nonempty(lines, ended)?;
     Ok(())
 }
 
 /// The logical lines of the octets, without the empty ones. The only `Err` is out of memory.
-///
-/// Each physical line that may continue one of base64 or quoted-printable costs a search of the
-/// head of the line so far. So the time grows with the square of the octets if a head is long.
 pub fn read_raw_lines(
     alloc: Global,
     octets: &[u8],
@@ -195,12 +211,11 @@ pub fn read_raw_lines(
 {
     let pieces = split_lines(alloc, octets)?;
     let mut lines = Vec::new(alloc);
-    let mut start = 0;
-    let mut line = Vec::new(alloc);
+    let mut line = LineSoFar::new(0, Vec::new(alloc));
     for (place, piece) in pieces.iter().enumerate() {
         let piece = strip_carriage_return(*piece);
-        read_piece(&mut lines, &mut start, &mut line, place, piece, folding)?;
+        read_piece(&mut lines, &mut line, place, piece, folding)?;
     }
-    push_nonempty(&mut lines, start, line)?;
+    push_nonempty(&mut lines, line)?;
     Ok(lines)
 }

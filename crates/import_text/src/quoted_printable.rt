@@ -3,7 +3,7 @@
 ghost use Rattle.std.specs.Prelude.{◌≡◌, IfOk};
 ghost use Rattle.std.specs.Option.{option_map};
 ghost use Rattle.import_text.specs.QuotedPrintable.{quoted_printable, hex_value};
-ghost use Rattle.import_text.specs.EscapeSteps.{split_escape, split_octet};
+ghost use Rattle.import_text.specs.internal.EscapeSteps.{split_escape, split_octet};
 
 use base_types::NoMemory;
 use std::alloc::Global;

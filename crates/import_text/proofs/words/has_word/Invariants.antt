@@ -1,6 +1,6 @@
 use Rattle.std.proofs.Common.{◌≡◌, length}
 use Rattle.import_text.specs.RawLines.{has_word}
-use Rattle.import_text.proofs.lines.has_word.Given as goal
+use Rattle.import_text.proofs.words.has_word.Given as goal
 
 -- the word is in what is left exactly if it is in the octets
 abbrev pub invariant-loop-tail : goal.invariant-loop-tail

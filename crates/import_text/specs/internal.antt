@@ -1,0 +1,2 @@
+pub mod EscapeSteps
+pub mod Heads
