@@ -1,3 +1,4 @@
 pub mod ReadLemmas
 pub mod FindLemmas
 pub mod StoreFaultLemmas
+pub mod ChangeFaultLemmas

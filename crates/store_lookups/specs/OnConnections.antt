@@ -7,6 +7,7 @@ use Rattle.store_tables.specs.OnConnections.{Ghosts}
 use Rattle.store_rows.specs.TableBooks.{HeaderRow}
 use Rattle.store_rows.specs.TableRows.{TableRows}
 use Rattle.store_lookups.specs.CallResults as calls
+use Rattle.store_lookups.specs.ChangeFaults as changes
 use Rattle.store_lookups.specs.StoreFaults as faults
 
 module _ {S : Type 0} (store : Ghosts S) (old new : Held S) where
@@ -21,3 +22,17 @@ module _ {S : Type 0} (store : Ghosts S) (old new : Held S) where
 
   abbrev pub FaultsFromOutsideInBook : {A : Type 0} → HeaderRow → Result A Denied → Type 0
   FaultsFromOutsideInBook = faults.FaultsFromOutsideInBook (state store old) (state store new)
+
+  abbrev pub HasOutsideCauseOfFault : {A : Type 0} → Result A Denied → Type 0
+  HasOutsideCauseOfFault = faults.HasOutsideCauseOfFault (state store old) (state store new)
+
+  abbrev pub ChangeFaultsFromOutside : {A : Type 0} → Result A Denied → Type 0
+  ChangeFaultsFromOutside = changes.ChangeFaultsFromOutside (state store old) (state store new)
+
+  abbrev pub ChangeFaultsFromOutsideInBook :
+      {A : Type 0} → HeaderRow → Result A Denied → Type 0
+  ChangeFaultsFromOutsideInBook =
+      changes.ChangeFaultsFromOutsideInBook (state store old) (state store new)
+
+  abbrev pub WriteFaultsFromOutside : {A : Type 0} → Result A Denied → Type 0
+  WriteFaultsFromOutside = changes.WriteFaultsFromOutside (state store old) (state store new)

@@ -58,7 +58,7 @@ pub record IsFaultlessHeader (header : HeaderRow) : Type 0 where
 
 -- ---- faults
 
--- the result is an error only for want of memory
+-- the result is an error only for lack of memory
 abbrev pub FailsOnlyForMemory : {A : Type 0} → Result A Denied → Type 0
 FailsOnlyForMemory result = IfErr result (λ denied. denied ≡ denied_by_fault Memory)
 

@@ -7,6 +7,7 @@ ghost use Rattle.book_model.specs.BookQueries.{tombstone_count};
 ghost use Rattle.store_lookups.specs.CallResults.{FindsHeader};
 ghost use Rattle.store_lookups.specs.Faults.{IsDeniedFault};
 ghost use Rattle.store_lookups.specs.OnConnections.{
+  ChangeFaultsFromOutsideInBook,
   FaultsFromOutside,
   FaultsFromOutsideInBook,
   GivenBook,
@@ -98,6 +99,7 @@ pub fn fetch_keep<S: Alter>(conn: &mut Connection<S>, header: BookHeader) -> Res
     ensures keep { GivenBook S.Store conn.old conn.new header
         (λ book. IfOk result (λ keep. book.keep ≡ keep)) }
     ensures fault { IfErr result IsDeniedFault }
+    ensures store_fault { ChangeFaultsFromOutsideInBook S.Store conn.old conn.new header result }
     ensures unchanged { UnchangedOnOk S.Store conn.old conn.new result }
     ensures reads_only { OnlyReads S.Store conn.old conn.new }
 {
