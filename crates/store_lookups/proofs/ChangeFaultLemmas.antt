@@ -66,3 +66,12 @@ then_faults_in old mid new P Q header r before same after fails rows name clean 
     let still = subst (λ (d : Database). HoldsRows d rows) (sym kept.0.now_is) holds in
     let ids = subst (λ (d : Database). HaveFreeIds d.trees) (sym kept.0.now_is) free in
     later_cause old mid new P Q r before early after (fails rows name clean still accept ids there)
+
+-- one call after another that only reads
+pub then_changes : {A : Type 0} (old mid new : State) (P Q : Trees → Type 0) (r : Result A Denied) → Survives old mid P → GivenTables old mid (IsUnchanged old mid) → Survives mid new Q → ChangeFaultsFromOutside mid new r → ChangeFaultsFromOutside old new r
+then_changes old mid new P Q r before same after fails rows clean holds accept free =
+    let early = clean_before Q mid new after clean in
+    let kept = same early holds.schema in
+    let still = subst (λ (d : Database). HoldsRows d rows) (sym kept.0.now_is) holds in
+    let ids = subst (λ (d : Database). HaveFreeIds d.trees) (sym kept.0.now_is) free in
+    later_cause old mid new P Q r before early after (fails rows clean still accept ids)

@@ -1,5 +1,5 @@
 -- What forgetting the tombstones of a book writes.
-use Rattle.std.proofs.Common.{◌≡◌, ℕ, pos, true, false, IsTrue, List, Result, Ok, Err, IfErr, refl, ap, ◌∙◌}
+use Rattle.std.proofs.Common.{◌≡◌, ◌≤◌, arith, ℕ, pos, true, false, IsTrue, List, Result, Ok, Err, IfErr, refl, ap, ◌∙◌}
 use Rattle.std.specs.FinMap as finite
 use Rattle.sqlite.specs.Effect.{Database}
 use Rattle.sqlite.specs.Effect.{Database}
@@ -31,6 +31,10 @@ writes_table tree old new w = record { schema = w.schema; other_tables = w.other
 
 pub spares_books : (old new : Trees) → KeepsOtherTables 4 old new → new 2 ≡ old 2
 spares_books old new h = h.1.0 (λ e. cc)
+
+-- a write of the table `book` leaves the members unchanged
+pub spares_members : (old new : Trees) → KeepsOtherTables 2 old new → new 4 ≡ old 4
+spares_members old new h = h.1.1.0 (λ e. cc)
 
 module _ (old mid new : State) (rows : TableRows) (name : List ℕ) (header : HeaderRow) (upto : ℕ) where
   pub rows_forgotten : HasBookRow old.now rows name header → HasMembers mid (without_removed (pos header.id) (pos upto) rows.members) → WritesOnly 4 old mid
@@ -70,3 +74,6 @@ forget_does rows name header upto old new (Err denied) may fault done up = fault
 pub forget_holds : (rows : TableRows) (name : List ℕ) (header : HeaderRow) (upto : ℕ) (db : Trees) → may_forget header.horizon header.number upto ≡ true → TreesHold (finite.insert (books_of rows) name (book_after_forget (row_book rows (line_row name header)) upto)) db
     → HoldBooksAfter (forget_of (books_of rows) name upto (row_book rows (line_row name header))) db
 forget_holds rows name header upto db may made = rw may made
+
+pub forgets_known : (horizon number upto : ℕ) → may_forget horizon number upto ≡ true → upto ≤ number
+forgets_known horizon number upto may = grind arith

@@ -1,4 +1,8 @@
 pub mod ChangeLemmas
+pub mod NumberLemmas
+pub mod TransactionFaults
+pub mod OpenFaults
+pub mod AcceptLemmas
 pub mod HeldLemmas
 pub mod CallLemmas
 pub mod ForgetLemmas

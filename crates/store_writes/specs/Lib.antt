@@ -1,4 +1,5 @@
 pub mod StoredBooks
 pub mod TableChanges
+pub mod AcceptedChanges
 pub mod OnConnections
 pub mod internal

@@ -1,5 +1,5 @@
 -- Definitions over connections, for contracts, as in `store_tables`. This project's own.
-use Rattle.std.specs.Prelude.{◌≡◌, ℕ, pos, List, Result, OnOk, IsTrue}
+use Rattle.std.specs.Prelude.{◌≡◌, ℕ, ℤ, pos, List, Option, Result, OnOk, IsTrue}
 use Rattle.std.specs.FinMap as finite
 use Rattle.sqlite.specs.Effect.{Database}
 use Rattle.sqlite.specs.Held.{Held, state}
@@ -10,6 +10,7 @@ use Rattle.book_model.specs.declared.refusal.Refusal.{Refusal}
 use Rattle.store_rows.specs.TableBooks.{HeaderRow, books_of, line_row, row_book}
 use Rattle.store_rows.specs.TableRows.{TableRows}
 use Rattle.store_tables.specs.OnConnections.{Ghosts, HasCleanDisk, HoldsInTx, KeepsCommit, Survives}
+use Rattle.store_writes.specs.AcceptedChanges as accepted
 use Rattle.store_writes.specs.StoredBooks as stored
 use Rattle.store_writes.specs.TableChanges as changes
 use Rattle.store_writes.specs.TableChanges.{HoldsBooks, HoldsChange, TreesHold}
@@ -28,6 +29,13 @@ module _ {S : Type 0} (store : Ghosts S) (conn : Held S) where
 
   abbrev pub LacksBookRow : TableRows → List ℕ → Type 0
   LacksBookRow = changes.LacksBookRow (state store conn).now
+
+  abbrev pub AcceptsHeader : TableRows → List ℕ → HeaderRow → Type 0
+  AcceptsHeader = accepted.AcceptsHeader (state store conn).now
+
+  abbrev pub AcceptsMemberOf :
+      TableRows → List ℕ → HeaderRow → List ℕ → ℤ → Option (List ℕ) → Type 0
+  AcceptsMemberOf = accepted.AcceptsMemberOf (state store conn).now
 
 -- the books of the rows, with the book of this name and header replaced by `after` of it
 abbrev pub with_book_after : TableRows → List ℕ → HeaderRow → (Book → Book) → Books

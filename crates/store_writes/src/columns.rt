@@ -1,9 +1,11 @@
 //! Column values: the numbers of a book's row, and the text of a card.
+ghost use Rattle.book_model.specs.Counting.{total_changes};
 ghost use Rattle.store_rows.specs.TableBooks.{numbers_row};
 ghost use Rattle.store_rows.specs.Values.{text_card};
 ghost use Rattle.store_lookups.specs.Faults.{IsDeniedFault};
+ghost use Rattle.store_lookups.specs.StoreFaults.{FailsOnlyForMemory};
 ghost use Rattle.store_tables.specs.Books.{numbers_of};
-ghost use Rattle.std.specs.Prelude.{◌≡◌, IfErr, IfOk, string_bytes};
+ghost use Rattle.std.specs.Prelude.{◌≡◌, ◌<◌, ◌^◌, IfErr, IfOk, string_bytes};
 ghost use Rattle.vcard_text.specs.Cards.{canonical_text};
 
 use book_model::{Counts, Denied, Fault};
@@ -19,6 +21,8 @@ pub fn columns_of(number: u64, horizon: u64, counts: Counts) -> Result<BookNumbe
     ensures numbers { IfOk result (λ numbers.
         numbers_of numbers ≡ numbers_row number horizon counts) }
     ensures fault { IfErr result IsDeniedFault }
+    ensures memory { number < 2 ^ 63 → horizon < 2 ^ 63 → total_changes counts < 2 ^ 63
+        → FailsOnlyForMemory result }
 {
     Ok(BookNumbers {
         number: column_of(number)?,
@@ -39,6 +43,7 @@ pub fn text_of_card(alloc: Global, card: &Card) -> Result<String, Denied>
     ensures canonical { IfOk result (λ text. string_bytes text ≡ canonical_text card.now) }
     ensures reads_back { IfOk result (λ text. text_card (string_bytes text) ≡ card.now) }
     ensures fault { IfErr result IsDeniedFault }
+    ensures memory { FailsOnlyForMemory result }
 {
     card_is_computed();
     match String::from_utf8(write_card(alloc, card)?) {

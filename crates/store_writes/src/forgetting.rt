@@ -2,9 +2,21 @@
 ghost use Rattle.book_model.specs.Forgetting.{book_after_forget, dropped_row_count, forget_step};
 ghost use Rattle.store_lookups.specs.Faults.{IsDeniedFault};
 ghost use Rattle.store_rows.specs.TableBooks.{HeaderRow, row_book, line_row};
+ghost use Rattle.store_rows.specs.TableRows.{TableRows};
 ghost use Rattle.store_writes.specs.TableChanges.{AreHeaderColumns, HoldsBooks};
-ghost use Rattle.store_tables.specs.OnConnections.{CountsFaults, HoldsInTx, SurvivesAsBefore};
+ghost use Rattle.store_tables.specs.OnConnections.{
+  CountsFaults,
+  FailsFromOutside,
+  HoldsInTx,
+  SurvivesAsBefore,
+  WriteFailsFromOutside,
+};
+ghost use Rattle.store_lookups.specs.OnConnections.{
+  ChangeFaultsFromOutside,
+  ChangeFaultsFromOutsideInBook,
+};
 ghost use Rattle.store_writes.specs.OnConnections.{
+  AcceptsHeader,
   AppliesStep,
   CommitsBookOnce,
   CommitsForget,
@@ -13,7 +25,7 @@ ghost use Rattle.store_writes.specs.OnConnections.{
   KeepsCommitWithBook,
   with_book_after,
 };
-ghost use Rattle.std.specs.Prelude.{◌≡◌, IfErr, IfOk, OnOk, false, pos, ℕ};
+ghost use Rattle.std.specs.Prelude.{◌≡◌, ◌≤◌, IfErr, IfOk, List, OnOk, false, pos, ℕ};
 
 use crate::columns::columns_of;
 use crate::lookups::open_header;
@@ -48,6 +60,9 @@ fn forget_rows<S: Alter>(
     ensures keeps_commit { (header : HeaderRow) → id ≡ pos header.id
         → KeepsCommitWithBook S.Store tx.old.conn.now tx.new.conn.now header }
     ensures survives { SurvivesAsBefore S.Store tx.old.conn.now tx.new.conn.now }
+    ensures fails_from_outside { (rows : TableRows) (name : List ℕ) (header : HeaderRow)
+        → id ≡ pos header.id → AcceptsHeader S.Store tx.old.conn.now rows name header
+        → WriteFailsFromOutside S.Store tx.old.conn.now tx.new.conn.now result }
 {
     let dropped = forget_members(tx, id, upto)?;
     renumber_book(tx, id, numbers)?;
@@ -70,8 +85,15 @@ fn commit_forget<S: Alter>(
     ensures crash { (header : HeaderRow) (last : ℕ) → upto ≡ pos last
         → AreHeaderColumns (record header { horizon = last }) id numbers
         → CommitsBookOnce S.Store conn.old conn.new header (λ book. book_after_forget book last) }
+    ensures fails_from_outside { (header : HeaderRow) (last : ℕ) → upto ≡ pos last
+        → AreHeaderColumns (record header { horizon = last }) id numbers
+        → (rows : TableRows) (name : List ℕ) → AcceptsHeader S.Store conn.old rows name header
+        → FailsFromOutside S.Store conn.old conn.new result }
 {
     assert_no_pending_writes(conn);
+
+    // The proof needs the tables to obey their constraints, which this call ensures.
+    let _tables = conn.schema();
     let mut tx = conn.transaction();
     let dropped = forget_rows(&mut tx, id, upto, numbers)?;
     tx.commit()?;
@@ -88,6 +110,8 @@ fn write_forget<S: Alter>(
     requires { conn.old.in_transaction ≡ false }
     ensures atomic { CommitsForget S.Store conn.old conn.new header result upto }
     ensures fault { IfErr result IsDeniedFault }
+    ensures store_fault { upto ≤ header.number
+        → ChangeFaultsFromOutsideInBook S.Store conn.old conn.new header result }
     ensures settled { conn.new.in_transaction ≡ false }
     ensures survives { CountsFaults S.Store conn.old conn.new }
     ensures crash { CommitsBookOnce S.Store conn.old conn.new header
@@ -116,6 +140,7 @@ pub fn forget_in_book<S: Alter>(
     requires { conn.old.in_transaction ≡ false }
     ensures changes { AppliesStep S.Store conn.old conn.new result
         (λ books. forget_step books name.now upto) }
+    ensures store_fault { ChangeFaultsFromOutside S.Store conn.old conn.new result }
     ensures crash { CommitsOnce S.Store conn.old conn.new
         (λ books. forget_step books name.now upto) }
 {

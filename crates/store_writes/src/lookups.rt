@@ -2,7 +2,7 @@
 ghost use Rattle.book_model.specs.Books.{as_stored};
 ghost use Rattle.store_lookups.specs.CallResults.{FindsHeader};
 ghost use Rattle.store_lookups.specs.Faults.{IsDeniedFault};
-ghost use Rattle.store_lookups.specs.OnConnections.{GivenSoundRows};
+ghost use Rattle.store_lookups.specs.OnConnections.{FaultsFromOutside, GivenSoundRows};
 ghost use Rattle.store_tables.specs.OnConnections.{
   HasCleanDisk,
   IsUnchanged,
@@ -23,18 +23,21 @@ pub fn check_open<S: Alter>(conn: &mut Connection<S>) -> Result<(), Denied>
     ensures unchanged { HasCleanDisk S.Store conn.new
         → OnOk result (IsUnchanged S.Store conn.old conn.new) }
     ensures fault { IfErr result IsDeniedFault }
+    ensures store_fault { FaultsFromOutside S.Store conn.old conn.new result }
     ensures reads_only { OnlyReads S.Store conn.old conn.new }
 {
     match conn.prepare("COMMIT") {
-        Ok(_) => Ok(()),
-        Err(error) => Err(fault_of(error)),
+        Ok(_) => {}
+        Err(error) => return Err(fault_of(error)),
     }
+    Ok(())
 }
 
 /// Checks the connection and finds the header of the named book. Refused with `NoSuchBook`.
 pub fn open_header<S: Alter>(conn: &mut Connection<S>, name: &str) -> Result<BookHeader, Denied>
     ensures finds { GivenSoundRows S.Store conn.old conn.new
         (λ rows. FindsHeader rows name.now result) }
+    ensures store_fault { FaultsFromOutside S.Store conn.old conn.new result }
     ensures unchanged { UnchangedOnOk S.Store conn.old conn.new result }
     ensures was_open { WasOpenOnOk S.Store conn.old conn.new result }
     ensures reads_only { OnlyReads S.Store conn.old conn.new }

@@ -2,10 +2,16 @@
 ghost use Rattle.book_model.specs.Putting.{found_in_book, put_answer, put_step, put_store_reason};
 ghost use Rattle.store_lookups.specs.CallResults.{FollowsStep, IsExactly};
 ghost use Rattle.store_writes.specs.internal.PutPlans.{IsPutPlanned};
-ghost use Rattle.store_lookups.specs.OnConnections.{GivenBook, GivenSoundRows};
+ghost use Rattle.store_lookups.specs.OnConnections.{
+  ChangeFaultsFromOutside,
+  FaultsFromOutside,
+  FaultsFromOutsideInBook,
+  GivenBook,
+  GivenSoundRows,
+};
 ghost use Rattle.store_tables.specs.OnConnections.{OnlyReads, UnchangedOnOk, WasOpenOnOk};
 ghost use Rattle.store_writes.specs.OnConnections.{AppliesStep, CommitsOnce};
-ghost use Rattle.std.specs.Prelude.{◌≡◌, ◌<◌, ◌^◌, IfOk, IsSome, false};
+ghost use Rattle.std.specs.Prelude.{◌≡◌, ◌+◌, ◌<◌, ◌^◌, IfOk, IsSome, false};
 ghost use Rattle.vcard_text.specs.Cards.{uid_of};
 
 use crate::lookups::{as_version_and_card, open_header};
@@ -31,10 +37,13 @@ fn decide_put<S: Alter>(
         (λ book. FollowsStep IsExactly result
         (put_answer limits (found_in_book book (uid_of card.now)) card.now expect)) }
     ensures number_fits { IfOk result
-        (λ answer. IsSome (put_store_reason answer) → header.number < 2 ^ 63) }
+        (λ answer. IsSome (put_store_reason answer) → header.number + 1 < 2 ^ 63) }
+    ensures store_fault { FaultsFromOutsideInBook S.Store conn.old conn.new header result }
     ensures unchanged { UnchangedOnOk S.Store conn.old conn.new result }
     ensures reads_only { OnlyReads S.Store conn.old conn.new }
 {
+    // The proof needs the greatest limit of changes, which this call ensures.
+    let _most = limits.changes_max();
     let live = find_live(alloc, conn, header, card.uid())?;
     let counts = header.counts();
     let found = MemberLookup {
@@ -58,7 +67,8 @@ fn plan_put<S: Alter>(
     ensures planned { GivenSoundRows S.Store conn.old conn.new
         (λ rows. IsPutPlanned limits rows name.now card.now expect result) }
     ensures number_fits { IfOk result
-        (λ plan. IsSome (put_store_reason plan.1) → plan.0.number < 2 ^ 63) }
+        (λ plan. IsSome (put_store_reason plan.1) → plan.0.number + 1 < 2 ^ 63) }
+    ensures store_fault { FaultsFromOutside S.Store conn.old conn.new result }
     ensures unchanged { UnchangedOnOk S.Store conn.old conn.new result }
     ensures was_open { WasOpenOnOk S.Store conn.old conn.new result }
     ensures reads_only { OnlyReads S.Store conn.old conn.new }
@@ -86,6 +96,7 @@ pub fn put_in_book<S: Alter>(
     requires { conn.old.in_transaction ≡ false }
     ensures changes { AppliesStep S.Store conn.old conn.new result
         (λ books. put_step limits books name.now card.now expect) }
+    ensures store_fault { ChangeFaultsFromOutside S.Store conn.old conn.new result }
     ensures crash { CommitsOnce S.Store conn.old conn.new
         (λ books. put_step limits books name.now card.now expect) }
 {

@@ -6,16 +6,30 @@ ghost use Rattle.book_model.specs.declared.change.Change.TheVariants.{Stores};
 ghost use Rattle.store_lookups.specs.Faults.{IsDeniedFault};
 ghost use Rattle.store_rows.specs.ChangeLaws.{IsCardTextOf, header_after};
 ghost use Rattle.store_rows.specs.TableBooks.{HeaderRow, numbers_row};
+ghost use Rattle.store_rows.specs.TableRows.{TableRows};
+ghost use Rattle.store_lookups.specs.OnConnections.{ChangeFaultsFromOutsideInBook};
+ghost use Rattle.store_lookups.specs.StoreFaults.{FailsOnlyForMemory};
 ghost use Rattle.store_writes.specs.TableChanges.{AreHeaderColumns};
 ghost use Rattle.store_tables.specs.Books.{numbers_of};
-ghost use Rattle.store_tables.specs.OnConnections.{CountsFaults, SurvivesAsBefore};
+ghost use Rattle.store_tables.specs.OnConnections.{
+  CountsFaults,
+  FailsFromOutside,
+  ObeyTables,
+  SurvivesAsBefore,
+  WriteFailsFromOutside,
+  table_rows,
+};
+ghost use Rattle.store_tables.specs.Acceptance.{HasFreeIds};
 ghost use Rattle.store_writes.specs.OnConnections.{
+  AcceptsMemberOf,
   ChangesBookInTx,
   CommitsBook,
   CommitsBookOnce,
+  InTxWithBook,
   KeepsCommitWithBook,
 };
-ghost use Rattle.std.specs.Prelude.{◌≡◌, ◌+◌, ◌<◌, ◌^◌, IfErr, IfOk, false, option_copied, pos};
+ghost use Rattle.std.specs.Prelude.{◌≡◌, ◌+◌, ◌<◌, ◌^◌, IfErr, IfOk, List, OnOk, false, ℕ};
+ghost use Rattle.std.specs.Prelude.{option_copied, pos};
 ghost use Rattle.vcard_text.specs.Cards.{uid_of};
 
 use crate::columns::{columns_of, text_of_card};
@@ -44,9 +58,21 @@ pub fn write_member<S: Alter>(
         → AreHeaderColumns (header_after change header) id numbers
         → ChangesBookInTx S.Store tx.old.conn.now tx.new.conn.now header result
         (λ book. book_with_row book uid.now change) }
+    ensures obeys { (header : HeaderRow) → id ≡ pos header.id
+        → InTxWithBook S.Store tx.old.conn.now tx.new.conn.now header
+        (λ _ _. OnOk result (ObeyTables S.Store tx.new.conn.now)) }
+    ensures takes_one_id { (header : HeaderRow) → id ≡ pos header.id
+        → InTxWithBook S.Store tx.old.conn.now tx.new.conn.now header
+        (λ _ _. (count : ℕ) → HasFreeIds (count + 1) (table_rows S.Store tx.old.conn.now 4)
+        → OnOk result (HasFreeIds count (table_rows S.Store tx.new.conn.now 4))) }
     ensures keeps_commit { (header : HeaderRow) → id ≡ pos header.id
         → KeepsCommitWithBook S.Store tx.old.conn.now tx.new.conn.now header }
     ensures survives { SurvivesAsBefore S.Store tx.old.conn.now tx.new.conn.now }
+    ensures fails_from_outside { (rows : TableRows) (name : List ℕ) (header : HeaderRow)
+        → id ≡ pos header.id
+        → AcceptsMemberOf S.Store tx.old.conn.now rows name header uid.now changed
+        (option_copied card.entry)
+        → WriteFailsFromOutside S.Store tx.old.conn.now tx.new.conn.now result }
 {
     put_member(tx, id, uid, changed, card)?;
     renumber_book(tx, id, numbers)?;
@@ -75,8 +101,19 @@ pub fn commit_member<S: Alter>(
         → AreHeaderColumns (header_after change header) id numbers
         → CommitsBookOnce S.Store conn.old conn.new header
         (λ book. book_with_row book uid.now change) }
+    ensures fails_from_outside { (header : HeaderRow) (change : Change)
+        → changed ≡ pos (header.number + 1)
+        → IsCardTextOf (option_copied card.entry) change
+        → AreHeaderColumns (header_after change header) id numbers
+        → (rows : TableRows) (name : List ℕ)
+        → AcceptsMemberOf S.Store conn.old rows name header uid.now changed
+        (option_copied card.entry)
+        → FailsFromOutside S.Store conn.old conn.new result }
 {
     assert_no_pending_writes(conn);
+
+    // The proof needs the tables to obey their constraints, which this call ensures.
+    let _tables = conn.schema();
     let mut tx = conn.transaction();
     write_member(&mut tx, id, uid, changed, card, numbers)?;
     tx.commit()?;
@@ -90,6 +127,7 @@ pub fn columns_after(header: BookHeader, change: &Change) -> Result<BookNumbers,
         ≡ numbers_row (header.number + 1) header.horizon
         (counts_after_change change.now header.counts)) }
     ensures fault { IfErr result IsDeniedFault }
+    ensures memory { header.number + 1 < 2 ^ 63 → FailsOnlyForMemory result }
 {
     let mut counts = header.counts();
     counts.add(change);
@@ -109,12 +147,17 @@ pub(crate) fn write_put<S: Alter>(
     ensures atomic { CommitsBook S.Store conn.old conn.new header result
         (λ book. book_with_row book (uid_of card.now) (Stores card.now why)) }
     ensures fault { IfErr result IsDeniedFault }
+    ensures store_fault { header.number + 1 < 2 ^ 63
+        → ChangeFaultsFromOutsideInBook S.Store conn.old conn.new header result }
     ensures settled { conn.new.in_transaction ≡ false }
     ensures survives { CountsFaults S.Store conn.old conn.new }
     ensures crash { CommitsBookOnce S.Store conn.old conn.new header
         (λ book. book_with_row book (uid_of card.now) (Stores card.now why)) }
 {
     assert_no_pending_writes(conn);
+
+    // The proof needs the rules of a card, which this call ensures.
+    let _lines = card.lines();
     let text = text_of_card(alloc, card)?;
     let change = Change::Stores(card.try_copy()?, why);
     let numbers = columns_after(header, &change)?;

@@ -1,4 +1,7 @@
-use Rattle.std.proofs.Common.{rules, ◌≡◌, ℕ, true, false, Result, Ok, Err, sym, subst}
+use Rattle.std.proofs.Common.{rules, ◌≡◌, ℕ, true, false, Result, Ok, Err, sym, subst, ◌≤◌}
+use Rattle.store_lookups.proofs.ChangeFaultLemmas.{then_change_faults}
+use Rattle.store_lookups.proofs.StoreFaultLemmas.{passed_cause}
+use Rattle.store_writes.proofs.ForgetLemmas.{forgets_known}
 use Rattle.sqlite.specs.Held.{state}
 use Rattle.sqlite.specs.State.{State}
 use Rattle.book_model.specs.declared.denied.Denied.TheVariants.{Refused}
@@ -80,3 +83,14 @@ returns-clause-crash g c =
     c.in_ok-header.ensures.unchanged c.open_header.ensures.reads_only (λ rows. FindsHeader rows name (Ok header)) c.in_ok-header.ensures.finds (λ rows h. h) c.write_forget.ensures.survives
     (λ rows. TreesHold (finite.insert (books_of rows) name (book_after_forget (row_book rows (line_row name header)) c.args.upto))) (λ rows line. c.write_forget.ensures.crash rows name line)
     (λ rows named db made. named_row_held rows name header (forget_of (books_of rows) name c.args.upto) db named (forget_holds rows name header c.args.upto db (may g p) made))
+
+pub returns-in_err-header-clause-store_fault : goal.returns-in_err-header-clause-store_fault
+returns-in_err-header-clause-store_fault g c rows clean holds accept free =
+    passed_cause c.from_residual.result c.in_err-header.field-0.0 _ c.from_residual.ensures.1 (c.in_err-header.ensures.store_fault rows clean holds accept.faultless)
+
+pub returns-clause-store_fault : goal.returns-clause-store_fault
+returns-clause-store_fault g c =
+    let p = (goal.at.returns-clause-store_fault g c).After-write_forget in
+    let low : c.args.upto ≤ c.in_ok-header.header.number = forgets_known c.in_ok-header.header.horizon c.in_ok-header.header.number c.args.upto (may g p) in
+    then_change_faults (old g (found g p)) (mid g (found g p)) (new g p) _ _ c.args.name.now c.in_ok-header.header c.write_forget.result c.open_header.ensures.reads_only.survives c.in_ok-header.ensures.unchanged
+    (λ rows clean holds sound. (c.in_ok-header.ensures.finds rows clean holds sound).there) c.write_forget.ensures.survives (c.write_forget.ensures.store_fault low)

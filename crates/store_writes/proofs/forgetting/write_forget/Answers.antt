@@ -1,4 +1,8 @@
-use Rattle.std.proofs.Common.{rules, ◌≡◌, pos, to_z, of_z, w64}
+use Rattle.std.proofs.Common.{rules, ◌≡◌, pos, to_z, of_z, w64, arith}
+use Rattle.sqlite.specs.Held.{state}
+use Rattle.store_lookups.proofs.ChangeFaultLemmas.{header_fits}
+use Rattle.store_writes.proofs.AcceptLemmas.{accepts_header}
+use Rattle.store_writes.proofs.TransactionFaults.{error_faults, memory_cause}
 use Rattle.store_lookups.proofs.FindLemmas.{back, back_of}
 use Rattle.store_writes.specs.TableChanges.{AreHeaderColumns}
 use Rattle.store_writes.proofs.forgetting.write_forget.Given as given
@@ -32,3 +36,33 @@ pub returns-in-Err-clause-crash : goal.returns-in-Err-clause-crash
 returns-in-Err-clause-crash g c rows name line =
     let p = (goal.at.returns-in-Err-clause-crash g c).After-commit_forget in
     c.in-Err.ensures.crash c.args.header c.args.upto (last_is g p) (columns g p) rows name line
+
+-- ---- faults
+
+pub returns-in_err-id-clause-store_fault : goal.returns-in_err-id-clause-store_fault
+returns-in_err-id-clause-store_fault g c low rows name clean holds accept free there =
+    let fits = (header_fits rows name c.args.header accept there).id in
+    let great = c.in_err-id.ensures.too_great in
+    let is = c.id.ensures in
+    absurd (omega (arith, fits, great, is))
+
+pub returns-in_err-last-clause-store_fault : goal.returns-in_err-last-clause-store_fault
+returns-in_err-last-clause-store_fault g c low rows name clean holds accept free there =
+    let fits = (header_fits rows name c.args.header accept there).number in
+    let great = c.in_err-last.ensures.too_great in
+    absurd (omega (arith, fits, great, low))
+
+pub returns-in_err-numbers-clause-store_fault : goal.returns-in_err-numbers-clause-store_fault
+returns-in_err-numbers-clause-store_fault g c low rows name clean holds accept free there =
+    let fits = (header_fits rows name c.args.header accept there).number in
+    let number = c.number.ensures in
+    let sum = c.counts.ensures.sum in
+    memory_cause c.from_residual-in_err-numbers.result c.in_err-numbers.field-0.0 _ c.from_residual-in_err-numbers.ensures.1
+    (c.in_err-numbers.ensures.memory (omega (arith, fits, number)) (omega (arith, fits, low)) (omega (arith, fits, sum)))
+
+pub returns-in-Err-clause-store_fault : goal.returns-in-Err-clause-store_fault
+returns-in-Err-clause-store_fault g c low rows name clean holds accept free there =
+    let p = (goal.at.returns-in-Err-clause-store_fault g c).After-commit_forget in
+    let db = (state g.S.Store c.args.conn.now).now in
+    error_faults c.in-Err.error c.fault_of.result _ c.fault_of.ensures.value
+    (c.in-Err.ensures.fails_from_outside c.args.header c.args.upto (last_is g p) (columns g p) rows name (accepts_header db rows name c.args.header holds accept there) clean holds.schema)

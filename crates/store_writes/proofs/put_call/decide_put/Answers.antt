@@ -1,4 +1,7 @@
-use Rattle.std.proofs.Common.{rules, ◌≡◌, Ok, Err, sym, subst, ◌∙◌}
+use Rattle.std.proofs.Common.{rules, ◌≡◌, Ok, Err, sym, subst, ◌∙◌, arith}
+use Rattle.store_lookups.proofs.StoreFaultLemmas.{passed_cause}
+use Rattle.store_writes.proofs.NumberLemmas.{put_room}
+use Rattle.store_writes.proofs.TransactionFaults.{refused_cause}
 use Rattle.book_model.specs.declared.denied.Denied.TheVariants.{Refused}
 use Rattle.book_model.specs.Books.{live_at, as_stored}
 use Rattle.book_model.specs.Counting.{live_count}
@@ -26,3 +29,19 @@ returns-clause-answers g c rows clean holds sound name =
     let cards : c.live.result ≡ live_count c.args.header.counts = search rules in
     let same : lookup_of (as_stored c.as_version_and_card.result) c.live.result c.number.result ≡ found_in_book book (uid_of c.args.card.now) = lookup_is _ _ _ _ _ _ (c.as_version_and_card.ensures ∙ sym live) cards c.number.ensures in
     ok_is_exact _ c.in_ok-answer.answer (answer_is c.args.limits c.args.card.now c.args.expect _ _ (Ok c.in_ok-answer.answer) same c.in_ok-answer.ensures.answer)
+
+pub returns-clause-number_fits : goal.returns-clause-number_fits
+returns-clause-number_fits g c some =
+    let number : c.number.result ≡ c.args.header.number = c.number.ensures in
+    let room = put_room c.args.limits (lookup_of (as_stored c.as_version_and_card.result) c.live.result c.number.result) c.args.card.now c.args.expect c.in_ok-answer.answer (sym c.in_ok-answer.ensures.answer) some in
+    let value = c.changes_max-most.ensures.value in
+    let most = c.changes_max-most.ensures.most in
+    omega (arith, number, room, value, most)
+
+pub returns-in_err-live-clause-store_fault : goal.returns-in_err-live-clause-store_fault
+returns-in_err-live-clause-store_fault g c fits rows clean holds faultless =
+    passed_cause c.from_residual.result c.in_err-live.field-0.0 _ c.from_residual.ensures.1 (c.in_err-live.ensures.store_fault fits rows clean holds faultless)
+
+pub returns-in_err-answer-clause-store_fault : goal.returns-in_err-answer-clause-store_fault
+returns-in_err-answer-clause-store_fault g c fits rows clean holds faultless =
+    refused_cause c.from_residual-in_err-answer.result c.in_err-answer.field-0.0 _ (search rules)

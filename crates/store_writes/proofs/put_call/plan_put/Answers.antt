@@ -1,4 +1,6 @@
 use Rattle.std.proofs.Common.{rules, ◌≡◌, Err, sym, subst}
+use Rattle.book_model.specs.declared.answers.PutAnswer.{PutAnswer}
+use Rattle.store_lookups.proofs.StoreFaultLemmas.{passed_cause, then_faults}
 use Rattle.sqlite.specs.Held.{state}
 use Rattle.sqlite.specs.State.{HasCleanDisk}
 use Rattle.store_tables.proofs.SchemaCreationLemmas.{clean_before}
@@ -32,3 +34,13 @@ returns-clause-planned g c rows clean holds sound =
 pub returns-clause-reads_only : goal.returns-clause-reads_only
 returns-clause-reads_only g c =
     reads_then (state g.S.Store c.args.conn.now) (state g.S.Store c.open_header.new.conn) (state g.S.Store c.decide_put.new.conn) c.open_header.ensures.reads_only c.in_ok-header.ensures.unchanged c.decide_put.ensures.reads_only
+
+pub returns-in_err-header-clause-store_fault : goal.returns-in_err-header-clause-store_fault
+returns-in_err-header-clause-store_fault g c rows clean holds faultless =
+    passed_cause c.from_residual.result c.in_err-header.field-0.0 _ c.from_residual.ensures.1 (c.in_err-header.ensures.store_fault rows clean holds faultless)
+
+pub returns-in_err-answer-clause-store_fault : goal.returns-in_err-answer-clause-store_fault
+returns-in_err-answer-clause-store_fault g c rows clean holds faultless =
+    passed_cause c.from_residual-in_err-answer.result c.in_err-answer.field-0.0 _ c.from_residual-in_err-answer.ensures.1
+    (then_faults {A = PutAnswer} (state g.S.Store c.args.conn.now) (state g.S.Store c.open_header.new.conn) (state g.S.Store c.decide_put.new.conn) _ _ c.args.name.now c.in_ok-header.header (Err c.in_err-answer.field-0.0) c.open_header.ensures.reads_only.survives
+    c.in_ok-header.ensures.unchanged c.in_ok-header.ensures.finds c.decide_put.ensures.reads_only.survives c.in_err-answer.ensures.store_fault rows clean holds faultless)

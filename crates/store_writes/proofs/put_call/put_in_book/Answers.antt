@@ -1,4 +1,6 @@
-use Rattle.std.proofs.Common.{rules, ◌≡◌, IsTrue, Some, None, Result, Ok, Err, sym, ap, subst, ◌∙◌}
+use Rattle.std.proofs.Common.{rules, ◌≡◌, IsTrue, Some, None, Result, Ok, Err, sym, ap, subst, ◌∙◌, IsSome, refl}
+use Rattle.store_lookups.proofs.ChangeFaultLemmas.{then_change_faults}
+use Rattle.store_lookups.proofs.StoreFaultLemmas.{passed_cause}
 use Rattle.std.specs.FinMap as finite
 use Rattle.sqlite.specs.Effect.{Database}
 use Rattle.sqlite.specs.Held.{state}
@@ -118,3 +120,16 @@ returns-in_err-write_put-clause-crash g c = crash g (goal.at.returns-in_err-writ
 
 pub returns-clause-crash : goal.returns-clause-crash
 returns-clause-crash g c = crash g (goal.at.returns-clause-crash g c).After-write_put
+
+pub returns-in_err-header-clause-store_fault : goal.returns-in_err-header-clause-store_fault
+returns-in_err-header-clause-store_fault g c rows clean holds accept free =
+    passed_cause c.from_residual.result c.in_err-header.field-0.0 _ c.from_residual.ensures.1 (c.in_err-header.ensures.store_fault rows clean holds accept.faultless)
+
+pub returns-in_err-write_put-clause-store_fault : goal.returns-in_err-write_put-clause-store_fault
+returns-in_err-write_put-clause-store_fault g c rows clean holds accept free =
+    let p = (goal.at.returns-in_err-write_put-clause-store_fault g c).After-write_put in
+    let some : IsSome (put_store_reason c.in_ok-header.answer) = subst (λ o. IsSome o) (sym (stores g p)) refl in
+    let failed : Result PutAnswer Denied = Err c.in_err-write_put.field-0.0 in
+    passed_cause c.from_residual-in_err-write_put.result c.in_err-write_put.field-0.0 _ c.from_residual-in_err-write_put.ensures.1
+    (then_change_faults (old g (plan g p)) (mid g (plan g p)) (new g p) _ _ c.args.name.now c.in_ok-header.header failed c.plan_put.ensures.reads_only.survives c.in_ok-header.ensures.unchanged
+    (λ rows clean holds sound. (c.in_ok-header.ensures.planned rows clean holds sound).0.there) c.write_put.ensures.survives (c.in_err-write_put.ensures.store_fault (c.in_ok-header.ensures.number_fits some)) rows clean holds accept free)

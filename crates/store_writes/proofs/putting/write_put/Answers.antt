@@ -1,4 +1,9 @@
-use Rattle.std.proofs.Common.{rules, ◌≡◌, ◌+◌, Some, option_copied, pos, to_z, of_z, w64, ap}
+use Rattle.std.proofs.Common.{rules, ◌≡◌, ◌+◌, Some, option_copied, pos, to_z, of_z, w64, ap, arith, subst, sym}
+use Rattle.vcard_text.specs.Cards.{canonical_text, uid_of}
+use Rattle.store_lookups.proofs.ChangeFaultLemmas.{header_fits}
+use Rattle.store_writes.specs.AcceptedChanges.{AcceptsMemberOf}
+use Rattle.store_writes.proofs.AcceptLemmas.{accepts_member, card_text_short, card_uid_short}
+use Rattle.store_writes.proofs.TransactionFaults.{mapped_faults, memory_cause}
 use Rattle.book_model.specs.declared.change.Change.{Change}
 use Rattle.book_model.specs.declared.change.Change.TheVariants.{Stores}
 use Rattle.sqlite.specs.Held.{state}
@@ -34,3 +39,37 @@ pub returns-clause-crash : goal.returns-clause-crash
 returns-clause-crash g c rows name line =
     let p = (goal.at.returns-clause-crash g c).After-commit_member in
     rw c.uid.ensures at (c.commit_member.ensures.crash c.args.header (change g p) (changed_is g p) (text_is g p) (columns g p) rows name line)
+
+-- ---- faults
+
+pub returns-in_err-text-clause-store_fault : goal.returns-in_err-text-clause-store_fault
+returns-in_err-text-clause-store_fault g c fits rows name clean holds accept free there =
+    memory_cause c.from_residual.result c.in_err-text.field-0.0 _ c.from_residual.ensures.1 c.in_err-text.ensures.memory
+
+pub returns-in_err-numbers-clause-store_fault : goal.returns-in_err-numbers-clause-store_fault
+returns-in_err-numbers-clause-store_fault g c fits rows name clean holds accept free there =
+    memory_cause c.from_residual-in_err-numbers.result c.in_err-numbers.field-0.0 _ c.from_residual-in_err-numbers.ensures.1 (c.in_err-numbers.ensures.memory fits)
+
+pub returns-in_err-id-clause-store_fault : goal.returns-in_err-id-clause-store_fault
+returns-in_err-id-clause-store_fault g c fits rows name clean holds accept free there =
+    let low = (header_fits rows name c.args.header accept there).id in
+    let great = c.in_err-id.ensures.too_great in
+    let is = c.id.ensures in
+    absurd (omega (arith, low, great, is))
+
+pub returns-in_err-changed-clause-store_fault : goal.returns-in_err-changed-clause-store_fault
+returns-in_err-changed-clause-store_fault g c fits rows name clean holds accept free there =
+    let great = c.in_err-changed.ensures.too_great in
+    let is = c.number.ensures in
+    absurd (omega (arith, fits, great, is))
+
+pub returns-clause-store_fault : goal.returns-clause-store_fault
+returns-clause-store_fault g c fits rows name clean holds accept free there =
+    let p = (goal.at.returns-clause-store_fault g c).After-commit_member in
+    let db = (state g.S.Store c.args.conn.now).now in
+    let card = c.lines-lines.ensures.rules in
+    let text : c.as_str.result.now ≡ canonical_text c.args.card.now = search rules in
+    let member = accepts_member db rows name c.args.header (uid_of c.args.card.now) (Some c.as_str.result.now) holds accept free there (card_uid_short c.args.card.now card) (card_text_short c.args.card.now c.as_str.result.now card text) in
+    let ready = subst (λ z. AcceptsMemberOf db rows name c.args.header (uid_of c.args.card.now) z (Some c.as_str.result.now)) (sym (changed_is g p)) member in
+    mapped_faults c.commit_member.result c.map_err.result _ _ (λ e d h. search (rules, h)) c.map_err.ensures.cases
+    (c.commit_member.ensures.fails_from_outside c.args.header (change g p) (changed_is g p) (text_is g p) (columns g p) rows name (rw c.uid.ensures ready) clean holds.schema)
