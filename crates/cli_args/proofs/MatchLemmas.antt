@@ -4,7 +4,7 @@ use Rattle.std.specs.Prelude.{find, if◌then◌else◌, option_and_then}
 use Rattle.std.specs.Str.{bytes_eq}
 use Rattle.clap.specs.Kinds.{HasKind, IsAmong, Kinds}
 use Rattle.clap.specs.Faults.{fault_of, is_simple_and_free}
-use Rattle.clap.specs.Simple.{is_simple, subcommand_of}
+use Rattle.clap.specs.Simple.{is_simple, matches_of, subcommand_of}
 use Rattle.clap.specs.Facts.{Entry}
 use Rattle.clap.specs.Matches.{matched_of}
 use Rattle.clap.specs.Walk.{Row, Text, is_empty, row_of, rows_of}
@@ -41,7 +41,7 @@ pub fault-asked : (words : List Text) (error : Error) (fault : LineFault) → Ha
 fault-asked words error Memory has is_of_kind = tt
 fault-asked words error (Bad text) has is_of_kind = elim has [
   | inl out ↦ absurd (is_of_kind out)
-  | inr among ↦ nothing (fault_of contacts_command words) (kind_of error) (matched_order (subcommand_of contacts_command words)) among
+  | inr among ↦ nothing (fault_of contacts_command words) (kind_of error) (matched_order (matches_of contacts_command words) (subcommand_of contacts_command words)) among
 ]
 
 -- where a value came from, by its entry and by its row

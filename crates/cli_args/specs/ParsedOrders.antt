@@ -6,7 +6,7 @@ use Rattle.std.specs.Prelude.{if◌then◌else◌}
 use Rattle.std.specs.Str.{bytes_eq}
 use Rattle.std.specs.Str.Parse.{digits_value, without_leading_plus}
 use Rattle.clap.specs.Walk.{Row, Text, first_of, is_empty, one_of}
-use Rattle.clap.specs.Simple.{subcommand_of}
+use Rattle.clap.specs.Simple.{matches_of, subcommand_of}
 use Rattle.clap.specs.Faults.{fault_of}
 use Rattle.clap.specs.ValueTests.{is_unsigned_in}
 use Rattle.clap.specs.declared.error.kind.ErrorKind.{ErrorKind}
@@ -21,7 +21,7 @@ use Rattle.cli_args.specs.declared.fault.LineFault.TheVariants.{Bad, Memory}
 use Rattle.cli_args.specs.declared.order.Order.{Order}
 use Rattle.cli_args.specs.declared.order.Order.TheVariants.{Try, Init, Book, Serve, ServeWithLimits}
 use Rattle.cli_args.specs.declared.order.Order.TheVariants.{Import, Export, Tally, Forget, Mirror}
-use Rattle.cli_args.specs.declared.order.Order.TheVariants.{Expand, Migrate}
+use Rattle.cli_args.specs.declared.order.Order.TheVariants.{Expand, Migrate, Check, Books, Verify, Version}
 
 -- ---- the values of arguments and options
 
@@ -116,14 +116,31 @@ expand_order rows = with_book (λ file book.
 abbrev pub migrate_order : List Row → Option Order
 migrate_order = with_file (λ file. Some (Migrate file))
 
--- the order of this name and these matches, if it is one that only reads a book
+abbrev pub check_order : List Row → Option Order
+check_order = with_file (λ file. Some (Check file))
+
+abbrev pub books_order : List Row → Option Order
+books_order = with_file (λ file. Some (Books file))
+
+abbrev pub verify_order : List Row → Option Order
+verify_order = with_file (λ file. Some (Verify file))
+
+-- the order of this name and these matches, if it is one that only looks at a file
+abbrev pub file_order_of : Text → List Row → Option Order
+file_order_of name rows =
+    if bytes_eq name (codes "check") then check_order rows
+    else (if bytes_eq name (codes "books") then books_order rows
+    else (if bytes_eq name (codes "verify") then verify_order rows
+    else None))
+
+-- the order of this name and these matches, if it is one that only reads a book or a file
 abbrev pub query_order_of : Text → List Row → Option Order
 query_order_of name rows =
     if bytes_eq name (codes "export") then export_order rows
     else (if bytes_eq name (codes "tally") then tally_order rows
     else (if bytes_eq name (codes "mirror") then mirror_order rows
     else (if bytes_eq name (codes "expand") then expand_order rows
-    else None)))
+    else file_order_of name rows)))
 
 -- the order of this name and these matches, if it creates, changes or reads a book
 abbrev pub book_order_of : Text → List Row → Option Order
@@ -142,16 +159,22 @@ order_of name rows =
     else (if bytes_eq name (codes "migrate") then migrate_order rows
     else book_order_of name rows)))
 
--- without a name it is `Try`
-abbrev pub matched_order : Option (Text × List Row) → Option Order
-matched_order None = Some Try
-matched_order (Some named) = order_of named.0 named.1
+-- the order of the matched name; without a name it is `Try`
+abbrev pub named_order : Option (Text × List Row) → Option Order
+named_order None = Some Try
+named_order (Some named) = order_of named.0 named.1
+
+-- with `--version` it is `Version`, whatever follows
+abbrev pub matched_order : List Row → Option (Text × List Row) → Option Order
+matched_order rows named =
+    if is_given (codes "version") rows then Some Version else named_order named
 
 -- the order of a command line: that of its matches, if `clap` finds no fault with it
 abbrev pub order_from : List Text → Option Order
 order_from words =
     if is_empty (fault_of contacts_command words)
-    then matched_order (subcommand_of contacts_command words) else None
+    then matched_order (matches_of contacts_command words) (subcommand_of contacts_command words)
+    else None
 
 -- the result is the expected value, unless an allocation failed
 abbrev pub ParsesTo : {A : Type 0} → Option A → Result A LineFault → Type 0
@@ -160,9 +183,9 @@ ParsesTo expected (Err (Bad text)) = expected ≡ None
 ParsesTo expected (Err Memory) = ⊤
 
 -- `clap` finds no fault with the arguments, and these are their matches
-abbrev pub IsMatched : List Text → Option (Text × List Row) → Type 0
-IsMatched words named = (fault_of contacts_command words ≡ [])
-    × (named ≡ subcommand_of contacts_command words)
+abbrev pub IsMatched : List Text → List Row → Option (Text × List Row) → Type 0
+IsMatched words rows named = (fault_of contacts_command words ≡ [])
+    × (rows ≡ matches_of contacts_command words) × (named ≡ subcommand_of contacts_command words)
 
 -- the fault for an error of `clap`; it is `Bad` only if the error isn't out of memory
 abbrev pub IsFaultOfKind : ErrorKind → LineFault → Type 0

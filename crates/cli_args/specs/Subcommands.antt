@@ -2,6 +2,7 @@
 use Rattle.std.specs.Prelude.{ℕ, ◌≡◌, ⊤, true, false, List, [], ◌∷◌, Some, codes}
 use Rattle.clap.specs.Walk.{Rule, Text, rule_of}
 use Rattle.clap.specs.Simple.{App, Shape, app_of, new_rule, new_shape}
+use Rattle.clap.specs.declared.builder.action.ArgAction.TheVariants.{SetTrue}
 use Rattle.clap.specs.declared.builder.arg.Arg.{Arg}
 use Rattle.clap.specs.declared.builder.command.Command.{Command}
 use Rattle.clap.specs.declared.builder.command.Command.TheViews.{out-Command as fields_of}
@@ -25,6 +26,14 @@ option_arg id name default = record (new_rule id) { long = Some name; defaults =
 abbrev pub number_option : Text → Text → ℕ → ℕ → Text → Rule
 number_option id name least most default =
     record (option_arg id name default) { parser = Some (Unsigned least most) }
+
+-- an option without a value, also with a name of one letter
+abbrev pub flag : Text → Text → ℕ → Rule
+flag id name letter = record (new_rule id) {
+  long = Some name;
+  short = Some letter;
+  action = Some SetTrue;
+}
 
 abbrev pub file_arg : Rule
 file_arg = argument (codes "FILE")
@@ -90,16 +99,34 @@ expand_command = order_command (codes "expand") (file_arg ∷ book_arg ∷ argum
 abbrev pub migrate_command : Shape
 migrate_command = order_command (codes "migrate") (file_arg ∷ [])
 
+abbrev pub check_command : Shape
+check_command = order_command (codes "check") (file_arg ∷ [])
+
+abbrev pub books_command : Shape
+books_command = order_command (codes "books") (file_arg ∷ [])
+
+abbrev pub verify_command : Shape
+verify_command = order_command (codes "verify") (file_arg ∷ [])
+
 -- all orders, in the sequence of the help text
 abbrev pub order_commands : List Shape
 order_commands = try_command ∷ init_command ∷ book_command ∷ serve_command ∷ import_command
     ∷ export_command ∷ tally_command
-    ∷ forget_command ∷ mirror_command ∷ expand_command ∷ migrate_command ∷ []
+    ∷ forget_command ∷ mirror_command ∷ expand_command ∷ migrate_command
+    ∷ check_command ∷ books_command ∷ verify_command ∷ []
+
+-- `--version` or `-V`; 86 is the letter V
+abbrev pub version_flag : Rule
+version_flag = flag (codes "version") (codes "version") 86
 
 -- the whole command line after the program's name
 abbrev pub contacts_command : App
 contacts_command = record {
-  top = record (new_shape (codes "contacts")) { is_leaf = false; no_binary_name = true };
+  top = record (new_shape (codes "contacts")) {
+    rules = version_flag ∷ [];
+    is_leaf = false;
+    no_binary_name = true;
+  };
   subs = order_commands;
 }
 

@@ -32,6 +32,23 @@ WorkedOrders =
     ≡ Some (order.Expand db staff (codes "a")))
     × (order_from (over_file (codes "migrate") []) ≡ Some (order.Migrate db))
 
+abbrev pub WorkedFiles : Type 0
+WorkedFiles =
+    (order_from (codes "check" ∷ codes "a.csv" ∷ []) ≡ Some (order.Check (codes "a.csv")))
+    × (order_from (over_file (codes "books") []) ≡ Some (order.Books db))
+    × (order_from (over_file (codes "verify") []) ≡ Some (order.Verify db))
+    × (order_from (codes "check" ∷ []) ≡ None)
+    × (order_from (over_book (codes "books") []) ≡ None)
+
+abbrev pub WorkedVersions : Type 0
+WorkedVersions =
+    (order_from (codes "--version" ∷ []) ≡ Some order.Version)
+    × (order_from (codes "-V" ∷ []) ≡ Some order.Version)
+    × (order_from (codes "--version" ∷ over_book (codes "tally") []) ≡ Some order.Version)
+    × (order_from (over_book (codes "tally") (codes "--version" ∷ [])) ≡ None)
+    × (order_from (codes "--version=2" ∷ []) ≡ None)
+    × (order_from (codes "version" ∷ []) ≡ None)
+
 abbrev pub WorkedDefaults : Type 0
 WorkedDefaults =
     (order_from (over_file (codes "serve") []) ≡ Some (order.Serve db 0 1))

@@ -2,8 +2,8 @@
 ghost use Rattle.cli_args.specs.Subcommands as lines;
 ghost use Rattle.cli_args.specs.Subcommands.{IsArgument};
 
-use clap::Arg;
 use clap::builder::ValueParser;
+use clap::{Arg, ArgAction};
 use std::alloc::Global;
 
 /// A required argument.
@@ -56,6 +56,23 @@ pub(crate) fn number_option<'a>(
         (lines.number_option id.entry.now name.entry.now least most default.entry.now) result }
 {
     option_arg(alloc, id, name, default, help).value_parser(ValueParser::Unsigned(least, most))
+}
+
+/// An option without a value, also with a name of one letter.
+pub(crate) fn flag<'a>(
+    alloc: Global,
+    id: &'a str,
+    name: &'a str,
+    letter: char,
+    help: &'a str,
+) -> Arg<'a>
+    ensures { IsArgument (lines.flag id.entry.now name.entry.now letter) result }
+{
+    Arg::new(alloc, id)
+        .short(letter)
+        .long(name)
+        .action(ArgAction::SetTrue)
+        .help(help)
 }
 
 pub(crate) fn file_arg<'a>(alloc: Global) -> Arg<'a>

@@ -1,11 +1,15 @@
 //! Worked examples: the orders of some command lines, computed from the definitions. They are
 //! stated in `specs/WorkedLines.antt`.
 ghost use Rattle.cli_args.specs.WorkedLines.{WorkedConnections, WorkedDefaults, WorkedFaults};
-ghost use Rattle.cli_args.specs.WorkedLines.{WorkedForms, WorkedLimits, WorkedNumbers};
-ghost use Rattle.cli_args.specs.WorkedLines.{WorkedOrders, WorkedPages, WorkedPorts};
+ghost use Rattle.cli_args.specs.WorkedLines.{WorkedFiles, WorkedForms, WorkedLimits};
+ghost use Rattle.cli_args.specs.WorkedLines.{WorkedNumbers, WorkedOrders, WorkedPages};
+ghost use Rattle.cli_args.specs.WorkedLines.{WorkedPorts, WorkedVersions};
 
 /// Some command lines and their orders, or none.
 /// - `orders`: no argument, `try`, `init`, `book`, `import`, `tally`, `expand` and `migrate`.
+/// - `files`: `check`, `books` and `verify`, each with one file and no more.
+/// - `versions`: `--version` and `-V`, also before another order; not after one, nor with a value,
+///   nor as the name of an order.
 /// - `defaults`: `serve`, `export` and `mirror` without options.
 /// - `ports`: 8 and 65535 are ports; 65536 is none.
 /// - `connections`: 1000000 is accepted; 1000001 and 0 are not.
@@ -20,6 +24,8 @@ ghost use Rattle.cli_args.specs.WorkedLines.{WorkedOrders, WorkedPages, WorkedPo
 ///   no order.
 pub fn worked_lines_are_orders()
     ensures orders { WorkedOrders }
+    ensures files { WorkedFiles }
+    ensures versions { WorkedVersions }
     ensures defaults { WorkedDefaults }
     ensures ports { WorkedPorts }
     ensures connections { WorkedConnections }

@@ -137,7 +137,43 @@ fn migrate_order(alloc: Global, matches: &ArgMatches<'_>) -> Result<Order, LineF
     Ok(Order::Migrate { file })
 }
 
-/// The order with this name, if it is one that only reads a book.
+fn check_order(alloc: Global, matches: &ArgMatches<'_>) -> Result<Order, LineFault>
+    ensures { ParsesTo (parsed.check_order (rows_of (found_of matches.now))) result }
+{
+    let file = text_arg(alloc, matches, "FILE")?;
+    Ok(Order::Check { file })
+}
+
+fn books_order(alloc: Global, matches: &ArgMatches<'_>) -> Result<Order, LineFault>
+    ensures { ParsesTo (parsed.books_order (rows_of (found_of matches.now))) result }
+{
+    let file = text_arg(alloc, matches, "FILE")?;
+    Ok(Order::Books { file })
+}
+
+fn verify_order(alloc: Global, matches: &ArgMatches<'_>) -> Result<Order, LineFault>
+    ensures { ParsesTo (parsed.verify_order (rows_of (found_of matches.now))) result }
+{
+    let file = text_arg(alloc, matches, "FILE")?;
+    Ok(Order::Verify { file })
+}
+
+/// The order with this name, if it is one that only looks at a file.
+fn file_order_of(alloc: Global, name: &str, matches: &ArgMatches<'_>) -> Result<Order, LineFault>
+    ensures { ParsesTo (parsed.file_order_of name.now (rows_of (found_of matches.now))) result }
+{
+    if name == "check" {
+        check_order(alloc, matches)
+    } else if name == "books" {
+        books_order(alloc, matches)
+    } else if name == "verify" {
+        verify_order(alloc, matches)
+    } else {
+        refuse(alloc, "ORDER", name)
+    }
+}
+
+/// The order with this name, if it is one that only reads a book or a file.
 fn query_order_of(alloc: Global, name: &str, matches: &ArgMatches<'_>) -> Result<Order, LineFault>
     ensures { ParsesTo (parsed.query_order_of name.now (rows_of (found_of matches.now))) result }
 {
@@ -150,7 +186,7 @@ fn query_order_of(alloc: Global, name: &str, matches: &ArgMatches<'_>) -> Result
     } else if name == "expand" {
         expand_order(alloc, matches)
     } else {
-        refuse(alloc, "ORDER", name)
+        file_order_of(alloc, name, matches)
     }
 }
 
@@ -169,7 +205,7 @@ fn book_order_of(alloc: Global, name: &str, matches: &ArgMatches<'_>) -> Result<
     }
 }
 
-/// The order with this name. (The names are split over three functions because in one list the
+/// The order with this name. (The names are split over four functions because in one list the
 /// prover would carry all earlier names into each later case.)
 fn order_of(alloc: Global, name: &str, matches: &ArgMatches<'_>) -> Result<Order, LineFault>
     ensures { ParsesTo (parsed.order_of name.now (rows_of (found_of matches.now))) result }
@@ -187,12 +223,23 @@ fn order_of(alloc: Global, name: &str, matches: &ArgMatches<'_>) -> Result<Order
     }
 }
 
-/// The matched order; without one it is `Try`.
-pub(crate) fn matched_order(alloc: Global, matches: &ArgMatches<'_>) -> Result<Order, LineFault>
-    ensures { ParsesTo (parsed.matched_order (subcommand_rows_of matches.now)) result }
+/// The order of the matched name; without one it is `Try`.
+fn named_order(alloc: Global, matches: &ArgMatches<'_>) -> Result<Order, LineFault>
+    ensures { ParsesTo (parsed.named_order (subcommand_rows_of matches.now)) result }
 {
     match matches.subcommand() {
         Some((name, words)) => order_of(alloc, name, words),
         None => Ok(Order::Try),
     }
+}
+
+/// The matched order. With `--version` it is `Version`, whatever follows.
+pub(crate) fn matched_order(alloc: Global, matches: &ArgMatches<'_>) -> Result<Order, LineFault>
+    ensures { ParsesTo (parsed.matched_order (rows_of (found_of matches.now))
+        (subcommand_rows_of matches.now)) result }
+{
+    if is_given(matches, "version") {
+        return Ok(Order::Version);
+    }
+    named_order(alloc, matches)
 }

@@ -104,4 +104,21 @@ pub enum Order {
         /// The path of a store file of schema 1.
         file: Text,
     },
+    /// Check a CSV file or a card, without a store.
+    Check {
+        /// The path of a file with rows, or with one card if its name ends in `.vcf`.
+        file: Text,
+    },
+    /// List the books.
+    Books {
+        /// The path of a store file.
+        file: Text,
+    },
+    /// Test the whole store file, and list its books.
+    Verify {
+        /// The path of a store file.
+        file: Text,
+    },
+    /// Print the program's version.
+    Version,
 }

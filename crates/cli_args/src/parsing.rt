@@ -1,6 +1,6 @@
 //! Parsing the command line.
 ghost use Rattle.std.specs.Prelude.{Err, IfErr, IfOk, map, string_bytes};
-ghost use Rattle.clap.specs.Words.{kind_of, subcommand_rows_of};
+ghost use Rattle.clap.specs.Words.{found_of, kind_of, rows_of, subcommand_rows_of};
 ghost use Rattle.cli_args.specs.ParsedOrders as parsed;
 ghost use Rattle.cli_args.specs.ParsedOrders.{ParsesTo, IsMatched, IsFaultOfKind};
 
@@ -33,7 +33,8 @@ fn fault_of(alloc: Global, error: Error) -> LineFault
 /// Runs `clap` on the arguments.
 fn matches_of<'a>(alloc: Global, words: &'a [String]) -> Result<ArgMatches<'a>, LineFault>
     ensures ok { IfOk result (λ matches.
-        IsMatched (map string_bytes words.entry.now) (subcommand_rows_of matches)) }
+        IsMatched (map string_bytes words.entry.now) (rows_of (found_of matches))
+        (subcommand_rows_of matches)) }
     ensures err { IfErr result (λ fault.
         ParsesTo (parsed.order_from (map string_bytes words.entry.now)) (Err fault)) }
 {

@@ -6,7 +6,7 @@ ghost use Rattle.cli_args.specs.Subcommands as lines;
 ghost use Rattle.cli_args.specs.Subcommands.{AreOrderCommands, AreArguments, IsArgument};
 ghost use Rattle.cli_args.specs.Subcommands.{IsOrderCommand};
 
-use crate::arguments::{argument, book_arg, file_arg, number_arg, number_option, option_arg};
+use crate::arguments::{argument, book_arg, file_arg, flag, number_arg, number_option, option_arg};
 use clap::{Arg, Command};
 use std::alloc::{AllocError, Global};
 
@@ -274,6 +274,49 @@ fn migrate_command<'a>(alloc: Global) -> Result<Command<'a>, AllocError>
     )
 }
 
+fn check_command<'a>(alloc: Global) -> Result<Command<'a>, AllocError>
+    ensures { IfOk result (IsOrderCommand lines.check_command) }
+{
+    let file = argument(
+        alloc,
+        "FILE",
+        "CSV file with a header row, or a vCard if the name ends in `.vcf`, up to 8,388,608 bytes",
+    );
+    order_command(
+        alloc,
+        "check",
+        "Check a CSV file or a vCard, and print its number of rows or the first fault",
+        "Example:\n  contacts check people.csv\n\nNeeds no store file. Row 0 is the header, and row 1 \
+         the first row after it. A file with a fault is refused, with status 1.",
+        Vec::from_array(alloc, [file])?,
+    )
+}
+
+fn books_command<'a>(alloc: Global) -> Result<Command<'a>, AllocError>
+    ensures { IfOk result (IsOrderCommand lines.books_command) }
+{
+    order_command(
+        alloc,
+        "books",
+        "List the books with their ids, cards, numbers and horizons",
+        "Example:\n  contacts books office.db",
+        Vec::from_array(alloc, [file_arg(alloc)])?,
+    )
+}
+
+fn verify_command<'a>(alloc: Global) -> Result<Command<'a>, AllocError>
+    ensures { IfOk result (IsOrderCommand lines.verify_command) }
+{
+    order_command(
+        alloc,
+        "verify",
+        "Test the whole store file, and list its books",
+        "Example:\n  contacts verify office.db\n\nTests what each command that uses the file tests \
+         first: every row of the file. A damaged file ends with `fault open 4`.",
+        Vec::from_array(alloc, [file_arg(alloc)])?,
+    )
+}
+
 /// The orders with one more appended, if it could be built. (Building the list in one expression
 /// would give the prover one path for each order whose allocation fails.)
 fn with_command<'a>(
@@ -304,7 +347,23 @@ fn order_commands<'a>(alloc: Global) -> Result<Vec<Command<'a>>, AllocError>
     let lines = with_command(lines, forget_command(alloc))?;
     let lines = with_command(lines, mirror_command(alloc))?;
     let lines = with_command(lines, expand_command(alloc))?;
-    with_command(lines, migrate_command(alloc))
+    let lines = with_command(lines, migrate_command(alloc))?;
+    let lines = with_command(lines, check_command(alloc))?;
+    let lines = with_command(lines, books_command(alloc))?;
+    with_command(lines, verify_command(alloc))
+}
+
+/// The flag that asks for the version.
+fn version_flag<'a>(alloc: Global) -> Arg<'a>
+    ensures { IsArgument lines.version_flag result }
+{
+    flag(
+        alloc,
+        "version",
+        "version",
+        'V',
+        "Print the version of the program, of its files and of its toolchain",
+    )
 }
 
 /// The whole command line after the program's name.
@@ -319,5 +378,6 @@ pub(crate) fn contacts_command<'a>(alloc: Global) -> Result<Command<'a>, AllocEr
         )
         .no_binary_name(true)
         .bin_name("contacts")?
+        .arg(version_flag(alloc))?
         .subcommands(order_commands(alloc)?)
 }

@@ -6,6 +6,14 @@ pub returns-clause-orders : goal.returns-clause-orders
 unfolding clap_on_literals
 returns-clause-orders c = (refl, refl, refl, refl, refl, refl, refl, refl)
 
+pub returns-clause-files : goal.returns-clause-files
+unfolding clap_on_literals
+returns-clause-files c = (refl, refl, refl, refl, refl)
+
+pub returns-clause-versions : goal.returns-clause-versions
+unfolding clap_on_literals
+returns-clause-versions c = (refl, refl, refl, refl, refl, refl)
+
 pub returns-clause-defaults : goal.returns-clause-defaults
 unfolding clap_on_literals
 returns-clause-defaults c = (refl, refl, refl)

@@ -1,6 +1,6 @@
 use Rattle.std.proofs.Common.{List, [], ◌∷◌, ◌++◌}
 use Rattle.clap.specs.Simple.{Shape}
-use Rattle.cli_args.specs.Subcommands.{book_command, expand_command, export_command, forget_command, import_command, init_command, migrate_command, mirror_command, serve_command, tally_command, try_command}
+use Rattle.cli_args.specs.Subcommands.{book_command, books_command, check_command, expand_command, export_command, forget_command, import_command, init_command, migrate_command, mirror_command, serve_command, tally_command, try_command, verify_command}
 use Rattle.cli_args.proofs.subcommands.order_commands.Goals as goal
 
 -- the list of orders up to each of them
@@ -34,6 +34,15 @@ up_to_mirror = up_to_forget ++ mirror_command ∷ []
 abbrev up_to_expand : List Shape
 up_to_expand = up_to_mirror ++ expand_command ∷ []
 
+abbrev up_to_migrate : List Shape
+up_to_migrate = up_to_expand ++ migrate_command ∷ []
+
+abbrev up_to_check : List Shape
+up_to_check = up_to_migrate ++ check_command ∷ []
+
+abbrev up_to_books : List Shape
+up_to_books = up_to_check ++ books_command ∷ []
+
 pub returns : goal.returns
 returns c =
     let tries = c.in_ok-lines.ensures [] try_command (rw c.new.ensures.items tt) c.try_command.ensures in
@@ -46,4 +55,7 @@ returns c =
     let forgets = c.in_ok-lines-8.ensures up_to_tally forget_command tallies c.forget_command.ensures in
     let mirrors = c.in_ok-lines-9.ensures up_to_forget mirror_command forgets c.mirror_command.ensures in
     let expands = c.in_ok-lines-10.ensures up_to_mirror expand_command mirrors c.expand_command.ensures in
-    c.with_command-11.ensures up_to_expand migrate_command expands c.migrate_command.ensures
+    let migrates = c.in_ok-lines-11.ensures up_to_expand migrate_command expands c.migrate_command.ensures in
+    let checks = c.in_ok-lines-12.ensures up_to_migrate check_command migrates c.check_command.ensures in
+    let lists = c.in_ok-lines-13.ensures up_to_check books_command checks c.books_command.ensures in
+    c.with_command-14.ensures up_to_books verify_command lists c.verify_command.ensures

@@ -2,7 +2,7 @@ use Rattle.clap.specs.Words.{found_of, rows_of}
 use Rattle.clap.specs.declared.parser.matches.ArgMatches.TheViews.{out-ArgMatches, out-SubCommand}
 use Rattle.std.specs.Box.{box_value}
 use Rattle.cli_args.proofs.MatchLemmas.{named}
-use Rattle.cli_args.proofs.matched_orders.matched_order.Goals as goal
+use Rattle.cli_args.proofs.matched_orders.named_order.Goals as goal
 
 pub returns-in-Some : goal.returns-in-Some
 returns-in-Some c =
