@@ -21,7 +21,8 @@ use Rattle.cli_args.specs.declared.fault.LineFault.TheVariants.{Bad, Memory}
 use Rattle.cli_args.specs.declared.order.Order.{Order}
 use Rattle.cli_args.specs.declared.order.Order.TheVariants.{Try, Init, Book, Serve, ServeWithLimits}
 use Rattle.cli_args.specs.declared.order.Order.TheVariants.{Import, Export, Tally, Forget, Mirror}
-use Rattle.cli_args.specs.declared.order.Order.TheVariants.{Expand, Migrate, Check, Books, Verify, Version}
+use Rattle.cli_args.specs.declared.order.Order.TheVariants.{Expand, Migrate, Check, Books, Verify}
+use Rattle.cli_args.specs.declared.order.Order.TheVariants.{Version}
 
 -- ---- the values of arguments and options
 

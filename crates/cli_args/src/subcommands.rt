@@ -286,8 +286,8 @@ fn check_command<'a>(alloc: Global) -> Result<Command<'a>, AllocError>
         alloc,
         "check",
         "Check a CSV file or a vCard, and print its number of rows or the first fault",
-        "Example:\n  contacts check people.csv\n\nNeeds no store file. Row 0 is the header, and row 1 \
-         the first row after it. A file with a fault is refused, with status 1.",
+        "Example:\n  contacts check people.csv\n\nNeeds no store file. Row 0 is the header, and \
+         row 1 the first row after it. A file with a fault is refused, with status 1.",
         Vec::from_array(alloc, [file])?,
     )
 }
