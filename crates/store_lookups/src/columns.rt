@@ -16,7 +16,8 @@ use crate::faults::{fault_of, fault_of_card};
 use book_model::{Denied, Fault};
 use sqlite::Row;
 use std::alloc::Global;
-use vcard_text::{Card, read_card, write_card};
+use store_rows::canonical::is_canonical_text;
+use vcard_text::{Card, read_card};
 
 /// Reads the number in the column. Fails with `Store` if the column is missing, or is not an
 /// integer of at least 0.
@@ -57,11 +58,7 @@ fn canonical_card(alloc: Global, text: &str) -> Result<Card, Denied>
         Ok(card) => card,
         Err(fault) => return Err(fault_of_card(fault)),
     };
-    let Ok(canonical) = String::from_utf8(write_card(alloc, &card)?) else {
-        return Err(Denied::Fault(Fault::Store));
-    };
-    let is_canonical = canonical.as_str() == text;
-    if !is_canonical {
+    if !is_canonical_text(alloc, text, &card)? {
         return Err(Denied::Fault(Fault::Store));
     }
     Ok(card)
