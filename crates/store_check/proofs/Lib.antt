@@ -9,3 +9,7 @@ pub mod StoredLemmas
 pub mod PermutedLemmas
 pub mod ListedLemmas
 pub mod GreatestLemmas
+pub mod TallyLemmas
+pub mod ScanLemmas
+pub mod MemberKeyLemmas
+pub mod TestedLemmas

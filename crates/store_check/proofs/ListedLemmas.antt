@@ -55,10 +55,10 @@ book_back r h =
     let moved_out = number_back (column r 11) _ h.moved_out in
     λ i. id i ∷ name i ∷ number i ∷ horizon i ∷ created i ∷ edited i ∷ imported i ∷ import_edited i ∷ moved_in i ∷ deleted i ∷ moved_out i ∷ []
 
-abbrev IsBackMember : Row → Type 0
+abbrev pub IsBackMember : Row → Type 0
 IsBackMember r = IsMemberRow r → member_row (load_member r) ≡ r
 
-member_back : (r : Row) → IsBackMember (member_cells r)
+pub member_back : (r : Row) → IsBackMember (member_cells r)
 member_back r h =
     let id = number_back (column r 0) _ h.id in
     let book = number_back (column r 1) _ h.book in

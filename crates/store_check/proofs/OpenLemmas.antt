@@ -1,5 +1,5 @@
 -- The result of opening stored tables.
-use Rattle.std.proofs.Common.{◌≡◌, inl, inr, List, map, Result, Ok, Err, IsPermutation, sym, ap, subst, ◌∙◌}
+use Rattle.std.proofs.Common.{◌≡◌, inl, inr, IsTrue, List, map, Result, Err, IsPermutation, sym, ap, subst, ◌∙◌}
 use Rattle.sqlite.specs.Effect.{Database}
 use Rattle.sqlite.specs.Order.{Row}
 use Rattle.sqlite.specs.State.{State, HasCleanDisk, IsUnchanged}
@@ -8,7 +8,6 @@ use Rattle.book_model.specs.Bounds.{Bounds}
 use Rattle.store_tables.specs.Books.{book_listed}
 use Rattle.store_tables.specs.Imports.{import_cells}
 use Rattle.store_tables.specs.Keeps.{keep_listed}
-use Rattle.store_tables.specs.Members.{member_cells}
 use Rattle.store_tables.specs.StatementEffects.{OnlyReads, GivenTables}
 use Rattle.store_tables.specs.Tables.{book_schema}
 use Rattle.store_tables.proofs.SchemaCreationLemmas.{clean_before}
@@ -17,8 +16,8 @@ use Rattle.store_schema.specs.OpenFaults.{IsErrorFault}
 use Rattle.store_schema.specs.StoredSchema.{ChangesNothing, IsCurrentSchema, ClassifiesSchema}
 use Rattle.store_schema.specs.declared.open_fault.OpenFault.{OpenFault}
 use Rattle.store_schema.specs.declared.open_fault.OpenFault.TheVariants.{Store, NotOurs, OtherSchema, Damaged, NotEmpty, Memory}
-use Rattle.store_check.specs.OpenResults.{IsOpenResult, IsRowCheckResult}
-use Rattle.store_check.specs.ListedRows.{AreListedRows, WellStoredAreHeld}
+use Rattle.store_check.specs.OpenResults.{IsOpenResult}
+use Rattle.store_check.specs.ListedRows.{AreBookRows}
 
 -- ---- the schema test
 
@@ -32,16 +31,6 @@ schema_opens limits db NotEmpty h = absurd h
 schema_opens limits db Memory h = h
 
 -- ---- the test of the rows
-
-pub rows_opened : (limits : Bounds) (db : Database) (books members imports keeps : List Row) (r : Result (Unit {0}) OpenFault) → WellStoredAreHeld → IsCurrentSchema db → AreListedRows db books members imports keeps
-    → IsRowCheckResult limits books members imports keeps r → IsOpenResult limits db r
-rows_opened limits db books members imports keeps (Ok done) law says listed h = (law limits db books members imports keeps says listed).0 h
-rows_opened limits db books members imports keeps (Err Store) law says listed h = absurd h
-rows_opened limits db books members imports keeps (Err NotOurs) law says listed h = absurd h
-rows_opened limits db books members imports keeps (Err (OtherSchema has)) law says listed h = absurd h
-rows_opened limits db books members imports keeps (Err Damaged) law says listed h = (says, λ held. h ((law limits db books members imports keeps says listed).1 held))
-rows_opened limits db books members imports keeps (Err NotEmpty) law says listed h = absurd h
-rows_opened limits db books members imports keeps (Err Memory) law says listed h = tt
 
 pub error_opens : (limits : Bounds) (db : Database) (fault : OpenFault) → IsErrorFault fault → IsOpenResult limits db (Err fault)
 error_opens limits db fault (inl h) = subst (λ f. IsOpenResult limits db (Err f)) (sym h) tt
@@ -77,37 +66,38 @@ over_then a b c P first left returned clean has =
 pub reads_third : (a b c d : State) → GivenTables a b (IsUnchanged a b) → GivenTables b c (IsUnchanged b c) → OnlyReads a b → OnlyReads b c → OnlyReads c d → OnlyReads a d
 reads_third a b c d ab bc left_ab left_bc left_cd = reads_then a c d (reads_then a b c left_ab ab left_bc) (unchanged_then a b c ab bc left_bc) left_cd
 
-module _ (a b c d : State) (ab : GivenTables a b (IsUnchanged a b)) (bc : GivenTables b c (IsUnchanged b c)) (cd : GivenTables c d (IsUnchanged c d))
-    (left_ab : OnlyReads a b) (left_bc : OnlyReads b c) (left_cd : OnlyReads c d) where
+module _ (a b c d : State) (ab : GivenTables a b (IsUnchanged a b)) (bc : GivenTables b c (IsUnchanged b c)) (left_ab : OnlyReads a b) (left_bc : OnlyReads b c) (left_cd : OnlyReads c d) where
   ac : GivenTables a c (IsUnchanged a c)
   ac = unchanged_then a b c ab bc left_bc
 
-  ad : GivenTables a d (IsUnchanged a d)
-  ad = unchanged_then a c d ac cd left_cd
+  pub all_unchanged : GivenTables c d (IsUnchanged c d) → GivenTables a d (IsUnchanged a d)
+  all_unchanged cd = unchanged_then a c d ac cd left_cd
 
-  reads_three : OnlyReads a d
-  reads_three = reads_third a b c d ab bc left_ab left_bc left_cd
+  pub lists_three : (books imports keeps : List Row)
+      → GivenTables a b (IsPermutation (map book_listed (a.now.trees 2)) books)
+      → GivenTables b c (IsPermutation (map import_cells (b.now.trees 7)) imports)
+      → GivenTables c d (IsPermutation (map keep_listed (c.now.trees 9)) keeps)
+      → GivenTables a d (AreBookRows a.now books imports keeps)
+  lists_three books imports keeps first second third clean has =
+      let clean_c = clean_before _ c d left_cd.survives clean in
+      let clean_b = clean_before _ b c left_bc.survives clean_c in
+      record {
+        all_books = first clean_b has;
+        all_imports = over_then a b c (λ db. IsPermutation (map import_cells (db.trees 7)) imports) ab left_bc second clean_c has;
+        all_keeps = over_then a c d (λ db. IsPermutation (map keep_listed (db.trees 9)) keeps) ac left_cd third clean has;
+      }
 
-  module _ (e : State) (left_de : OnlyReads d e) where
-    pub reads_four : OnlyReads a e
-    reads_four = reads_then a d e reads_three ad left_de
-
-    pub lists_four : (books members imports keeps : List Row)
-        → GivenTables a b (IsPermutation (map book_listed (a.now.trees 2)) books)
-        → GivenTables b c (IsPermutation (map member_cells (b.now.trees 4)) members)
-        → GivenTables c d (IsPermutation (map import_cells (c.now.trees 7)) imports)
-        → GivenTables d e (IsPermutation (map keep_listed (d.now.trees 9)) keeps)
-        → GivenTables a e (AreListedRows a.now books members imports keeps)
-    lists_four books members imports keeps first second third fourth clean has =
-        let clean_d = clean_before _ d e left_de.survives clean in
-        let clean_c = clean_before _ c d left_cd.survives clean_d in
-        let clean_b = clean_before _ b c left_bc.survives clean_c in
-        record {
-          all_books = first clean_b has;
-          all_members = over_then a b c (λ db. IsPermutation (map member_cells (db.trees 4)) members) ab left_bc second clean_c has;
-          all_imports = over_then a c d (λ db. IsPermutation (map import_cells (db.trees 7)) imports) ac left_cd third clean_d has;
-          all_keeps = over_then a d e (λ db. IsPermutation (map keep_listed (db.trees 9)) keeps) ad left_de fourth clean has;
-        }
+-- the rows were listed, and then tested
+pub opened_later : (a b c : State) (limits : Bounds) (r : Result (Unit {0}) OpenFault) (books imports keeps : List Row) → GivenTables a b (IsUnchanged a b) → OnlyReads b c
+    → GivenTables a b (AreBookRows a.now books imports keeps)
+    → (HasCleanDisk c → IsCurrentSchema b.now → IsTrue b.is_open → AreBookRows b.now books imports keeps → IsOpenResult limits b.now r)
+    → HasCleanDisk c → IsCurrentSchema a.now → IsOpenResult limits a.now r
+opened_later a b c limits r books imports keeps same left listed answers clean ours =
+    let early = clean_before _ b c left.survives clean in
+    let before = same early ours.schema in
+    let now = before.0.now_is in
+    subst (λ (db : Database). IsOpenResult limits db r) now
+    (answers clean (subst IsCurrentSchema (sym now) ours) before.0.is_open (subst (λ (db : Database). AreBookRows db books imports keeps) (sym now) (listed early ours.schema)))
 
 -- ---- the schema was tested, and then the rows
 

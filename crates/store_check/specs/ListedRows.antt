@@ -19,6 +19,12 @@ pub record AreListedRows (db : Database) (books members imports keeps : List Row
   pub all_imports : IsPermutation (map import_cells (db.trees 7)) imports
   pub all_keeps : IsPermutation (map keep_listed (db.trees 9)) keeps
 
+-- the rows of all tables but that of the members
+pub record AreBookRows (db : Database) (books imports keeps : List Row) : Type 0 where
+  pub all_books : IsPermutation (map book_listed (db.trees 2)) books
+  pub all_imports : IsPermutation (map import_cells (db.trees 7)) imports
+  pub all_keeps : IsPermutation (map keep_listed (db.trees 9)) keeps
+
 -- In tables of this schema, the listed rows are well stored exactly if the tables hold well-formed
 -- books.
 abbrev pub WellStoredAreHeld : Type 0

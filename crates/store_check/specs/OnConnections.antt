@@ -1,16 +1,27 @@
 -- Definitions over connections, for contracts, as in `store_tables`. This project's own.
-use Rattle.std.specs.Prelude.{List, Result}
+use Rattle.std.specs.Prelude.{◌≡◌, Bool, List, Result, IsTrue}
 use Rattle.sqlite.specs.Held.{Held, state}
 use Rattle.sqlite.specs.Order.{Row}
 use Rattle.book_model.specs.Bounds.{Bounds}
+use Rattle.store_tables.specs.Acceptance.{ObeyTables}
 use Rattle.store_tables.specs.OnConnections.{Ghosts}
+use Rattle.store_tables.specs.Tables.{book_schema}
 use Rattle.store_schema.specs.declared.open_fault.OpenFault.{OpenFault}
 use Rattle.store_check.specs.ListedRows as listed
+use Rattle.store_check.specs.MemberScans as scans
 use Rattle.store_check.specs.OpenResults as results
 
 module _ {S : Type 0} (store : Ghosts S) (conn : Held S) where
-  abbrev pub AreListedRows : List Row → List Row → List Row → List Row → Type 0
-  AreListedRows = listed.AreListedRows (state store conn).now
+  abbrev pub AreBookRows : List Row → List Row → List Row → Type 0
+  AreBookRows = listed.AreBookRows (state store conn).now
+
+  -- the rows of the declared tables obey their constraints, if the connection is open
+  abbrev pub ObeySchema : Type 0
+  ObeySchema = IsTrue (state store conn).is_open → (state store conn).now.schema ≡ book_schema →
+      ObeyTables (state store conn).now.trees
+
+  abbrev pub TestsMembers : Bounds → List Row → List Row → Bool → Type 0
+  TestsMembers = scans.TestedMembers ((state store conn).now.trees 4)
 
   abbrev pub IsOpenResult : Bounds → Result (Unit {0}) OpenFault → Type 0
   IsOpenResult limits = results.IsOpenResult limits (state store conn).now

@@ -1,25 +1,25 @@
 //! Checks the rows of `book` and `keeping`.
 ghost use Rattle.store_check.specs.BookChecks.{
   AgreesWithMembers,
-  AreCheckedBooks,
   HasValidNumbers,
   IsCheckedBook,
-  is_live_in,
 };
+ghost use Rattle.store_check.specs.MemberTallies.{AreCounted, tally_of};
 ghost use Rattle.store_check.specs.RowChecks.{IsBookRow, IsKeepRow, decode_book, decode_keep};
 ghost use Rattle.book_model.specs.Counting.{arrived_cards, departed_cards, total_changes};
 ghost use Rattle.store_rows.specs.TableBooks.{row_counts, keep_of_book};
 ghost use Rattle.store_rows.specs.TableRows.{load_member};
 ghost use Rattle.store_tables.specs.Books.{has_id};
-ghost use Rattle.store_tables.specs.Members.{is_removed_above};
+ghost use Rattle.store_tables.specs.Members.{MemberRow, is_removed_above};
 ghost use Rattle.std.specs.Option.{option_map};
 ghost use Rattle.std.specs.List.{AllByRecursion};
-ghost use Rattle.std.specs.Prelude.{◌≡◌, ◌+◌, ◌↔◌, IsTrue, filter, find, length, map};
+ghost use Rattle.std.specs.Prelude.{◌≡◌, ◌+◌, ◌↔◌, IsTrue, List, filter, find, length, map};
 
 use crate::cells::{
     has_natural, has_number, has_text, natural_at, number_at, text_at, text_if_any_at,
 };
 use crate::names::is_name_text;
+use crate::tallies::BookTally;
 use book_model::{Counts, Limits};
 use sqlite::Row;
 
@@ -81,32 +81,12 @@ fn has_valid_numbers(limits: Limits, book: &Row) -> bool
     is_counted && number <= limits.changes_max() && natural_at(book, 3) <= number
 }
 
-/// Whether the row is a live member of the book `id`.
-fn is_live(member: &Row, id: i64) -> bool
-    ensures { result ≡ is_live_in id (load_member member.now) }
-{
-    number_at(member, 1) == id && text_if_any_at(member, 4).is_some()
-}
-
 /// Whether the row is a tombstone of the book `id` above the horizon.
 fn is_removed(member: &Row, id: i64, horizon: i64) -> bool
     ensures { result ≡ is_removed_above id horizon (load_member member.now) }
 {
     let is_gone = text_if_any_at(member, 4).is_none();
     number_at(member, 1) == id && is_gone && horizon < number_at(member, 3)
-}
-
-/// The number of live members of the book `id`.
-fn count_live(members: &[Row], id: i64) -> usize
-    ensures { result ≡ length (filter (is_live_in id) (map load_member members.now)) }
-{
-    let mut count: usize = 0;
-    for member in members {
-        if is_live(member, id) {
-            count += 1;
-        }
-    }
-    count
 }
 
 /// The number of tombstones of the book `id` above the horizon.
@@ -136,46 +116,52 @@ fn keep_of(keeps: &[Row], id: i64) -> u64
 
 /// Whether the keep is at least 1 and no less than the number of tombstones, and the live members
 /// are as many as were added minus those that left.
-fn agrees_with_members(book: &Row, members: &[Row], keeps: &[Row]) -> bool
-    ensures { IsTrue result ↔ AgreesWithMembers (map load_member members.now)
-        (map decode_keep keeps.now) (decode_book book.now) }
+fn agrees_with_members(book: &Row, tally: BookTally, keeps: &[Row]) -> bool
+    ensures { (ms : List MemberRow) → tally ≡ tally_of ms (decode_book book.now)
+        → IsTrue result ↔ AgreesWithMembers ms (map decode_keep keeps.now) (decode_book book.now) }
 {
-    let id = number_at(book, 0);
     let counts = counts_at(book);
-    let keep = keep_of(keeps, id);
-    let is_kept = keep >= 1 && count_removed(members, id, number_at(book, 3)) as u64 <= keep;
-    let cards = count_live(members, id) as u128;
-    is_kept && cards + departures_of(counts) == arrivals_of(counts)
+    let keep = keep_of(keeps, number_at(book, 0));
+    let is_kept = keep >= 1 && tally.removed <= keep;
+    is_kept && tally.live as u128 + departures_of(counts) == arrivals_of(counts)
 }
 
 /// Whether the book has a legal name, an id from 1 to the number of books, valid numbers, and
 /// agrees with its members and its keep.
-fn is_valid_book(limits: Limits, books: usize, members: &[Row], keeps: &[Row], book: &Row) -> bool
-    ensures { IsTrue result ↔ IsCheckedBook limits books (map load_member members.now)
-        (map decode_keep keeps.now) (decode_book book.now) }
+fn is_valid_book(limits: Limits, books: usize, tally: BookTally, keeps: &[Row], book: &Row) -> bool
+    ensures { (ms : List MemberRow) → tally ≡ tally_of ms (decode_book book.now)
+        → IsTrue result ↔ IsCheckedBook limits books ms (map decode_keep keeps.now)
+        (decode_book book.now) }
 {
     let id = natural_at(book, 0);
     let is_numbered = 1 <= id && id <= books as u64;
     is_numbered
         && is_name_text(text_at(book, 1))
         && has_valid_numbers(limits, book)
-        && agrees_with_members(book, members, keeps)
+        && agrees_with_members(book, tally, keeps)
 }
 
-/// Whether each book has a legal name, an id from 1 to the number of books, valid numbers, and
-/// agrees with its members and its keep.
-///
-/// All members are scanned for each book. A store has at most 100 books.
-pub(crate) fn are_valid_books(limits: Limits, books: &[Row], members: &[Row], keeps: &[Row]) -> bool
-    ensures { IsTrue result ↔ AreCheckedBooks limits (map load_member members.now)
-        (map decode_keep keeps.now) (map decode_book books.now) }
+/// Whether each of these books, of `count`, has a legal name, an id from 1 to `count`, valid
+/// numbers, and agrees with its members, which are counted beside it, and its keep.
+pub(crate) fn are_valid_books(
+    limits: Limits,
+    count: usize,
+    books: &[Row],
+    tallies: &[BookTally],
+    keeps: &[Row],
+) -> bool
+    ensures { (ms : List MemberRow) → AreCounted ms (map decode_book books.now) tallies.now
+        → IsTrue result ↔ AllByRecursion
+        (IsCheckedBook limits count ms (map decode_keep keeps.now)) (map decode_book books.now) }
 {
-    for book in books {
-        if !is_valid_book(limits, books.len(), members, keeps, book) {
-            return false;
-        }
-    }
-    true
+    let Some((book, others)) = books.split_first() else {
+        return true;
+    };
+    let Some((tally, rest)) = tallies.split_first() else {
+        return false;
+    };
+    is_valid_book(limits, count, *tally, keeps, book)
+        && are_valid_books(limits, count, others, rest, keeps)
 }
 
 /// Whether the row has a book's columns: an id, a name and nine numbers, none of them negative.

@@ -30,14 +30,21 @@ pub fn number_at(row: &Row, at: usize) -> i64
     }
 }
 
+/// The number, or 0 if it is negative.
+pub(crate) fn natural_of(number: i64) -> u64
+    ensures { result ≡ natural number }
+{
+    match u64::try_from(number) {
+        Ok(number) => number,
+        Err(_) => 0,
+    }
+}
+
 /// The integer in the column, or 0 if it has none or a negative one.
 pub(crate) fn natural_at(row: &Row, at: usize) -> u64
     ensures { result ≡ natural (id_in (column row.now at)) }
 {
-    match u64::try_from(number_at(row, at)) {
-        Ok(number) => number,
-        Err(_) => 0,
-    }
+    natural_of(number_at(row, at))
 }
 
 /// The text in the column, or an empty one if it has none.

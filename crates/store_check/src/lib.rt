@@ -10,4 +10,6 @@ pub mod laws;
 mod members;
 mod names;
 pub mod opening;
+mod scanning;
 pub mod tables;
+mod tallies;

@@ -1,11 +1,17 @@
 //! Tests whether the tables of a connection are a store's and hold well-formed books.
-ghost use Rattle.store_check.specs.OpenResults.{IsRowCheckResult};
-ghost use Rattle.store_check.specs.OnConnections.{AreListedRows, IsOpenResult};
+ghost use Rattle.store_check.specs.OnConnections.{AreBookRows, IsOpenResult, ObeySchema};
+ghost use Rattle.store_check.specs.OnConnections.{TestsMembers};
+ghost use Rattle.store_check.specs.StoredTests.{PassBookTests};
+ghost use Rattle.store_schema.specs.OpenFaults.{IsErrorFault};
 ghost use Rattle.store_schema.specs.OnConnections.{ChangesNothing, IsCurrentSchema};
-ghost use Rattle.store_tables.specs.OnConnections.{GivenTables, HasCleanDisk, OnlyReads};
-ghost use Rattle.std.specs.Prelude.{IfOk};
+ghost use Rattle.store_tables.specs.OnConnections.{GivenTables, HasCleanDisk, IsConnectionOpen};
+ghost use Rattle.store_tables.specs.OnConnections.{OnlyReads, UnchangedOnOk};
+ghost use Rattle.std.specs.Prelude.{◌↔◌, IfErr, IfOk, IsTrue};
 
-use crate::tables::are_well_stored;
+use crate::books::are_valid_books;
+use crate::scanning::scan_members;
+use crate::tables::pass_book_tests;
+use crate::tallies::start_tallies;
 use book_model::Limits;
 use sqlite::{Alter, Connection, Error, Row};
 use std::alloc::Global;
@@ -13,55 +19,108 @@ use store_schema::{OpenFault, open_fault_of, test_schema};
 use store_tables::books::all_books;
 use store_tables::imports::all_imports;
 use store_tables::keeps::all_keeps;
-use store_tables::members::all_members;
 use vcard_text::NoMemory;
 
-/// The rows of the four tables, each table's in any order.
+/// The rows of all tables but that of the members, each table's in any order.
 #[derive(Drop)]
-struct TableContents {
+struct BookRows {
     books: Vec<Row>,
-    members: Vec<Row>,
     imports: Vec<Row>,
     keeps: Vec<Row>,
 }
 
-/// Reads all rows of the four tables, whatever their contents.
-fn list_table_rows<S: Alter>(conn: &mut Connection<S>) -> Result<TableContents, Error>
-    ensures lists { GivenTables S.Store conn.old conn.new
-        (IfOk result
-        (λ listed. AreListedRows S.Store conn.old listed.books.items listed.members.items
-        listed.imports.items listed.keeps.items)) }
+/// Reads all rows of books, imports and keeps, whatever their contents.
+fn list_book_rows<S: Alter>(conn: &mut Connection<S>) -> Result<BookRows, Error>
+    ensures lists { GivenTables S.Store conn.old conn.new (IfOk result
+        (λ listed. AreBookRows S.Store conn.old listed.books.items listed.imports.items
+        listed.keeps.items)) }
+    ensures unchanged { UnchangedOnOk S.Store conn.old conn.new result }
     ensures reads_only { OnlyReads S.Store conn.old conn.new }
 {
     let books = all_books(conn)?;
-    let members = all_members(conn)?;
     let imports = all_imports(conn)?;
     let keeps = all_keeps(conn)?;
-    Ok(TableContents {
+    Ok(BookRows {
         books,
-        members,
         imports,
         keeps,
     })
 }
 
-/// Tests the listed rows.
-fn check_listed_rows(alloc: Global, limits: Limits, listed: &TableContents) -> Result<(), OpenFault>
-    ensures { IsRowCheckResult limits listed.now.books.items listed.now.members.items
-        listed.now.imports.items listed.now.keeps.items result }
+/// Proves for its caller that the rows of an open connection obey the declared tables. It has no
+/// other effect.
+fn assert_rows_obey<S: Alter>(conn: &Connection<S>)
+    ensures { ObeySchema S.Store conn.now }
 {
-    let is_well_stored = are_well_stored(
+    let _schema = conn.schema();
+}
+
+/// Tests the members one at a time, and then whether each book agrees with its members.
+fn test_members<S: Alter>(
+    alloc: Global,
+    conn: &mut Connection<S>,
+    limits: Limits,
+    listed: &BookRows,
+) -> Result<bool, OpenFault>
+    ensures tests { GivenTables S.Store conn.old conn.new (IfOk result
+        (TestsMembers S.Store conn.old limits listed.now.books.items listed.now.keeps.items)) }
+    ensures fault { IfErr result IsErrorFault }
+    ensures reads_only { OnlyReads S.Store conn.old conn.new }
+{
+    let books = listed.books.as_slice();
+    let Ok(mut tallies) = start_tallies(alloc, books) else {
+        return Err(OpenFault::Memory);
+    };
+    match scan_members(alloc, conn, tallies.as_mut_slice()) {
+        Ok(true) => Ok(are_valid_books(
+            limits,
+            books.len(),
+            books,
+            tallies.as_slice(),
+            listed.keeps.as_slice(),
+        )),
+        Ok(false) => Ok(false),
+        Err(error) => Err(open_fault_of(error)),
+    }
+}
+
+/// Tests the rows of books, imports and keeps.
+fn test_book_rows(alloc: Global, limits: Limits, listed: &BookRows) -> Result<bool, NoMemory>
+    ensures { IfOk result (λ yes. IsTrue yes ↔ PassBookTests limits listed.now.books.items
+        listed.now.imports.items listed.now.keeps.items) }
+{
+    pass_book_tests(
         alloc,
         limits,
         listed.books.as_slice(),
-        listed.members.as_slice(),
         listed.imports.as_slice(),
         listed.keeps.as_slice(),
-    );
-    match is_well_stored {
-        Ok(true) => Ok(()),
-        Ok(false) => Err(OpenFault::Damaged),
-        Err(NoMemory) => Err(OpenFault::Memory),
+    )
+}
+
+/// Tests the listed rows, and then the members.
+fn test_all_rows<S: Alter>(
+    alloc: Global,
+    conn: &mut Connection<S>,
+    limits: Limits,
+    listed: &BookRows,
+) -> Result<(), OpenFault>
+    ensures answers { HasCleanDisk S.Store conn.new → IsCurrentSchema S.Store conn.old
+        → IsConnectionOpen S.Store conn.old → AreBookRows S.Store conn.old
+        listed.now.books.items listed.now.imports.items listed.now.keeps.items
+        → IsOpenResult S.Store conn.old limits result }
+    ensures reads_only { OnlyReads S.Store conn.old conn.new }
+{
+    assert_rows_obey(conn);
+    match test_book_rows(alloc, limits, listed) {
+        Ok(true) => {}
+        Ok(false) => return Err(OpenFault::Damaged),
+        Err(NoMemory) => return Err(OpenFault::Memory),
+    }
+    if test_members(alloc, conn, limits, listed)? {
+        Ok(())
+    } else {
+        Err(OpenFault::Damaged)
     }
 }
 
@@ -75,8 +134,8 @@ fn check_rows<S: Alter>(
         → IsOpenResult S.Store conn.old limits result }
     ensures reads_only { OnlyReads S.Store conn.old conn.new }
 {
-    match list_table_rows(conn) {
-        Ok(listed) => check_listed_rows(alloc, limits, &listed),
+    match list_book_rows(conn) {
+        Ok(listed) => test_all_rows(alloc, conn, limits, &listed),
         Err(error) => Err(open_fault_of(error)),
     }
 }

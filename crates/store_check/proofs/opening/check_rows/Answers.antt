@@ -1,12 +1,17 @@
 use Rattle.sqlite.specs.Held.{state}
-use Rattle.store_check.proofs.OpenLemmas.{error_opens, rows_opened}
-use Rattle.store_check.proofs.ListedLemmas.{well_stored_held}
+use Rattle.store_tables.proofs.Lookups.{reads_then}
+use Rattle.store_check.proofs.OpenLemmas.{error_opens, opened_later}
 use Rattle.store_check.proofs.opening.check_rows.Goals as goal
 
+pub returns-in-Ok-clause-reads_only : goal.returns-in-Ok-clause-reads_only
+returns-in-Ok-clause-reads_only g c =
+    reads_then (state g.S.Store c.args.conn.now) (state g.S.Store c.list_book_rows.new.conn) (state g.S.Store c.test_all_rows.new.conn) c.list_book_rows.ensures.reads_only c.in-Ok.ensures.unchanged c.test_all_rows.ensures.reads_only
+
 pub returns-in-Ok-clause-answers : goal.returns-in-Ok-clause-answers
-returns-in-Ok-clause-answers g c clean says =
+returns-in-Ok-clause-answers g c =
     let listed = c.in-Ok.listed in
-    rows_opened c.args.limits (state g.S.Store c.args.conn.now).now listed.books.items listed.members.items listed.imports.items listed.keeps.items c.check_listed_rows.result well_stored_held says (c.in-Ok.ensures.lists clean says.schema) c.check_listed_rows.ensures
+    opened_later (state g.S.Store c.args.conn.now) (state g.S.Store c.list_book_rows.new.conn) (state g.S.Store c.test_all_rows.new.conn) c.args.limits c.test_all_rows.result listed.books.items listed.imports.items listed.keeps.items
+    c.in-Ok.ensures.unchanged c.test_all_rows.ensures.reads_only c.in-Ok.ensures.lists c.test_all_rows.ensures.answers
 
 pub returns-in-Err-clause-answers : goal.returns-in-Err-clause-answers
 returns-in-Err-clause-answers g c clean says = error_opens c.args.limits (state g.S.Store c.args.conn.now).now c.open_fault_of.result c.open_fault_of.ensures.kind

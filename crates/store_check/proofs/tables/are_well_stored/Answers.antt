@@ -1,15 +1,23 @@
 use Rattle.std.proofs.Common.{rules, ◌≡◌, true, false}
 use Rattle.std.proofs.lemmas.Result.{IfOk-weaker}
-use Rattle.store_check.proofs.StoredLemmas.{good_is_stored, no_keys}
+use Rattle.store_check.specs.StoredTests.{HaveMemberKeys, PassBookTests}
+use Rattle.store_check.proofs.TestedLemmas.{fails_one, last_decides}
 use Rattle.store_check.proofs.tables.are_well_stored.Goals as goal
 
 pub returns-then-not-branch : goal.returns-then-not-branch
 returns-then-not-branch c =
-    let none : c.in_ok-have_unique_keys.field-0 ≡ false = search rules in
-    no_keys c.args.limits c.args.books.now c.args.members.now c.args.imports.now c.args.keeps.now c.in_ok-have_unique_keys.field-0 c.in_ok-have_unique_keys.ensures none
+    let none : c.in_ok-pass_book_tests.field-0 ≡ false = search rules in
+    fails_one c.args.limits c.args.books.now c.args.members.now c.args.imports.now c.args.keeps.now (PassBookTests c.args.limits c.args.books.now c.args.imports.now c.args.keeps.now)
+    c.in_ok-pass_book_tests.field-0 c.in_ok-pass_book_tests.ensures none (λ t. t.own)
+
+pub returns-then-not-branch-2 : goal.returns-then-not-branch-2
+returns-then-not-branch-2 c =
+    let none : c.in_ok-have_all_member_keys.field-0 ≡ false = search rules in
+    fails_one c.args.limits c.args.books.now c.args.members.now c.args.imports.now c.args.keeps.now (HaveMemberKeys c.args.members.now)
+    c.in_ok-have_all_member_keys.field-0 c.in_ok-have_all_member_keys.ensures none (λ t. t.keys)
 
 pub returns : goal.returns
 returns c =
-    let shown : c.are_table_rows.result ≡ true = search rules in
-    let keyed : c.in_ok-have_unique_keys.field-0 ≡ true = search rules in
-    IfOk-weaker c.are_valid_rows.result _ _ (λ returned h. good_is_stored c.args.limits c.args.books.now c.args.members.now c.args.imports.now c.args.keeps.now returned (c.are_table_rows.ensures.0 shown) (c.in_ok-have_unique_keys.ensures.0 keyed) h) c.are_valid_rows.ensures
+    let own : c.in_ok-pass_book_tests.field-0 ≡ true = search rules in
+    let keys : c.in_ok-have_all_member_keys.field-0 ≡ true = search rules in
+    IfOk-weaker c.pass_member_tests.result _ _ (λ yes h. last_decides c.args.limits c.args.books.now c.args.members.now c.args.imports.now c.args.keeps.now yes (c.in_ok-pass_book_tests.ensures.0 own) (c.in_ok-have_all_member_keys.ensures.0 keys) h) c.pass_member_tests.ensures

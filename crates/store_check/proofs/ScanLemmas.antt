@@ -1,0 +1,107 @@
+-- Members that are read one at a time.
+use Rattle.std.proofs.Common.{◌≡◌, ◌++◌, ℤ, true, false, List, [], ◌∷◌, Option, Some, None, IsPermutation, int_lt, map, refl, sym, subst, arith}
+use Rattle.std.proofs.lemmas.Int.{ints}
+use Rattle.std.proofs.lemmas.List.{map-append, append_assoc}
+use Rattle.std.specs.List.{AllByRecursion}
+use Rattle.sqlite.specs.Order.{Row}
+use Rattle.sqlite.specs.Program.{overlay}
+use Rattle.sqlite.specs.State.{State, Begins, Shown}
+use Rattle.sqlite.proofs.Callers.{begins_as, reads_as}
+use Rattle.sqlite_trees.proofs.ListLemmas.{all-append, all_weaker, ascending-append}
+use Rattle.store_tables.specs.Books.{BookRow}
+use Rattle.store_tables.specs.Members.{member_cells}
+use Rattle.store_tables.specs.Tables.{book_schema}
+use Rattle.store_tables.proofs.CountLemmas.{every}
+use Rattle.store_tables.proofs.Picks.{picked}
+use Rattle.store_tables.proofs.Queries.{all_members_text, all_members_terms}
+use Rattle.store_tables.proofs.Texts.{all_members_is}
+use Rattle.store_rows.specs.TableRows.{load_member}
+use Rattle.store_check.specs.declared.tallies.BookTally.{BookTally}
+use Rattle.store_check.specs.MemberTallies.{AreCounted, IsGoodMember}
+use Rattle.store_check.specs.MemberScans.{AreTaken, DoesTake, Scanned, is_above}
+use Rattle.store_check.specs.RowChecks.{int_cell}
+
+-- ---- the rows so far
+
+-- no id is above the last
+abbrev pub RiseTo : Option ℤ → List Row → Type 0
+RiseTo None rows = rows ≡ []
+RiseTo (Some last) rows = AllByRecursion (λ r. int_lt last (int_cell 0 r) ≡ false) rows
+
+pub record HasTaken (old now : List BookTally) (last : Option ℤ) (given : List Row) : Type 0 where
+  pub last_is : RiseTo last given
+  pub taken : (books : List BookRow) → AreCounted [] books old → AreTaken books now given
+
+pub none_taken : (old : List BookTally) → HasTaken old old None []
+none_taken old = record { last_is = refl; taken = λ books h. record { good = tt; rising = tt; counted = h } }
+
+below : (a last id : ℤ) → int_lt last a ≡ false → int_lt last id ≡ true → int_lt a id ≡ true
+below a last id h k = grind (arith, ints)
+
+stays : (a last id : ℤ) → int_lt last a ≡ false → int_lt last id ≡ true → int_lt id a ≡ false
+stays a last id h k = grind (arith, ints)
+
+itself : (id : ℤ) → int_lt id id ≡ false
+itself id = grind (arith, ints)
+
+all_below : (last : Option ℤ) (given : List Row) (r : Row) → RiseTo last given → is_above last (int_cell 0 r) ≡ true → AllByRecursion (λ x. int_lt (int_cell 0 x) (int_cell 0 r) ≡ true) given
+all_below None given r h above = subst (AllByRecursion (λ x. int_lt (int_cell 0 x) (int_cell 0 r) ≡ true)) (sym h) tt
+all_below (Some last) given r h above = all_weaker (λ x. int_lt last (int_cell 0 x) ≡ false) (λ x. int_lt (int_cell 0 x) (int_cell 0 r) ≡ true) (λ x k. below (int_cell 0 x) last (int_cell 0 r) k above) given h
+
+all_stay : (last : Option ℤ) (given : List Row) (r : Row) → RiseTo last given → is_above last (int_cell 0 r) ≡ true → AllByRecursion (λ x. int_lt (int_cell 0 r) (int_cell 0 x) ≡ false) given
+all_stay None given r h above = subst (AllByRecursion (λ x. int_lt (int_cell 0 r) (int_cell 0 x) ≡ false)) (sym h) tt
+all_stay (Some last) given r h above = all_weaker (λ x. int_lt last (int_cell 0 x) ≡ false) (λ x. int_lt (int_cell 0 r) (int_cell 0 x) ≡ false) (λ x k. stays (int_cell 0 x) last (int_cell 0 r) k above) given h
+
+pub one_more_taken : (old now next : List BookTally) (last after : Option ℤ) (given : List Row) (r : Row) → HasTaken old now last given → DoesTake now next last after r true → HasTaken old next after (given ++ r ∷ [])
+one_more_taken old now next last after given r h step =
+    let risen = step.1 refl in
+    record {
+      last_is = subst (λ o. RiseTo o (given ++ r ∷ [])) (sym risen.1) (all-append (λ x. int_lt (int_cell 0 r) (int_cell 0 x) ≡ false) given (r ∷ []) (all_stay last given r h.last_is risen.0) (itself (int_cell 0 r), tt));
+      taken = λ books start.
+          let was = h.taken books start in
+          let does = step.0 (map load_member given) books was.counted in
+          record {
+            good = all-append (IsGoodMember books) given (r ∷ []) was.good (does.0.0 refl, tt);
+            rising = ascending-append (λ a b. int_lt (int_cell 0 a) (int_cell 0 b) ≡ true) given (r ∷ []) was.rising (tt, tt)
+                (all_weaker (λ x. int_lt (int_cell 0 x) (int_cell 0 r) ≡ true) (λ x. AllByRecursion (λ b. int_lt (int_cell 0 x) (int_cell 0 b) ≡ true) (r ∷ [])) (λ x k. (k, tt)) given (all_below last given r h.last_is risen.0));
+            counted = subst (λ ms. AreCounted ms books next) (sym (map-append load_member given (r ∷ []))) (does.1 refl);
+          };
+    }
+
+-- ---- the rows of the table
+
+pub all_listed : (old new : State) (rows : List Row) → old.now.schema ≡ book_schema → Shown all_members_text [] old new rows → IsPermutation (map member_cells (old.now.trees 4)) rows
+all_listed old new rows schema h =
+    let answer = (reads_as all_members_text [] old new book_schema schema _ all_members_is.0 all_members_is.2 all_members_is.1 rows h).answer in
+    subst (λ l. IsPermutation (map member_cells l) rows) (every (old.now.trees 4)) (picked 4 [] all_members_terms (overlay old.now.trees []) [] rows answer)
+
+pub first_listed : (s : State) (rows : List Row) → s.now.schema ≡ book_schema → Begins all_members_text [] s rows → (tail : List Row) × IsPermutation (map member_cells (s.now.trees 4)) (rows ++ tail)
+first_listed s rows schema h =
+    let got = (begins_as all_members_text [] s s book_schema schema _ all_members_is.0 all_members_is.2 all_members_is.1 rows h).1 in
+    (got.0, subst (λ l. IsPermutation (map member_cells l) (rows ++ got.0)) (every (s.now.trees 4)) (picked 4 [] all_members_terms (overlay s.now.trees []) [] (rows ++ got.0) got.1))
+
+-- ---- the result
+
+-- the table was read to its end
+pub scanned_all : (table : List Row) (old now : List BookTally) (last : Option ℤ) (given : List Row) → HasTaken old now last given → IsPermutation (map member_cells table) given
+    → (books : List BookRow) → AreCounted [] books old → Scanned table books now true
+scanned_all table old now last given h all books start = record { rows = given; all = all; taken = λ _. h.taken books start; refused = λ e. absurd (let f = e in cc) }
+
+part_good : (P : Row → Type 0) (xs ys : List Row) → AllByRecursion P (xs ++ ys) → AllByRecursion P ys
+part_good P [] ys h = h
+part_good P (x ∷ xs) ys h = part_good P xs ys h.1
+
+-- a member is not good
+pub scanned_part : (table : List Row) (old now next : List BookTally) (last after : Option ℤ) (given : List Row) (r : Row) (tail : List Row) → HasTaken old now last given → DoesTake now next last after r false
+    → IsPermutation (map member_cells table) ((given ++ r ∷ []) ++ tail) → (books : List BookRow) → AreCounted [] books old → Scanned table books next false
+scanned_part table old now next last after given r tail h step all books start =
+    let does = step.0 (map load_member given) books (h.taken books start).counted in
+    record {
+      rows = (given ++ r ∷ []) ++ tail;
+      all = all;
+      taken = λ e. absurd (let f = e in cc);
+      refused = λ _ good.
+          let rest = part_good (IsGoodMember books) given (r ∷ tail) (subst (AllByRecursion (IsGoodMember books)) (append_assoc given (r ∷ []) tail) good) in
+          let yes = does.0.1 rest.0 in
+          absurd (let f = yes in cc);
+    }

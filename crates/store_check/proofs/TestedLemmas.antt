@@ -1,0 +1,98 @@
+-- What the tests of all rows say of the tables.
+use Rattle.std.proofs.Common.{◌≡◌, ◌↔◌, Bool, false, true≢false, List, map, IsTrue, IsPermutation, sym, ◌∙◌}
+use Rattle.std.proofs.lemmas.List.Sorted.{IsPermutation-refl}
+use Rattle.sqlite.specs.Effect.{Database}
+use Rattle.sqlite.specs.Order.{Row}
+use Rattle.sqlite_trees.proofs.ListLemmas.{all-map, all_both, all_from_map, all_weaker}
+use Rattle.book_model.specs.Bounds.{Bounds}
+use Rattle.store_tables.specs.Acceptance.{ObeyTables}
+use Rattle.store_tables.specs.Members.{MemberRow, member_cells}
+use Rattle.store_rows.specs.SoundTables.{HoldsWellFormed}
+use Rattle.store_rows.specs.TableRows.{load_member}
+use Rattle.store_schema.specs.StoredSchema.{IsCurrentSchema}
+use Rattle.store_check.specs.ListedRows.{AreBookRows, AreListedRows}
+use Rattle.store_check.specs.MemberScans.{TestedMembers}
+use Rattle.store_check.specs.MemberTallies.{IsGoodMember}
+use Rattle.store_check.specs.RowChecks.{AreWellStored, IsBookAnd, IsMemberRow, IsValidMember, decode_book}
+use Rattle.store_check.specs.StoredTests.{HaveMemberKeys, PassAllTests, PassBookTests, PassMemberTests, StoredPassTests}
+use Rattle.store_check.proofs.ListedLemmas.{well_stored_held}
+use Rattle.store_check.proofs.MemberKeyLemmas.{keys_hold}
+use Rattle.store_check.proofs.StoredLemmas.{good_of_stored, keys_of_stored, well_stored}
+
+-- ---- rows pass all tests exactly if they are well stored
+
+module _ (limits : Bounds) (books members imports keeps : List Row) where
+  abbrev GoodRow : Row → Type 0
+  GoodRow = IsGoodMember (map decode_book books)
+
+  abbrev BookOf : Row → Type 0
+  BookOf r = IsBookAnd (map decode_book books) (load_member r).book (IsValidMember (load_member r))
+
+  tests_stored : PassAllTests limits books members imports keeps → AreWellStored limits books members imports keeps
+  tests_stored t = well_stored limits books members imports keeps
+      (record { each_book = t.own.each_book; each_member = all_weaker GoodRow IsMemberRow (λ r h. h.0) members t.passed.good; each_import = t.own.each_import; each_keep = t.own.each_keep })
+      (record { books = t.own.book_keys; members = t.keys.keys; apart = t.keys.apart; imports = t.own.import_keys; keeps = t.own.keep_keys })
+      (record {
+        few = t.own.few;
+        books = t.passed.checked;
+        members = all-map (λ (m : MemberRow). IsBookAnd (map decode_book books) m.book (IsValidMember m)) load_member members (all_weaker GoodRow BookOf (λ r h. h.1) members t.passed.good);
+        imports = t.own.valid_imports;
+        keeps = t.own.listed_keeps;
+      })
+
+  stored_tests : AreWellStored limits books members imports keeps → PassAllTests limits books members imports keeps
+  stored_tests w =
+      let keys = keys_of_stored limits books members imports keeps w in
+      let good = good_of_stored limits books members imports keeps w in
+      record {
+        own = record {
+          each_book = w.shown.each_book;
+          each_import = w.shown.each_import;
+          each_keep = w.shown.each_keep;
+          book_keys = keys.books;
+          import_keys = keys.imports;
+          keep_keys = keys.keeps;
+          few = good.few;
+          valid_imports = good.imports;
+          listed_keeps = good.keeps;
+        };
+        keys = record { keys = keys.members; apart = keys.apart };
+        passed = record {
+          good = all_both IsMemberRow BookOf GoodRow (λ r h k. (h, k)) members w.shown.each_member
+              (all_from_map (λ (m : MemberRow). IsBookAnd (map decode_book books) m.book (IsValidMember m)) load_member members good.members);
+          checked = good.books;
+        };
+      }
+
+  -- rows that fail one of the tests
+  pub fails_one : (P : Type 0) (passes : Bool) → (IsTrue passes ↔ P) → passes ≡ false → (PassAllTests limits books members imports keeps → P) → IsTrue false ↔ AreWellStored limits books members imports keeps
+  fails_one P passes h none wanted = (λ t. absurd (true≢false (sym t)), λ w. sym none ∙ h.1 (wanted (stored_tests w)))
+
+  -- rows that pass all but the last
+  pub last_decides : (passes : Bool) → PassBookTests limits books imports keeps → HaveMemberKeys members → (IsTrue passes ↔ PassMemberTests limits books members keeps) → IsTrue passes ↔ AreWellStored limits books members imports keeps
+  last_decides passes own keys h = (λ t. tests_stored (record { own = own; keys = keys; passed = h.0 t }), λ w. h.1 (stored_tests w).passed)
+
+pub stored_pass_tests : StoredPassTests
+stored_pass_tests limits books members imports keeps = (tests_stored limits books members imports keeps, stored_tests limits books members imports keeps)
+
+-- ---- the tables
+
+module _ (limits : Bounds) (db : Database) (books imports keeps : List Row) (ours : IsCurrentSchema db) (listed : AreBookRows db books imports keeps) where
+  with_members : (rows : List Row) → IsPermutation (map member_cells (db.trees 4)) rows → AreListedRows db books rows imports keeps
+  with_members rows all = record { all_books = listed.all_books; all_members = all; all_imports = listed.all_imports; all_keeps = listed.all_keeps }
+
+  all_tests : (rows : List Row) → IsPermutation (map member_cells (db.trees 4)) rows → HoldsWellFormed limits db → PassAllTests limits books rows imports keeps
+  all_tests rows all held = stored_tests limits books rows imports keeps ((well_stored_held limits db books rows imports keeps ours (with_members rows all)).1 held)
+
+  -- the rows of books, imports and keeps of well-formed books pass their tests
+  pub own_of_held : HoldsWellFormed limits db → PassBookTests limits books imports keeps
+  own_of_held held = (all_tests (map member_cells (db.trees 4)) (IsPermutation-refl _) held).own
+
+  pub tests_held : ObeyTables db.trees → PassBookTests limits books imports keeps → (good : Bool) → TestedMembers (db.trees 4) limits books keeps good → IsTrue good ↔ HoldsWellFormed limits db
+  tests_held obeys own good t = (
+    λ yes.
+        let passed = t.tested.0 yes in
+        let keys = keys_hold db.trees obeys t.rows t.all (t.rising yes) (all_weaker (IsGoodMember (map decode_book books)) IsMemberRow (λ r h. h.0) t.rows passed.good) in
+        (well_stored_held limits db books t.rows imports keeps ours (with_members t.rows t.all)).0 (tests_stored limits books t.rows imports keeps (record { own = own; keys = keys; passed = passed })),
+    λ held. t.tested.1 (all_tests t.rows t.all held).passed,
+  )
