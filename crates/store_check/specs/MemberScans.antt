@@ -28,21 +28,23 @@ abbrev pub HaveRisingIds : List Row → Type 0
 HaveRisingIds = IsAscending (λ a b. int_lt (int_cell 0 a) (int_cell 0 b) ≡ true)
 
 -- these rows, which are good and have rising ids, were counted
-pub record AreTaken (books : List BookRow) (tallies : List BookTally) (rows : List Row) : Type 0 where
+pub record AreTaken (books : List BookRow) (tallies : List BookTally) (rows : List Row)
+    : Type 0 where
   pub good : AllByRecursion (IsGoodMember books) rows
   pub rising : HaveRisingIds rows
   pub counted : AreCounted (map load_member rows) books tallies
 
 -- The rows of the table are all good and have rising ids, and all were counted; or one is not good.
-pub record Scanned (table : List Row) (books : List BookRow) (tallies : List BookTally) (good : Bool)
-    : Type 0 where
+pub record Scanned (table : List Row) (books : List BookRow) (tallies : List BookTally)
+    (good : Bool) : Type 0 where
   pub rows : List Row
   pub all : IsPermutation (map member_cells table) rows
   pub taken : IsTrue good → AreTaken books tallies rows
   pub refused : good ≡ false → ¬ AllByRecursion (IsGoodMember books) rows
 
 abbrev pub Scans : List Row → List BookTally → List BookTally → Bool → Type 0
-Scans table old new good = (books : List BookRow) → AreCounted [] books old → Scanned table books new good
+Scans table old new good = (books : List BookRow) → AreCounted [] books old →
+    Scanned table books new good
 
 -- The rows of the table pass the tests of the members and have rising ids, or they don't pass.
 pub record TestedMembers (table : List Row) (limits : Bounds) (books keeps : List Row) (good : Bool)

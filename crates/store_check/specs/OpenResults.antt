@@ -1,6 +1,7 @@
 -- The result of opening stored tables, by their contents. This project's own.
-use Rattle.std.specs.Prelude.{⊤, Result, Ok, Err}
+use Rattle.std.specs.Prelude.{⊤, List, Result, Ok, Err}
 use Rattle.sqlite.specs.Effect.{Database}
+use Rattle.sqlite.specs.Order.{Row}
 use Rattle.book_model.specs.Bounds.{Bounds, bounds_of}
 use Rattle.store_rows.specs.SoundTables.{HoldsWellFormed}
 use Rattle.store_schema.specs.StoredSchema.{IsCurrentSchema, ClassifiesSchema}
@@ -8,6 +9,20 @@ use Rattle.store_schema.specs.declared.open_fault.OpenFault.{OpenFault}
 use Rattle.store_schema.specs.declared.open_fault.OpenFault.TheVariants.{Store, NotOurs}
 use Rattle.store_schema.specs.declared.open_fault.OpenFault.TheVariants.{OtherSchema, Damaged}
 use Rattle.store_schema.specs.declared.open_fault.OpenFault.TheVariants.{NotEmpty, Memory}
+use Rattle.store_check.specs.RowChecks.{AreWellStored}
+
+-- `Ok` if the rows of the four tables are well stored, else `Damaged`; or memory runs out
+abbrev pub IsRowCheckResult : Bounds → List Row → List Row → List Row → List Row
+    → Result (Unit {0}) OpenFault → Type 0
+IsRowCheckResult limits books members imports keeps (Ok done) =
+    AreWellStored limits books members imports keeps
+IsRowCheckResult limits books members imports keeps (Err Store) = ⊥
+IsRowCheckResult limits books members imports keeps (Err NotOurs) = ⊥
+IsRowCheckResult limits books members imports keeps (Err (OtherSchema has)) = ⊥
+IsRowCheckResult limits books members imports keeps (Err Damaged) =
+    ¬ AreWellStored limits books members imports keeps
+IsRowCheckResult limits books members imports keeps (Err NotEmpty) = ⊥
+IsRowCheckResult limits books members imports keeps (Err Memory) = ⊤
 
 -- The result of opening tables: `Ok` if they hold well-formed books; `Damaged` if they are this
 -- project's but hold none; else the result of the schema test. These exclude each other. A fault of

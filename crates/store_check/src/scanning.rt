@@ -46,8 +46,11 @@ fn take_member(
     Ok(true)
 }
 
-/// Reads the members one at a time, in the order of their row ids. Tests each against its book, and
-/// counts it there. Returns whether all are good; if not, it has read up to the first that is not.
+/// Reads the members one at a time. Tests each against its book, and counts it there. Returns
+/// whether all are good; if not, it has read up to the first that is not.
+///
+/// SQLite gives the rows of a table in the order of their ids. So nothing is kept of a row that was
+/// read but its id, and no id comes twice.
 pub(crate) fn scan_members<S: Alter>(
     alloc: Global,
     conn: &mut Connection<S>,

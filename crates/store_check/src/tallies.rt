@@ -1,6 +1,6 @@
 //! Tests the members one at a time, and counts those of each book.
-ghost use Rattle.store_check.specs.MemberTallies.{AreCounted, DoesTally, TallyAll, counted, has_book};
-ghost use Rattle.store_check.specs.MemberTallies.{one_more, tally_of};
+ghost use Rattle.store_check.specs.MemberTallies.{AreCounted, DoesTally, TallyAll, counted};
+ghost use Rattle.store_check.specs.MemberTallies.{has_book, one_more, tally_of};
 ghost use Rattle.store_check.specs.RowChecks.{IsBookAnd, IsValidMember, decode_book, int_cell};
 ghost use Rattle.store_rows.specs.TableRows.{load_member};
 ghost use Rattle.store_tables.specs.Books.{BookRow};
