@@ -36,6 +36,16 @@ export class Actions {
     return this.desk.store;
   }
 
+  /** Waits for a reply, and says so if it takes a while. */
+  async reply(asked) {
+    const timer = setTimeout(() => this.desk.frame.toast(t("waiting")), 800);
+    try {
+      return await asked;
+    } finally {
+      clearTimeout(timer);
+    }
+  }
+
   /**
    * Starts an edit: the card of the copy with its version, or a new card of a kind. `base` is the
    * card that the edit is of, and `start` what the form begins with: the base, or a draft.
@@ -72,7 +82,7 @@ export class Actions {
     for (;;) {
       let done;
       try {
-        done = await push.save(this.api, this.store, edit.book, uid, version, text);
+        done = await this.reply(push.save(this.api, this.store, edit.book, uid, version, text));
       } catch (fault) {
         this.desk.frame.toast(`${words(fault)} ${t("kept")}`);
         return null;
@@ -133,7 +143,7 @@ export class Actions {
     let { version, text } = kept;
     try {
       for (;;) {
-        const done = await push.remove(this.api, this.store, book, uid, version);
+        const done = await this.reply(push.remove(this.api, this.store, book, uid, version));
         if (done.change) {
           await this.desk.changed(book, done.change);
           break;
@@ -177,7 +187,9 @@ export class Actions {
     ]);
     if (!to) return null;
     try {
-      const done = await push.move(this.api, this.store, book, uid, kept.version, to);
+      const done = await this.reply(
+        push.move(this.api, this.store, book, uid, kept.version, to),
+      );
       if (!done.change) {
         this.desk.frame.toast(done.theirs ? t("moveChanged") : t("goneCard"));
         await this.desk.follow(book);
@@ -196,7 +208,7 @@ export class Actions {
   /** Asks the server who is in a group. */
   async people(book, uid) {
     try {
-      return await this.api.people(book, uid);
+      return await this.reply(this.api.people(book, uid));
     } catch (fault) {
       this.desk.frame.toast(words(fault));
       return null;
@@ -232,7 +244,8 @@ export class Actions {
   async exportRows(name, form) {
     try {
       const suffix = form === "columns" ? "-columns" : "";
-      this.saved(`${name}${suffix}.csv`, "text/csv", await this.api.exportRows(name, form));
+      const rows = await this.reply(this.api.exportRows(name, form));
+      this.saved(`${name}${suffix}.csv`, "text/csv", rows);
     } catch (fault) {
       this.desk.frame.toast(words(fault));
     }

@@ -18,6 +18,19 @@ export function newCard(kind) {
   return { lines };
 }
 
+// Lines that only the forms of persons have, and only those of groups.
+const OF_PERSONS = ["N", "NICKNAME", "TITLE", "BDAY"];
+const OF_GROUPS = ["MEMBER"];
+
+/** The new card as one of another kind, without the lines that its form doesn't show. */
+export function asKind(card, kind) {
+  const others = ["KIND", ...(kind === "individual" ? [] : OF_PERSONS),
+    ...(kind === "group" ? [] : OF_GROUPS)];
+  const kept = card.lines.filter((line) => !others.includes(line.name));
+  const own = newCard(kind).lines.filter((line) => line.name === "KIND");
+  return { lines: [...kept, ...own] };
+}
+
 /** The preferred line of a name as a text, "" without one. */
 function single(card, name, show = (line) => unescapeText(line.value)) {
   const line = firstNamed(card, name);

@@ -19,7 +19,9 @@ export class Frame {
   /** Puts the texts of the page in place. */
   label(run) {
     document.title = t("title");
+    by("title").textContent = t("title");
     by("skip").textContent = t("skip");
+    by("bar").setAttribute("aria-label", t("progress"));
     by("search-label").textContent = t("searchLabel");
     this.search.placeholder = t("searchHint");
     by("books").setAttribute("aria-label", t("books"));
@@ -153,18 +155,28 @@ export class Frame {
     this.saying = setTimeout(() => this.say(text), 700);
   }
 
+  /** Ends a message that needs no answer, so that it covers no field of a form. */
+  quiet() {
+    if (!by("toast").querySelector(".note.asks")) fill(by("toast"));
+  }
+
   /** Shows a short message, with a button if there is something to do about it. */
   toast(text, action = null) {
     const node = by("toast");
     clearTimeout(this.showing);
     const hide = () => fill(node);
-    fill(node, el("div", { class: "note" }, el("span", {}, text),
+    // It stays while somebody is at it.
+    const end = () => {
+      if (node.matches(":hover, :focus-within")) this.showing = setTimeout(end, 2000);
+      else hide();
+    };
+    fill(node, el("div", { class: action ? "note asks" : "note" }, el("span", {}, text),
       action && button(action.text, () => {
         hide();
         action.run();
       }),
       button("×", hide, { class: "quiet", "aria-label": t("close") })));
-    this.showing = setTimeout(hide, action ? 15000 : 6000);
+    this.showing = setTimeout(end, action ? 15000 : 6000);
   }
 
   welcome() {

@@ -2,7 +2,7 @@
 import { Actions } from "./actions.js";
 import { Api, Fault } from "./api.js";
 import { button, el, fill } from "./dom.js";
-import { fieldsOf } from "./edit.js";
+import { asKind, fieldsOf } from "./edit.js";
 import { Frame } from "./frame.js";
 import { describe } from "./person.js";
 import { keyOf, Shelf } from "./shelf.js";
@@ -10,9 +10,9 @@ import { openStore } from "./store.js";
 import { Follower } from "./sync.js";
 import { saveFile } from "./files.js";
 import { language, t } from "./texts.js";
-import { readCard } from "./vcard.js";
+import { readCard, writeCard } from "./vcard.js";
 import { cardView, peopleView } from "./views/card.js";
-import { formView } from "./views/form.js";
+import { choicesView, formView } from "./views/form.js";
 import { CardList } from "./views/list.js";
 
 class Desk {
@@ -27,6 +27,7 @@ class Desk {
     this.books = [];
     this.chosen = "";
     this.shown = null; // the card or the form in the pane
+    this.carried = null; // what goes with a new card into the form of another book or kind
     this.drawing = 0;
     this.showing = 0;
     this.lastAsked = 0;
@@ -211,6 +212,7 @@ class Desk {
 
   leave() {
     this.shown = null;
+    this.asked = {}; // a card that is on its way into the pane doesn't come
     history.replaceState(null, "", "#/");
     this.frame.welcome();
     this.frame.showPane("list");
@@ -316,13 +318,15 @@ class Desk {
   /** Opens the form: for a card, or for a new one of a kind. */
   async edit(book, uid, kind) {
     if (!this.books.some((it) => it.name === book)) return this.leave();
+    const { carried } = this;
+    this.carried = null;
     const edit = await this.actions.begin(book, uid, kind);
     if (!edit) return this.show(book, uid, true);
-    this.form(edit, kind);
+    this.form(edit, kind, carried);
     return undefined;
   }
 
-  form(edit, kind) {
+  form(edit, kind, carried) {
     const card = readCard(edit.start);
     const before = fieldsOf(card);
     const fields = fieldsOf(card);
@@ -332,6 +336,7 @@ class Desk {
       if (!rows.length) rows.push({ line: null, use: "work", text: "" });
     }
     let keeping = 0;
+    let isTyped = edit.isDraft;
     const now = () => this.actions.edited(edit, card, before, fields);
     const leaveForm = () => {
       clearTimeout(keeping);
@@ -348,6 +353,7 @@ class Desk {
       rows: () => this.shelf.find("", edit.book).filter((row) => row.uid !== edit.uid),
       members: (values) => this.shelf.members(edit.book, values),
       typed: () => {
+        isTyped = true;
         clearTimeout(keeping);
         keeping = setTimeout(() => this.actions.keep(now()), 400);
       },
@@ -373,6 +379,13 @@ class Desk {
         else this.open(place.book, place.uid);
       },
     };
+    const again = async (toBook, toKind, focus) => {
+      const text = writeCard(asKind(readCard(now().text), toKind));
+      await drop();
+      if (isTyped) await this.actions.keep({ ...now(), book: toBook, text });
+      this.carried = { focus, isTyped };
+      this.go(`#/new/${toBook}/${toKind}`);
+    };
     // A card that was on its way into the pane doesn't come any more.
     clearTimeout(this.showing);
     this.asked = {};
@@ -383,8 +396,8 @@ class Desk {
     fill(this.frame.pane, formView({
       title, fields, isNew, act,
       notes: [
-        isNew ? this.choices(edit.book, kind, drop) : null,
-        edit.isDraft
+        isNew ? choicesView(this.books, edit.book, kind, again) : null,
+        edit.isDraft && !carried?.isTyped
           ? el("p", { class: "draft" }, t("draftBack"), " ", button(t("draftDrop"), async () => {
             await drop();
             await this.edit(edit.book, edit.uid, kind);
@@ -392,27 +405,11 @@ class Desk {
           : null,
       ],
     }));
+    this.frame.quiet();
     this.frame.showPane("card");
     this.frame.pane.scrollTop = 0;
-    this.frame.pane.querySelector(isNew ? ".two input" : "#field-fn")?.focus();
-  }
-
-  /** The book and the kind of a new card. */
-  choices(book, kind, drop) {
-    const change = async (toBook, toKind) => {
-      await drop();
-      this.go(`#/new/${toBook}/${toKind}`);
-    };
-    const kinds = Object.entries(t("kinds"));
-    return el("div", { class: "choices" },
-      el("label", {}, t("inBook"), " ", el("select", {
-        on: { change: (event) => change(event.target.value, kind) },
-      }, this.books.map(({ name }) =>
-        el("option", { value: name, selected: name === book }, name)))),
-      el("label", {}, t("kind"), " ", el("select", {
-        on: { change: (event) => change(book, event.target.value) },
-      }, kinds.map(([value, text]) =>
-        el("option", { value, selected: value === kind }, text)))));
+    const first = isNew && fields.kind === "individual" ? ".two input" : "#field-fn";
+    this.frame.pane.querySelector(carried?.focus ?? first)?.focus();
   }
 
   // Keys, the network, other tabs

@@ -40,6 +40,8 @@ const TEXTS = {
   stateRefused: "{book}: {why}",
   stateBroken: "This browser can't keep the copy: {why}",
   update: "Update now",
+  waiting: "Waiting for the server…",
+  progress: "Cards that have come",
   never: "never",
 
   // Cards

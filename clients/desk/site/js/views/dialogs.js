@@ -141,14 +141,19 @@ export function askFile(book, run) {
       go.disabled = !ready.file;
     });
     const work = async () => {
-      go.disabled = true;
+      // While it is at work the button keeps the focus, which a disabled one would lose.
+      if (file.disabled) return;
+      go.setAttribute("aria-disabled", "true");
       file.disabled = true;
       fill(said, el("p", {}, t("importing")));
       const [words, mayRepeat] = await run.send(ready.file);
       fill(said, words);
       file.disabled = false;
-      go.disabled = !mayRepeat;
-      if (!mayRepeat) file.value = "";
+      go.removeAttribute("aria-disabled");
+      if (mayRepeat) return;
+      file.value = "";
+      file.focus();
+      go.disabled = true;
     };
     return [
       el("p", {}, t("importText")),
@@ -162,7 +167,7 @@ export function askFile(book, run) {
 /** A book: how its copy is, its numbers, and what can be done. `run` has the actions. */
 export function showBook(book, run) {
   return dialog(t("bookTitle", { book: book.name }), (close) => {
-    const numbers = el("div", { "aria-live": "polite" }, el("p", {}, t("asking")));
+    const numbers = el("div", { "aria-live": "polite" }, tallyView(null));
     run.tally().then(
       (tally) => fill(numbers, tallyView(tally)),
       (words) => fill(numbers, el("p", {}, words)),
@@ -189,14 +194,16 @@ export function showBook(book, run) {
   });
 }
 
+/** The numbers of a book. Before they come (null) they have their room, so that no button moves. */
 function tallyView(tally) {
   const rows = [
     "created", "imported", "moved_in", "deleted", "moved_out", "edited", "import_edited",
     "number", "remembered", "horizon",
   ];
   return el("table", { class: "tally" },
-    el("caption", {}, count("cardsCount", tally.cards)),
+    el("caption", {}, tally ? count("cardsCount", tally.cards) : t("asking")),
     el("tbody", {}, rows.map((it) =>
-      el("tr", {}, el("th", { scope: "row" }, t(`tally_${it}`)), el("td", {}, number(tally[it]))),
+      el("tr", {}, el("th", { scope: "row" }, t(`tally_${it}`)),
+        el("td", {}, tally ? number(tally[it]) : "…")),
     )));
 }

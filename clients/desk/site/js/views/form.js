@@ -47,6 +47,18 @@ export function formView({ title, fields, isNew, notes, act }) {
   return form;
 }
 
+/** The book and the kind of a new card. `change` gets both, and where the focus comes back to. */
+export function choicesView(books, book, kind, change) {
+  const kinds = Object.entries(t("kinds"));
+  const toBook = (event) => change(event.target.value, kind, "#new-book");
+  const toKind = (event) => change(book, event.target.value, "#new-kind");
+  return el("div", { class: "choices" },
+    el("label", {}, t("inBook"), " ", el("select", { id: "new-book", on: { change: toBook } },
+      books.map(({ name }) => el("option", { value: name, selected: name === book }, name)))),
+    el("label", {}, t("kind"), " ", el("select", { id: "new-kind", on: { change: toKind } },
+      kinds.map(([value, text]) => el("option", { value, selected: value === kind }, text)))));
+}
+
 function submit(event, fields, error, act) {
   event.preventDefault();
   if (!fields.fn.trim()) {
@@ -192,10 +204,12 @@ function useSelect(key, row, title) {
 }
 
 function remover(fields, key, row, title, draw, act) {
-  return button(t("removeRow"), () => {
+  return button(t("removeRow"), (event) => {
+    const place = event.currentTarget.closest("fieldset");
     fields[key] = fields[key].filter((it) => it !== row);
     draw();
     act.typed();
+    place.querySelector(".add").focus();
   }, { class: "quiet", "aria-label": t("removeThis", { title }) });
 }
 
@@ -216,9 +230,12 @@ function photoField(fields, act) {
       fields.photo ? el("img", { class: "photo", src: fields.photo, alt: t("photo") }) : null,
       el("label", { class: "file" }, el("span", {}, t("photo")), file),
       fields.photo
-        ? button(t("removeRow"), () => { fields.photo = null; act.typed(); draw(); }, {
-          class: "quiet", "aria-label": t("removeThis", { title: t("photo") }),
-        })
+        ? button(t("removeRow"), () => {
+          fields.photo = null;
+          act.typed();
+          draw();
+          file.focus();
+        }, { class: "quiet", "aria-label": t("removeThis", { title: t("photo") }) })
         : null,
     );
   };
@@ -253,6 +270,7 @@ function membersField(fields, act) {
           fields.members = fields.members.filter((it) => it !== value);
           draw();
           act.typed();
+          box.focus();
         }, { class: "quiet", "aria-label": t("removeThis", { title: row ? row.name : value }) })),
     ));
   };
