@@ -17,9 +17,13 @@ KEYS = {
     "Escape": (27, None),
     "ArrowDown": (40, None),
     "ArrowUp": (38, None),
+    "ArrowRight": (39, None),
     "F2": (113, None),
     "Tab": (9, None),
+    " ": (32, " "),
 }
+ALT, CTRL, SHIFT = 1, 2, 8
+INVERSE = bytes(range(255, -1, -1))
 
 
 class Socket:
@@ -49,8 +53,8 @@ class Socket:
             head = struct.pack("!BBH", 0x81, 0x80 | 126, size)
         else:
             head = struct.pack("!BBQ", 0x81, 0x80 | 127, size)
-        # A mask of zeros is a mask, and leaves the octets as they are.
-        self.stream.sendall(head + b"\0\0\0\0" + data)
+        # Firefox closes the connection at a mask of zeros, so this one is of ones.
+        self.stream.sendall(head + b"\xff\xff\xff\xff" + data.translate(INVERSE))
 
     def receive(self):
         """One message, its fragments put together."""
@@ -126,6 +130,14 @@ class Browser:
         page.size(width, height)
         return page
 
+    def desk(self, address, user, **size):
+        """A page of a user, with storage of its own. The password goes in by the address."""
+        page = self.page(self.context(), **size)
+        scheme, rest = address.split("://")
+        page.go(f"{scheme}://{user}:{user}-pw@{rest}")
+        page.go(address)
+        return page
+
     def close(self):
         try:
             self.call("Browser.close")
@@ -137,6 +149,9 @@ class Browser:
 
 
 class Page:
+    schemes = ("dark", "light")
+    was_left = False  # by Tab
+
     def __init__(self, browser, session, context):
         self.browser = browser
         self.session = session
@@ -167,6 +182,9 @@ class Page:
             "Emulation.setDeviceMetricsOverride",
             width=width, height=height, deviceScaleFactor=1, mobile=mobile,
         )
+
+    def front(self):
+        self.call("Page.bringToFront")
 
     def scheme(self, name):
         features = [{"name": "prefers-color-scheme", "value": name}]
@@ -212,8 +230,18 @@ class Page:
                  "modifiers": modifiers}
         if text:
             given["text"] = text
+        if modifiers == CTRL and name == "a":
+            given["commands"] = ["selectAll"]
         self.call("Input.dispatchKeyEvent", type="keyDown", **given)
         self.call("Input.dispatchKeyEvent", type="keyUp", **given)
+
+    def write(self, text):
+        """Types a text key by key."""
+        for sign in text:
+            number = ord(sign.upper()) if sign.isalnum() else 0
+            given = {"key": sign, "windowsVirtualKeyCode": number}
+            self.call("Input.dispatchKeyEvent", type="keyDown", text=sign, **given)
+            self.call("Input.dispatchKeyEvent", type="keyUp", **given)
 
     def press(self, text, within="document"):
         """Clicks the button or link with this text, with the mouse."""

@@ -218,12 +218,17 @@ def ten_thousand(trial):
         const all = [];
         const texts = ['j', 'ju', 'jun', 'jun a', 'company 12', '7946 0012', 'arviso', '99', 'zz'];
         for (const text of texts) {
-            box.value = text;
-            const begun = performance.now();
-            box.dispatchEvent(new Event('input', { bubbles: true }));
-            document.querySelector('#list').getBoundingClientRect();
-            all.push([text, performance.now() - begun]);
-            await new Promise((done) => setTimeout(done, 120));
+            // The best of five: on a machine that is busy with others, a time has theirs in it.
+            const times = [];
+            for (let part = 0; part < 5; part += 1) {
+                box.value = text;
+                const begun = performance.now();
+                box.dispatchEvent(new Event('input', { bubbles: true }));
+                document.querySelector('#list').getBoundingClientRect();
+                times.push(performance.now() - begun);
+                await new Promise((done) => setTimeout(done, 120));
+            }
+            all.push([text, Math.min(...times)]);
         }
         return all;
     })()""")

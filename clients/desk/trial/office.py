@@ -47,13 +47,17 @@ class Office:
         self.port = free_port()
         self.front_port = free_port()
         self.front = f"https://127.0.0.1:{self.front_port}/"
-        self.order("init", self.file)
-        for book in ("staff", "clients"):
-            self.order("book", self.file, book)
+        self.begin()
         self.certificate()
         self.configure()
         self.serve()
         self.open()
+
+    def begin(self):
+        """Makes the file, with two books."""
+        self.order("init", self.file)
+        for book in ("staff", "clients"):
+            self.order("book", self.file, book)
 
     def order(self, *words):
         subprocess.run([self.program, *map(str, words)], check=True, stdout=subprocess.DEVNULL)

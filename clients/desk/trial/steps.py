@@ -28,11 +28,8 @@ class Trial:
         self.desks = {}
 
     def desk(self, user, **size):
-        """A desk of a user, with a profile of its own. The password goes in by the address."""
-        page = self.browser.page(self.browser.context(), **size)
-        scheme, rest = self.office.front.split("://")
-        page.go(f"{scheme}://{user}:{user}-pw@{rest}")
-        page.go(self.office.front)
+        """A desk of a user, with a profile of its own."""
+        page = self.browser.desk(self.office.front, user, **size)
         page.wait("document.querySelector('#books button')")
         self.desks[user] = page
         return page
@@ -318,7 +315,7 @@ def files(trial):
         ("cut.vcf", card("v1", "FN:Cut")[:-14], "END:VCARD is missing"),
     ]
     admin.press("⋯", MENU)
-    admin.wait("document.querySelector('.tally caption')")
+    admin.wait("document.querySelector('.tally caption')?.textContent.includes('card')")
     admin.picture(trial.pictures / "book.png")
     admin.press("Import a file")
     for name, text, words in bad:

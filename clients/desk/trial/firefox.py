@@ -1,0 +1,198 @@
+"""Drives a headless Firefox by WebDriver BiDi, with Python's standard library alone.
+
+Its pages have the functions of `browser.Page` that the office's day uses.
+"""
+
+import base64
+import json
+import os
+import shutil
+import subprocess
+import tempfile
+import time
+from pathlib import Path
+
+from browser import ALT, CTRL, SECONDS, SHIFT, Socket
+
+KEYS = {
+    "Enter": "\ue007", "Escape": "\ue00c", "Tab": "\ue004", "F2": "\ue032",
+    "ArrowUp": "\ue013", "ArrowRight": "\ue014", "ArrowDown": "\ue015",
+}
+MODIFIERS = {SHIFT: "\ue008", CTRL: "\ue009", ALT: "\ue00a"}
+EVENTS = ["log.entryAdded", "network.beforeRequestSent", "browsingContext.userPromptOpened"]
+# Nothing is asked of others than the office, and no page of Firefox's own is in the way.
+SETTINGS = {
+    "app.normandy.enabled": False, "app.update.disabledForTesting": True,
+    "browser.safebrowsing.downloads.enabled": False,
+    "browser.aboutwelcome.enabled": False, "browser.download.alwaysOpenPanel": False,
+    "browser.shell.checkDefaultBrowser": False, "browser.startup.page": 0,
+    "datareporting.policy.dataSubmissionEnabled": False, "extensions.update.enabled": False,
+    "network.captive-portal-service.enabled": False, "network.connectivity-service.enabled": False,
+    "network.http.phishy-userpass-length": 255, "services.settings.server": "data:,",
+    "toolkit.telemetry.reportingpolicy.firstRun": False,
+}
+
+
+class Firefox:
+    def __init__(self, program):
+        self.folder = Path(tempfile.mkdtemp(prefix="desk-firefox-"))
+        lines = (f"user_pref({json.dumps(it)}, {json.dumps(to)});" for it, to in SETTINGS.items())
+        (self.folder / "user.js").write_text("\n".join(lines))
+        log = open(self.folder / "log", "wb")
+        self.process = subprocess.Popen(
+            [program, "--headless", "--no-remote", "--remote-debugging-port", "0",
+             "--profile", self.folder],
+            stdout=log, stderr=log, env={**os.environ, "LC_ALL": "C.UTF-8"},
+        )
+        self.number = 0
+        self.pages = {}
+        try:
+            self.connect()
+        except Exception:
+            self.close()
+            raise
+
+    def connect(self):
+        place = self.folder / "WebDriverBiDiServer.json"
+        for _ in range(900):
+            if place.exists() and place.read_text().strip().endswith("}"):
+                break
+            time.sleep(0.1)
+        self.socket = Socket(json.loads(place.read_text())["ws_port"], "/session")
+        self.call("session.new", capabilities={"alwaysMatch": {"acceptInsecureCerts": True}})
+        self.call("session.subscribe", events=EVENTS)
+
+    def call(self, method, **parameters):
+        self.number += 1
+        number = self.number
+        self.socket.send(json.dumps({"id": number, "method": method, "params": parameters}))
+        while True:
+            reply = json.loads(self.socket.receive())
+            if reply.get("id") == number:
+                if reply["type"] == "error":
+                    raise RuntimeError(f"{method}: {reply['error']} {reply['message']}")
+                return reply["result"]
+            self.heard(reply)
+
+    def heard(self, event):
+        given = event.get("params", {})
+        page = self.pages.get(given.get("context") or given.get("source", {}).get("context"))
+        if not page:
+            return
+        if event["method"] == "log.entryAdded" and given["level"] == "error":
+            page.said.append(given["text"] or "")
+        elif event["method"] == "network.beforeRequestSent":
+            page.asked.append(given["request"]["url"])
+        elif event["method"] == "browsingContext.userPromptOpened":
+            page.dialogs.append(given["message"])
+
+    def desk(self, address, user, width=1280, height=800):
+        """A page of a user, with storage of its own. The password goes in by the address."""
+        profile = self.call("browser.createUserContext", acceptInsecureCerts=True)["userContext"]
+        context = self.call("browsingContext.create", type="tab", userContext=profile)["context"]
+        page = Page(self, context, profile)
+        self.pages[context] = page
+        page.size(width, height)
+        scheme, rest = address.split("://")
+        page.go(f"{scheme}://{user}:{user}-pw@{rest}")
+        page.go(address)
+        return page
+
+    def close(self):
+        try:
+            self.call("browser.close")
+            self.process.wait(20)
+        except Exception:
+            self.process.kill()
+            self.process.wait()
+        shutil.rmtree(self.folder, ignore_errors=True)
+
+
+class Page:
+    schemes = ("",)  # that of the system: Firefox has no command for another one
+    was_left = False  # by Tab
+
+    def __init__(self, browser, context, profile):
+        self.browser = browser
+        self.context = context
+        self.profile = profile
+        self.said = []
+        self.dialogs = []
+        self.asked = []
+
+    def call(self, method, **parameters):
+        return self.browser.call(method, context=self.context, **parameters)
+
+    def size(self, width, height, mobile=False):
+        self.call("browsingContext.setViewport", viewport={"width": width, "height": height})
+
+    def front(self):
+        self.call("browsingContext.activate")
+
+    def scheme(self, name):
+        pass
+
+    def go(self, address):
+        """Loads the address, and waits until its scripts have run."""
+        self.run("window.isOld = true")
+        self.call("browsingContext.navigate", url=address, wait="none")
+        self.wait("!window.isOld && document.readyState === 'complete'")
+
+    def evaluate(self, expression):
+        done = self.browser.call(
+            "script.evaluate", expression=expression, target={"context": self.context},
+            awaitPromise=True, userActivation=True,
+        )
+        if done["type"] == "exception":
+            raise RuntimeError(done["exceptionDetails"]["text"])
+        return done["result"]
+
+    def run(self, expression):
+        """The value of an expression, awaited if it is a promise."""
+        found = self.evaluate(f"(async () => JSON.stringify(await ({expression})))()")
+        return json.loads(found["value"]) if "value" in found else None
+
+    def wait(self, expression, seconds=SECONDS):
+        """Waits until an expression is true. Returns its value."""
+        end = time.monotonic() + seconds
+        while True:
+            try:
+                value = self.run(expression)
+            except RuntimeError:
+                value = None
+            if value or value == {}:
+                return value
+            if time.monotonic() > end:
+                raise AssertionError(f"never true: {expression}\n{self.said}")
+            time.sleep(0.05)
+
+    def keys(self, actions):
+        self.call(
+            "input.performActions", actions=[{"type": "key", "id": "keys", "actions": actions}],
+        )
+
+    def key(self, name, modifiers=0, code=None):
+        held = [sign for bit, sign in MODIFIERS.items() if modifiers & bit]
+        value = KEYS.get(name, name)
+        self.keys(
+            [{"type": "keyDown", "value": it} for it in [*held, value]]
+            + [{"type": "keyUp", "value": it} for it in [value, *reversed(held)]]
+        )
+
+    def write(self, text):
+        """Types a text key by key."""
+        self.keys([{"type": kind, "value": it} for it in text for kind in ("keyDown", "keyUp")])
+
+    def choose_file(self, selector, path):
+        found = self.evaluate(f"document.querySelector({json.dumps(selector)})")
+        self.call("input.setFiles", element={"sharedId": found["sharedId"]}, files=[str(path)])
+
+    def keep_downloads(self, folder):
+        self.browser.call(
+            "browser.setDownloadBehavior", userContexts=[self.profile],
+            downloadBehavior={"type": "allowed", "destinationFolder": str(folder)},
+        )
+
+    def picture(self, path):
+        data = self.call("browsingContext.captureScreenshot")["data"]
+        Path(path).write_bytes(base64.b64decode(data))
