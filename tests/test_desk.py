@@ -11,6 +11,8 @@ import unittest
 from program import ROOT
 
 SITE = ROOT / "clients/desk/site"
+TRIAL = [ROOT / "clients/desk/try", ROOT / "clients/desk/office-day",
+         *sorted((ROOT / "clients/desk/trial").glob("*.py"))]
 SCRIPTS = sorted((SITE / "js").rglob("*.js")) + [SITE / "sw.js"]
 # What would read a string as markup, as a script or as a style, or make a policy that lets it.
 SINKS = (
@@ -19,6 +21,10 @@ SINKS = (
     "createHTML createScript("
 ).split(" ")
 POLICY = re.compile(r"default-src 'none';[^\"]*")
+GROUNDS = ("ground", "sheet", "raised", "tint")
+# By what two colours have to differ (WCAG 2.2, AA): texts, and what is around a field.
+TEXTS = ("ink", "soft", "accent", "danger", "good", "mark")
+EDGES = ("edge", "accent")
 
 
 def text(path):
@@ -28,6 +34,28 @@ def text(path):
 def code(path):
     """A script without its comments."""
     return re.sub(r"/\*[^]*?\*/|^\s*//.*$".replace("[^]", r"[\s\S]"), "", text(path), flags=re.M)
+
+
+def schemes():
+    """The colours by name: of the light scheme, and of the dark one."""
+    source = text(SITE / "style/base.css")
+    light, dark = (
+        dict(re.findall(r"--(\w[\w-]*): (#[0-9a-f]{6});", part))
+        for part in re.findall(r":root \{\n( +color-scheme.*?| +--ground: #1.*?)\}", source, re.S)
+    )
+    return {"light": light, "dark": dark}
+
+
+def ratio(one, other):
+    """The contrast of two colours, as WCAG 2 computes it."""
+
+    def light(colour):
+        parts = [int(colour[at:at + 2], 16) / 255 for at in (1, 3, 5)]
+        r, g, b = (it / 12.92 if it <= 0.03928 else ((it + 0.055) / 1.055) ** 2.4 for it in parts)
+        return 0.2126 * r + 0.7152 * g + 0.0722 * b
+
+    low, high = sorted((light(one), light(other)))
+    return (high + 0.05) / (low + 0.05)
 
 
 class Desk(unittest.TestCase):
@@ -75,6 +103,21 @@ class Desk(unittest.TestCase):
         self.assertIn('<script type="module" src="js/main.js"></script>', page)
         self.assertIsNone(re.search(r"<style|\sstyle=|\son\w+=|javascript:", page))
 
+    def test_names_and_landmarks(self):
+        """What is in the page from the start has a place and gets a name, for screen readers."""
+        page, frame = text(SITE / "index.html"), text(SITE / "js/frame.js")
+        for element in ("h1", "header", "nav", "main"):
+            self.assertEqual(1, len(re.findall(f"<{element}[ >]", page)), element)
+        # The title, two links and labels by their text, the others by a name of their own.
+        for name in ("title", "skip", "search-label", "new"):
+            self.assertRegex(page, f'id="{name}"')
+            self.assertRegex(frame, rf'by\("{name}"\)(\.textContent|;)')
+        for name in ("bar", "books", "cards"):
+            self.assertRegex(page, f'id="{name}"')
+            self.assertIn(f'by("{name}").setAttribute("aria-label"', frame)
+        self.assertIn('this.listRoot.setAttribute("aria-label"', frame)
+        self.assertIn('for="search"', page)
+
     def test_policy(self):
         """The page's policy is that of nginx, but for what a page can't say."""
         page = POLICY.search(text(SITE / "index.html"))[0]
@@ -93,11 +136,20 @@ class Desk(unittest.TestCase):
                     self.assertIn(name, known)
 
     def test_sizes(self):
-        for path in [*SCRIPTS, *(SITE / "style").iterdir()]:
+        for path in [*SCRIPTS, *(SITE / "style").iterdir(), *TRIAL]:
             with self.subTest(file=path.name):
                 lines = text(path).split("\n")
                 self.assertLess(len(lines), 500)
                 self.assertLessEqual(max(map(len, lines)), 100)
+
+    def test_contrast(self):
+        """Texts and edges of fields can be seen on all grounds, in both schemes."""
+        for scheme, colours in schemes().items():
+            pairs = [(name, ground, 4.5) for name in TEXTS for ground in GROUNDS]
+            pairs += [(name, ground, 3) for name in EDGES for ground in GROUNDS]
+            for name, ground, least in [*pairs, ("accent-ink", "accent", 4.5)]:
+                with self.subTest(scheme=scheme, colour=name, ground=ground):
+                    self.assertGreaterEqual(ratio(colours[name], colours[ground]), least)
 
     def test_manifest(self):
         manifest = json.loads(text(SITE / "manifest.json"))
