@@ -387,8 +387,9 @@ class Book:
     def _send(self, edit: Card, done: Dict[str, Card], report: Report) -> None:
         uid, version, text = edit
         try:
-            made = self.put(text, version, uid) if text else self.remove(uid, version)
-            done[uid] = Card(uid, made or 0, text)
+            if not text:
+                self.remove(uid, version)
+            done[uid] = Card(uid, self.put(text, version, uid) if text else 0, text)
         except NoSuchCard:
             done[uid] = Card(uid, 0, "")  # it is gone already
         except Conflict:
@@ -495,5 +496,4 @@ class Copy:
 
 if __name__ == "__main__":
     from command import main
-
     sys.exit(main(sys.argv[1:]))
