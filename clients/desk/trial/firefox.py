@@ -22,6 +22,8 @@ MODIFIERS = {SHIFT: "\ue008", CTRL: "\ue009", ALT: "\ue00a"}
 EVENTS = ["log.entryAdded", "network.beforeRequestSent", "browsingContext.userPromptOpened"]
 # Nothing is asked of others than the office, and no page of Firefox's own is in the way.
 SETTINGS = {
+    # Dark: Firefox has no command for another scheme, and Chromium shows both.
+    "layout.css.prefers-color-scheme.content-override": 0,
     "app.normandy.enabled": False, "app.update.disabledForTesting": True,
     "browser.safebrowsing.downloads.enabled": False,
     "browser.aboutwelcome.enabled": False, "browser.download.alwaysOpenPanel": False,
@@ -109,7 +111,7 @@ class Firefox:
 
 
 class Page:
-    schemes = ("",)  # that of the system: Firefox has no command for another one
+    schemes = ("dark",)  # as it was started: it has no command for another one
     was_left = False  # by Tab
 
     def __init__(self, browser, context, profile):
