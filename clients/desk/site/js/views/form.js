@@ -84,7 +84,8 @@ function input(object, key, attributes = {}) {
 
 function nameFields(fields, isNew, act) {
   const name = input(fields, "fn", { required: true, "aria-required": "true" });
-  const hint = fields.kind === "individual" ? t("fullNameHint") : "";
+  // In a card that is there already it follows nothing.
+  const hint = isNew && fields.kind === "individual" ? t("fullNameHint") : "";
   const whole = labelled(t("fullName"), name, hint);
   name.id = "field-fn";
   whole.querySelector("label").htmlFor = "field-fn";
