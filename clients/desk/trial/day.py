@@ -272,27 +272,29 @@ def delete(day):
     page.wait("document.querySelector('#pane .keys')")
 
 
+# The name of a file, its text, and what the desk says of it.
+FILES = [
+    ("bad.csv", f"{HEADER}n1,Ned,,,,,,\nn2,,,,,,,\nn3,Nora,,,,,,\n",
+     "Row 2: The name (fn) is empty. Nothing was imported."),
+    ("bad.vcf", card("v1", "FN:New") + card("v2", "FN:Old Olga").replace("4.0", "3.0"),
+     "Card 2 (Old Olga): It isn't vCard 4.0. Export it as vCard 4.0. Nothing was imported."),
+    ("good.csv", f"{HEADER}n1,Ned Stone,Stone,Ned,ned@example.test,020 7946 0188,Stone & Sons,"
+     "\nn3,Nora,,,,,,\n", "2 new cards, 0 changed, 0 as they were"),
+    ("good.vcf", card("v1", "FN:Vic", "TEL;TYPE=cell:07700 900555")
+     + card("v2", "FN:Everyone", "KIND:group", "MEMBER:v1", "MEMBER:n1"),
+     "2 new cards, 0 changed, 0 as they were"),
+]
+
+
 @step
 def import_files(day):
     """Files with a wrong row say which and why, and change nothing; right ones are imported."""
     page, hands = day.mine
-    folder = day.office.folder
-    files = [
-        ("bad.csv", f"{HEADER}n1,Ned,,,,,,\nn2,,,,,,,\nn3,Nora,,,,,,\n",
-         "Row 2: The name (fn) is empty. Nothing was imported."),
-        ("bad.vcf", card("v1", "FN:New") + card("v2", "FN:Old Olga").replace("4.0", "3.0"),
-         "Card 2 (Old Olga): It isn't vCard 4.0. Export it as vCard 4.0. Nothing was imported."),
-        ("good.csv", f"{HEADER}n1,Ned Stone,Stone,Ned,ned@example.test,020 7946 0188,Stone & Sons,"
-         "\nn3,Nora,,,,,,\n", "2 new cards, 0 changed, 0 as they were"),
-        ("good.vcf", card("v1", "FN:Vic", "TEL;TYPE=cell:07700 900555")
-         + card("v2", "FN:Everyone", "KIND:group", "MEMBER:v1", "MEMBER:n1"),
-         "2 new cards, 0 changed, 0 as they were"),
-    ]
     before = json.loads(day.office.curl("ann", "/clients/tally"))
     page.key("Escape")
-    for name, text, words in files:
-        path = folder / name
-        path.write_text(text, newline="")
+    for name, text, words in FILES:
+        path = day.office.folder / name
+        path.write_text(text)
         if not page.run("Boolean(document.querySelector('dialog'))"):
             menu(page, "clients")
             hands.press("Import a file")
@@ -311,6 +313,12 @@ def import_files(day):
     hands.press("Close")
     find(page, "0188")
     shows(page, "Ned Stone")
+
+
+@step
+def group(day):
+    """The server says who is in a group."""
+    page, hands = day.mine
     find(page, "everyone")
     shows(page, "Everyone")
     page.key("Enter")
