@@ -1,2 +1,3 @@
 pub mod RemoveLemmas
 pub mod MoveLemmas
+pub mod FaultLemmas

@@ -6,10 +6,17 @@ ghost use Rattle.store_lookups.specs.Faults.{IsDeniedFault};
 ghost use Rattle.store_rows.specs.TableBooks.{row_book, line_row};
 ghost use Rattle.store_removals.specs.internal.Moves.{AreBothNamed, IsMovePlanned};
 ghost use Rattle.store_removals.specs.internal.Moves.{moving_between_books};
-ghost use Rattle.store_lookups.specs.OnConnections.{GivenSoundRows};
+ghost use Rattle.store_lookups.specs.StoreFaults.{IsFaultlessHeader};
+ghost use Rattle.store_lookups.specs.OnConnections.{
+  ChangeFaultsFromOutside,
+  FaultsFromOutside,
+  FaultsFromOutsideInBook,
+  GivenSoundRows,
+};
 ghost use Rattle.store_tables.specs.OnConnections.{OnlyReads, UnchangedOnOk, WasOpenOnOk};
 ghost use Rattle.store_writes.specs.OnConnections.{AppliesStep, CommitsOnce};
-ghost use Rattle.std.specs.Prelude.{◌≡◌, ◌<◌, ◌^◌, IfErr, IfOk, List, OnOk, false, ℕ};
+ghost use Rattle.std.specs.Prelude.{◌≡◌, ◌+◌, ◌<◌, ◌≤◌, ◌^◌, IfErr, IfOk, IfSome, List, OnOk, false};
+ghost use Rattle.std.specs.Prelude.{ℕ};
 
 use crate::moving::write_move;
 use crate::remove_call::plan_drop;
@@ -41,6 +48,7 @@ fn find_both_headers<S: Alter>(
 ) -> Result<(BookHeader, BookHeader), Denied>
     ensures finds { GivenSoundRows S.Store conn.old conn.new
         (λ rows. AreBothNamed rows from.now to.now result) }
+    ensures store_fault { FaultsFromOutside S.Store conn.old conn.new result }
     ensures unchanged { UnchangedOnOk S.Store conn.old conn.new result }
     ensures was_open { WasOpenOnOk S.Store conn.old conn.new result }
     ensures reads_only { OnlyReads S.Store conn.old conn.new }
@@ -62,6 +70,8 @@ fn find_both_live<S: Alter>(
         → IfOk result (λ live. (live_at (row_book rows (line_row from source)) uid.now ≡ live.0)
         × (live_at (row_book rows (line_row to target)) uid.now ≡ live.1))) }
     ensures fault { IfErr result IsDeniedFault }
+    ensures store_fault { IsFaultlessHeader target
+        → FaultsFromOutsideInBook S.Store conn.old conn.new source result }
     ensures unchanged { UnchangedOnOk S.Store conn.old conn.new result }
     ensures reads_only { OnlyReads S.Store conn.old conn.new }
 {
@@ -85,11 +95,15 @@ fn decide_move<S: Alter>(
         (λ asked moving. moving_of moving.0 moving.1 ≡ asked) result
         (moving_between_books limits uid.now expect (row_book rows (line_row from source))
         (row_book rows (line_row to target)))) }
-    ensures source_number_fits { OnOk result (source.number < 2 ^ 63) }
-    ensures target_number_fits { OnOk result (target.number < 2 ^ 63) }
+    ensures source_number_fits { OnOk result (source.number + 1 < 2 ^ 63) }
+    ensures target_number_fits { OnOk result (target.number + 1 < 2 ^ 63) }
+    ensures store_fault { IsFaultlessHeader target
+        → FaultsFromOutsideInBook S.Store conn.old conn.new source result }
     ensures unchanged { UnchangedOnOk S.Store conn.old conn.new result }
     ensures reads_only { OnlyReads S.Store conn.old conn.new }
 {
+    // The proof needs the greatest limit of changes, which this call ensures.
+    let _most = limits.changes_max();
     let (here, there) = find_both_live(alloc, conn, source, target, uid)?;
     let leaving = source.counts();
     let joining = target.counts();
@@ -122,8 +136,11 @@ fn plan_move<S: Alter>(
 ) -> Result<Transfer, Denied>
     ensures planned { GivenSoundRows S.Store conn.old conn.new
         (λ rows. IsMovePlanned limits rows from.now to.now uid.now expect result) }
-    ensures source_number_fits { IfOk result (λ plan. plan.source.number < 2 ^ 63) }
-    ensures target_number_fits { IfOk result (λ plan. plan.target.number < 2 ^ 63) }
+    ensures source_number_fits { IfOk result (λ plan. plan.source.number + 1 < 2 ^ 63) }
+    ensures target_number_fits { IfOk result (λ plan. plan.target.number + 1 < 2 ^ 63) }
+    ensures drop_fits { IfOk result (λ plan. IfSome plan.drop
+        (λ upto. upto ≤ plan.source.number + 1)) }
+    ensures store_fault { ChangeFaultsFromOutside S.Store conn.old conn.new result }
     ensures unchanged { UnchangedOnOk S.Store conn.old conn.new result }
     ensures was_open { WasOpenOnOk S.Store conn.old conn.new result }
     ensures reads_only { OnlyReads S.Store conn.old conn.new }
@@ -164,6 +181,7 @@ pub fn move_in_tables<S: Alter>(
     requires { conn.old.in_transaction ≡ false }
     ensures changes { AppliesStep S.Store conn.old conn.new result
         (λ books. move_step limits books from.now to.now uid.now expect) }
+    ensures store_fault { ChangeFaultsFromOutside S.Store conn.old conn.new result }
     ensures crash { CommitsOnce S.Store conn.old conn.new
         (λ books. move_step limits books from.now to.now uid.now expect) }
 {

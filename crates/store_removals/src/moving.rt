@@ -6,7 +6,10 @@ ghost use Rattle.book_model.specs.declared.change.Change.TheVariants.{Stores, Ta
 ghost use Rattle.book_model.specs.declared.change.RemovalReason.TheVariants.{MoveOut};
 ghost use Rattle.book_model.specs.declared.change.StoreReason.TheVariants.{MoveIn};
 ghost use Rattle.store_lookups.specs.Faults.{IsDeniedFault};
+ghost use Rattle.store_lookups.specs.OnConnections.{WriteFaultsFromOutside};
+ghost use Rattle.store_lookups.specs.StoreFaults.{FailsOnlyForMemory};
 ghost use Rattle.store_rows.specs.TableBooks.{numbers_row};
+ghost use Rattle.store_rows.specs.TableRows.{TableRows};
 ghost use Rattle.store_rows.specs.Values.{text_card};
 ghost use Rattle.store_writes.specs.TableChanges.{HoldsBooks};
 ghost use Rattle.store_tables.specs.Books.{numbers_of};
@@ -15,15 +18,26 @@ ghost use Rattle.store_removals.specs.internal.OnConnections.{
   CommitsMove,
   CommitsMoveOnce,
   InTxWithBothBooks,
+  MoveFaultsFromOutside,
+  MoveFaultsFromOutsideTx,
 };
+ghost use Rattle.store_tables.specs.Acceptance.{HasFreeIds, IsShort};
 ghost use Rattle.store_tables.specs.OnConnections.{
   CountsFaults,
   HoldsInTx,
   KeepsCommit,
+  ObeyTables,
   SurvivesAsBefore,
+  table_rows,
 };
-ghost use Rattle.store_writes.specs.OnConnections.{ChangesBookInTx, KeepsCommitWithBook};
-ghost use Rattle.std.specs.Prelude.{◌≡◌, ◌+◌, ◌<◌, ◌^◌, IfErr, IfOk, OnOk, false};
+ghost use Rattle.store_writes.specs.OnConnections.{
+  AcceptsMemberOf,
+  ChangesBookInTx,
+  InTxWithBook,
+  KeepsCommitWithBook,
+};
+ghost use Rattle.std.specs.Prelude.{◌≡◌, ◌+◌, ◌<◌, ◌^◌, IfErr, IfOk, IfSome, List, None, OnOk};
+ghost use Rattle.std.specs.Prelude.{Some, false, pos, ℕ};
 
 use crate::removing::write_removal_with_drop;
 use book_model::{Change, Denied, RemovalReason, StoreReason};
@@ -49,6 +63,15 @@ fn add_to_target<S: Alter>(
     ensures books_after { text_card text.now ≡ card.now
         → ChangesBookInTx S.Store tx.old.conn.now tx.new.conn.now header result
         (λ book. book_with_row book uid.now (Stores card.now MoveIn)) }
+    ensures obeys { InTxWithBook S.Store tx.old.conn.now tx.new.conn.now header
+        (λ _ _. OnOk result (ObeyTables S.Store tx.new.conn.now)) }
+    ensures takes_one_id { InTxWithBook S.Store tx.old.conn.now tx.new.conn.now header
+        (λ _ _. (count : ℕ) → HasFreeIds (count + 1) (table_rows S.Store tx.old.conn.now 4)
+        → OnOk result (HasFreeIds count (table_rows S.Store tx.new.conn.now 4))) }
+    ensures store_fault { header.number + 1 < 2 ^ 63 → (rows : TableRows) (name : List ℕ)
+        → AcceptsMemberOf S.Store tx.old.conn.now rows name header uid.now
+        (pos (header.number + 1)) (Some text.now) → header.id < 2 ^ 63
+        → WriteFaultsFromOutside S.Store tx.old.conn.now tx.new.conn.now result }
     ensures keeps_commit { KeepsCommitWithBook S.Store tx.old.conn.now tx.new.conn.now header }
     ensures survives { SurvivesAsBefore S.Store tx.old.conn.now tx.new.conn.now }
     ensures fault { IfErr result IsDeniedFault }
@@ -69,6 +92,7 @@ fn columns_after_leaving(header: BookHeader, horizon: u64) -> Result<BookNumbers
     ensures numbers { IfOk result (λ columns. numbers_of columns ≡ numbers_row
         (header.number + 1) horizon (counts_after_change (TakesAway MoveOut) header.counts)) }
     ensures fault { IfErr result IsDeniedFault }
+    ensures memory { header.number + 1 < 2 ^ 63 → horizon < 2 ^ 63 → FailsOnlyForMemory result }
 {
     let mut counts = header.counts();
     counts.add(&Change::TakesAway(RemovalReason::MoveOut));
@@ -85,6 +109,10 @@ fn remove_keeping_horizon<S: Alter>(
     ensures same_reference { tx.new.conn.ghost_name ≡ tx.old.conn.ghost_name }
     ensures books_after { ChangesBookInTx S.Store tx.old.conn.now tx.new.conn.now header result
         (λ book. book_with_row book uid.now (TakesAway MoveOut)) }
+    ensures store_fault { header.number + 1 < 2 ^ 63 → (rows : TableRows) (name : List ℕ)
+        → AcceptsMemberOf S.Store tx.old.conn.now rows name header uid.now
+        (pos (header.number + 1)) None → header.id < 2 ^ 63
+        → WriteFaultsFromOutside S.Store tx.old.conn.now tx.new.conn.now result }
     ensures keeps_commit { KeepsCommitWithBook S.Store tx.old.conn.now tx.new.conn.now header }
     ensures survives { SurvivesAsBefore S.Store tx.old.conn.now tx.new.conn.now }
     ensures fault { IfErr result IsDeniedFault }
@@ -110,6 +138,11 @@ fn remove_raising_horizon<S: Alter>(
     ensures same_reference { tx.new.conn.ghost_name ≡ tx.old.conn.ghost_name }
     ensures books_after { ChangesBookInTx S.Store tx.old.conn.now tx.new.conn.now header result
         (λ book. book_after_forget (book_with_row book uid.now (TakesAway MoveOut)) upto) }
+    ensures store_fault { header.number + 1 < 2 ^ 63 → upto < 2 ^ 63
+        → (rows : TableRows) (name : List ℕ)
+        → AcceptsMemberOf S.Store tx.old.conn.now rows name header uid.now
+        (pos (header.number + 1)) None → header.id < 2 ^ 63
+        → WriteFaultsFromOutside S.Store tx.old.conn.now tx.new.conn.now result }
     ensures keeps_commit { KeepsCommitWithBook S.Store tx.old.conn.now tx.new.conn.now header }
     ensures survives { SurvivesAsBefore S.Store tx.old.conn.now tx.new.conn.now }
     ensures fault { IfErr result IsDeniedFault }
@@ -136,6 +169,11 @@ fn remove_from_source<S: Alter>(
     ensures same_reference { tx.new.conn.ghost_name ≡ tx.old.conn.ghost_name }
     ensures books_after { ChangesBookInTx S.Store tx.old.conn.now tx.new.conn.now header result
         (λ book. book_after_drop (book_with_row book uid.now (TakesAway MoveOut)) drop) }
+    ensures store_fault { header.number + 1 < 2 ^ 63 → IfSome drop (λ upto. upto < 2 ^ 63)
+        → (rows : TableRows) (name : List ℕ)
+        → AcceptsMemberOf S.Store tx.old.conn.now rows name header uid.now
+        (pos (header.number + 1)) None → header.id < 2 ^ 63
+        → WriteFaultsFromOutside S.Store tx.old.conn.now tx.new.conn.now result }
     ensures keeps_commit { KeepsCommitWithBook S.Store tx.old.conn.now tx.new.conn.now header }
     ensures survives { SurvivesAsBefore S.Store tx.old.conn.now tx.new.conn.now }
     ensures fault { IfErr result IsDeniedFault }
@@ -169,6 +207,10 @@ fn move_rows<S: Alter>(
         → KeepsCommit S.Store tx.old.conn.now tx.new.conn.now) }
     ensures survives { SurvivesAsBefore S.Store tx.old.conn.now tx.new.conn.now }
     ensures fault { IfErr result IsDeniedFault }
+    ensures store_fault { source.number + 1 < 2 ^ 63 → target.number + 1 < 2 ^ 63
+        → IfSome drop (λ upto. upto < 2 ^ 63) → IsShort uid.now → IsShort text.now
+        → text_card text.now ≡ card.now
+        → MoveFaultsFromOutsideTx S.Store tx.old.conn.now tx.new.conn.now source target result }
 {
     add_to_target(tx, target, uid, card, text)?;
     remove_from_source(tx, source, uid, drop)
@@ -190,12 +232,19 @@ fn commit_move<S: Alter>(
     ensures atomic { text_card text.now ≡ card.now
         → CommitsMove S.Store conn.old conn.new source target result uid.now card.now drop }
     ensures fault { IfErr result IsDeniedFault }
+    ensures store_fault { source.number + 1 < 2 ^ 63 → target.number + 1 < 2 ^ 63
+        → IfSome drop (λ upto. upto < 2 ^ 63) → IsShort uid.now → IsShort text.now
+        → text_card text.now ≡ card.now
+        → MoveFaultsFromOutside S.Store conn.old conn.new source target result }
     ensures settled { conn.new.in_transaction ≡ false }
     ensures survives { CountsFaults S.Store conn.old conn.new }
     ensures crash { text_card text.now ≡ card.now
         → CommitsMoveOnce S.Store conn.old conn.new source target uid.now card.now drop }
 {
     assert_no_pending_writes(conn);
+
+    // The proof needs the tables to obey their constraints, which this call ensures.
+    let _tables = conn.schema();
     let mut tx = conn.transaction();
     move_rows(&mut tx, source, target, uid, card, text, drop)?;
     match tx.commit() {
@@ -220,11 +269,17 @@ pub(crate) fn write_move<S: Alter>(
     ensures atomic { CommitsMove S.Store conn.old conn.new source target result uid.now card.now
         drop }
     ensures fault { IfErr result IsDeniedFault }
+    ensures store_fault { source.number + 1 < 2 ^ 63 → target.number + 1 < 2 ^ 63
+        → IfSome drop (λ upto. upto < 2 ^ 63) → IsShort uid.now
+        → MoveFaultsFromOutside S.Store conn.old conn.new source target result }
     ensures settled { conn.new.in_transaction ≡ false }
     ensures survives { CountsFaults S.Store conn.old conn.new }
     ensures crash { CommitsMoveOnce S.Store conn.old conn.new source target uid.now card.now drop }
 {
     assert_no_pending_writes(conn);
+
+    // The proof needs the rules of a card, which this call ensures.
+    let _lines = card.lines();
     let text = text_of_card(alloc, card)?;
     commit_move(conn, source, target, uid, card, text.as_str(), drop)
 }

@@ -6,11 +6,18 @@ ghost use Rattle.store_lookups.specs.CallResults.{FollowsStep, IsExactly};
 ghost use Rattle.store_lookups.specs.Faults.{IsDeniedFault};
 ghost use Rattle.store_removals.specs.internal.Removals.{IsRemovalPlanned, drop_by_next_removal};
 ghost use Rattle.store_removals.specs.internal.Removals.{removal_number_in};
-ghost use Rattle.store_lookups.specs.OnConnections.{GivenBook, GivenSoundRows};
+ghost use Rattle.store_lookups.specs.OnConnections.{
+  ChangeFaultsFromOutside,
+  ChangeFaultsFromOutsideInBook,
+  FaultsFromOutsideInBook,
+  GivenBook,
+  GivenSoundRows,
+};
 ghost use Rattle.store_tables.specs.OnConnections.{OnlyReads, UnchangedOnOk, WasOpenOnOk};
 ghost use Rattle.store_writes.specs.OnConnections.{AppliesStep, CommitsOnce};
 ghost use Rattle.std.specs.Option.{option_map_or};
-ghost use Rattle.std.specs.Prelude.{◌≡◌, ◌+◌, ◌<◌, ◌^◌, IfErr, IfOk, OnOk, false, min, nat_le};
+ghost use Rattle.std.specs.Prelude.{◌≡◌, ◌+◌, ◌<◌, ◌≤◌, ◌^◌, IfErr, IfOk, IfSome, OnOk, false};
+ghost use Rattle.std.specs.Prelude.{min, nat_le};
 
 use crate::removing::write_remove;
 use book_model::decisions::{MemberLookup, number_of_removal};
@@ -44,10 +51,13 @@ fn decide_removal<S: Alter>(
 ) -> Result<u64, Denied>
     ensures answers { GivenBook S.Store conn.old conn.new header
         (λ book. FollowsStep IsExactly result (removal_number_in limits uid.now expect book)) }
-    ensures number_fits { OnOk result (header.number < 2 ^ 63) }
+    ensures number_fits { OnOk result (header.number + 1 < 2 ^ 63) }
+    ensures store_fault { FaultsFromOutsideInBook S.Store conn.old conn.new header result }
     ensures unchanged { UnchangedOnOk S.Store conn.old conn.new result }
     ensures reads_only { OnlyReads S.Store conn.old conn.new }
 {
+    // The proof needs the greatest limit of changes, which this call ensures.
+    let _most = limits.changes_max();
     let live = find_live(alloc, conn, header, uid)?;
     let counts = header.counts();
     let found = MemberLookup {
@@ -65,6 +75,7 @@ fn fits_one_more<S: Alter>(conn: &mut Connection<S>, header: BookHeader) -> Resu
     ensures has_room { GivenBook S.Store conn.old conn.new header
         (λ book. IfOk result (λ room. nat_le (tombstone_count book + 1) book.keep ≡ room)) }
     ensures fault { IfErr result IsDeniedFault }
+    ensures store_fault { ChangeFaultsFromOutsideInBook S.Store conn.old conn.new header result }
     ensures unchanged { UnchangedOnOk S.Store conn.old conn.new result }
     ensures reads_only { OnlyReads S.Store conn.old conn.new }
 {
@@ -82,6 +93,7 @@ fn oldest_removal_of<S: Alter>(
     ensures first { GivenBook S.Store conn.old conn.new header
         (λ book. IfOk result (λ first. oldest_tombstone book ≡ first)) }
     ensures fault { IfErr result IsDeniedFault }
+    ensures store_fault { ChangeFaultsFromOutsideInBook S.Store conn.old conn.new header result }
     ensures unchanged { UnchangedOnOk S.Store conn.old conn.new result }
     ensures reads_only { OnlyReads S.Store conn.old conn.new }
 {
@@ -115,7 +127,9 @@ pub(crate) fn plan_drop<S: Alter>(
     requires { header.number < 2 ^ 63 }
     ensures drop { GivenBook S.Store conn.old conn.new header
         (λ book. IfOk result (λ drop. drop_by_next_removal book ≡ drop)) }
+    ensures most { IfOk result (λ drop. IfSome drop (λ upto. upto ≤ header.number + 1)) }
     ensures fault { IfErr result IsDeniedFault }
+    ensures store_fault { ChangeFaultsFromOutsideInBook S.Store conn.old conn.new header result }
     ensures unchanged { UnchangedOnOk S.Store conn.old conn.new result }
     ensures reads_only { OnlyReads S.Store conn.old conn.new }
 {
@@ -138,7 +152,10 @@ fn plan_remove<S: Alter>(
 ) -> Result<Removal, Denied>
     ensures planned { GivenSoundRows S.Store conn.old conn.new
         (λ rows. IsRemovalPlanned limits rows name.now uid.now expect result) }
-    ensures number_fits { IfOk result (λ plan. plan.header.number < 2 ^ 63) }
+    ensures number_fits { IfOk result (λ plan. plan.header.number + 1 < 2 ^ 63) }
+    ensures drop_fits { IfOk result (λ plan. IfSome plan.drop
+        (λ upto. upto ≤ plan.header.number + 1)) }
+    ensures store_fault { ChangeFaultsFromOutside S.Store conn.old conn.new result }
     ensures unchanged { UnchangedOnOk S.Store conn.old conn.new result }
     ensures was_open { WasOpenOnOk S.Store conn.old conn.new result }
     ensures reads_only { OnlyReads S.Store conn.old conn.new }
@@ -173,6 +190,7 @@ pub fn remove_in_book<S: Alter>(
     requires { conn.old.in_transaction ≡ false }
     ensures changes { AppliesStep S.Store conn.old conn.new result
         (λ books. remove_step limits books name.now uid.now expect) }
+    ensures store_fault { ChangeFaultsFromOutside S.Store conn.old conn.new result }
     ensures crash { CommitsOnce S.Store conn.old conn.new
         (λ books. remove_step limits books name.now uid.now expect) }
 {

@@ -10,14 +10,24 @@ ghost use Rattle.store_rows.specs.TableBooks.{HeaderRow, numbers_row};
 ghost use Rattle.store_writes.specs.TableChanges.{AreHeaderColumns};
 ghost use Rattle.store_removals.specs.internal.Removals.{header_after_drop};
 ghost use Rattle.store_tables.specs.Books.{numbers_of};
-ghost use Rattle.store_tables.specs.OnConnections.{CountsFaults, SurvivesAsBefore};
+ghost use Rattle.store_lookups.specs.OnConnections.{ChangeFaultsFromOutsideInBook};
+ghost use Rattle.store_lookups.specs.StoreFaults.{FailsOnlyForMemory};
+ghost use Rattle.store_rows.specs.TableRows.{TableRows};
+ghost use Rattle.store_tables.specs.Acceptance.{IsShort};
+ghost use Rattle.store_tables.specs.OnConnections.{
+  CountsFaults,
+  FailsFromOutside,
+  SurvivesAsBefore,
+  WriteFailsFromOutside,
+};
 ghost use Rattle.store_writes.specs.OnConnections.{
+  AcceptsMemberOf,
   ChangesBookInTx,
   CommitsBook,
   CommitsBookOnce,
   KeepsCommitWithBook,
 };
-ghost use Rattle.std.specs.Prelude.{◌≡◌, ◌+◌, ◌<◌, ◌^◌, IfErr, IfOk, Option, Some};
+ghost use Rattle.std.specs.Prelude.{◌≡◌, ◌+◌, ◌<◌, ◌^◌, IfErr, IfOk, IfSome, List, Option, Some};
 ghost use Rattle.std.specs.Prelude.{None, false, pos, ℕ};
 
 use book_model::{Change, Denied, RemovalReason};
@@ -48,6 +58,10 @@ pub(crate) fn write_removal_with_drop<S: Alter>(
     ensures keeps_commit { (header : HeaderRow) → id ≡ pos header.id
         → KeepsCommitWithBook S.Store tx.old.conn.now tx.new.conn.now header }
     ensures survives { SurvivesAsBefore S.Store tx.old.conn.now tx.new.conn.now }
+    ensures fails_from_outside { (rows : TableRows) (name : List ℕ) (header : HeaderRow)
+        → id ≡ pos header.id
+        → AcceptsMemberOf S.Store tx.old.conn.now rows name header uid.now changed None
+        → WriteFailsFromOutside S.Store tx.old.conn.now tx.new.conn.now result }
 {
     put_member(tx, id, uid, changed, None)?;
     forget_members(tx, id, upto)?;
@@ -77,8 +91,17 @@ fn commit_removal_with_drop<S: Alter>(
         → AreHeaderColumns (header_after_drop why last header) id numbers
         → CommitsBookOnce S.Store conn.old conn.new header
         (λ book. book_after_forget (book_with_row book uid.now (TakesAway why)) last) }
+    ensures fails_from_outside { (header : HeaderRow) (why : RemovalReason) (last : ℕ)
+        → changed ≡ pos (header.number + 1) → upto ≡ pos last
+        → AreHeaderColumns (header_after_drop why last header) id numbers
+        → (rows : TableRows) (name : List ℕ)
+        → AcceptsMemberOf S.Store conn.old rows name header uid.now changed None
+        → FailsFromOutside S.Store conn.old conn.new result }
 {
     assert_no_pending_writes(conn);
+
+    // The proof needs the tables to obey their constraints, which this call ensures.
+    let _tables = conn.schema();
     let mut tx = conn.transaction();
     write_removal_with_drop(&mut tx, id, uid, changed, upto, numbers)?;
     tx.commit()?;
@@ -91,6 +114,7 @@ fn columns_after_deletion(header: BookHeader, horizon: u64) -> Result<BookNumber
     ensures numbers { IfOk result (λ columns. numbers_of columns ≡ numbers_row
         (header.number + 1) horizon (counts_after_change (TakesAway Deletion) header.counts)) }
     ensures fault { IfErr result IsDeniedFault }
+    ensures memory { header.number + 1 < 2 ^ 63 → horizon < 2 ^ 63 → FailsOnlyForMemory result }
 {
     let mut counts = header.counts();
     counts.add(&Change::TakesAway(RemovalReason::Deletion));
@@ -108,6 +132,8 @@ fn write_deletion<S: Alter>(
     ensures atomic { CommitsBook S.Store conn.old conn.new header result
         (λ book. book_with_row book uid.now (TakesAway Deletion)) }
     ensures fault { IfErr result IsDeniedFault }
+    ensures store_fault { header.number + 1 < 2 ^ 63 → IsShort uid.now
+        → ChangeFaultsFromOutsideInBook S.Store conn.old conn.new header result }
     ensures settled { conn.new.in_transaction ≡ false }
     ensures survives { CountsFaults S.Store conn.old conn.new }
     ensures crash { CommitsBookOnce S.Store conn.old conn.new header
@@ -132,6 +158,8 @@ fn write_drop<S: Alter>(
     ensures atomic { CommitsBook S.Store conn.old conn.new header result
         (λ book. book_after_forget (book_with_row book uid.now (TakesAway Deletion)) upto) }
     ensures fault { IfErr result IsDeniedFault }
+    ensures store_fault { header.number + 1 < 2 ^ 63 → upto < 2 ^ 63 → IsShort uid.now
+        → ChangeFaultsFromOutsideInBook S.Store conn.old conn.new header result }
     ensures settled { conn.new.in_transaction ≡ false }
     ensures survives { CountsFaults S.Store conn.old conn.new }
     ensures crash { CommitsBookOnce S.Store conn.old conn.new header
@@ -158,6 +186,9 @@ pub(crate) fn write_remove<S: Alter>(
     ensures atomic { CommitsBook S.Store conn.old conn.new header result
         (λ book. book_after_drop (book_with_row book uid.now (TakesAway Deletion)) drop) }
     ensures fault { IfErr result IsDeniedFault }
+    ensures store_fault { header.number + 1 < 2 ^ 63 → IfSome drop (λ upto. upto < 2 ^ 63)
+        → IsShort uid.now
+        → ChangeFaultsFromOutsideInBook S.Store conn.old conn.new header result }
     ensures settled { conn.new.in_transaction ≡ false }
     ensures survives { CountsFaults S.Store conn.old conn.new }
     ensures crash { CommitsBookOnce S.Store conn.old conn.new header

@@ -2,9 +2,12 @@
 use Rattle.std.specs.Prelude.{ℕ, List, Option, Result, IsTrue}
 use Rattle.sqlite.specs.Held.{Held, state}
 use Rattle.vcard_lines.specs.declared.line.Line.{Line}
-use Rattle.store_tables.specs.OnConnections.{Ghosts, HasCleanDisk, Survives}
+use Rattle.book_model.specs.declared.denied.Denied.{Denied}
+use Rattle.store_tables.specs.OnConnections.{Ghosts, HasCleanDisk, Survives, table_rows}
 use Rattle.store_rows.specs.TableBooks.{HeaderRow}
 use Rattle.store_rows.specs.TableRows.{TableRows}
+use Rattle.store_lookups.specs.ChangeFaults.{AcceptChanges, HaveFreeIds}
+use Rattle.store_lookups.specs.OnConnections.{HasOutsideCauseOfFault, WriteFaultsFromOutside}
 use Rattle.store_writes.specs.OnConnections.{IsAtomic}
 use Rattle.store_writes.specs.TableChanges.{HoldsBooks, TreesHold}
 use Rattle.store_removals.specs.internal.Moves as moves
@@ -38,3 +41,17 @@ module _ {S : Type 0} (store : Ghosts S) (old new : Held S) where
       HasBothRows store old rows from source to target →
       Survives store old new
       (TreesHold (table_books_after_move rows from source to target uid card drop))
+
+  -- Inside a transaction over rows that can be changed, among them those of both books, a fault of
+  -- the store comes only from an outside cause.
+  abbrev pub MoveFaultsFromOutsideTx : {A : Type 0} → HeaderRow → HeaderRow → Result A Denied → Type 0
+  MoveFaultsFromOutsideTx source target result = (rows : TableRows) (from to : List ℕ) →
+      HasBothRows store old rows from source to target → AcceptChanges rows →
+      HaveFreeIds (table_rows store old) → WriteFaultsFromOutside store old new result
+
+  -- the same for a whole transaction
+  abbrev pub MoveFaultsFromOutside : {A : Type 0} → HeaderRow → HeaderRow → Result A Denied → Type 0
+  MoveFaultsFromOutside source target result = (rows : TableRows) (from to : List ℕ) →
+      HasCleanDisk store new → HasBothRows store old rows from source to target →
+      AcceptChanges rows → HaveFreeIds (table_rows store old) →
+      HasOutsideCauseOfFault store old new result

@@ -1,4 +1,7 @@
-use Rattle.std.proofs.Common.{rules, ◌≡◌, Some, IfSome, Ok, Err, sym, ap₂, subst, ◌∙◌}
+use Rattle.std.proofs.Common.{rules, ◌≡◌, Some, IfSome, Ok, Err, sym, ap₂, subst, ◌∙◌, arith}
+use Rattle.store_lookups.proofs.StoreFaultLemmas.{passed_cause}
+use Rattle.store_writes.proofs.TransactionFaults.{refused_cause}
+use Rattle.store_removals.proofs.FaultLemmas.{move_rooms}
 use Rattle.book_model.specs.declared.denied.Denied.TheVariants.{Refused}
 use Rattle.book_model.specs.Books.{as_stored}
 use Rattle.book_model.specs.Counting.{live_count}
@@ -39,3 +42,41 @@ returns-in-Some-clause-answers g c rows clean holds sound from to =
     subst (λ o. IfSome o (λ s. move_answer c.args.limits (lookup_of (as_stored c.as_version_and_card.result) c.live.result c.number.result) (lookup_of (as_stored c.as_version_and_card-2.result) c.live-2.result c.number-2.result) c.args.expect ≡ Ok (moving_of s.card c.in_ok-moved.moved))) some c.in_ok-moved.ensures.answer in
     let is : moving_between_books c.args.limits c.args.uid.now c.args.expect book other ≡ Ok (moving_of stored.card c.in_ok-moved.moved) = ap₂ (λ (a b : FoundMember). move_answer c.args.limits a b c.args.expect) (sym same) (sym alike) ∙ asked in
     moving_is_exact _ (stored.card, c.in_ok-moved.moved) is
+
+pub returns-in-Some-clause-source_number_fits : goal.returns-in-Some-clause-source_number_fits
+returns-in-Some-clause-source_number_fits g c =
+    let stored = c.in-Some.stored in
+    let some : as_stored c.as_version_and_card.result ≡ Some stored = c.as_version_and_card.ensures ∙ c.in-Some.is in
+    let source = lookup_of (as_stored c.as_version_and_card.result) c.live.result c.number.result in
+    let target = lookup_of (as_stored c.as_version_and_card-2.result) c.live-2.result c.number-2.result in
+    let asked : move_answer c.args.limits source target c.args.expect ≡ Ok (moving_of stored.card c.in_ok-moved.moved) =
+    subst (λ o. IfSome o (λ s. move_answer c.args.limits source target c.args.expect ≡ Ok (moving_of s.card c.in_ok-moved.moved))) some c.in_ok-moved.ensures.answer in
+    let rooms = move_rooms c.args.limits source target c.args.expect (moving_of stored.card c.in_ok-moved.moved) asked in
+    let value = c.changes_max-most.ensures.value in
+    let most = c.changes_max-most.ensures.most in
+    let number = c.number.ensures in
+    let room = rooms.0 in
+    omega (arith, number, room, value, most)
+
+pub returns-in-Some-clause-target_number_fits : goal.returns-in-Some-clause-target_number_fits
+returns-in-Some-clause-target_number_fits g c =
+    let stored = c.in-Some.stored in
+    let some : as_stored c.as_version_and_card.result ≡ Some stored = c.as_version_and_card.ensures ∙ c.in-Some.is in
+    let source = lookup_of (as_stored c.as_version_and_card.result) c.live.result c.number.result in
+    let target = lookup_of (as_stored c.as_version_and_card-2.result) c.live-2.result c.number-2.result in
+    let asked : move_answer c.args.limits source target c.args.expect ≡ Ok (moving_of stored.card c.in_ok-moved.moved) =
+    subst (λ o. IfSome o (λ s. move_answer c.args.limits source target c.args.expect ≡ Ok (moving_of s.card c.in_ok-moved.moved))) some c.in_ok-moved.ensures.answer in
+    let rooms = move_rooms c.args.limits source target c.args.expect (moving_of stored.card c.in_ok-moved.moved) asked in
+    let value = c.changes_max-most.ensures.value in
+    let most = c.changes_max-most.ensures.most in
+    let number = c.number-2.ensures in
+    let room = rooms.1 in
+    omega (arith, number, room, value, most)
+
+pub returns-in_err-here-clause-store_fault : goal.returns-in_err-here-clause-store_fault
+returns-in_err-here-clause-store_fault g c target source rows clean holds faultless =
+    passed_cause c.from_residual.result c.in_err-here.field-0.0 _ c.from_residual.ensures.1 (c.in_err-here.ensures.store_fault target source rows clean holds faultless)
+
+pub returns-in_err-moved-clause-store_fault : goal.returns-in_err-moved-clause-store_fault
+returns-in_err-moved-clause-store_fault g c target source rows clean holds faultless =
+    refused_cause c.from_residual-in_err-moved.result c.in_err-moved.field-0.0 _ (search rules)

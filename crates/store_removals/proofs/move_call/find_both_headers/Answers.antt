@@ -1,4 +1,8 @@
-use Rattle.std.proofs.Common.{rules, ◌≡◌, Ok, Err, sym, subst}
+use Rattle.std.proofs.Common.{rules, ◌≡◌, Ok, Err, sym, subst, Result}
+use Rattle.book_model.specs.declared.denied.Denied.{Denied}
+use Rattle.store_rows.specs.TableBooks.{HeaderRow}
+use Rattle.store_lookups.proofs.StoreFaultLemmas.{passed_cause}
+use Rattle.store_removals.proofs.FaultLemmas.{then_reads}
 use Rattle.sqlite.specs.Held.{state}
 use Rattle.sqlite.specs.State.{HasCleanDisk}
 use Rattle.book_model.specs.Books.{Book, book_named}
@@ -47,3 +51,14 @@ returns-clause-finds g c rows clean holds sound =
 pub returns-clause-reads_only : goal.returns-clause-reads_only
 returns-clause-reads_only g c =
     reads_then (state g.S.Store c.args.conn.now) (state g.S.Store c.open_header.new.conn) (state g.S.Store c.find_header.new.conn) c.open_header.ensures.reads_only c.in_ok-source.ensures.unchanged c.find_header.ensures.reads_only
+
+pub returns-in_err-source-clause-store_fault : goal.returns-in_err-source-clause-store_fault
+returns-in_err-source-clause-store_fault g c rows clean holds faultless =
+    passed_cause c.from_residual.result c.in_err-source.field-0.0 _ c.from_residual.ensures.1 (c.in_err-source.ensures.store_fault rows clean holds faultless)
+
+pub returns-in_err-target-clause-store_fault : goal.returns-in_err-target-clause-store_fault
+returns-in_err-target-clause-store_fault g c rows clean holds faultless =
+    let failed : Result HeaderRow Denied = Err c.in_err-target.field-0.0 in
+    passed_cause c.from_residual-in_err-target.result c.in_err-target.field-0.0 _ c.from_residual-in_err-target.ensures.1
+    (then_reads (state g.S.Store c.args.conn.now) (state g.S.Store c.open_header.new.conn) (state g.S.Store c.find_header.new.conn) _ _ failed c.open_header.ensures.reads_only.survives c.in_ok-source.ensures.unchanged
+    c.find_header.ensures.reads_only.survives c.in_err-target.ensures.store_fault rows clean holds faultless)

@@ -1,4 +1,11 @@
 use Rattle.std.proofs.Common.{rules, ◌≡◌, IsTrue, Result, Ok, Err, sym, ap, subst}
+use Rattle.book_model.specs.Putting.{found_in_book}
+use Rattle.store_tables.proofs.FailureLemmas.{outside_later}
+use Rattle.store_tables.proofs.SchemaCreationLemmas.{clean_before}
+use Rattle.store_rows.specs.TableBooks.{line_row, row_book}
+use Rattle.store_lookups.specs.ChangeFaults.{HaveFreeIds}
+use Rattle.store_lookups.proofs.StoreFaultLemmas.{passed_cause}
+use Rattle.store_removals.proofs.FaultLemmas.{drop_below, live_short, moves_live}
 use Rattle.sqlite.specs.Effect.{Database}
 use Rattle.sqlite.specs.Held.{state}
 use Rattle.sqlite.specs.State.{State, HasCleanDisk}
@@ -103,3 +110,28 @@ returns-in_err-write_move-clause-crash g c = crash g (goal.at.returns-in_err-wri
 
 pub returns-clause-crash : goal.returns-clause-crash
 returns-clause-crash g c = crash g (goal.at.returns-clause-crash g c).After-write_move
+
+-- ---- faults
+
+pub returns-in_err-plan-clause-store_fault : goal.returns-in_err-plan-clause-store_fault
+returns-in_err-plan-clause-store_fault g c rows clean holds accept free =
+    passed_cause c.from_residual.result c.in_err-plan.field-0.0 _ c.from_residual.ensures.1 (c.in_err-plan.ensures.store_fault rows clean holds accept free)
+
+pub returns-in_err-write_move-clause-store_fault : goal.returns-in_err-write_move-clause-store_fault
+returns-in_err-write_move-clause-store_fault g c rows clean holds accept free =
+    let p = (goal.at.returns-in_err-write_move-clause-store_fault g c).After-write_move in
+    let before = old g (planning g p) in
+    let between = mid g (planning g p) in
+    let plan = c.in_ok-plan.plan in
+    let early : HasCleanDisk between = clean_before _ between (new g p) c.write_move.ensures.survives clean in
+    let kept = c.in_ok-plan.ensures.unchanged early holds.schema in
+    let still = subst (λ (d : Database). HoldsRows d rows) (sym kept.0.now_is) holds in
+    let ids = subst (λ (d : Database). HaveFreeIds d.trees) (sym kept.0.now_is) free in
+    let planned = c.in_ok-plan.ensures.planned rows early holds accept.faultless.sound in
+    let both = both_there g p rows still accept.faultless.sound planned in
+    let live = moves_live c.args.limits (found_in_book (row_book rows (line_row c.args.from.now plan.source)) c.args.uid.now) (found_in_book (row_book rows (line_row c.args.to.now plan.target)) c.args.uid.now) c.args.expect _ planned.moving in
+    let short = live_short rows (line_row c.args.from.now plan.source) c.args.uid.now live.0 accept.short_uids live.1 in
+    let fits = c.in_ok-plan.ensures.source_number_fits in
+    passed_cause c.from_residual-in_err-write_move.result c.in_err-write_move.field-0.0 _ c.from_residual-in_err-write_move.ensures.1
+    (λ store. outside_later before between (new g p) _ _ c.plan_move.ensures.reads_only.survives early c.write_move.ensures.survives
+    (c.in_err-write_move.ensures.store_fault fits c.in_ok-plan.ensures.target_number_fits (drop_below plan.drop plan.source.number c.in_ok-plan.ensures.drop_fits fits) short rows c.args.from.now c.args.to.now clean both accept ids store))

@@ -1,4 +1,12 @@
-use Rattle.std.proofs.Common.{rules, ◌≡◌, ◌≤◌, ℕ, false, Err, sym, subst, ◌∙◌}
+use Rattle.std.proofs.Common.{rules, ◌≡◌, ◌≤◌, ℕ, false, Err, sym, subst, ◌∙◌, Result, Option, List}
+use Rattle.std.specs.Prelude.{⊤}
+use Rattle.sqlite.proofs.StateLemmas.{survives_then}
+use Rattle.vcard_lines.specs.declared.line.Line.{Line}
+use Rattle.book_model.specs.declared.answers.Moved.{Moved}
+use Rattle.book_model.specs.declared.denied.Denied.{Denied}
+use Rattle.store_lookups.proofs.ChangeFaultLemmas.{header_fits, then_change_faults}
+use Rattle.store_lookups.proofs.StoreFaultLemmas.{passed_cause}
+use Rattle.store_removals.proofs.FaultLemmas.{then_reads}
 use Rattle.std.proofs.lemmas.Map.Text.{is_eq-slice_cmp}
 use Rattle.sqlite.specs.Held.{state}
 use Rattle.sqlite.specs.State.{HasCleanDisk}
@@ -79,3 +87,36 @@ returns-clause-reads_only g c =
     let read = reads_then old a b c.find_both_headers.ensures.reads_only c.in_ok-source.ensures.unchanged c.decide_move.ensures.reads_only in
     let same = same_then old a b _ c.in_ok-source.ensures.unchanged c.decide_move.ensures.reads_only.survives c.in_ok-card.ensures.unchanged in
     reads_then old b (state g.S.Store c.plan_drop.new.conn) read same c.plan_drop.ensures.reads_only
+
+-- ---- faults
+
+pub returns-in_err-source-clause-store_fault : goal.returns-in_err-source-clause-store_fault
+returns-in_err-source-clause-store_fault g c rows clean holds accept free =
+    passed_cause c.from_residual.result c.in_err-source.field-0.0 _ c.from_residual.ensures.1 (c.in_err-source.ensures.store_fault rows clean holds accept.faultless)
+
+pub returns-in_err-card-clause-store_fault : goal.returns-in_err-card-clause-store_fault
+returns-in_err-card-clause-store_fault g c rows clean holds accept free =
+    let old = state g.S.Store c.args.conn.now in
+    let mid = state g.S.Store c.find_both_headers.new.conn in
+    let new = state g.S.Store c.decide_move.new.conn in
+    let early : HasCleanDisk mid = clean_before _ mid new c.decide_move.ensures.reads_only.survives clean in
+    let named = c.in_ok-source.ensures.finds rows early holds accept.faultless.sound in
+    let source = header_fits rows c.args.from.now c.in_ok-source.source accept named.0.there in
+    let target = header_fits rows c.args.to.now c.in_ok-source.target accept named.1.there in
+    let failed : Result (List Line × Moved) Denied = Err c.in_err-card.field-0.0 in
+    passed_cause c.from_residual-in_err-card.result c.in_err-card.field-0.0 _ c.from_residual-in_err-card.ensures.1
+    (then_reads old mid new _ _ failed c.find_both_headers.ensures.reads_only.survives c.in_ok-source.ensures.unchanged c.decide_move.ensures.reads_only.survives (c.in_err-card.ensures.store_fault target source) rows clean holds accept.faultless)
+
+pub returns-in_err-drop-clause-store_fault : goal.returns-in_err-drop-clause-store_fault
+returns-in_err-drop-clause-store_fault g c rows clean holds accept free =
+    let old = state g.S.Store c.args.conn.now in
+    let a = state g.S.Store c.find_both_headers.new.conn in
+    let b = state g.S.Store c.decide_move.new.conn in
+    let new = state g.S.Store c.plan_drop.new.conn in
+    let same = same_then old a b _ c.in_ok-source.ensures.unchanged c.decide_move.ensures.reads_only.survives c.in_ok-card.ensures.unchanged in
+    let read = survives_then old a b _ _ (λ _. ⊤) (λ _ db none. tt) (λ _ db none. tt) c.find_both_headers.ensures.reads_only.survives c.decide_move.ensures.reads_only.survives in
+    let failed : Result (Option ℕ) Denied = Err c.in_err-drop.field-0.0 in
+    passed_cause c.from_residual-in_err-drop.result c.in_err-drop.field-0.0 _ c.from_residual-in_err-drop.ensures.1
+    (then_change_faults old b new _ _ c.args.from.now c.in_ok-source.source failed read same
+    (λ rows later held sound. (c.in_ok-source.ensures.finds rows (clean_before _ a b c.decide_move.ensures.reads_only.survives later) held sound).0.there)
+    c.plan_drop.ensures.reads_only.survives c.in_err-drop.ensures.store_fault rows clean holds accept free)

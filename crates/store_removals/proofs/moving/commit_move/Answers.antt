@@ -1,4 +1,8 @@
 use Rattle.std.proofs.Common.{rules, ◌≡◌, IsTrue, List, ℕ, true, Err, sym, subst}
+use Rattle.store_tables.specs.Failures.{HasOutsideCause}
+use Rattle.store_tables.proofs.FailureLemmas.{outside_later}
+use Rattle.store_lookups.proofs.StoreFaultLemmas.{passed_cause}
+use Rattle.store_writes.proofs.TransactionFaults.{commit_fails, error_faults, if_open, live_obeys, outside_sooner}
 use Rattle.std.specs.Prelude.{⊤}
 use Rattle.sqlite.specs.Held.{state}
 use Rattle.sqlite.specs.State.{State, HasCleanDisk, KeepsCommit, Survives}
@@ -100,3 +104,35 @@ returns-in_err-move_rows-clause-atomic g c text rows from to clean line =
     subst (λ r. IsAtomic (old g p) (state g.S.Store c.conn-1.given.0) r (λ _ db. HoldsBooks db (made g p rows from to))) (sym said)
     (subst (λ k. IsTrue (state g.S.Store k).is_open → ((state g.S.Store k).now ≡ (old g p).now) × ((state g.S.Store k).now ≡ (state g.S.Store k).committed)) same
     (rollback_restores (state g.S.Store (record c.args.conn.now { in_transaction = true })) (mid g p) last kept (c.drop-tx.ensures.undone late) c.assert_no_pending_writes.ensures))
+
+-- ---- faults
+
+-- the writes failed
+pub returns-in_err-move_rows-clause-store_fault : goal.returns-in_err-move_rows-clause-store_fault
+returns-in_err-move_rows-clause-store_fault g c from_fits to_fits drop_fits short slim text rows from to clean lines accept free =
+    let p = (goal.at.returns-in_err-move_rows-clause-store_fault g c).After-move_rows in
+    let end = state g.S.Store c.drop-tx.new.self.0 in
+    let same : c.drop-tx.new.self.0 ≡ c.conn-1.given.0 = search rules in
+    let late : HasCleanDisk end = subst (λ k. HasCleanDisk (state g.S.Store k)) (sym same) clean in
+    let early : HasCleanDisk (mid g p) = clean_before _ (mid g p) end c.drop-tx.ensures.survives late in
+    let begun = c.transaction-tx.ensures.begun in
+    passed_cause c.from_residual.result c.in_err-move_rows.field-0.0 _ c.from_residual.ensures.1
+    (λ store. subst (λ k. HasOutsideCause (old g p) (state g.S.Store k)) same
+    (if_open (old g p) end (λ up. outside_sooner (old g p) (mid g p) end _ c.drop-tx.ensures.survives
+    (rw begun at (c.in_err-move_rows.ensures.store_fault from_fits to_fits drop_fits short slim text rows from to (there g p rows from to lines) accept (rw begun free) early (inside g p)
+    (rw begun (live_obeys (old g p) c.schema-tables.ensures.live lines.holds.schema up)) store)))))
+
+-- the commit failed
+pub returns-in-Err-clause-store_fault : goal.returns-in-Err-clause-store_fault
+returns-in-Err-clause-store_fault g c from_fits to_fits drop_fits short slim text rows from to clean lines accept free =
+    let p = (goal.at.returns-in-Err-clause-store_fault g c).After-commit in
+    let w = writing g p in
+    let same : c.commit.new.self.0 ≡ c.conn-2-1.given.0 = search rules in
+    let late : HasCleanDisk (end g p) = subst (λ k. HasCleanDisk (state g.S.Store k)) (sym same) clean in
+    let first = clean_mid g p late in
+    let left = c.in_ok-move_rows.ensures.books_after rows from to first (inside g w) (there g w rows from to lines) text in
+    error_faults c.in-Err.error c.fault_of.result _ c.fault_of.ensures.value
+    (λ room. subst (λ k. HasOutsideCause (old g w) (state g.S.Store k)) same
+    (let outside = outside_later (begun g w) (mid g w) (end g p) _ _ c.move_rows.ensures.survives first c.commit.ensures.survives
+    (commit_fails (mid g w) (end g p) c.in-Err.error left.inside (c.in-Err.ensures.err late) room) in
+    rw c.transaction-tx.ensures.begun at outside))

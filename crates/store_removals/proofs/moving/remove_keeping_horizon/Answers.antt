@@ -1,4 +1,7 @@
-use Rattle.std.proofs.Common.{rules, ◌≡◌, ◌+◌, pos, to_z, of_z, w64, refl, ap}
+use Rattle.std.proofs.Common.{rules, ◌≡◌, ◌+◌, pos, to_z, of_z, w64, refl, ap, subst, sym, arith, None, Some}
+use Rattle.sqlite.specs.Held.{state}
+use Rattle.store_writes.specs.AcceptedChanges.{AcceptsMemberOf}
+use Rattle.store_writes.proofs.TransactionFaults.{error_faults, memory_cause}
 use Rattle.book_model.specs.declared.change.Change.TheVariants.{TakesAway}
 use Rattle.book_model.specs.declared.change.RemovalReason.TheVariants.{MoveOut}
 use Rattle.book_model.specs.Counting.{counts_after_change}
@@ -27,3 +30,31 @@ pub returns-in-Err-clause-keeps_commit : goal.returns-in-Err-clause-keeps_commit
 returns-in-Err-clause-keeps_commit g c rows name clean inside line =
     let id : to_z w64 (of_z w64 c.in_ok-id.id) ≡ pos c.args.header.id = back_of c.in_ok-id.id c.id.result c.args.header.id c.in_ok-id.ensures.ok c.in_ok-id.ensures.fits c.id.ensures in
     c.in-Err.ensures.keeps_commit c.args.header id rows name clean inside line
+
+-- ---- faults
+
+pub returns-in_err-numbers-clause-store_fault : goal.returns-in_err-numbers-clause-store_fault
+returns-in_err-numbers-clause-store_fault g c fits rows name accepts below clean inside obeys =
+    let header = c.horizon.ensures.most in
+    let horizon = c.horizon.ensures.value in
+    memory_cause c.from_residual.result c.in_err-numbers.field-0.0 _ c.from_residual.ensures.1 (c.in_err-numbers.ensures.memory fits (omega (arith, fits, header, horizon)))
+
+pub returns-in_err-id-clause-store_fault : goal.returns-in_err-id-clause-store_fault
+returns-in_err-id-clause-store_fault g c fits rows name accepts below clean inside obeys =
+    let great = c.in_err-id.ensures.too_great in
+    let is = c.id.ensures in
+    absurd (omega (arith, below, great, is))
+
+pub returns-in_err-changed-clause-store_fault : goal.returns-in_err-changed-clause-store_fault
+returns-in_err-changed-clause-store_fault g c fits rows name accepts below clean inside obeys =
+    let great = c.in_err-changed.ensures.too_great in
+    let is = c.number.ensures in
+    absurd (omega (arith, fits, great, is))
+
+pub returns-in-Err-clause-store_fault : goal.returns-in-Err-clause-store_fault
+returns-in-Err-clause-store_fault g c fits rows name accepts below clean inside obeys =
+    let id : to_z w64 (of_z w64 c.in_ok-id.id) ≡ pos c.args.header.id = back_of c.in_ok-id.id c.id.result c.args.header.id c.in_ok-id.ensures.ok c.in_ok-id.ensures.fits c.id.ensures in
+    let at : to_z w64 (of_z w64 c.in_ok-changed.changed) ≡ pos (c.args.header.number + 1) = back_of c.in_ok-changed.changed (c.number.result + 1) (c.args.header.number + 1) c.in_ok-changed.ensures.ok c.in_ok-changed.ensures.fits (ap (λ k. k + 1) c.number.ensures) in
+    let db = (state g.S.Store c.args.tx.now.conn.now).now in
+    let ready = subst (λ z. AcceptsMemberOf db rows name c.args.header c.args.uid.now z None) (sym at) accepts in
+    error_faults c.in-Err.error c.fault_of.result _ c.fault_of.ensures.value (c.in-Err.ensures.fails_from_outside rows name c.args.header id ready clean inside accepts.book.line.holds.schema obeys)

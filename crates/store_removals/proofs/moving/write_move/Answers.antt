@@ -1,4 +1,7 @@
 use Rattle.std.proofs.Common.{rules, ◌≡◌}
+use Rattle.vcard_text.specs.Cards.{canonical_text}
+use Rattle.store_writes.proofs.AcceptLemmas.{card_text_short}
+use Rattle.store_writes.proofs.TransactionFaults.{memory_cause}
 use Rattle.store_rows.specs.Values.{text_card}
 use Rattle.store_removals.proofs.moving.write_move.Goals as goal
 
@@ -11,3 +14,13 @@ pub returns-clause-crash : goal.returns-clause-crash
 returns-clause-crash g c rows from to lines =
     let is : text_card c.as_str.result.now ≡ c.args.card.now = search rules in
     c.commit_move.ensures.crash is rows from to lines
+
+pub returns-in_err-text-clause-store_fault : goal.returns-in_err-text-clause-store_fault
+returns-in_err-text-clause-store_fault g c from_fits to_fits drop_fits short rows from to clean lines accept free =
+    memory_cause c.from_residual.result c.in_err-text.field-0.0 _ c.from_residual.ensures.1 c.in_err-text.ensures.memory
+
+pub returns-clause-store_fault : goal.returns-clause-store_fault
+returns-clause-store_fault g c from_fits to_fits drop_fits short =
+    let is : text_card c.as_str.result.now ≡ c.args.card.now = search rules in
+    let text : c.as_str.result.now ≡ canonical_text c.args.card.now = search rules in
+    c.commit_move.ensures.store_fault from_fits to_fits drop_fits short (card_text_short c.args.card.now c.as_str.result.now c.lines-lines.ensures.rules text) is

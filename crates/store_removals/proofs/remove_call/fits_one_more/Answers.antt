@@ -1,4 +1,7 @@
-use Rattle.std.proofs.Common.{◌+◌, ℕ, nat_le, sym, ap₂, ◌∙◌}
+use Rattle.std.proofs.Common.{◌+◌, ℕ, nat_le, sym, ap₂, ◌∙◌, Result, Err}
+use Rattle.book_model.specs.declared.denied.Denied.{Denied}
+use Rattle.store_lookups.proofs.StoreFaultLemmas.{passed_cause}
+use Rattle.store_lookups.proofs.ChangeFaultLemmas.{read_faults_in, then_faults_in}
 use Rattle.sqlite.specs.Held.{state}
 use Rattle.sqlite.specs.State.{HasCleanDisk}
 use Rattle.store_tables.proofs.SchemaCreationLemmas.{clean_before}
@@ -23,3 +26,17 @@ returns-clause-has_room g c rows clean holds sound name =
 pub returns-clause-reads_only : goal.returns-clause-reads_only
 returns-clause-reads_only g c =
     reads_then (state g.S.Store c.args.conn.now) (state g.S.Store c.fetch_keep.new.conn) (state g.S.Store c.count_removals.new.conn) c.fetch_keep.ensures.reads_only c.in_ok-keep.ensures.unchanged c.count_removals.ensures.reads_only
+
+pub returns-in_err-keep-clause-store_fault : goal.returns-in_err-keep-clause-store_fault
+returns-in_err-keep-clause-store_fault g c rows name clean holds accept free there =
+    passed_cause c.from_residual.result c.in_err-keep.field-0.0 _ c.from_residual.ensures.1 (c.in_err-keep.ensures.store_fault rows name clean holds accept free there)
+
+pub returns-in_err-remembered-clause-store_fault : goal.returns-in_err-remembered-clause-store_fault
+returns-in_err-remembered-clause-store_fault g c rows name clean holds accept free there =
+    let old = state g.S.Store c.args.conn.now in
+    let mid = state g.S.Store c.fetch_keep.new.conn in
+    let new = state g.S.Store c.count_removals.new.conn in
+    let failed : Result ℕ Denied = Err c.in_err-remembered.field-0.0 in
+    passed_cause c.from_residual-in_err-remembered.result c.in_err-remembered.field-0.0 _ c.from_residual-in_err-remembered.ensures.1
+    (then_faults_in old mid new _ _ c.args.header failed c.fetch_keep.ensures.reads_only.survives c.in_ok-keep.ensures.unchanged c.count_removals.ensures.reads_only.survives
+    (read_faults_in mid new c.args.header failed c.in_err-remembered.ensures.store_fault) rows name clean holds accept free there)

@@ -1,4 +1,8 @@
-use Rattle.std.proofs.Common.{rules, ◌≡◌, ◌+◌, ℕ, min, true, false, ap, ◌∙◌}
+use Rattle.std.proofs.Common.{rules, ◌≡◌, ◌+◌, ℕ, min, true, false, ap, ◌∙◌, Err, arith, Result, Option}
+use Rattle.book_model.specs.declared.denied.Denied.{Denied}
+use Rattle.store_lookups.proofs.StoreFaultLemmas.{passed_cause}
+use Rattle.store_lookups.proofs.ChangeFaultLemmas.{then_faults_in}
+use Rattle.store_removals.proofs.FaultLemmas.{least_within}
 use Rattle.std.specs.Option.{option_map_or}
 use Rattle.sqlite.specs.Held.{state}
 use Rattle.sqlite.specs.State.{HasCleanDisk}
@@ -31,3 +35,20 @@ returns-clause-drop g c rows clean holds sound name =
 pub returns-clause-reads_only : goal.returns-clause-reads_only
 returns-clause-reads_only g c =
     reads_then (state g.S.Store c.args.conn.now) (state g.S.Store c.fits_one_more.new.conn) (state g.S.Store c.oldest_removal_of.new.conn) c.fits_one_more.ensures.reads_only c.in_ok-room.ensures.unchanged c.oldest_removal_of.ensures.reads_only
+
+pub returns-clause-most : goal.returns-clause-most
+returns-clause-most g c =
+    let number = c.number.ensures in
+    let low = least_within c.in_ok-first.first (c.number.result + 1) c.min_with_first.result c.min_with_first.ensures in
+    omega (arith, number, low)
+
+pub returns-in_err-room-clause-store_fault : goal.returns-in_err-room-clause-store_fault
+returns-in_err-room-clause-store_fault g c rows name clean holds accept free there =
+    passed_cause c.from_residual.result c.in_err-room.field-0.0 _ c.from_residual.ensures.1 (c.in_err-room.ensures.store_fault rows name clean holds accept free there)
+
+pub returns-in_err-first-clause-store_fault : goal.returns-in_err-first-clause-store_fault
+returns-in_err-first-clause-store_fault g c rows name clean holds accept free there =
+    let failed : Result (Option ℕ) Denied = Err c.in_err-first.field-0.0 in
+    passed_cause c.from_residual-in_err-first.result c.in_err-first.field-0.0 _ c.from_residual-in_err-first.ensures.1
+    (then_faults_in (state g.S.Store c.args.conn.now) (state g.S.Store c.fits_one_more.new.conn) (state g.S.Store c.oldest_removal_of.new.conn) _ _ c.args.header failed c.fits_one_more.ensures.reads_only.survives c.in_ok-room.ensures.unchanged
+    c.oldest_removal_of.ensures.reads_only.survives c.in_err-first.ensures.store_fault rows name clean holds accept free there)

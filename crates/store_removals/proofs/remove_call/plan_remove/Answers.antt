@@ -1,4 +1,9 @@
-use Rattle.std.proofs.Common.{rules, ◌≡◌, ◌≤◌, ℕ, Err, sym, subst}
+use Rattle.std.proofs.Common.{rules, ◌≡◌, ◌≤◌, ℕ, Err, sym, subst, Result, Option}
+use Rattle.std.specs.Prelude.{⊤}
+use Rattle.sqlite.proofs.StateLemmas.{survives_then}
+use Rattle.book_model.specs.declared.denied.Denied.{Denied}
+use Rattle.store_lookups.proofs.ChangeFaultLemmas.{then_change_faults}
+use Rattle.store_lookups.proofs.StoreFaultLemmas.{passed_cause, then_faults}
 use Rattle.sqlite.specs.Held.{state}
 use Rattle.sqlite.specs.State.{HasCleanDisk}
 use Rattle.store_tables.proofs.SchemaCreationLemmas.{clean_before}
@@ -86,3 +91,33 @@ returns-clause-was_open g c clean =
     let b = state g.S.Store c.decide_removal.new.conn in
     let later : HasCleanDisk b = clean_before _ b (state g.S.Store c.plan_drop.new.conn) c.plan_drop.ensures.reads_only.survives clean in
     c.in_ok-header.ensures.was_open (clean_before _ a b c.decide_removal.ensures.reads_only.survives later)
+
+-- ---- faults
+
+pub returns-in_err-header-clause-store_fault : goal.returns-in_err-header-clause-store_fault
+returns-in_err-header-clause-store_fault g c rows clean holds accept free =
+    passed_cause c.from_residual.result c.in_err-header.field-0.0 _ c.from_residual.ensures.1 (c.in_err-header.ensures.store_fault rows clean holds accept.faultless)
+
+pub returns-in_err-number-clause-store_fault : goal.returns-in_err-number-clause-store_fault
+returns-in_err-number-clause-store_fault g c rows clean holds accept free =
+    let old = state g.S.Store c.args.conn.now in
+    let mid = state g.S.Store c.open_header.new.conn in
+    let new = state g.S.Store c.decide_removal.new.conn in
+    let failed : Result ℕ Denied = Err c.in_err-number.field-0.0 in
+    passed_cause c.from_residual-in_err-number.result c.in_err-number.field-0.0 _ c.from_residual-in_err-number.ensures.1
+    (then_faults old mid new _ _ c.args.name.now c.in_ok-header.header failed c.open_header.ensures.reads_only.survives c.in_ok-header.ensures.unchanged c.in_ok-header.ensures.finds
+    c.decide_removal.ensures.reads_only.survives c.in_err-number.ensures.store_fault rows clean holds accept.faultless)
+
+pub returns-in_err-drop-clause-store_fault : goal.returns-in_err-drop-clause-store_fault
+returns-in_err-drop-clause-store_fault g c rows clean holds accept free =
+    let old = state g.S.Store c.args.conn.now in
+    let a = state g.S.Store c.open_header.new.conn in
+    let b = state g.S.Store c.decide_removal.new.conn in
+    let new = state g.S.Store c.plan_drop.new.conn in
+    let same = same_then old a b _ c.in_ok-header.ensures.unchanged c.decide_removal.ensures.reads_only.survives c.in_ok-number.ensures.unchanged in
+    let read = survives_then old a b _ _ (λ _. ⊤) (λ _ db none. tt) (λ _ db none. tt) c.open_header.ensures.reads_only.survives c.decide_removal.ensures.reads_only.survives in
+    let failed : Result (Option ℕ) Denied = Err c.in_err-drop.field-0.0 in
+    passed_cause c.from_residual-in_err-drop.result c.in_err-drop.field-0.0 _ c.from_residual-in_err-drop.ensures.1
+    (then_change_faults old b new _ _ c.args.name.now c.in_ok-header.header failed read same
+    (λ rows later held sound. (c.in_ok-header.ensures.finds rows (clean_before _ a b c.decide_removal.ensures.reads_only.survives later) held sound).there)
+    c.plan_drop.ensures.reads_only.survives c.in_err-drop.ensures.store_fault rows clean holds accept free)

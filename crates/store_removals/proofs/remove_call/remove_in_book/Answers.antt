@@ -1,4 +1,9 @@
 use Rattle.std.proofs.Common.{rules, ◌≡◌, ℕ, IsTrue, Result, Ok, Err, sym, ap, subst}
+use Rattle.book_model.specs.Putting.{found_in_book}
+use Rattle.store_tables.proofs.SchemaCreationLemmas.{clean_before}
+use Rattle.store_lookups.proofs.ChangeFaultLemmas.{then_change_faults}
+use Rattle.store_lookups.proofs.StoreFaultLemmas.{passed_cause}
+use Rattle.store_removals.proofs.FaultLemmas.{drop_below, live_short, removes_live}
 use Rattle.std.specs.FinMap as finite
 use Rattle.sqlite.specs.Effect.{Database}
 use Rattle.sqlite.specs.Held.{state}
@@ -103,3 +108,25 @@ returns-in_err-write_remove-clause-crash g c = crash g (goal.at.returns-in_err-w
 
 pub returns-clause-crash : goal.returns-clause-crash
 returns-clause-crash g c = crash g (goal.at.returns-clause-crash g c).After-write_remove
+
+-- ---- faults
+
+pub returns-in_err-plan-clause-store_fault : goal.returns-in_err-plan-clause-store_fault
+returns-in_err-plan-clause-store_fault g c rows clean holds accept free =
+    passed_cause c.from_residual.result c.in_err-plan.field-0.0 _ c.from_residual.ensures.1 (c.in_err-plan.ensures.store_fault rows clean holds accept free)
+
+pub returns-in_err-write_remove-clause-store_fault : goal.returns-in_err-write_remove-clause-store_fault
+returns-in_err-write_remove-clause-store_fault g c rows clean holds accept free =
+    let p = (goal.at.returns-in_err-write_remove-clause-store_fault g c).After-write_remove in
+    let before = old g (planning g p) in
+    let between = mid g (planning g p) in
+    let plan = c.in_ok-plan.plan in
+    let name = c.args.name.now in
+    let planned = c.in_ok-plan.ensures.planned rows (clean_before _ between (new g p) c.write_remove.ensures.survives clean) holds accept.faultless.sound in
+    let live = removes_live c.args.limits (found_in_book (row_book rows (line_row name plan.header)) c.args.uid.now) c.args.expect plan.number planned.number in
+    let short = live_short rows (line_row name plan.header) c.args.uid.now live.0 accept.short_uids live.1 in
+    let failed : Result ℕ Denied = Err c.in_err-write_remove.field-0.0 in
+    passed_cause c.from_residual-in_err-write_remove.result c.in_err-write_remove.field-0.0 _ c.from_residual-in_err-write_remove.ensures.1
+    (then_change_faults before between (new g p) _ _ name plan.header failed c.plan_remove.ensures.reads_only.survives c.in_ok-plan.ensures.unchanged
+    (λ rows early held sound. (c.in_ok-plan.ensures.planned rows early held sound).named.there) c.write_remove.ensures.survives
+    (c.in_err-write_remove.ensures.store_fault c.in_ok-plan.ensures.number_fits (drop_below plan.drop plan.header.number c.in_ok-plan.ensures.drop_fits c.in_ok-plan.ensures.number_fits) short) rows clean holds accept free)

@@ -1,7 +1,13 @@
-use Rattle.std.proofs.Common.{rules, ◌≡◌, ◌+◌, IsTrue, List, ℕ, true, pos, Err, to_z, of_z, w64, sym, subst, ◌∙◌}
+use Rattle.std.proofs.Common.{rules, ◌≢◌, IfErr, ◌≡◌, ◌+◌, IsTrue, List, ℕ, true, pos, Err, to_z, of_z, w64, sym, subst, ◌∙◌, None}
 use Rattle.std.proofs.Math.Facts.{to_z-of_z}
 use Rattle.std.specs.FinMap as finite
 use Rattle.std.specs.Prelude.{⊤}
+use Rattle.sqlite.specs.declared.error.Error.TheVariants.{SqliteFailure}
+use Rattle.sqlite.specs.declared.error.ErrorCode.TheVariants.{OutOfMemory}
+use Rattle.store_tables.specs.Failures.{HasOutsideCause}
+use Rattle.store_tables.proofs.FailureLemmas.{outside_later}
+use Rattle.store_writes.proofs.TransactionFaults.{commit_fails, if_open, live_obeys, outside_sooner}
+use Rattle.store_writes.specs.AcceptedChanges.{AcceptsMemberOf}
 use Rattle.sqlite.specs.Held.{state}
 use Rattle.sqlite.specs.State.{State, HasCleanDisk, KeepsCommit, Survives}
 use Rattle.sqlite.proofs.StateLemmas.{survives_then}
@@ -112,3 +118,38 @@ returns-clause-crash g c header why last changed_is upto_is columns rows name li
     let p = (goal.at.returns-clause-crash g c).After-commit in
     let same : c.commit.new.self.0 ≡ c.conn-2-1.given.0 = search rules in
     subst (λ k. Survives (old g p) (state g.S.Store k) (TreesHold (made g p rows name header why last))) same (crash g p rows name header why last line changed_is upto_is columns)
+
+-- ---- errors
+
+-- the writes failed
+pub returns-in_err-write_removal_with_drop-clause-fails_from_outside : goal.returns-in_err-write_removal_with_drop-clause-fails_from_outside
+returns-in_err-write_removal_with_drop-clause-fails_from_outside g c header why last changed_is upto_is columns rows name accepts clean schema =
+    let old = state g.S.Store c.args.conn.now in
+    let mid = state g.S.Store c.write_removal_with_drop.new.tx.conn.now in
+    let end = state g.S.Store c.drop-tx.new.self.0 in
+    let same : c.drop-tx.new.self.0 ≡ c.conn-1.given.0 = search rules in
+    let late : HasCleanDisk end = subst (λ k. HasCleanDisk (state g.S.Store k)) (sym same) clean in
+    let early : HasCleanDisk mid = clean_before _ mid end c.drop-tx.ensures.survives late in
+    let begun = c.transaction-tx.ensures.begun in
+    let inside : IsTrue (state g.S.Store c.transaction-tx.result.conn.now).in_transaction = rw begun in
+    let at : to_z w64 (of_z w64 c.args.changed) ≡ c.args.changed = to_z-of_z c.ranges.changed in
+    let there : AcceptsMemberOf (state g.S.Store c.transaction-tx.result.conn.now).now rows name header c.args.uid.now (to_z w64 (of_z w64 c.args.changed)) None = rw begun (rw at accepts) in
+    let said : c.from_residual.result ≡ Err c.in_err-write_removal_with_drop.field-0.0 = search rules in
+    subst (λ r. IfErr r (λ e. e ≢ SqliteFailure OutOfMemory → HasOutsideCause old (state g.S.Store c.conn-1.given.0))) (sym said)
+    (λ room. subst (λ k. HasOutsideCause old (state g.S.Store k)) same
+    (if_open old end (λ up. outside_sooner old mid end _ c.drop-tx.ensures.survives
+    (rw begun at (c.in_err-write_removal_with_drop.ensures.fails_from_outside rows name header (to_z-of_z c.ranges.id ∙ columns.id_is) there early inside (rw begun schema) (rw begun (live_obeys old c.schema-tables.ensures.live schema up)) room)))))
+
+-- the commit failed
+pub returns-in_err-commit-clause-fails_from_outside : goal.returns-in_err-commit-clause-fails_from_outside
+returns-in_err-commit-clause-fails_from_outside g c header why last changed_is upto_is columns rows name accepts clean schema =
+    let p = (goal.at.returns-in_err-commit-clause-fails_from_outside g c).After-commit in
+    let same : c.commit.new.self.0 ≡ c.conn-2-1.given.0 = search rules in
+    let late : HasCleanDisk (end g p) = subst (λ k. HasCleanDisk (state g.S.Store k)) (sym same) clean in
+    let first = clean_mid g p late in
+    let said : c.from_residual-in_err-commit.result ≡ Err c.in_err-commit.field-0.0 = search rules in
+    subst (λ r. IfErr r (λ e. e ≢ SqliteFailure OutOfMemory → HasOutsideCause (old g p) (state g.S.Store c.conn-2-1.given.0))) (sym said)
+    (λ room. subst (λ k. HasOutsideCause (old g p) (state g.S.Store k)) same
+    (let outside = outside_later (begun g p) (mid g p) (end g p) _ _ c.write_removal_with_drop.ensures.survives first c.commit.ensures.survives
+    (commit_fails (mid g p) (end g p) c.in_err-commit.field-0.0 (left g p rows name header why last accepts.book.line changed_is upto_is columns first).inside (c.in_err-commit.ensures.err late) room) in
+    rw c.transaction-tx.ensures.begun at outside))

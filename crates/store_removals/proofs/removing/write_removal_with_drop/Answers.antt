@@ -1,4 +1,9 @@
-use Rattle.std.proofs.Common.{◌≡◌, ◌+◌, IsTrue, List, ℕ, None, pos, to_z, of_z, w64, sym, subst, ◌∙◌}
+use Rattle.std.proofs.Common.{◌≡◌, ◌+◌, IsTrue, List, ℕ, None, pos, to_z, of_z, w64, sym, subst, ◌∙◌, rules, ◌≢◌, Err, IfErr}
+use Rattle.sqlite.specs.declared.error.Error.TheVariants.{SqliteFailure}
+use Rattle.sqlite.specs.declared.error.ErrorCode.TheVariants.{OutOfMemory}
+use Rattle.store_tables.specs.Acceptance.{AcceptsMember}
+use Rattle.store_tables.specs.Failures.{HasOutsideCause}
+use Rattle.store_tables.proofs.FailureLemmas.{outside_later}
 use Rattle.std.proofs.Math.Facts.{to_z-of_z}
 use Rattle.sqlite.specs.Held.{state}
 use Rattle.sqlite.specs.State.{State, HasCleanDisk, KeepsCommit, Survives}
@@ -89,3 +94,53 @@ returns-clause-keeps_commit g c header id_is rows name clean inside line = keeps
 
 pub returns-clause-survives : goal.returns-clause-survives
 returns-clause-survives g c = survives g (goal.at.returns-clause-survives g c).After-renumber_book
+
+-- ---- errors
+
+pub returns-in_err-put_member-clause-fails_from_outside : goal.returns-in_err-put_member-clause-fails_from_outside
+returns-in_err-put_member-clause-fails_from_outside g c rows name header id_is accepts clean inside schema obeys =
+    let old = state g.S.Store c.args.tx.now.conn.now in
+    let new = state g.S.Store c.put_member.new.tx.conn.now in
+    let line = accepts.book.line in
+    let id : to_z w64 (of_z w64 c.args.id) ≡ pos header.id = to_z-of_z c.ranges.id ∙ id_is in
+    let at : to_z w64 (of_z w64 c.args.changed) ≡ c.args.changed = to_z-of_z c.ranges.changed in
+    let member = subst (λ z. AcceptsMember rows.books rows.members (to_z w64 (of_z w64 c.args.id)) c.args.uid.now z None) (sym at)
+    (subst (λ z. AcceptsMember rows.books rows.members z c.args.uid.now c.args.changed None) (sym id) accepts.member) in
+    let said : c.from_residual.result ≡ Err c.in_err-put_member.field-0.0 = search rules in
+    subst (λ r. IfErr r (λ e. e ≢ SqliteFailure OutOfMemory → HasOutsideCause old new)) (sym said)
+    (c.in_err-put_member.ensures.fails_from_outside rows.members clean inside schema line.sound.members line.holds.members rows.books line.holds.books accepts.free_id member clean inside schema obeys)
+
+pub returns-in_err-forget_members-clause-fails_from_outside : goal.returns-in_err-forget_members-clause-fails_from_outside
+returns-in_err-forget_members-clause-fails_from_outside g c rows name header id_is accepts clean inside schema obeys =
+    let old = state g.S.Store c.args.tx.now.conn.now in
+    let mid = state g.S.Store c.put_member.new.tx.conn.now in
+    let new = state g.S.Store c.forget_members.new.tx.conn.now in
+    let line = accepts.book.line in
+    let early : HasCleanDisk mid = clean_before _ mid new c.forget_members.ensures.no_commit.survives clean in
+    let one = c.in_ok-put_member.ensures.writes rows.members early inside schema line.sound.members line.holds.members in
+    let kept = c.in_ok-put_member.ensures.obeys rows.members early inside schema line.sound.members line.holds.members in
+    let said : c.from_residual-in_err-forget_members.result ≡ Err c.in_err-forget_members.field-0.0 = search rules in
+    subst (λ r. IfErr r (λ e. e ≢ SqliteFailure OutOfMemory → HasOutsideCause old new)) (sym said)
+    (λ room. outside_later old mid new _ _ c.put_member.ensures.no_commit.survives early c.forget_members.ensures.no_commit.survives
+    (c.in_err-forget_members.ensures.fails_from_outside clean one.inside one.schema kept room))
+
+pub returns-in_err-renumber_book-clause-fails_from_outside : goal.returns-in_err-renumber_book-clause-fails_from_outside
+returns-in_err-renumber_book-clause-fails_from_outside g c rows name header id_is accepts clean inside schema obeys =
+    let p = (goal.at.returns-in_err-renumber_book-clause-fails_from_outside g c).After-renumber_book in
+    let line = accepts.book.line in
+    let a = put g p in
+    let b = forgot g p in
+    let third = clean_forgot g p clean in
+    let second = clean_put g p clean in
+    let id : to_z w64 (of_z w64 c.args.id) ≡ pos header.id = to_z-of_z c.ranges.id ∙ id_is in
+    let puts = c.in_ok-put_member.ensures.puts rows.members second inside schema line.sound.members line.holds.members in
+    let first = c.in_ok-put_member.ensures.writes rows.members second inside schema line.sound.members line.holds.members in
+    let ms = upsert_member puts.id (to_z w64 (of_z w64 c.args.id)) c.args.uid.now (to_z w64 (of_z w64 c.args.changed)) None rows.members in
+    let two = c.in_ok-forget_members.ensures.writes ms third first.inside first.schema puts.kept puts.hold in
+    let kept = c.in_ok-forget_members.ensures.obeys ms third first.inside first.schema puts.kept puts.hold in
+    let held : HoldBooks (b.now.trees 2) rows.books = subst (λ k. HoldBooks k rows.books) (sym (spares_books a.now.trees b.now.trees two.other_tables ∙ spares_books (old g p).now.trees a.now.trees first.other_tables)) line.holds.books in
+    let both = survives_then (old g p) a b _ _ (λ _. ⊥) (λ _ db none. none) (λ _ db none. none) c.put_member.ensures.no_commit.survives c.forget_members.ensures.no_commit.survives in
+    let said : c.from_residual-in_err-renumber_book.result ≡ Err c.in_err-renumber_book.field-0.0 = search rules in
+    subst (λ r. IfErr r (λ e. e ≢ SqliteFailure OutOfMemory → HasOutsideCause (old g p) (new g p))) (sym said)
+    (λ room. outside_later (old g p) b (new g p) _ _ both third c.renumber_book.ensures.no_commit.survives
+    (c.in_err-renumber_book.ensures.fails_from_outside rows.books clean two.inside two.schema line.sound.books held (line_row name header, line.there, id, accepts.book.short) clean two.inside two.schema kept room))

@@ -11,3 +11,9 @@ returns-in-Some-clause-atomic g c = rw c.in-Some.is c.write_drop.ensures.atomic
 
 pub returns-in-Some-clause-crash : goal.returns-in-Some-clause-crash
 returns-in-Some-clause-crash g c = rw c.in-Some.is c.write_drop.ensures.crash
+
+pub returns-in-None-clause-store_fault : goal.returns-in-None-clause-store_fault
+returns-in-None-clause-store_fault g c fits low = c.write_deletion.ensures.store_fault fits
+
+pub returns-in-Some-clause-store_fault : goal.returns-in-Some-clause-store_fault
+returns-in-Some-clause-store_fault g c fits low = c.write_drop.ensures.store_fault fits (rw c.in-Some.is at low)
