@@ -15,8 +15,8 @@ ghost use Rattle.store_lookups.specs.OnConnections.{
 };
 ghost use Rattle.store_tables.specs.OnConnections.{OnlyReads, UnchangedOnOk, WasOpenOnOk};
 ghost use Rattle.store_writes.specs.OnConnections.{AppliesStep, CommitsOnce};
-ghost use Rattle.std.specs.Prelude.{◌≡◌, ◌+◌, ◌<◌, ◌≤◌, ◌^◌, IfErr, IfOk, IfSome, List, OnOk, false};
-ghost use Rattle.std.specs.Prelude.{ℕ};
+ghost use Rattle.std.specs.Prelude.{◌≡◌, ◌+◌, ◌<◌, ◌≤◌, ◌^◌, IfErr, IfOk, IfSome, List, OnOk};
+ghost use Rattle.std.specs.Prelude.{false, ℕ};
 
 use crate::moving::write_move;
 use crate::remove_call::plan_drop;

@@ -44,7 +44,8 @@ module _ {S : Type 0} (store : Ghosts S) (old new : Held S) where
 
   -- Inside a transaction over rows that can be changed, among them those of both books, a fault of
   -- the store comes only from an outside cause.
-  abbrev pub MoveFaultsFromOutsideTx : {A : Type 0} → HeaderRow → HeaderRow → Result A Denied → Type 0
+  abbrev pub MoveFaultsFromOutsideTx :
+      {A : Type 0} → HeaderRow → HeaderRow → Result A Denied → Type 0
   MoveFaultsFromOutsideTx source target result = (rows : TableRows) (from to : List ℕ) →
       HasBothRows store old rows from source to target → AcceptChanges rows →
       HaveFreeIds (table_rows store old) → WriteFaultsFromOutside store old new result
