@@ -2,6 +2,7 @@ pub mod PaddingLemmas
 pub mod OctetLemmas
 pub mod StopLemmas
 pub mod CommandLemmas
+pub mod ListingLemmas
 pub mod ReplyLemmas
 pub mod FirstPathLemmas
 pub mod InputLemmas

@@ -9,3 +9,8 @@ pub mod Inputs
 pub mod TryStops
 pub mod TryResults
 pub mod TryOutputs
+pub mod Listings
+pub mod CauseWords
+pub mod Findings
+pub mod Versions
+pub mod internal

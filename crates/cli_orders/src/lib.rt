@@ -2,10 +2,14 @@
 //! output.
 #![tactic(auto)]
 
+mod cause_words;
+mod checking;
 mod commands;
 mod expansion_output;
+mod finding;
 mod input;
 pub mod laws;
+mod listing;
 mod mirror_output;
 mod one_line_outputs;
 mod reading;
@@ -15,11 +19,15 @@ mod tally_output;
 mod try_order;
 mod try_output;
 mod try_result;
+mod version;
 mod writing;
 
+pub use checking::run_check;
 pub use commands::{run_command, run_mirror};
 pub use expansion_output::expand_text;
+pub use finding::{FileKind, Finding, check_octets, finding_text, kind_of_file, verdict_of};
 pub use input::read_input;
+pub use listing::{Listing, run_listing};
 pub use mirror_output::mirror_text;
 pub use one_line_outputs::{book_text, forget_text, import_text, made_text, migrate_text};
 pub use reading::{read_at_most, read_rows_of};
@@ -29,4 +37,5 @@ pub use tally_output::tally_text;
 pub use try_order::run_try;
 pub use try_output::try_octets;
 pub use try_result::{FirstPath, first_path};
+pub use version::version_text;
 pub use writing::write_out;

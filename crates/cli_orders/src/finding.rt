@@ -1,0 +1,120 @@
+//! What `check` finds in a file.
+ghost use Rattle.std.specs.Prelude.{◌≡◌, IfOk};
+ghost use Rattle.cli_orders.specs.Findings.{IsFound, finding_output};
+ghost use Rattle.cli_orders.specs.Findings.{kind_of_file, names_card, verdict_of};
+
+use crate::cause_words::CauseWords;
+use crate::stop::Stop;
+use csv_cards::{CsvCause, CsvFault, read_rows};
+use std::alloc::Global;
+use sync_core::Refusal;
+use vcard_text::{CardFault, NoMemory, read_card};
+
+/// What a file has.
+#[derive(Clone, Copy, Debug, PartialEq, Eq)]
+pub enum FileKind {
+    /// Rows of cards as CSV, after a header.
+    CsvRows,
+    /// One vCard.
+    OneCard,
+}
+
+/// What was found in a file.
+#[derive(Clone, Copy, Debug, PartialEq, Eq)]
+pub enum Finding {
+    /// A header and this number of rows, each a card.
+    Rows(u64),
+    /// The first faulty row.
+    BadRow(CsvFault),
+    /// One card.
+    Card,
+    /// The first fault of a text that isn't a card's.
+    BadCard(CardFault),
+}
+
+/// Whether the name ends in `.vcf` or `.VCF`.
+fn names_card(name: &str) -> bool
+    ensures { result ≡ names_card name.now }
+{
+    name.ends_with(".vcf") || name.ends_with(".VCF")
+}
+
+/// The kind of a file with this name: a card if it ends in `.vcf` or `.VCF`, and rows otherwise.
+pub fn kind_of_file(name: &str) -> FileKind
+    ensures { result ≡ kind_of_file name.now }
+{
+    if names_card(name) {
+        FileKind::OneCard
+    } else {
+        FileKind::CsvRows
+    }
+}
+
+/// Looks for the first faulty row.
+fn check_rows(alloc: Global, octets: &[u8]) -> Result<Finding, NoMemory>
+    ensures { IfOk result (IsFound FileKind.CsvRows octets.now) }
+{
+    match read_rows(alloc, octets) {
+        Ok(cards) => Ok(Finding::Rows(cards.len() as u64)),
+        Err(fault) => match fault.cause {
+            CsvCause::Memory => Err(NoMemory),
+            _ => Ok(Finding::BadRow(fault)),
+        },
+    }
+}
+
+/// Looks for the first fault of a card.
+fn check_card(alloc: Global, octets: &[u8]) -> Result<Finding, NoMemory>
+    ensures { IfOk result (IsFound FileKind.OneCard octets.now) }
+{
+    match read_card(alloc, octets) {
+        Ok(_card) => Ok(Finding::Card),
+        Err(fault) => match fault {
+            CardFault::Memory => Err(NoMemory),
+            _ => Ok(Finding::BadCard(fault)),
+        },
+    }
+}
+
+/// Looks for the first fault of a file of this kind.
+pub fn check_octets(alloc: Global, file: FileKind, octets: &[u8]) -> Result<Finding, NoMemory>
+    ensures { IfOk result (IsFound file octets.now) }
+{
+    match file {
+        FileKind::CsvRows => check_rows(alloc, octets),
+        FileKind::OneCard => check_card(alloc, octets),
+    }
+}
+
+/// The words for what was found: for example `rows 2000`, `row 1500: the name is empty`, `card`, or
+/// `card: FN is missing`.
+pub fn finding_text(alloc: Global, finding: Finding) -> Result<Vec<u8>, NoMemory>
+    ensures { IfOk result (λ text. text.items ≡ finding_output finding) }
+{
+    let text = match finding {
+        Finding::Rows(count) => format!(in alloc; "rows {count}\n")?,
+        Finding::BadRow(fault) => {
+            let row = fault.row;
+            let words = CauseWords(fault.cause);
+            format!(in alloc; "row {row}: {words}\n")?
+        }
+        Finding::Card => format!(in alloc; "card\n")?,
+        Finding::BadCard(fault) => format!(in alloc; "card: {fault}\n")?,
+    };
+    Ok(text.into_bytes())
+}
+
+/// Whether a file in which this was found is accepted: `BadImport` for a faulty row, and `BadCard`
+/// for a text that isn't a card's.
+pub fn verdict_of(finding: Finding) -> Result<(), Stop>
+    ensures { result ≡ verdict_of finding }
+{
+    match finding {
+        Finding::Rows(_) | Finding::Card => Ok(()),
+        Finding::BadRow(fault) => Err(Stop::Refused(Refusal::BadImport {
+            row: fault.row,
+            cause: fault.cause.number(),
+        })),
+        Finding::BadCard(fault) => Err(Stop::Refused(Refusal::BadCard(fault))),
+    }
+}
