@@ -6,13 +6,14 @@ use Rattle.book_http.specs.OctetPromise.{ServiceStep}
 use Rattle.cli_orders.specs.Announcements.{AnnouncesAndServes, StopsServing}
 use Rattle.cli_orders.specs.CommandRuns.{PrintsCommand, StopsCommand}
 use Rattle.cli_orders.specs.OrderOutputs.{made_output, migrate_output}
+use Rattle.cli_orders.specs.Findings.{PassesCheck, StopsCheck, kind_of_file}
 use Rattle.cli_orders.specs.Stops.{out_of_memory}
 use Rattle.book_http.specs.Streams.{WritesPrefix}
 use Rattle.cli_orders.specs.declared.stop.Stop.{Stop}
 use Rattle.cli_orders.specs.declared.stop.Stop.TheVariants.{Open, Device}
 use Rattle.cli_orders.proofs.StopLemmas.{kept_same}
 use Rattle.cli_host.specs.Hosts.{HostCall, Creates, Opens, Migrates, ReadsRows, Binds, Finishes, HasLog, LogsCalls}
-use Rattle.cli_host.specs.OrdersOnHost.{DoesInFile, DoesStoreWork, ImportsRows, MakesStore, MigratesFile, ServesFile, StopsInFile, StopsMaking, StopsMigrating, StopsOnImport, StopsReadingRows, StopsServe, StopsStoreWork, StopsUnbound, StopsUnopened}
+use Rattle.cli_host.specs.OrdersOnHost.{ChecksFile, DoesInFile, DoesStoreWork, ImportsRows, MakesStore, MigratesFile, ServesFile, StopsChecking, StopsInFile, StopsMaking, StopsMigrating, StopsOnImport, StopsReadingRows, StopsServe, StopsStoreWork, StopsUnbound, StopsUnopened}
 use Rattle.cli_host.specs.declared.work.StoreWork.{StoreWork}
 use Rattle.http_replies.specs.Replies.{head_fault_octets}
 use Rattle.hub_server.specs.EndpointRuns.{EndpointRelation}
@@ -67,6 +68,21 @@ module _ {S P H : Type 0} (calls : HostCall S P → H → H → Type 0) where
   file_migrated_unprinted (Ok done) old new file count before after made front device = tt
   file_migrated_unprinted (Err stop) old new file count before after made front device =
       one_call old new (Migrates file (Ok count)) (StopsMigrating file stop before after) made (inr (count, refl, inr (record { stop_is = device; front = front })))
+
+  -- ---- a check of a file
+
+  pub octets_unread : (old new : H) (file : List ℕ) (stop : Stop) (w : Option (List ℕ)) → calls (ReadsRows file (Err stop)) old new → (stop ≡ out_of_memory) ⊎ (stop ≡ Device) → LogsCalls calls old new (StopsChecking file stop w w)
+  octets_unread old new file stop w made stop_is = one_call old new (ReadsRows file (Err stop)) (StopsChecking file stop w w) made (inl (refl, unbound stop w stop_is))
+
+  pub file_checked : (result : Result (Unit {0}) Stop) (old new : H) (file octets : List ℕ) (before after : Option (List ℕ)) → calls (ReadsRows file (Ok octets)) old new → OnOk result (PassesCheck (kind_of_file file) octets before after)
+      → OnOk result (LogsCalls calls old new (ChecksFile file before after))
+  file_checked (Ok done) old new file octets before after made passes = one_call old new (ReadsRows file (Ok octets)) (ChecksFile file before after) made (record { octets = octets; calls = refl; passes = passes })
+  file_checked (Err stop) old new file octets before after made passes = tt
+
+  pub file_refused : (result : Result (Unit {0}) Stop) (old new : H) (file octets : List ℕ) (before after : Option (List ℕ)) → calls (ReadsRows file (Ok octets)) old new → IfErr result (λ stop. StopsCheck (kind_of_file file) octets stop before after)
+      → IfErr result (λ stop. LogsCalls calls old new (StopsChecking file stop before after))
+  file_refused (Ok done) old new file octets before after made stops = tt
+  file_refused (Err stop) old new file octets before after made stops = one_call old new (ReadsRows file (Ok octets)) (StopsChecking file stop before after) made (inr (record { octets = octets; calls = refl; stops = stops }))
 
 -- ---- stores
 

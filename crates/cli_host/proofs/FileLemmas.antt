@@ -5,15 +5,16 @@ use Rattle.hub_server.specs.declared.limits.ServeLimits.{ServeLimits}
 use Rattle.sync_core.specs.StoreModels.{StoreModel}
 use Rattle.cli_orders.specs.declared.stop.Stop.{Stop}
 use Rattle.cli_host.specs.Hosts.{HostCall, LogsCalls}
-use Rattle.cli_host.specs.OrdersOnHost.{HasAnnounced, StopsInFile, StopsMaking, StopsMigrating, StopsServe, StopsStoreWork, StopsWork}
+use Rattle.cli_host.specs.OrdersOnHost.{HasRefusedFile, KeepsWorkOutput, StopsChecking, StopsInFile, StopsMaking, StopsMigrating, StopsServe, StopsStoreWork, StopsWork}
 use Rattle.cli_host.specs.declared.work.StoreWork.{StoreWork}
-use Rattle.cli_host.specs.declared.work.StoreWork.TheVariants.{Perform, ImportFile, MirrorBook}
+use Rattle.cli_host.specs.declared.work.StoreWork.TheVariants.{Perform, ImportFile, ListBooks, MirrorBook}
 use Rattle.cli_host.specs.declared.work.Work.{Work}
-use Rattle.cli_host.specs.declared.work.Work.TheVariants.{Nothing, CreateFile, MigrateFile, ServeFile, UseFile}
+use Rattle.cli_host.specs.declared.work.Work.TheVariants.{Nothing, PrintVersion, CheckFile, CreateFile, MigrateFile, ServeFile, UseFile}
 use Rattle.cli_orders.specs.Announcements.{WritesListeningLine}
 use Rattle.cli_orders.specs.ReplyTexts.{KeepsOutput}
 use Rattle.cli_orders.specs.Stops.{out_of_memory}
 use Rattle.cli_orders.proofs.CommandLemmas.{mirror_stop_leaves}
+use Rattle.cli_orders.proofs.ListingLemmas.{listing_stop_leaves}
 use Rattle.cli_orders.proofs.StopLemmas.{keeps_leaves, output_kept_by_device, serving_stop_leaves, stop_leaves}
 
 module _ {S P : Type 0} where
@@ -26,12 +27,26 @@ module _ {S P : Type 0} where
   migrating_leaves file stop before after log (inr (count, migrated, inl s)) = keeps_leaves stop before after s.unwritten
   migrating_leaves file stop before after log (inr (count, migrated, inr s)) = output_kept_by_device stop before after s.stop_is
 
+  -- a check that was stopped wrote nothing, or the words for why it refuses the file
+  checking_leaves : (file : List ℕ) (stop : Stop) (before after : Option (List ℕ)) (log : List (HostCall S P)) → StopsChecking file stop before after log
+      → KeepsOutput stop before after ⊎ HasRefusedFile (CheckFile file) stop before after
+  checking_leaves file stop before after log (inl (unread, inl s)) = inl (keeps_leaves stop before after s.unwritten)
+  checking_leaves file stop before after log (inl (unread, inr s)) = inl (keeps_leaves stop before after s.unwritten)
+  checking_leaves file stop before after log (inr s) = elim s.stops [
+    | inl found ↦ inr (s.octets, found)
+    | inr rest ↦ inl (elim rest [
+      | inl kept ↦ keeps_leaves stop before after kept.1
+      | inr cut ↦ output_kept_by_device stop before after cut.0
+    ])
+  ]
+
 module _ {S P : Type 0} (model : StoreModel S) where
   store_work_leaves : (work : StoreWork) (old new : S) (stop : Stop) (before after : Option (List ℕ)) (log : List (HostCall S P)) → StopsStoreWork model old work stop before after new log → KeepsOutput stop before after
   store_work_leaves (Perform command) old new stop before after log s = stop_leaves s.1.reply stop before after s.1.stops
   store_work_leaves (ImportFile book key csv) old new stop before after log (inl s) = keeps_leaves stop before after s.unwritten
   store_work_leaves (ImportFile book key csv) old new stop before after log (inr s) = stop_leaves s.stops.reply stop before after s.stops.stops
   store_work_leaves (MirrorBook book limit pages) old new stop before after log s = mirror_stop_leaves model old new book limit pages stop before after s.1
+  store_work_leaves (ListBooks what) old new stop before after log s = listing_stop_leaves model what old new stop before after s.1
 
   in_file_leaves : (file : List ℕ) (work : StoreWork) (stop : Stop) (before after : Option (List ℕ)) (log : List (HostCall S P)) → StopsInFile model file work stop before after log → KeepsOutput stop before after
   in_file_leaves file work stop before after log (inl s) = keeps_leaves stop before after s.2.unwritten
@@ -46,15 +61,22 @@ module _ {S P : Type 0} (model : StoreModel S) (effects : EndpointRelation P) wh
   serve_leaves file requested limits stop before after log (inr (inr (inl (store, bound, inr s)))) = inl (keeps_leaves stop before after s.unwritten)
   serve_leaves file requested limits stop before after log (inr (inr (inr s))) = serving_stop_leaves _ _ effects s.port limits s.store s.store_after s.endpoint s.endpoint_after before after stop s.stops
 
-  work_leaves : (work : Work) (stop : Stop) (before after : Option (List ℕ)) (log : List (HostCall S P)) → StopsWork model effects work stop before after log
-      → KeepsOutput stop before after ⊎ ((stop ≡ out_of_memory) × HasAnnounced work before after)
+  work_leaves : (work : Work) (stop : Stop) (before after : Option (List ℕ)) (log : List (HostCall S P)) → StopsWork model effects work stop before after log → KeepsWorkOutput work stop before after
   work_leaves Nothing stop before after log s = inl (keeps_leaves stop before after s.1.unwritten)
+  work_leaves PrintVersion stop before after log s = inl (output_kept_by_device stop before after s.1.stop_is)
+  work_leaves (CheckFile file) stop before after log s = elim (checking_leaves file stop before after log s) [
+    | inl kept ↦ inl kept
+    | inr refused ↦ inr (inr refused)
+  ]
   work_leaves (CreateFile file) stop before after log s = inl (making_leaves file stop before after log s)
   work_leaves (MigrateFile file) stop before after log s = inl (migrating_leaves file stop before after log s)
-  work_leaves (ServeFile file port limits) stop before after log s = serve_leaves file port limits stop before after log s
+  work_leaves (ServeFile file port limits) stop before after log s = elim (serve_leaves file port limits stop before after log s) [
+    | inl kept ↦ inl kept
+    | inr announced ↦ inr (inl announced)
+  ]
   work_leaves (UseFile file work) stop before after log s = inl (in_file_leaves model file work stop before after log s)
 
   pub stopped_work_leaves : {H : Type 0} (calls : HostCall S P → H → H → Type 0) (r : Result (Unit {0}) Stop) (old new : H) (work : Work) (before after : Option (List ℕ))
-      → IfErr r (λ stop. LogsCalls calls old new (StopsWork model effects work stop before after)) → IfErr r (λ stop. KeepsOutput stop before after ⊎ ((stop ≡ out_of_memory) × HasAnnounced work before after))
+      → IfErr r (λ stop. LogsCalls calls old new (StopsWork model effects work stop before after)) → IfErr r (λ stop. KeepsWorkOutput work stop before after)
   stopped_work_leaves calls (Ok done) old new work before after s = tt
   stopped_work_leaves calls (Err stop) old new work before after s = work_leaves work stop before after s.log s.holds

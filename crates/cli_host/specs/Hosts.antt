@@ -4,6 +4,10 @@ use Rattle.std.specs.declared.net.ip_addr.IpAddr.{IpAddr}
 use Rattle.std.specs.declared.net.ip_addr.IpAddr.TheVariants.{V4}
 use Rattle.book_model.specs.Bounds.{Bounds}
 use Rattle.cli_orders.specs.declared.stop.Stop.{Stop}
+use Rattle.cli_orders.specs.declared.stop.Stop.TheVariants.{Device}
+use Rattle.cli_orders.specs.Stops.{out_of_memory}
+use Rattle.socket_endpoint.specs.declared.bind_fault.BindFault.{BindFault}
+use Rattle.socket_endpoint.specs.declared.bind_fault.BindFault.TheVariants as bind
 use Rattle.store_schema.specs.declared.open_fault.OpenFault.{OpenFault}
 
 -- A call of a host, with the file or port that it is about, and its result. A store holds the books
@@ -49,6 +53,11 @@ IsAnyCall call old new = ⊤
 -- 127.0.0.1, which only programs of the host can connect to
 abbrev pub loopback_ip : IpAddr
 loopback_ip = V4 (record { octets = 127 ∷ 0 ∷ 0 ∷ 1 ∷ [] })
+
+-- the stop for an endpoint that couldn't be bound
+abbrev pub stop_of_binding : BindFault → Stop
+stop_of_binding bind.Memory = out_of_memory
+stop_of_binding bind.Device = Device
 
 -- the limits of the stores that the program creates and opens
 abbrev pub standard_limits : Bounds

@@ -7,12 +7,16 @@ use Rattle.book_commands.specs.declared.command.Command.TheVariants.{Forget as F
 use Rattle.cli_args.specs.declared.order.Order.{Order}
 use Rattle.cli_args.specs.declared.order.Order.TheVariants.{Try, Init, Book, Serve, ServeWithLimits}
 use Rattle.cli_args.specs.declared.order.Order.TheVariants.{Import, Export, Tally, Forget, Mirror}
-use Rattle.cli_args.specs.declared.order.Order.TheVariants.{Expand, Migrate}
+use Rattle.cli_args.specs.declared.order.Order.TheVariants.{Expand, Migrate, Check, Books, Verify}
+use Rattle.cli_args.specs.declared.order.Order.TheVariants.{Version}
 use Rattle.hub_server.specs.declared.limits.ServeLimits.{ServeLimits}
 use Rattle.cli_host.specs.declared.work.Work.{Work}
-use Rattle.cli_host.specs.declared.work.Work.TheVariants.{Nothing, CreateFile, MigrateFile}
-use Rattle.cli_host.specs.declared.work.Work.TheVariants.{ServeFile, UseFile}
+use Rattle.cli_host.specs.declared.work.Work.TheVariants.{Nothing, PrintVersion, CheckFile}
+use Rattle.cli_host.specs.declared.work.Work.TheVariants.{CreateFile, MigrateFile, ServeFile}
+use Rattle.cli_host.specs.declared.work.Work.TheVariants.{UseFile}
 use Rattle.cli_host.specs.declared.work.StoreWork.TheVariants.{Perform, ImportFile, MirrorBook}
+use Rattle.cli_host.specs.declared.work.StoreWork.TheVariants.{ListBooks}
+use Rattle.cli_orders.specs.declared.listing.Listing.TheVariants as listing
 
 -- the most connections that are open at once, if the order names no limits
 abbrev pub together_default : ℕ
@@ -38,6 +42,8 @@ limits_of connections together patience = record {
 -- each order's arguments in their places
 abbrev pub work_of : Order → Work
 work_of Try = Nothing
+work_of Version = PrintVersion
+work_of (Check file) = CheckFile file
 work_of (Init file) = CreateFile file
 work_of (Migrate file) = MigrateFile file
 work_of (Serve file port connections) =
@@ -51,3 +57,5 @@ work_of (Tally file book) = UseFile file (Perform (TallyOf book))
 work_of (Forget file book upto) = UseFile file (Perform (ForgetUpto book upto))
 work_of (Mirror file book limit pages) = UseFile file (MirrorBook book limit pages)
 work_of (Expand file book uid) = UseFile file (Perform (People book uid))
+work_of (Books file) = UseFile file (ListBooks listing.Books)
+work_of (Verify file) = UseFile file (ListBooks listing.Verified)

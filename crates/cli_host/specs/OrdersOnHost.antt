@@ -16,9 +16,14 @@ use Rattle.cli_host.specs.Hosts.{HostCall, Creates, Opens, Migrates, ReadsRows, 
 use Rattle.cli_host.specs.OrderWork.{work_of}
 use Rattle.cli_host.specs.declared.work.StoreWork.{StoreWork}
 use Rattle.cli_host.specs.declared.work.StoreWork.TheVariants.{Perform, ImportFile, MirrorBook}
+use Rattle.cli_host.specs.declared.work.StoreWork.TheVariants.{ListBooks}
 use Rattle.cli_host.specs.declared.work.Work.{Work}
-use Rattle.cli_host.specs.declared.work.Work.TheVariants.{Nothing, CreateFile, MigrateFile}
-use Rattle.cli_host.specs.declared.work.Work.TheVariants.{ServeFile, UseFile}
+use Rattle.cli_host.specs.declared.work.Work.TheVariants.{Nothing, PrintVersion, CheckFile}
+use Rattle.cli_host.specs.declared.work.Work.TheVariants.{CreateFile, MigrateFile, ServeFile}
+use Rattle.cli_host.specs.declared.work.Work.TheVariants.{UseFile}
+use Rattle.cli_orders.specs.Findings.{PassesCheck, PrintsFinding, StopsCheck, kind_of_file}
+use Rattle.cli_orders.specs.Listings.{PrintsListing, StopsListing}
+use Rattle.cli_orders.specs.Versions.{version_output}
 use Rattle.cli_orders.specs.Announcements.{AnnouncesAndServes, StopsServing, WritesListeningLine}
 use Rattle.cli_orders.specs.ReplyTexts.{KeepsOutput}
 use Rattle.cli_orders.specs.Stops.{out_of_memory}
@@ -48,7 +53,8 @@ pub record StopsAtDevice (stop : Stop) (before after : Option (List ℕ)) : Type
   pub stop_is : stop ≡ Device
   pub unwritten : Keeps before after
 
--- no endpoint was bound, for lack of memory or because the port can't be used
+-- no endpoint was bound, or no file was read: for lack of memory, or because the port or the file
+-- can't be used
 abbrev pub StopsUnbound : Stop → Option (List ℕ) → Option (List ℕ) → Type 0
 StopsUnbound stop before after = StopsForMemory stop before after ⊎ StopsAtDevice stop before after
 
@@ -57,11 +63,23 @@ abbrev pub HasAnnounced : Work → Option (List ℕ) → Option (List ℕ) → T
 HasAnnounced (ServeFile file port limits) before after = WritesListeningLine before after
 HasAnnounced work before after = ⊥
 
+-- the work is to check a file, this is the refusal of what was found in some octets, and the words
+-- for it were written
+abbrev pub HasRefusedFile : Work → Stop → Option (List ℕ) → Option (List ℕ) → Type 0
+HasRefusedFile (CheckFile file) stop before after =
+    (octets : List ℕ) × PrintsFinding (kind_of_file file) octets (Err stop) before after
+HasRefusedFile work stop before after = ⊥
+
 -- Nothing is written on a refusal, on a fault, or if the file can't be opened. But the order to
--- serve may have announced its port before memory ran out.
+-- serve may have announced its port before memory ran out, and the order to check a file has
+-- written why it refuses the file.
+abbrev pub KeepsWorkOutput : Work → Stop → Option (List ℕ) → Option (List ℕ) → Type 0
+KeepsWorkOutput work stop before after = KeepsOutput stop before after
+    ⊎ (((stop ≡ out_of_memory) × HasAnnounced work before after)
+    ⊎ HasRefusedFile work stop before after)
+
 abbrev pub KeepsOrderOutput : Order → Stop → Option (List ℕ) → Option (List ℕ) → Type 0
-KeepsOrderOutput order stop before after = KeepsOutput stop before after
-    ⊎ ((stop ≡ out_of_memory) × HasAnnounced (work_of order) before after)
+KeepsOrderOutput order stop before after = KeepsWorkOutput (work_of order) stop before after
 
 -- In each of these, `log` has all calls that were made of the host, in order.
 module _ {S P : Type 0} where
@@ -102,6 +120,29 @@ module _ {S P : Type 0} where
       × (StopsForMemory stop before after
       ⊎ StopsOverText (migrate_output count) stop before after))
 
+  -- ---- a check of a file
+
+  -- the octets of the file were read, they have no fault, and what was found is printed
+  pub record ChecksFile
+      (file : List ℕ) (before after : Option (List ℕ)) (log : List (HostCall S P)) : Type 0 where
+    pub octets : List ℕ
+    pub calls : log ≡ ReadsRows file (Ok octets) ∷ []
+    pub passes : PassesCheck (kind_of_file file) octets before after
+
+  -- the octets of the file were read, and this is why their check stopped
+  pub record StopsOnCheck (file : List ℕ) (stop : Stop)
+      (before after : Option (List ℕ)) (log : List (HostCall S P)) : Type 0 where
+    pub octets : List ℕ
+    pub calls : log ≡ ReadsRows file (Ok octets) ∷ []
+    pub stops : StopsCheck (kind_of_file file) octets stop before after
+
+  -- the file couldn't be read, or its check stopped
+  abbrev pub StopsChecking : List ℕ → Stop → Option (List ℕ) → Option (List ℕ)
+      → List (HostCall S P) → Type 0
+  StopsChecking file stop before after log =
+      ((log ≡ ReadsRows file (Err stop) ∷ []) × StopsUnbound stop before after)
+      ⊎ StopsOnCheck file stop before after log
+
 -- A store is represented by its books.
 module _ {S P : Type 0} (model : StoreModel S) where
   -- ---- an import
@@ -139,6 +180,8 @@ module _ {S P : Type 0} (model : StoreModel S) where
       ImportsRows old book key csv before after new log
   DoesStoreWork old (MirrorBook book limit pages) before after new log =
       (log ≡ []) × PrintsMirror model old book limit pages before after new
+  DoesStoreWork old (ListBooks what) before after new log =
+      (log ≡ []) × PrintsListing model what old before after new
 
   -- why the work wasn't done on the store, or its result wasn't printed
   abbrev pub StopsStoreWork : S → StoreWork → Stop → Option (List ℕ) → Option (List ℕ) → S
@@ -150,6 +193,8 @@ module _ {S P : Type 0} (model : StoreModel S) where
       ⊎ StopsOnImport old book key csv stop before after new log
   StopsStoreWork old (MirrorBook book limit pages) stop before after new log =
       (log ≡ []) × StopsMirror model old book limit pages stop before after new
+  StopsStoreWork old (ListBooks what) stop before after new log =
+      (log ≡ []) × StopsListing model what old stop before after new
 
   -- ---- the store in a file
 
@@ -232,6 +277,8 @@ module _ {S P : Type 0} (model : StoreModel S) (effects : EndpointRelation P) wh
   -- the work was done, and its output is printed
   abbrev pub DoesWork : Work → Option (List ℕ) → Option (List ℕ) → List (HostCall S P) → Type 0
   DoesWork Nothing before after log = ⊥
+  DoesWork PrintVersion before after log = (log ≡ []) × Appends before after version_output
+  DoesWork (CheckFile file) before after log = ChecksFile file before after log
   DoesWork (CreateFile file) before after log = MakesStore file before after log
   DoesWork (MigrateFile file) before after log = MigratesFile file before after log
   DoesWork (ServeFile file port limits) before after log =
@@ -243,6 +290,9 @@ module _ {S P : Type 0} (model : StoreModel S) (effects : EndpointRelation P) wh
   abbrev pub StopsWork : Work → Stop → Option (List ℕ) → Option (List ℕ)
       → List (HostCall S P) → Type 0
   StopsWork Nothing stop before after log = (log ≡ []) × StopsAtDevice stop before after
+  StopsWork PrintVersion stop before after log =
+      (log ≡ []) × StopsOverText version_output stop before after
+  StopsWork (CheckFile file) stop before after log = StopsChecking file stop before after log
   StopsWork (CreateFile file) stop before after log = StopsMaking file stop before after log
   StopsWork (MigrateFile file) stop before after log = StopsMigrating file stop before after log
   StopsWork (ServeFile file port limits) stop before after log =

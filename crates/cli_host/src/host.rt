@@ -1,7 +1,7 @@
 //! The trait of hosts: the files and ports that orders use.
 ghost use Rattle.std.specs.Prelude.{◌≡◌, ◌≢◌, ◌⊎◌, IfErr, IfOk, IfSome, OnErr};
 ghost use Rattle.cli_host.specs.Hosts.{HostCall, Creates, Opens, Migrates, ReadsRows, Binds};
-ghost use Rattle.cli_host.specs.Hosts.{Finishes, loopback_ip, standard_limits};
+ghost use Rattle.cli_host.specs.Hosts.{Finishes, loopback_ip, standard_limits, stop_of_binding};
 ghost use Rattle.std.specs.Net.Socket.{socket_ip, socket_port};
 ghost use Rattle.cli_orders.specs.Stops.{out_of_memory};
 
@@ -67,7 +67,7 @@ fn loopback(port: u16) -> SocketAddr
 
 /// The stop for an endpoint that couldn't be bound.
 fn stop_of_binding(fault: BindFault) -> Stop
-    ensures { (result ≡ out_of_memory) ⊎ (result ≡ Stop.Device) }
+    ensures { result ≡ stop_of_binding fault }
 {
     match fault {
         BindFault::Memory => Stop::out_of_memory(),

@@ -4,11 +4,14 @@
 mod args;
 mod exit;
 mod host;
+pub mod laws;
 mod running;
+mod waiting;
 mod work;
 
 pub use args::order_of_args;
 pub use exit::{ProgramExit, run_and_report};
 pub use host::Host;
 pub use running::{run_on_host, run_order};
+pub use waiting::note_waiting;
 pub use work::{StoreWork, Work, work_of};

@@ -1,7 +1,8 @@
 //! Runs orders on a host.
 ghost use Rattle.std.specs.Prelude.{◌⊎◌, IfErr, OnOk};
 ghost use Rattle.cli_host.specs.Hosts.{HasLog, LogsCalls};
-ghost use Rattle.cli_host.specs.OrdersOnHost.{DoesInFile, DoesStoreWork, DoesWork, ImportsRows};
+ghost use Rattle.cli_host.specs.OrdersOnHost.{ChecksFile, DoesInFile, DoesStoreWork, DoesWork};
+ghost use Rattle.cli_host.specs.OrdersOnHost.{ImportsRows, StopsChecking};
 ghost use Rattle.cli_host.specs.OrdersOnHost.{KeepsOrderOutput, MakesStore, MigratesFile};
 ghost use Rattle.cli_host.specs.OrdersOnHost.{RunsOnHost, ServesFile};
 ghost use Rattle.cli_host.specs.OrdersOnHost.{StopsInFile, StopsMaking, StopsMigrating};
@@ -16,7 +17,8 @@ use book_service::Command;
 use book_store::FileBooks;
 use cli_args::Order;
 use cli_orders::{
-    Stop, announce_and_serve, made_text, migrate_text, run_command, run_mirror, write_out,
+    Stop, announce_and_serve, kind_of_file, made_text, migrate_text, run_check, run_command,
+    run_listing, run_mirror, version_text, write_out,
 };
 use hub_server::{Endpoint, ServeLimits};
 use socket_endpoint::SocketEndpoint;
@@ -56,6 +58,22 @@ fn run_migrate<S, P, M: Host<S, P>, W: Write>(
     let books = host.migrate_file(file.as_str())?;
     let text = migrate_text(alloc, books)?;
     write_out(writer, text.as_slice())
+}
+
+/// Checks the rows or the card of a file, as its name says, and prints what was found.
+fn run_check_of<S, P, M: Host<S, P>, W: Write>(
+    alloc: Global,
+    host: &mut M,
+    file: &str,
+    writer: &mut W,
+) -> Result<(), Stop>
+    ensures done { OnOk result (LogsCalls M.calls host.old host.new
+        (ChecksFile file.now (W.contents writer.old) (W.contents writer.new))) }
+    ensures stopped { IfErr result (λ stop. LogsCalls M.calls host.old host.new
+        (StopsChecking file.now stop (W.contents writer.old) (W.contents writer.new))) }
+{
+    let octets = host.read_rows(alloc, file)?;
+    run_check(alloc, kind_of_file(file), octets.as_slice(), writer)
 }
 
 /// Serves the books in the file at the port. The store is opened first, and the endpoint is closed
@@ -130,6 +148,7 @@ fn do_store_work<S: BookStore, P, M: Host<S, P>, W: Write>(
         StoreWork::MirrorBook { book, limit, pages } => {
             run_mirror(alloc, store, book.as_str(), limit, pages, writer)
         }
+        StoreWork::ListBooks(what) => run_listing(alloc, store, what, writer),
     }
 }
 
@@ -166,6 +185,8 @@ fn do_work<S: BookStore + Drop, P: Endpoint, M: Host<S, P>, W: Write>(
 {
     match work {
         Work::Nothing => Err(Stop::Device),
+        Work::PrintVersion => write_out(writer, version_text().as_bytes()),
+        Work::CheckFile { file } => run_check_of(alloc, host, file.as_str(), writer),
         Work::CreateFile { file } => run_init(host, file, writer),
         Work::MigrateFile { file } => run_migrate(alloc, host, file, writer),
         Work::ServeFile { file, port, limits } => {
@@ -179,11 +200,12 @@ fn do_work<S: BookStore + Drop, P: Endpoint, M: Host<S, P>, W: Write>(
 /// the port, then performs the order, and writes the output last; but the line that announces the
 /// port is written before the first connection is accepted.
 ///
-/// `Open` if the file can't be opened as a store of books; `Device` if the file of rows can't
-/// be read or has more than 8,388,608 octets, if the port can't be bound, if waiting or accepting
-/// fails, or if the writer fails; `Memory` if an allocation fails, while connections are served
-/// only before the first is accepted. Changes that were made remain if the output can't be written.
-/// `Device` for `Try`, which needs standard input.
+/// `Open` if the file can't be opened as a store of books; `Device` if the file of rows or the file
+/// to check can't be read or has more than 8,388,608 octets, if the port can't be bound, if waiting
+/// or accepting fails, or if the writer fails; `Memory` if an allocation fails, while connections
+/// are served only before the first is accepted. Changes that were made remain if the output can't
+/// be written. The stop for a faulty file is its refusal. `Device` for `Try`, which needs standard
+/// input.
 pub fn run_on_host<S: BookStore + Drop, P: Endpoint, M: Host<S, P>, W: Write>(
     alloc: Global,
     host: &mut M,
@@ -199,7 +221,8 @@ pub fn run_on_host<S: BookStore + Drop, P: Endpoint, M: Host<S, P>, W: Write>(
         (W.contents writer.old) (W.contents writer.new))) }
 
     // Nothing is written on a refusal, on a fault, or if the file can't be opened. But the order to
-    // serve may have announced its port before memory ran out.
+    // serve may have announced its port before memory ran out, and the order to check a file has
+    // written why it refuses the file.
     ensures output_kept { IfErr result (λ stop.
         KeepsOrderOutput order stop (W.contents writer.old) (W.contents writer.new)) }
 {
@@ -219,7 +242,8 @@ pub fn run_order<W: Write>(rt: &HostRuntime, order: Order, writer: &mut W) -> Re
         (W.contents writer.old) (W.contents writer.new))) }
 
     // Nothing is written on a refusal, on a fault, or if the file can't be opened. But the order to
-    // serve may have announced its port before memory ran out.
+    // serve may have announced its port before memory ran out, and the order to check a file has
+    // written why it refuses the file.
     ensures output_kept { IfErr result (λ stop.
         KeepsOrderOutput order stop (W.contents writer.old) (W.contents writer.new)) }
 {

@@ -1,10 +1,13 @@
 //! What an order does.
-ghost use Rattle.cli_host.specs.OrderWork.{limits_of, work_of};
 ghost use Rattle.std.specs.Prelude.{◌≡◌};
+ghost use Rattle.cli_host.specs.OrderWork.{limits_of, work_of};
+ghost use Rattle.cli_host.specs.declared.work.StoreWork.TheVariants.{ListBooks, Perform};
+ghost use Rattle.cli_host.specs.declared.work.Work.TheVariants.{UseFile};
 
 use base_types::Text;
 use book_service::Command;
 use cli_args::Order;
+use cli_orders::Listing;
 use hub_server::ServeLimits;
 
 /// The most connections that are open at once, if the order names no limits.
@@ -18,6 +21,13 @@ const PATIENCE_DEFAULT: u64 = 60;
 pub enum Work {
     /// Nothing that needs a file or a port.
     Nothing,
+    /// Prints the program's version.
+    PrintVersion,
+    /// Checks the rows or the card of a file.
+    CheckFile {
+        /// The file's name.
+        file: Text,
+    },
     /// Creates a store in the file.
     CreateFile {
         /// The file's name.
@@ -70,6 +80,8 @@ pub enum StoreWork {
         /// The most pages.
         pages: u64,
     },
+    /// Lists the books.
+    ListBooks(Listing),
 }
 
 /// The limits of a server, with its patience in seconds.
@@ -84,12 +96,34 @@ fn limits_of(connections: u64, together: u64, patience: u64) -> ServeLimits
     }
 }
 
+/// Performs a command on the store in the file.
+fn perform_in(file: Text, command: Command) -> Work
+    ensures { result ≡ UseFile file (Perform command) }
+{
+    Work::UseFile {
+        file,
+        work: StoreWork::Perform(command),
+    }
+}
+
+/// Lists the books of the store in the file.
+fn list_in(file: Text, what: Listing) -> Work
+    ensures { result ≡ UseFile file (ListBooks what) }
+{
+    Work::UseFile {
+        file,
+        work: StoreWork::ListBooks(what),
+    }
+}
+
 /// What the order does, with its arguments in their places.
 pub fn work_of(order: Order) -> Work
     ensures { result ≡ work_of order }
 {
     match order {
         Order::Try => Work::Nothing,
+        Order::Version => Work::PrintVersion,
+        Order::Check { file } => Work::CheckFile { file },
         Order::Init { file } => Work::CreateFile { file },
         Order::Migrate { file } => Work::MigrateFile { file },
         Order::Serve {
@@ -112,10 +146,6 @@ pub fn work_of(order: Order) -> Work
             port,
             limits: limits_of(connections, together, patience),
         },
-        Order::Book { file, book } => Work::UseFile {
-            file,
-            work: StoreWork::Perform(Command::CreateBook { book }),
-        },
         Order::Import {
             file,
             book,
@@ -124,18 +154,6 @@ pub fn work_of(order: Order) -> Work
         } => Work::UseFile {
             file,
             work: StoreWork::ImportFile { book, key, csv },
-        },
-        Order::Export { file, book, form } => Work::UseFile {
-            file,
-            work: StoreWork::Perform(Command::Export { book, form }),
-        },
-        Order::Tally { file, book } => Work::UseFile {
-            file,
-            work: StoreWork::Perform(Command::TallyOf { book }),
-        },
-        Order::Forget { file, book, upto } => Work::UseFile {
-            file,
-            work: StoreWork::Perform(Command::Forget { book, upto }),
         },
         Order::Mirror {
             file,
@@ -146,9 +164,12 @@ pub fn work_of(order: Order) -> Work
             file,
             work: StoreWork::MirrorBook { book, limit, pages },
         },
-        Order::Expand { file, book, uid } => Work::UseFile {
-            file,
-            work: StoreWork::Perform(Command::People { book, uid }),
-        },
+        Order::Book { file, book } => perform_in(file, Command::CreateBook { book }),
+        Order::Export { file, book, form } => perform_in(file, Command::Export { book, form }),
+        Order::Tally { file, book } => perform_in(file, Command::TallyOf { book }),
+        Order::Forget { file, book, upto } => perform_in(file, Command::Forget { book, upto }),
+        Order::Expand { file, book, uid } => perform_in(file, Command::People { book, uid }),
+        Order::Books { file } => list_in(file, Listing::Books),
+        Order::Verify { file } => list_in(file, Listing::Verified),
     }
 }
