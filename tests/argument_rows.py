@@ -8,7 +8,7 @@ A row is the arguments, separated by spaces, and the text; arguments with spaces
 """
 
 # The usage of each order.
-TOP = "[COMMAND]"
+TOP = "[OPTIONS] [COMMAND]"
 TRY = "try"
 INIT = "init <FILE>"
 BOOK = "book <FILE> <BOOK>"
@@ -20,6 +20,9 @@ FORGET = "forget <FILE> <BOOK> <UPTO>"
 MIRROR = "mirror [OPTIONS] <FILE> <BOOK>"
 EXPAND = "expand <FILE> <BOOK> <UID>"
 MIGRATE = "migrate <FILE>"
+CHECK = "check <FILE>"
+BOOKS = "books <FILE>"
+VERIFY = "verify <FILE>"
 
 
 def error(what, usage=None, tip=None):
@@ -109,6 +112,9 @@ MISSING = [
     ("mirror --limit 1 a.db", missing("<BOOK>", "mirror --limit <L> <FILE> <BOOK>")),
     ("expand a.db staff", missing("<UID>", EXPAND)),
     ("migrate", missing("<FILE>", MIGRATE)),
+    ("check", missing("<FILE>", CHECK)),
+    ("books", missing("<FILE>", BOOKS)),
+    ("verify", missing("<FILE>", VERIFY)),
 ]
 
 TOO_MANY = [
@@ -127,6 +133,9 @@ TOO_MANY = [
     ("mirror a.db staff 10", unexpected("10", MIRROR)),
     ("expand a.db staff a b", unexpected("b", EXPAND)),
     ("migrate a.db b.db", unexpected("b.db", MIGRATE)),
+    ("check a.csv b.csv", unexpected("b.csv", CHECK)),
+    ("books a.db staff", unexpected("staff", BOOKS)),
+    ("verify a.db b.db", unexpected("b.db", VERIFY)),
 ]
 
 UNKNOWN_ORDERS = [
@@ -145,8 +154,9 @@ UNKNOWN_ORDERS = [
 
 UNKNOWN_OPTIONS = [
     ("-x", unexpected("-x", TOP)),
-    ("-V", unexpected("-V", TOP)),
-    ("--version", unexpected("--version", TOP)),
+    ("-v", unexpected("-v", TOP)),
+    ("tally a.db staff --version", unexpected_hyphen("--version", TALLY)),
+    ("try --version", unexpected("--version", TRY)),
     ("--port 1", unexpected("--port", TOP)),
     ("--port serve a.db", error("unexpected argument '--port' found", TOP,
                                 "'serve --port' exists")),
@@ -282,6 +292,9 @@ GOOD = [
     "expand a.db staff --  -x",
     "migrate a.db",
     "migrate -- --help",
+    "books a.db",
+    "verify a.db",
+    "verify -- --version",
 ]
 
 BAD = [*MISSING, *TOO_MANY, *UNKNOWN_ORDERS, *UNKNOWN_OPTIONS, *DOUBLED, *NO_VALUES, *NO_NUMBERS,

@@ -10,7 +10,7 @@ HELP = {}
 HELP[""] = """\
 Contact server that stores address books and syncs them to many devices
 
-Usage: contacts [COMMAND]
+Usage: contacts [OPTIONS] [COMMAND]
 
 Commands:
   try      Read a vCard from standard input, add it to an empty book in memory, and print the \
@@ -25,10 +25,14 @@ book's initial report
   mirror   Sync a book to a new device page by page, and print the device's copy
   expand   List the people in a group and in its nested groups
   migrate  Convert a store file from schema 1 to schema 2, and print its number of books
+  check    Check a CSV file or a vCard, and print its number of rows or the first fault
+  books    List the books with their ids, cards, numbers and horizons
+  verify   Test the whole store file, and list its books
   help     Print this message or the help of the given subcommand(s)
 
 Options:
-  -h, --help  Print help
+  -V, --version  Print the version of the program, of its files and of its toolchain
+  -h, --help     Print help
 
 Without a command, `try` runs. `contacts help COMMAND` shows the arguments, defaults and limits of \
 a command.
@@ -239,6 +243,57 @@ Options:
 
 Example:
   contacts migrate office.db
+"""
+
+HELP["check"] = """\
+Check a CSV file or a vCard, and print its number of rows or the first fault
+
+Usage: contacts check <FILE>
+
+Arguments:
+  <FILE>  CSV file with a header row, or a vCard if the name ends in `.vcf`, up to 8,388,608 bytes
+
+Options:
+  -h, --help  Print help
+
+Example:
+  contacts check people.csv
+
+Needs no store file. Row 0 is the header, and row 1 the first row after it. A file with a fault is \
+refused, with status 1.
+"""
+
+HELP["books"] = """\
+List the books with their ids, cards, numbers and horizons
+
+Usage: contacts books <FILE>
+
+Arguments:
+  <FILE>  Path of the store file
+
+Options:
+  -h, --help  Print help
+
+Example:
+  contacts books office.db
+"""
+
+HELP["verify"] = """\
+Test the whole store file, and list its books
+
+Usage: contacts verify <FILE>
+
+Arguments:
+  <FILE>  Path of the store file
+
+Options:
+  -h, --help  Print help
+
+Example:
+  contacts verify office.db
+
+Tests what each command that uses the file tests first: every row of the file. A damaged file ends \
+with `fault open 4`.
 """
 
 # clap's own `help` command.

@@ -29,6 +29,12 @@ def forget_text(body):
     return "dropped {dropped} horizon {horizon}\n".format(**body).encode()
 
 
+def books_text(lines):
+    """A line for each book: dictionaries of name, id, cards, number and horizon, sorted by name."""
+    form = "name {name} id {id} cards {cards} number {number} horizon {horizon}\n"
+    return "".join(form.format(**line) for line in lines).encode()
+
+
 def people_text(body):
     lines = [("person", uid) for uid in body["people"]]
     lines += [("missing", value) for value in body["missing"]]

@@ -1,0 +1,126 @@
+"""`contacts check`: a file of rows or a card, without a store.
+
+What is printed is worked out by hand, and the verdict is compared with that of an import into an
+empty book, or of a put, of the same octets. The words stand in tables here; the rows and numbers
+of causes are the plain model's.
+"""
+
+import unittest
+
+from model.cards import BadCard, read_card
+from model.rows import BadImport, read_rows
+from order_trials import OrderTest, numbered
+from program import Ended, run
+
+HEAD = "uid,fn,family,given,email,tel,org,note\n"
+ANN = "BEGIN:VCARD\r\nVERSION:4.0\r\nUID:a\r\nFN:Ann\r\nEND:VCARD\r\n"
+DEVICE = Ended(3, b"", b"fault device 1\n")
+
+HEADER = "the header is neither uid,vcard nor uid,fn,family,given,email,tel,org,note"
+COUNT = "the number of fields isn't that of the header"
+
+# A name, the text, the faulty row with the number of its cause, and the words.
+BAD_ROWS = [
+    ("no octet", "", (0, 1), HEADER),
+    ("another header", "uid,name\na,Ann\n", (0, 1), HEADER),
+    ("seven fields", HEAD + "a,Ann,,,,,\n", (1, 2), COUNT),
+    ("nine fields in the second row", HEAD + "a,Ann,,,,,,\nb,Bo,,,,,,,\n", (2, 2), COUNT),
+    ("an empty name", HEAD + "a,Ann,,,,,,\nb,,,,,,,\n", (2, 4), "the name is empty"),
+    ("an empty UID", HEAD + ",Ann,,,,,,\n", (1, 30), "the UID is empty, too long or has a tab"),
+    ("a UID twice", HEAD + "a,Ann,,,,,,\nb,Bo,,,,,,\na,Ann,,,,,,\n", (3, 41),
+     "an earlier row has the same UID"),
+    ("a UID that isn't the card's", 'uid,vcard\nb,"' + ANN + '"\n', (1, 40),
+     "the field uid isn't the UID of the card"),
+    ("a card of vCard 3.0", 'uid,vcard\n,"' + ANN.replace("4.0", "3.0") + '"\n', (1, 26),
+     "the version isn't 4.0"),
+    ("a card without a name", 'uid,vcard\n,"' + ANN.replace("FN", "NOTE") + '"\n', (1, 28),
+     "FN is missing"),
+]
+GOOD_ROWS = [
+    ("a header alone", HEAD, 0),
+    ("a row", HEAD + "a,Ann,,,,,,\n", 1),
+    ("a card", "uid,vcard\n" + 'a,"' + ANN + '"\n', 1),
+    ("2000 rows", numbered(0, 2000), 2000),
+]
+
+# A name, the text, the number of the fault, and the words.
+BAD_CARDS = [
+    ("too long", ANN + " " * 262_144, 1, "the text is too long"),
+    ("a control character", ANN.replace("Ann", "A\x01n"), 3, "a line has a control character"),
+    ("two cards", ANN + ANN, 4, "a line isn't a property line"),
+    ("no octet", "", 5, "BEGIN:VCARD is missing"),
+    ("vCard 3.0", ANN.replace("4.0", "3.0"), 6, "the version isn't 4.0"),
+    ("cut off", ANN[:-len("END:VCARD\r\n")], 7, "END:VCARD is missing"),
+    ("no name", ANN.replace("FN:Ann\r\n", ""), 8, "FN is missing"),
+    ("no UID", ANN.replace("UID:a\r\n", ""), 9, "UID is missing"),
+    ("an empty UID", ANN.replace("UID:a", "UID:"), 10, "the UID is empty, too long or has a tab"),
+    ("two UIDs", ANN.replace("UID:a", "UID:a\r\nUID:a"), 11, "UID or KIND occurs twice"),
+    ("a member of no group", ANN.replace("FN:Ann", "FN:Ann\r\nMEMBER:b"), 12,
+     "MEMBER outside a group"),
+]
+
+
+class Check(OrderTest):
+    def check(self, name, octets):
+        (self.folder / name).write_bytes(octets)
+        ended = run("check", name, cwd=self.folder)
+        self.assertEqual([name], [path.name for path in self.folder.iterdir()])
+        return ended
+
+    def test_good_rows(self):
+        for title, text, count in GOOD_ROWS:
+            with self.subTest(title):
+                self.assertEqual(count, len(read_rows(text.encode())))
+                self.assertEqual(Ended(0, b"rows %d\n" % count, b""),
+                                 self.check("a.csv", text.encode()))
+
+    def test_bad_rows(self):
+        for title, text, place, words in BAD_ROWS:
+            with self.subTest(title):
+                with self.assertRaises(BadImport) as caught:
+                    read_rows(text.encode())
+                self.assertEqual(place, (caught.exception.row, caught.exception.cause))
+                self.assertEqual(
+                    Ended(1, f"row {place[0]}: {words}\n".encode(), b"refused bad-import 14\n"),
+                    self.check("a.csv", text.encode()))
+
+    def test_a_field_in_another_encoding(self):
+        octets = HEAD.encode() + "a,Änn,,,,,,\n".encode("latin-1")
+        self.assertEqual(Ended(1, b"row 1: a field isn't UTF-8\n", b"refused bad-import 14\n"),
+                         self.check("a.csv", octets))
+
+    def test_good_cards(self):
+        for name in "a.vcf", "a.VCF":
+            with self.subTest(name):
+                self.assertEqual(Ended(0, b"card\n", b""), self.check(name, ANN.encode()))
+                (self.folder / name).unlink()
+
+    def test_bad_cards(self):
+        for title, text, number, words in BAD_CARDS:
+            with self.subTest(title):
+                with self.assertRaises(BadCard) as caught:
+                    read_card(text.encode())
+                self.assertEqual((number,), caught.exception.args)
+                self.assertEqual(
+                    Ended(1, f"card: {words}\n".encode(), b"refused bad-card 5\n"),
+                    self.check("a.vcf", text.encode()))
+
+    def test_a_card_in_another_encoding(self):
+        octets = ANN.replace("Ann", "Änn").encode("latin-1")
+        self.assertEqual(Ended(1, b"card: the text isn't UTF-8\n", b"refused bad-card 5\n"),
+                         self.check("a.vcf", octets))
+
+    def test_other_names_are_of_rows(self):
+        for name in "a.vcard", "vcf", "a.vcf.csv", "a.Vcf":
+            with self.subTest(name):
+                self.assertEqual(1, self.check(name, ANN.encode()).status)
+                (self.folder / name).unlink()
+
+    def test_no_file(self):
+        for name in "none.csv", "none.vcf", ".":
+            with self.subTest(name):
+                self.assertEqual(DEVICE, run("check", name, cwd=self.folder))
+
+
+if __name__ == "__main__":
+    unittest.main()
