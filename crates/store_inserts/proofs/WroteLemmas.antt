@@ -72,7 +72,7 @@ module _ (old new : State) (rows : TableRows) (name : List ℕ) (header : Header
       }
 
 -- no row has a key that no kept answer has
-found_none : (test : ImportRow → Bool) (imports : List ImportRow) → option_map row_tally (find test imports) ≡ None → filter test imports ≡ []
+pub found_none : (test : ImportRow → Bool) (imports : List ImportRow) → option_map row_tally (find test imports) ≡ None → filter test imports ≡ []
 found_none test [] none = refl
 found_none test (row ∷ rows) none = by (test row) refl (found_none test rows)
   where

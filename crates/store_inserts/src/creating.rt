@@ -5,24 +5,33 @@ ghost use Rattle.store_lookups.specs.Faults.{IsDeniedFault};
 ghost use Rattle.store_rows.specs.TableBooks.{books_of};
 ghost use Rattle.store_inserts.specs.internal.Creating.{AreNameAndCount, IsCreationPlanned};
 ghost use Rattle.store_inserts.specs.internal.Creating.{IsNameFound};
-ghost use Rattle.store_lookups.specs.OnConnections.{GivenSoundRows};
+ghost use Rattle.store_lookups.specs.OnConnections.{
+  ChangeFaultsFromOutside,
+  FaultsFromOutside,
+  GivenSoundRows,
+};
+ghost use Rattle.store_rows.specs.TableRows.{TableRows};
 ghost use Rattle.store_tables.specs.OnConnections.{
   CountsFaults,
+  FailsFromOutside,
   KeepsCommit,
   OnlyReads,
   SurvivesAsBefore,
   UnchangedOnOk,
   WasOpenOnOk,
+  WriteFailsFromOutside,
 };
 ghost use Rattle.store_writes.specs.OnConnections.{AppliesStep, CommitsOnce};
 ghost use Rattle.store_inserts.specs.internal.OnConnections.{
+  AcceptsNewBook,
   AddsNewBookInTx,
   CommitsNewBook,
   CommitsNewBookOnce,
+  CreationFaultsFromOutside,
   InTxWithoutBook,
 };
 ghost use Rattle.std.specs.FinMap as finite;
-ghost use Rattle.std.specs.Prelude.{◌≡◌, IfErr, IfOk, false, pos, ℕ};
+ghost use Rattle.std.specs.Prelude.{◌≡◌, ◌<◌, ◌^◌, IfErr, IfOk, false, pos, ℕ};
 
 use book_model::decisions::id_of_new_book;
 use book_model::{Denied, Limits};
@@ -47,6 +56,9 @@ fn insert_book_rows<S: Alter>(
     ensures keeps_commit { InTxWithoutBook S.Store tx.old.conn.now tx.new.conn.now name.now
         (λ rows. KeepsCommit S.Store tx.old.conn.now tx.new.conn.now) }
     ensures survives { SurvivesAsBefore S.Store tx.old.conn.now tx.new.conn.now }
+    ensures fails_from_outside { (rows : TableRows)
+        → AcceptsNewBook S.Store tx.old.conn.now rows id name.now
+        → WriteFailsFromOutside S.Store tx.old.conn.now tx.new.conn.now result }
 {
     insert_book(tx, id, name)?;
     insert_keep(tx, id, keep)?;
@@ -67,8 +79,14 @@ fn commit_create<S: Alter>(
     ensures survives { CountsFaults S.Store conn.old conn.new }
     ensures crash { (book most : ℕ) → id ≡ pos book → keep ≡ pos most
         → CommitsNewBookOnce S.Store conn.old conn.new name.now (fresh_book book most) }
+    ensures fails_from_outside { (book most : ℕ) → id ≡ pos book → keep ≡ pos most
+        → (rows : TableRows) → AcceptsNewBook S.Store conn.old rows id name.now
+        → FailsFromOutside S.Store conn.old conn.new result }
 {
     assert_no_pending_writes(conn);
+
+    // The proof needs the tables to obey their constraints, which this call ensures.
+    let _tables = conn.schema();
     let mut tx = conn.transaction();
     insert_book_rows(&mut tx, id, name, keep)?;
     tx.commit()?;
@@ -85,6 +103,8 @@ fn write_create<S: Alter>(
     requires { conn.old.in_transaction ≡ false }
     ensures atomic { CommitsNewBook S.Store conn.old conn.new name.now result (fresh_book id keep) }
     ensures fault { IfErr result IsDeniedFault }
+    ensures store_fault { id < 2 ^ 63 → keep < 2 ^ 63
+        → CreationFaultsFromOutside S.Store conn.old conn.new id name.now result }
     ensures settled { conn.new.in_transaction ≡ false }
     ensures survives { CountsFaults S.Store conn.old conn.new }
     ensures crash { CommitsNewBookOnce S.Store conn.old conn.new name.now (fresh_book id keep) }
@@ -103,6 +123,7 @@ fn has_book<S: Alter>(conn: &mut Connection<S>, name: &str) -> Result<bool, Deni
     ensures found { GivenSoundRows S.Store conn.old conn.new
         (λ rows. IfOk result (IsNameFound rows name.now)) }
     ensures fault { IfErr result IsDeniedFault }
+    ensures store_fault { FaultsFromOutside S.Store conn.old conn.new result }
     ensures unchanged { UnchangedOnOk S.Store conn.old conn.new result }
     ensures reads_only { OnlyReads S.Store conn.old conn.new }
 {
@@ -119,6 +140,7 @@ fn number_of_books<S: Alter>(conn: &mut Connection<S>) -> Result<u64, Denied>
     ensures counted { GivenSoundRows S.Store conn.old conn.new
         (λ rows. IfOk result (λ count. finite.len (books_of rows) ≡ count)) }
     ensures fault { IfErr result IsDeniedFault }
+    ensures store_fault { ChangeFaultsFromOutside S.Store conn.old conn.new result }
     ensures unchanged { UnchangedOnOk S.Store conn.old conn.new result }
     ensures reads_only { OnlyReads S.Store conn.old conn.new }
 {
@@ -133,6 +155,7 @@ fn name_and_count<S: Alter>(conn: &mut Connection<S>, name: &str) -> Result<(boo
     ensures found { GivenSoundRows S.Store conn.old conn.new
         (λ rows. IfOk result (AreNameAndCount rows name.now)) }
     ensures fault { IfErr result IsDeniedFault }
+    ensures store_fault { ChangeFaultsFromOutside S.Store conn.old conn.new result }
     ensures unchanged { UnchangedOnOk S.Store conn.old conn.new result }
     ensures reads_only { OnlyReads S.Store conn.old conn.new }
 {
@@ -149,10 +172,14 @@ fn plan_create<S: Alter>(
 ) -> Result<u64, Denied>
     ensures planned { GivenSoundRows S.Store conn.old conn.new
         (λ rows. IsCreationPlanned limits rows name.now result) }
+    ensures id_fits { IfOk result (λ id. id < 2 ^ 63) }
+    ensures store_fault { ChangeFaultsFromOutside S.Store conn.old conn.new result }
     ensures unchanged { UnchangedOnOk S.Store conn.old conn.new result }
     ensures was_open { WasOpenOnOk S.Store conn.old conn.new result }
     ensures reads_only { OnlyReads S.Store conn.old conn.new }
 {
+    // The proof needs the greatest limit of books, which this call ensures.
+    let _most = limits.books_max();
     check_open(conn)?;
     let (has_name_already, books) = name_and_count(conn, name)?;
     let id = id_of_new_book(limits, name, has_name_already, books)?;
@@ -171,6 +198,7 @@ pub fn create_in_tables<S: Alter>(
     requires { conn.old.in_transaction ≡ false }
     ensures changes { AppliesStep S.Store conn.old conn.new result
         (λ books. create_step limits books name.now) }
+    ensures store_fault { ChangeFaultsFromOutside S.Store conn.old conn.new result }
     ensures crash { CommitsOnce S.Store conn.old conn.new
         (λ books. create_step limits books name.now) }
 {

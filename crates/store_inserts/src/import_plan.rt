@@ -7,13 +7,22 @@ ghost use Rattle.book_model.specs.Importing.{import_tally, imported_so_far};
 ghost use Rattle.store_lookups.specs.CallResults.{FollowsStep, IsExactly};
 ghost use Rattle.store_lookups.specs.Faults.{IsDeniedFault};
 ghost use Rattle.store_inserts.specs.internal.Importing.{HasNumbersFor, CountsStoredCards};
+ghost use Rattle.store_inserts.specs.internal.Importing.{HasColumnTally, HasTallyFor};
 ghost use Rattle.store_inserts.specs.internal.Importing.{IsImportPlanned, IsImportKeyLookup};
 ghost use Rattle.store_inserts.specs.internal.Importing.{IsBookImportPlanned, card_count};
 ghost use Rattle.store_inserts.specs.internal.Importing.{model_plan, planned_import, planning};
 ghost use Rattle.store_inserts.specs.internal.Importing.{counts_after_plan};
-ghost use Rattle.store_lookups.specs.OnConnections.{GivenBook, GivenSoundRows};
+ghost use Rattle.store_lookups.specs.OnConnections.{
+  FaultsFromOutside,
+  FaultsFromOutsideInBook,
+  GivenBook,
+  GivenSoundRows,
+};
+ghost use Rattle.store_lookups.specs.Faults.{denied_by_fault};
+ghost use Rattle.book_model.specs.declared.denied.Fault.TheVariants.{Store};
+ghost use Rattle.book_model.specs.Importing.{is_legal_key};
 ghost use Rattle.store_tables.specs.OnConnections.{OnlyReads, UnchangedOnOk, WasOpenOnOk};
-ghost use Rattle.std.specs.Prelude.{[], ◌≡◌, ◌+◌, ◌<◌, ◌^◌, IfErr, IfOk, OnOk, length};
+ghost use Rattle.std.specs.Prelude.{[], ◌≡◌, ◌≢◌, ◌+◌, ◌<◌, ◌^◌, IfErr, IfOk, OnOk, length, true};
 ghost use Rattle.vcard_text.specs.Cards.{uid_of};
 
 use book_model::decisions::{is_import_key, reason_to_import, tally_of_import};
@@ -95,6 +104,7 @@ fn reason_to_store<S: Alter>(
         (λ book. IfOk result
         (λ why. why ≡ import_reason card.now (live_at book (uid_of card.now)))) }
     ensures fault { IfErr result IsDeniedFault }
+    ensures store_fault { FaultsFromOutsideInBook S.Store conn.old conn.new header result }
     ensures unchanged { UnchangedOnOk S.Store conn.old conn.new result }
     ensures reads_only { OnlyReads S.Store conn.old conn.new }
 {
@@ -114,6 +124,7 @@ fn plan_cards<'a, S: Alter>(
     ensures counts_all { IfOk result (λ plan. card_count plan ≡ length cards.now) }
     ensures counted { IfOk result CountsStoredCards }
     ensures fault { IfErr result IsDeniedFault }
+    ensures store_fault { FaultsFromOutsideInBook S.Store conn.old conn.new header result }
     ensures unchanged { UnchangedOnOk S.Store conn.old conn.new result }
     ensures reads_only { OnlyReads S.Store conn.old conn.new }
 {
@@ -128,7 +139,7 @@ fn plan_cards<'a, S: Alter>(
 }
 
 /// The answer of the planned import. Refused with `BookFull`, else with `ChangesSpent`. Fails with
-/// `Store` if the book's number would be 2^63 or more, which no stored number is.
+/// `Store` if the book's number is 2^63 or more, which no stored number is.
 fn plan_tally(limits: Limits, header: BookHeader, plan: &ImportPlan) -> Result<ImportTally, Denied>
     ensures tally { FollowsStep IsExactly result
         (import_tally limits (imported_so_far plan.now.added plan.now.edited plan.now.same)
@@ -136,22 +147,29 @@ fn plan_tally(limits: Limits, header: BookHeader, plan: &ImportPlan) -> Result<I
         (header.number + plan.now.added + plan.now.edited)) }
     ensures number_fits { IfOk result (λ tally.
         header.number + plan.now.added + plan.now.edited < 2 ^ 63) }
+    ensures tally_fits { card_count plan.now < 2 ^ 63 → IfOk result HasColumnTally }
+    ensures few { OnOk result (plan.now.added + plan.now.edited < 2 ^ 62) }
+    ensures store_fault { header.number < 2 ^ 63 → card_count plan.now < 2 ^ 63
+        → IfErr result (λ denied. denied ≢ denied_by_fault Store) }
 {
+    // The proof needs the greatest limit of changes, which this call ensures.
+    let _most = limits.changes_max();
     let number = match header.number().checked_add(plan.added) {
         Some(number) => number.checked_add(plan.edited),
         None => None,
     };
-    match number {
-        Some(number) if number < 1 << 63 => {
-            let mut counts = header.counts();
-            counts.imported += plan.added;
-            counts.import_edited += plan.edited;
-            let cards = counts.live();
-            let tally = tally_of_import(limits, plan.added, plan.edited, plan.same, cards, number)?;
-            Ok(tally)
-        }
-        _ => Err(Denied::Fault(Fault::Store)),
+    let Some(number) = number else {
+        return Err(Denied::Fault(Fault::Store));
+    };
+    let mut counts = header.counts();
+    counts.imported += plan.added;
+    counts.import_edited += plan.edited;
+    let cards = counts.live();
+    let tally = tally_of_import(limits, plan.added, plan.edited, plan.same, cards, number)?;
+    if number >= 1 << 63 {
+        return Err(Denied::Fault(Fault::Store));
     }
+    Ok(tally)
 }
 
 /// The header of the named book, and the answer that it keeps under the key. Refused with
@@ -163,6 +181,8 @@ fn find_import_key<S: Alter>(
 ) -> Result<(BookHeader, Option<ImportTally>), Denied>
     ensures found { GivenSoundRows S.Store conn.old conn.new
         (λ rows. IsImportKeyLookup rows name.now key.now result) }
+    ensures legal_key { OnOk result (is_legal_key key.now ≡ true) }
+    ensures store_fault { FaultsFromOutside S.Store conn.old conn.new result }
     ensures unchanged { UnchangedOnOk S.Store conn.old conn.new result }
     ensures was_open { WasOpenOnOk S.Store conn.old conn.new result }
     ensures reads_only { OnlyReads S.Store conn.old conn.new }
@@ -188,6 +208,9 @@ fn plan_new_import<'a, S: Alter>(
         (λ book. IsBookImportPlanned limits book cards.now result) }
     ensures numbers_fit { IfOk result
         (λ order. header.number + length order.0.stored.items < 2 ^ 63) }
+    ensures tally_fits { IfOk result (λ order. HasColumnTally order.1) }
+    ensures few { IfOk result (λ order. length order.0.stored.items < 2 ^ 62) }
+    ensures store_fault { FaultsFromOutsideInBook S.Store conn.old conn.new header result }
     ensures unchanged { UnchangedOnOk S.Store conn.old conn.new result }
     ensures reads_only { OnlyReads S.Store conn.old conn.new }
 {
@@ -209,6 +232,9 @@ pub(crate) fn plan_import<'a, S: Alter>(
     ensures planned { GivenSoundRows S.Store conn.old conn.new
         (λ rows. IsImportPlanned limits rows name.now key.now cards.now result) }
     ensures numbers_fit { IfOk result (λ found. HasNumbersFor found.0 found.1) }
+    ensures tally_fits { IfOk result (λ found. HasTallyFor found.1) }
+    ensures legal_key { OnOk result (is_legal_key key.now ≡ true) }
+    ensures store_fault { FaultsFromOutside S.Store conn.old conn.new result }
     ensures unchanged { UnchangedOnOk S.Store conn.old conn.new result }
     ensures was_open { WasOpenOnOk S.Store conn.old conn.new result }
     ensures reads_only { OnlyReads S.Store conn.old conn.new }

@@ -8,15 +8,30 @@ ghost use Rattle.store_rows.specs.ChangeLaws.{header_after};
 ghost use Rattle.store_rows.specs.TableBooks.{row_book, books_of, line_row};
 ghost use Rattle.store_rows.specs.TableRows.{TableRows};
 ghost use Rattle.store_writes.specs.TableChanges.{HoldsBooks, TreesHold};
-ghost use Rattle.store_inserts.specs.internal.Importing.{IsImportKeyFree, WritesBook};
+ghost use Rattle.store_inserts.specs.internal.Importing.{HasColumnTally, IsImportKeyFree};
 ghost use Rattle.store_inserts.specs.internal.Importing.{book_with_pair, planned_pair};
 ghost use Rattle.store_inserts.specs.internal.Importing.{book_with_import, book_with_stored};
+ghost use Rattle.store_inserts.specs.internal.Importing as internals;
 ghost use Rattle.store_inserts.specs.internal.OnConnections.{
+  AcceptsCards,
+  AcceptsImportOf,
+  AcceptsKey,
   InWrittenBookTx,
   KeepsCommitInWrittenBook,
+  ObeysInWrittenBook,
+  TakesIds,
+  WritesBook,
 };
+ghost use Rattle.book_model.specs.Books.{Book};
+ghost use Rattle.store_lookups.specs.OnConnections.{
+  ChangeFaultsFromOutside,
+  HasOutsideCauseOfFault,
+  WriteFaultsFromOutside,
+};
+ghost use Rattle.store_tables.specs.Acceptance.{IsShort};
 ghost use Rattle.store_tables.specs.OnConnections.{
   CountsFaults,
+  HasCleanDisk,
   HoldsInTx,
   KeepsCommit,
   Survives,
@@ -59,13 +74,20 @@ fn write_next_card<S: Alter>(
     ensures book_after { InWrittenBookTx S.Store tx.old.conn.now tx.new.conn.now header
         (λ rows name book. IfOk result
         (λ next. HoldsInTx S.Store tx.new.conn.now
-        (λ db. WritesBook db rows name next (book_with_pair book (planned_pair stored.entry))))) }
+        (λ db. internals.WritesBook db rows name next (book_with_pair book (planned_pair stored.entry))))) }
     ensures next_header { IfOk result (λ next.
         next ≡ header_after (Stores stored.entry.card.now stored.entry.why) header) }
+    ensures obeys { ObeysInWrittenBook S.Store tx.old.conn.now tx.new.conn.now header result }
+    ensures takes_ids { TakesIds S.Store tx.old.conn.now tx.new.conn.now header 1 result }
+    ensures store_fault { (rows : TableRows) (name : List ℕ) (book : Book)
+        → AcceptsCards S.Store tx.old.conn.now rows name header book 1
+        → WriteFaultsFromOutside S.Store tx.old.conn.now tx.new.conn.now result }
     ensures keeps_commit { KeepsCommitInWrittenBook S.Store tx.old.conn.now tx.new.conn.now header }
     ensures fault { IfErr result IsDeniedFault }
     ensures survives { SurvivesAsBefore S.Store tx.old.conn.now tx.new.conn.now }
 {
+    // The proof needs the rules of a card, which this call ensures.
+    let _lines = stored.card.lines();
     let text = text_of_card(alloc, stored.card)?;
     let id = column_of(header.id())?;
     let changed = column_of(header.number() + 1)?;
@@ -88,8 +110,16 @@ fn write_next_cards<S: Alter>(
     ensures book_after { InWrittenBookTx S.Store tx.old.conn.now tx.new.conn.now header
         (λ rows name book. IfOk result
         (λ next. HoldsInTx S.Store tx.new.conn.now
-        (λ db. WritesBook db rows name next (book_with_stored book stored.now)))) }
+        (λ db. internals.WritesBook db rows name next (book_with_stored book stored.now)))) }
     ensures same_id { IfOk result (λ next. next.id ≡ header.id) }
+    ensures next_number { IfOk result (λ next.
+        next.number ≡ header.number + length stored.now) }
+    ensures obeys { ObeysInWrittenBook S.Store tx.old.conn.now tx.new.conn.now header result }
+    ensures takes_ids { TakesIds S.Store tx.old.conn.now tx.new.conn.now header (length stored.now)
+        result }
+    ensures store_fault { (rows : TableRows) (name : List ℕ) (book : Book)
+        → AcceptsCards S.Store tx.old.conn.now rows name header book (length stored.now)
+        → WriteFaultsFromOutside S.Store tx.old.conn.now tx.new.conn.now result }
     ensures keeps_commit { KeepsCommitInWrittenBook S.Store tx.old.conn.now tx.new.conn.now header }
     ensures fault { IfErr result IsDeniedFault }
     ensures survives { SurvivesAsBefore S.Store tx.old.conn.now tx.new.conn.now }
@@ -112,7 +142,12 @@ fn insert_kept_import<S: Alter>(
     ensures book_after { InWrittenBookTx S.Store tx.old.conn.now tx.new.conn.now header
         (λ rows name book. IsImportKeyFree book key.now
         → OnOk result (HoldsInTx S.Store tx.new.conn.now
-        (λ db. WritesBook db rows name header (book_with_kept_import book key.now tally)))) }
+        (λ db. internals.WritesBook db rows name header (book_with_kept_import book key.now tally)))) }
+    ensures obeys { ObeysInWrittenBook S.Store tx.old.conn.now tx.new.conn.now header result }
+    ensures store_fault { tally.added < 2 ^ 63 → tally.edited < 2 ^ 63 → tally.same < 2 ^ 63
+        → tally.number < 2 ^ 63 → (rows : TableRows) (name : List ℕ) (book : Book)
+        → AcceptsKey S.Store tx.old.conn.now rows name header book key.now
+        → WriteFaultsFromOutside S.Store tx.old.conn.now tx.new.conn.now result }
     ensures keeps_commit { KeepsCommitInWrittenBook S.Store tx.old.conn.now tx.new.conn.now header }
     ensures fault { IfErr result IsDeniedFault }
     ensures survives { SurvivesAsBefore S.Store tx.old.conn.now tx.new.conn.now }
@@ -134,6 +169,10 @@ fn write_book_row<S: Alter>(tx: &mut Transaction<'_, S>, header: BookHeader) -> 
     ensures books_after { InWrittenBookTx S.Store tx.old.conn.now tx.new.conn.now header
         (λ rows name book. OnOk result (HoldsInTx S.Store tx.new.conn.now
         (λ db. HoldsBooks db (finite.insert (books_of rows) name book)))) }
+    ensures store_fault { header.id < 2 ^ 63 → header.number < 2 ^ 63
+        → (rows : TableRows) (name : List ℕ) (book : Book)
+        → WritesBook S.Store tx.old.conn.now rows name header book → IsShort name
+        → WriteFaultsFromOutside S.Store tx.old.conn.now tx.new.conn.now result }
     ensures keeps_commit { KeepsCommitInWrittenBook S.Store tx.old.conn.now tx.new.conn.now header }
     ensures fault { IfErr result IsDeniedFault }
     ensures survives { SurvivesAsBefore S.Store tx.old.conn.now tx.new.conn.now }
@@ -166,6 +205,10 @@ fn import_rows<S: Alter>(
         (λ rows name. IsImportKeyFree (row_book rows (line_row name header)) key.now
         → KeepsCommit S.Store tx.old.conn.now tx.new.conn.now) }
     ensures fault { IfErr result IsDeniedFault }
+    ensures store_fault { HasColumnTally tally → length stored.now < 2 ^ 62
+        → (rows : TableRows) (name : List ℕ) → AcceptsImportOf S.Store tx.old.conn.now rows name
+        header key.now
+        → WriteFaultsFromOutside S.Store tx.old.conn.now tx.new.conn.now result }
     ensures survives { SurvivesAsBefore S.Store tx.old.conn.now tx.new.conn.now }
 {
     let after = write_next_cards(alloc, tx, header, stored)?;
@@ -190,6 +233,10 @@ fn commit_import<S: Alter>(
         (λ _ db. HoldsBooks db (with_book_after rows name header
         (λ book. book_with_import book stored.now key.now tally)))) }
     ensures fault { IfErr result IsDeniedFault }
+    ensures store_fault { HasColumnTally tally → length stored.now < 2 ^ 62
+        → (rows : TableRows) (name : List ℕ) → HasCleanDisk S.Store conn.new
+        → AcceptsImportOf S.Store conn.old rows name header key.now
+        → HasOutsideCauseOfFault S.Store conn.old conn.new result }
     ensures settled { conn.new.in_transaction ≡ false }
     ensures survives { CountsFaults S.Store conn.old conn.new }
     ensures crash { (rows : TableRows) (name : List ℕ)
@@ -199,6 +246,9 @@ fn commit_import<S: Alter>(
         (λ book. book_with_import book stored.now key.now tally))) }
 {
     assert_no_pending_writes(conn);
+
+    // The proof needs the tables to obey their constraints, which this call ensures.
+    let _tables = conn.schema();
     let mut tx = conn.transaction();
     import_rows(alloc, &mut tx, header, key, stored, tally)?;
     match tx.commit() {
@@ -225,6 +275,7 @@ pub fn import_in_book<S: Alter>(
     requires distinct { HaveDistinctUids cards.now }
     ensures changes { AppliesStep S.Store conn.old conn.new result
         (λ books. import_step limits books name.now key.now cards.now) }
+    ensures store_fault { ChangeFaultsFromOutside S.Store conn.old conn.new result }
     ensures crash { CommitsOnce S.Store conn.old conn.new
         (λ books. import_step limits books name.now key.now cards.now) }
 {

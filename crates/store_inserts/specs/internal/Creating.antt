@@ -1,15 +1,20 @@
 -- The plan of creating a book, computed from the tables before a write. This project's own.
-use Rattle.std.specs.Prelude.{◌≡◌, ℕ, Bool, true, false, List, Result, Ok, Err}
+use Rattle.std.specs.Prelude.{◌≡◌, ℕ, ℤ, Bool, true, false, List, Result, Ok, Err}
+use Rattle.std.specs.List.{AllByRecursion}
 use Rattle.std.specs.FinMap as finite
+use Rattle.sqlite.specs.Effect.{Database}
 use Rattle.book_model.specs.declared.denied.Denied.{Denied}
 use Rattle.book_model.specs.declared.refusal.Refusal.{Refusal}
 use Rattle.book_model.specs.Bounds.{Bounds}
 use Rattle.book_model.specs.Books.{Books}
 use Rattle.book_model.specs.Creating.{new_id}
+use Rattle.store_tables.specs.Acceptance.{AcceptsBook}
+use Rattle.store_tables.specs.Keeps.{is_keep_of}
 use Rattle.store_rows.specs.LookupLaws.{IsNameFree}
 use Rattle.store_rows.specs.TableBooks.{books_of}
 use Rattle.store_rows.specs.TableRows.{TableRows}
 use Rattle.store_lookups.specs.CallResults.{FollowsStep, IsExactly}
+use Rattle.store_writes.specs.TableChanges.{LacksBookRow}
 
 -- whether a book has the name: `true` if one of the books has it, `false` if neither a row nor a
 -- book has it
@@ -33,3 +38,10 @@ IsCreationPlanned limits rows name (Ok id) =
     IsNameFree rows name × (new_id_among limits name (books_of rows) ≡ Ok id)
 IsCreationPlanned limits rows name (Err denied) =
     FollowsStep {T = ℕ} {A = ℕ} IsExactly (Err denied) (new_id_among limits name (books_of rows))
+
+-- the tables hold these sound rows, and accept a book with this id and name, and a keep of it
+pub record AcceptsNewBook (db : Database) (rows : TableRows) (id : ℤ) (name : List ℕ)
+    : Type 0 where
+  pub lacks : LacksBookRow db rows name
+  pub book : AcceptsBook rows.books id name
+  pub no_keep : AllByRecursion (λ k. is_keep_of id k ≡ false) rows.keeps

@@ -16,14 +16,17 @@ use Rattle.book_model.specs.Books.{Book, Books, live_at}
 use Rattle.book_model.specs.Importing.{Importing, import_cards, import_with_reason, import_reason}
 use Rattle.book_model.specs.Importing.{import_state, import_step, is_legal_key, book_after_store}
 use Rattle.book_model.specs.Importing.{book_import_tally, book_with_kept_import}
+use Rattle.store_tables.specs.Acceptance.{HasFreeIds, IsShort}
 use Rattle.store_rows.specs.ChangeLaws.{WritesWithin}
 use Rattle.store_rows.specs.LookupLaws.{IsBookNamed}
 use Rattle.store_rows.specs.SoundTables.{AreSoundRows}
 use Rattle.store_rows.specs.TableBooks.{HeaderRow, row_book, books_of, line_row}
 use Rattle.store_rows.specs.TableRows.{TableRows, HoldsRows}
+use Rattle.store_lookups.specs.ChangeFaults.{HaveFreeIds, KnowsMembers}
 use Rattle.sqlite.specs.Effect.{Database}
 use Rattle.sqlite.specs.State.{State, HasCleanDisk}
 use Rattle.sqlite_rules.specs.Lists.{Has}
+use Rattle.store_writes.specs.AcceptedChanges.{AcceptsHeader}
 use Rattle.store_inserts.specs.declared.import_plan.ImportDecision.{ImportDecision}
 use Rattle.store_inserts.specs.declared.import_plan.ImportDecision.TheVariants.{Kept, New}
 use Rattle.store_inserts.specs.declared.import_plan.ImportPlan.{ImportPlan}
@@ -166,3 +169,44 @@ abbrev pub InWrittenBookTx :
 InWrittenBookTx old new header Then = (rows : TableRows) (name : List ℕ) (book : Book) →
     HasCleanDisk new → IsTrue old.in_transaction → WritesBook old.now rows name header book →
     Then rows name book
+
+-- Rows of one book were written, and the book accepts a member with the next number. The table of
+-- members has ids for this many new rows.
+pub record AcceptsCards (db : Database) (rows : TableRows) (name : List ℕ) (header : HeaderRow)
+    (book : Book) (count : ℕ) : Type 0 where
+  pub wrote : WritesBook db rows name header book
+  pub known : KnowsMembers book
+  pub free_ids : HasFreeIds count (db.trees 4)
+  pub id : header.id < 2 ^ 63
+
+-- Rows of one book were written, and the book accepts an import under the key.
+pub record AcceptsKey (db : Database) (rows : TableRows) (name : List ℕ) (header : HeaderRow)
+    (book : Book) (key : List ℕ) : Type 0 where
+  pub wrote : WritesBook db rows name header book
+  pub unused : IsImportKeyFree book key
+  pub short : IsShort key
+  pub free_id : HasFreeIds 1 (db.trees 7)
+  pub id : header.id < 2 ^ 63
+
+-- each number of the answer is a column value
+pub record HasColumnTally (tally : ImportTally) : Type 0 where
+  pub added : tally.added < 2 ^ 63
+  pub edited : tally.edited < 2 ^ 63
+  pub same : tally.same < 2 ^ 63
+  pub number : tally.number < 2 ^ 63
+
+-- the tables hold the row of the book with this header, accept 2^62 next members in it, and an
+-- import under the key
+pub record AcceptsImportOf (db : Database) (rows : TableRows) (name : List ℕ) (header : HeaderRow)
+    (key : List ℕ) : Type 0 where
+  pub book : AcceptsHeader db rows name header
+  pub known : KnowsMembers (row_book rows (line_row name header))
+  pub unused : IsImportKeyFree (row_book rows (line_row name header)) key
+  pub short : IsShort key
+  pub free_ids : HaveFreeIds db.trees
+  pub id : header.id < 2 ^ 63
+
+-- the same of a new answer, and fewer than 2^62 cards are stored
+abbrev pub HasTallyFor : ImportDecision → Type 0
+HasTallyFor (Kept tally) = ⊤
+HasTallyFor (New plan tally) = HasColumnTally tally × (length plan.stored.items < 2 ^ 62)

@@ -1,7 +1,13 @@
-use Rattle.std.proofs.Common.{rules, ◌≡◌, IsTrue, ℕ, true, pos, Err, sym, subst, ◌∙◌}
+use Rattle.std.proofs.Common.{rules, ◌≢◌, IfErr, ◌≡◌, IsTrue, ℕ, true, pos, Err, sym, subst, ◌∙◌, to_z, of_z, w64}
 use Rattle.std.proofs.Math.Facts.{to_z-of_z}
 use Rattle.std.specs.FinMap as finite
 use Rattle.std.specs.Prelude.{⊤}
+use Rattle.sqlite.specs.declared.error.Error.TheVariants.{SqliteFailure}
+use Rattle.sqlite.specs.declared.error.ErrorCode.TheVariants.{OutOfMemory}
+use Rattle.store_tables.specs.Failures.{HasOutsideCause}
+use Rattle.store_tables.proofs.FailureLemmas.{outside_later}
+use Rattle.store_writes.proofs.TransactionFaults.{commit_fails, if_open, live_obeys, outside_sooner}
+use Rattle.store_inserts.specs.internal.Creating.{AcceptsNewBook}
 use Rattle.sqlite.specs.Held.{state}
 use Rattle.sqlite.specs.State.{State, HasCleanDisk, KeepsCommit, Survives}
 use Rattle.sqlite.proofs.StateLemmas.{survives_then}
@@ -81,3 +87,38 @@ returns-clause-survives g c =
     let same : c.commit.new.self.0 ≡ c.conn-2-1.given.0 = search rules in
     let all = survives_then (begun g p) (mid g p) (end g p) _ _ (λ _. ⊤) (λ _ db none. tt) (λ _ db none. tt) c.insert_book_rows.ensures.survives c.commit.ensures.survives in
     subst (λ k. Survives (old g p) (state g.S.Store k) (λ _. ⊤)) same (survives_begin g.S.Store c.args.conn.now (end g p) (λ _. ⊤) (rw c.transaction-tx.ensures.begun at all))
+
+-- ---- errors
+
+-- the writes failed
+pub returns-in_err-insert_book_rows-clause-fails_from_outside : goal.returns-in_err-insert_book_rows-clause-fails_from_outside
+returns-in_err-insert_book_rows-clause-fails_from_outside g c book most id_is keep_is rows accepts clean schema =
+    let old = state g.S.Store c.args.conn.now in
+    let mid = state g.S.Store c.insert_book_rows.new.tx.conn.now in
+    let end = state g.S.Store c.drop-tx.new.self.0 in
+    let same : c.drop-tx.new.self.0 ≡ c.conn-1.given.0 = search rules in
+    let late : HasCleanDisk end = subst (λ k. HasCleanDisk (state g.S.Store k)) (sym same) clean in
+    let early : HasCleanDisk mid = clean_before _ mid end c.drop-tx.ensures.survives late in
+    let begun = c.transaction-tx.ensures.begun in
+    let inside : IsTrue (state g.S.Store c.transaction-tx.result.conn.now).in_transaction = rw begun in
+    let at : to_z w64 (of_z w64 c.args.id) ≡ c.args.id = to_z-of_z c.ranges.id in
+    let there : AcceptsNewBook (state g.S.Store c.transaction-tx.result.conn.now).now rows (to_z w64 (of_z w64 c.args.id)) c.args.name.now = rw begun (rw at accepts) in
+    let said : c.from_residual.result ≡ Err c.in_err-insert_book_rows.field-0.0 = search rules in
+    subst (λ r. IfErr r (λ e. e ≢ SqliteFailure OutOfMemory → HasOutsideCause old (state g.S.Store c.conn-1.given.0))) (sym said)
+    (λ room. subst (λ k. HasOutsideCause old (state g.S.Store k)) same
+    (if_open old end (λ up. outside_sooner old mid end _ c.drop-tx.ensures.survives
+    (rw begun at (c.in_err-insert_book_rows.ensures.fails_from_outside rows there early inside (rw begun schema) (rw begun (live_obeys old c.schema-tables.ensures.live schema up)) room)))))
+
+-- the commit failed
+pub returns-in_err-commit-clause-fails_from_outside : goal.returns-in_err-commit-clause-fails_from_outside
+returns-in_err-commit-clause-fails_from_outside g c book most id_is keep_is rows accepts clean schema =
+    let p = (goal.at.returns-in_err-commit-clause-fails_from_outside g c).After-commit in
+    let same : c.commit.new.self.0 ≡ c.conn-2-1.given.0 = search rules in
+    let late : HasCleanDisk (end g p) = subst (λ k. HasCleanDisk (state g.S.Store k)) (sym same) clean in
+    let first = clean_mid g p late in
+    let said : c.from_residual-in_err-commit.result ≡ Err c.in_err-commit.field-0.0 = search rules in
+    subst (λ r. IfErr r (λ e. e ≢ SqliteFailure OutOfMemory → HasOutsideCause (old g p) (state g.S.Store c.conn-2-1.given.0))) (sym said)
+    (λ room. subst (λ k. HasOutsideCause (old g p) (state g.S.Store k)) same
+    (let outside = outside_later (begun g p) (mid g p) (end g p) _ _ c.insert_book_rows.ensures.survives first c.commit.ensures.survives
+    (commit_fails (mid g p) (end g p) c.in_err-commit.field-0.0 (left g p rows accepts.lacks book most id_is keep_is first).inside (c.in_err-commit.ensures.err late) room) in
+    rw c.transaction-tx.ensures.begun at outside))

@@ -1,4 +1,9 @@
-use Rattle.std.proofs.Common.{rules, ◌≡◌, ℕ, IsTrue, Result, Ok, Err, sym, ap, subst}
+use Rattle.std.proofs.Common.{rules, ◌≡◌, ℕ, IsTrue, Result, Ok, Err, sym, ap, subst, arith}
+use Rattle.store_tables.proofs.FailureLemmas.{outside_later}
+use Rattle.store_tables.proofs.SchemaCreationLemmas.{clean_before}
+use Rattle.store_rows.specs.TableRows.{HoldsRows}
+use Rattle.store_lookups.proofs.StoreFaultLemmas.{passed_cause}
+use Rattle.store_inserts.proofs.CreateFaults.{accepts_book}
 use Rattle.std.specs.FinMap as finite
 use Rattle.sqlite.specs.Effect.{Database}
 use Rattle.sqlite.specs.Held.{state}
@@ -95,3 +100,24 @@ returns-in_err-write_create-clause-crash g c = crash g (goal.at.returns-in_err-w
 
 pub returns-clause-crash : goal.returns-clause-crash
 returns-clause-crash g c = crash g (goal.at.returns-clause-crash g c).After-write_create
+
+-- ---- faults
+
+pub returns-in_err-id-clause-store_fault : goal.returns-in_err-id-clause-store_fault
+returns-in_err-id-clause-store_fault g c rows clean holds accept free =
+    passed_cause c.from_residual.result c.in_err-id.field-0.0 _ c.from_residual.ensures.1 (c.in_err-id.ensures.store_fault rows clean holds accept free)
+
+pub returns-in_err-write_create-clause-store_fault : goal.returns-in_err-write_create-clause-store_fault
+returns-in_err-write_create-clause-store_fault g c rows clean holds accept free =
+    let p = (goal.at.returns-in_err-write_create-clause-store_fault g c).After-write_create in
+    let before = old g (planning g p) in
+    let between = mid g (planning g p) in
+    let early : HasCleanDisk between = clean_before _ between (new g p) c.write_create.ensures.survives clean in
+    let kept = c.in_ok-id.ensures.unchanged early holds.schema in
+    let still = subst (λ (d : Database). HoldsRows d rows) (sym kept.0.now_is) holds in
+    let planned = c.in_ok-id.ensures.planned rows early holds accept.faultless.sound in
+    let most = c.keep.ensures.most in
+    let ready = accepts_book c.args.limits between.now rows c.args.name.now c.in_ok-id.id still accept planned.0 planned.1 in
+    passed_cause c.from_residual-in_err-write_create.result c.in_err-write_create.field-0.0 _ c.from_residual-in_err-write_create.ensures.1
+    (λ store. outside_later before between (new g p) _ _ c.plan_create.ensures.reads_only.survives early c.write_create.ensures.survives
+    (c.in_err-write_create.ensures.store_fault c.in_ok-id.ensures.id_fits (omega (arith, most)) rows clean ready store))

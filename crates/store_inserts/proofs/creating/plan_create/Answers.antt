@@ -1,4 +1,8 @@
-use Rattle.std.proofs.Common.{rules, ◌≡◌, Err, sym, subst}
+use Rattle.std.proofs.Common.{rules, ◌≡◌, Err, sym, subst, Result, Bool, ℕ}
+use Rattle.book_model.specs.declared.denied.Denied.{Denied}
+use Rattle.store_lookups.proofs.ChangeFaultLemmas.{then_changes}
+use Rattle.store_lookups.proofs.StoreFaultLemmas.{passed_cause}
+use Rattle.store_writes.proofs.TransactionFaults.{refused_cause}
 use Rattle.sqlite.specs.Held.{state}
 use Rattle.book_model.specs.declared.denied.Denied.TheVariants.{Refused}
 use Rattle.store_tables.proofs.Lookups.{reads_then}
@@ -39,3 +43,20 @@ returns-clause-planned g c rows clean holds sound =
 pub returns-clause-reads_only : goal.returns-clause-reads_only
 returns-clause-reads_only g c =
     reads_then (state g.S.Store c.args.conn.now) (state g.S.Store c.check_open.new.conn) (state g.S.Store c.name_and_count.new.conn) c.check_open.ensures.reads_only (λ clean has. c.in_ok-check_open.ensures.unchanged clean) c.name_and_count.ensures.reads_only
+
+-- ---- faults
+
+pub returns-in_err-check_open-clause-store_fault : goal.returns-in_err-check_open-clause-store_fault
+returns-in_err-check_open-clause-store_fault g c rows clean holds accept free =
+    passed_cause c.from_residual.result c.in_err-check_open.field-0.0 _ c.from_residual.ensures.1 (c.in_err-check_open.ensures.store_fault rows clean holds accept.faultless)
+
+pub returns-in_err-has_name_already-clause-store_fault : goal.returns-in_err-has_name_already-clause-store_fault
+returns-in_err-has_name_already-clause-store_fault g c rows clean holds accept free =
+    let failed : Result (Bool × ℕ) Denied = Err c.in_err-has_name_already.field-0.0 in
+    passed_cause c.from_residual-in_err-has_name_already.result c.in_err-has_name_already.field-0.0 _ c.from_residual-in_err-has_name_already.ensures.1
+    (then_changes (state g.S.Store c.args.conn.now) (state g.S.Store c.check_open.new.conn) (state g.S.Store c.name_and_count.new.conn) _ _ failed c.check_open.ensures.reads_only.survives (λ clean has. c.in_ok-check_open.ensures.unchanged clean)
+    c.name_and_count.ensures.reads_only.survives c.in_err-has_name_already.ensures.store_fault rows clean holds accept free)
+
+pub returns-in_err-id-clause-store_fault : goal.returns-in_err-id-clause-store_fault
+returns-in_err-id-clause-store_fault g c rows clean holds accept free =
+    refused_cause c.from_residual-in_err-id.result c.in_err-id.field-0.0 _ (search rules)

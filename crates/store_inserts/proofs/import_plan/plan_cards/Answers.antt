@@ -1,4 +1,8 @@
-use Rattle.std.proofs.Common.{rules, ◌≡◌, ◌+◌, [], take, length, sym, ap, subst, ◌∙◌}
+use Rattle.std.proofs.Common.{rules, ◌≡◌, ◌+◌, [], take, length, sym, ap, subst, ◌∙◌, Result, Err, Option}
+use Rattle.book_model.specs.declared.change.StoreReason.{StoreReason}
+use Rattle.book_model.specs.declared.denied.Denied.{Denied}
+use Rattle.store_lookups.proofs.StoreFaultLemmas.{passed_cause}
+use Rattle.store_inserts.proofs.ImportFaults.{then_reads}
 use Rattle.std.proofs.lemmas.List.Sums.{fold_more}
 use Rattle.std.proofs.Math.Seq.{take-length}
 use Rattle.sqlite.specs.Effect.{Database}
@@ -64,3 +68,16 @@ returns-clause-planned g c rows clean holds sound name =
     let cards = c.args.cards.now in
     let end : c.loop-card.card-index ≡ length cards = search rules in
     c.loop-card.invariant.planned_import rows clean holds sound name ∙ ap (planned_import (row_book rows (line_row name c.args.header))) (ap (λ i. take i cards) end ∙ take-length cards)
+
+-- ---- faults
+
+pub returns-in_err-check_open-clause-store_fault : goal.returns-in_err-check_open-clause-store_fault
+returns-in_err-check_open-clause-store_fault g c fits rows clean holds faultless =
+    passed_cause c.from_residual.result c.in_err-check_open.field-0.0 _ c.from_residual.ensures.1 (c.in_err-check_open.ensures.store_fault rows clean holds faultless)
+
+pub returns-in_err-why-clause-store_fault : goal.returns-in_err-why-clause-store_fault
+returns-in_err-why-clause-store_fault g c fits rows clean holds faultless =
+    let failed : Result (Option StoreReason) Denied = Err c.in_err-why.field-0.0 in
+    passed_cause c.from_residual-in_err-why.result c.in_err-why.field-0.0 _ c.from_residual-in_err-why.ensures.1
+    (then_reads (state g.S.Store c.args.conn.now) (state g.S.Store c.loop-card.conn) (state g.S.Store c.reason_to_store.new.conn) _ _ failed c.loop-card.invariant.left.survives c.loop-card.invariant.same
+    c.reason_to_store.ensures.reads_only.survives (c.in_err-why.ensures.store_fault fits) rows clean holds faultless)

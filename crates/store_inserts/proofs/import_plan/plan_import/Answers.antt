@@ -1,4 +1,9 @@
-use Rattle.std.proofs.Common.{rules, ◌≡◌, None, Err, sym, subst, ◌∙◌}
+use Rattle.std.proofs.Common.{rules, ◌≡◌, None, Err, sym, subst, ◌∙◌, Result}
+use Rattle.book_model.specs.declared.answers.ImportTally.{ImportTally}
+use Rattle.book_model.specs.declared.denied.Denied.{Denied}
+use Rattle.store_lookups.proofs.StoreFaultLemmas.{header_faultless, passed_cause}
+use Rattle.store_inserts.specs.declared.import_plan.ImportPlan.{ImportPlan}
+use Rattle.store_inserts.proofs.ImportFaults.{then_reads}
 use Rattle.sqlite.specs.Held.{state}
 use Rattle.sqlite.specs.State.{HasCleanDisk}
 use Rattle.store_tables.proofs.SchemaCreationLemmas.{clean_before}
@@ -39,3 +44,20 @@ returns-clause-planned g c rows clean holds sound =
 pub returns-clause-reads_only : goal.returns-clause-reads_only
 returns-clause-reads_only g c =
     reads_then (state g.S.Store c.args.conn.now) (state g.S.Store c.find_import_key.new.conn) (state g.S.Store c.plan_new_import.new.conn) c.find_import_key.ensures.reads_only c.in_ok-header.ensures.unchanged c.plan_new_import.ensures.reads_only
+
+-- ---- faults
+
+pub returns-in_err-header-clause-store_fault : goal.returns-in_err-header-clause-store_fault
+returns-in_err-header-clause-store_fault g c rows clean holds faultless =
+    passed_cause c.from_residual.result c.in_err-header.field-0.0 _ c.from_residual.ensures.1 (c.in_err-header.ensures.store_fault rows clean holds faultless)
+
+pub returns-in_err-plan-clause-store_fault : goal.returns-in_err-plan-clause-store_fault
+returns-in_err-plan-clause-store_fault g c rows clean holds faultless =
+    let old = state g.S.Store c.args.conn.now in
+    let mid = state g.S.Store c.find_import_key.new.conn in
+    let new = state g.S.Store c.plan_new_import.new.conn in
+    let early : HasCleanDisk mid = clean_before _ mid new c.plan_new_import.ensures.reads_only.survives clean in
+    let fits = header_faultless rows c.args.name.now c.in_ok-header.header faultless (c.in_ok-header.ensures.found rows early holds faultless.sound).0 in
+    let failed : Result (ImportPlan × ImportTally) Denied = Err c.in_err-plan.field-0.0 in
+    passed_cause c.from_residual-in_err-plan.result c.in_err-plan.field-0.0 _ c.from_residual-in_err-plan.ensures.1
+    (then_reads old mid new _ _ failed c.find_import_key.ensures.reads_only.survives c.in_ok-header.ensures.unchanged c.plan_new_import.ensures.reads_only.survives (c.in_err-plan.ensures.store_fault fits) rows clean holds faultless)

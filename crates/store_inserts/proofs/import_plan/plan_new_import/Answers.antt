@@ -1,4 +1,5 @@
-use Rattle.std.proofs.Common.{rules, ◌≡◌, Err, sym, subst, arith}
+use Rattle.std.proofs.Common.{rules, ◌≡◌, Err, sym, subst, arith, length, ◌<◌, ◌^◌}
+use Rattle.store_lookups.proofs.StoreFaultLemmas.{passed_cause}
 use Rattle.store_rows.specs.TableBooks.{row_book, line_row}
 use Rattle.store_inserts.specs.internal.Importing.{IsBookImportPlanned, model_plan}
 use Rattle.store_inserts.proofs.ImportLemmas.{planned_book, planned_tally, refused_tally, tally_is_exact}
@@ -27,3 +28,28 @@ returns-clause-numbers_fit g c =
     let room = c.in_ok-tally.ensures.number_fits in
     let counted = c.in_ok-plan.ensures.counted in
     omega (arith, room, counted)
+
+pub returns-clause-tally_fits : goal.returns-clause-tally_fits
+returns-clause-tally_fits g c =
+    let all = c.in_ok-plan.ensures.counts_all in
+    let few : length c.args.cards.now < 2 ^ 63 = search rules in
+    c.in_ok-tally.ensures.tally_fits (omega (arith, all, few))
+
+-- ---- faults
+
+pub returns-in_err-plan-clause-store_fault : goal.returns-in_err-plan-clause-store_fault
+returns-in_err-plan-clause-store_fault g c fits rows clean holds faultless =
+    passed_cause c.from_residual.result c.in_err-plan.field-0.0 _ c.from_residual.ensures.1 (c.in_err-plan.ensures.store_fault fits rows clean holds faultless)
+
+pub returns-in_err-tally-clause-store_fault : goal.returns-in_err-tally-clause-store_fault
+returns-in_err-tally-clause-store_fault g c fits rows clean holds faultless =
+    let all = c.in_ok-plan.ensures.counts_all in
+    let few : length c.args.cards.now < 2 ^ 63 = search rules in
+    passed_cause c.from_residual-in_err-tally.result c.in_err-tally.field-0.0 _ c.from_residual-in_err-tally.ensures.1
+    (λ store. absurd (c.in_err-tally.ensures.store_fault fits.number (omega (arith, all, few)) store))
+
+pub returns-clause-few : goal.returns-clause-few
+returns-clause-few g c =
+    let few = c.in_ok-tally.ensures.few in
+    let counted = c.in_ok-plan.ensures.counted in
+    omega (arith, few, counted)

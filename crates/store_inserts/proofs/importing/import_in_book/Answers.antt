@@ -1,4 +1,12 @@
 use Rattle.std.proofs.Common.{rules, ◌≡◌, IsTrue, Result, Ok, Err, sym, ap, subst, ◌∙◌}
+use Rattle.store_tables.proofs.FailureLemmas.{outside_later}
+use Rattle.store_tables.proofs.SchemaCreationLemmas.{clean_before}
+use Rattle.store_lookups.specs.ChangeFaults.{HaveFreeIds}
+use Rattle.store_lookups.proofs.ChangeFaultLemmas.{header_fits}
+use Rattle.store_lookups.proofs.StoreFaultLemmas.{passed_cause}
+use Rattle.store_writes.proofs.AcceptLemmas.{accepts_header, knows_members}
+use Rattle.store_inserts.specs.internal.Importing.{AcceptsImportOf, HasTallyFor}
+use Rattle.store_inserts.proofs.ImportFaults.{key_short}
 use Rattle.std.specs.FinMap as finite
 use Rattle.sqlite.specs.Effect.{Database}
 use Rattle.sqlite.specs.Held.{state}
@@ -116,3 +124,36 @@ returns-in_err-commit_import-clause-crash g c = crash g (goal.at.returns-in_err-
 
 pub returns-clause-crash : goal.returns-clause-crash
 returns-clause-crash g c = crash g (goal.at.returns-clause-crash g c).After-commit_import
+
+-- ---- faults
+
+pub returns-in_err-header-clause-store_fault : goal.returns-in_err-header-clause-store_fault
+returns-in_err-header-clause-store_fault g c rows clean holds accept free =
+    passed_cause c.from_residual.result c.in_err-header.field-0.0 _ c.from_residual.ensures.1 (c.in_err-header.ensures.store_fault rows clean holds accept.faultless)
+
+pub returns-in_err-commit_import-clause-store_fault : goal.returns-in_err-commit_import-clause-store_fault
+returns-in_err-commit_import-clause-store_fault g c rows clean holds accept free =
+    let p = (goal.at.returns-in_err-commit_import-clause-store_fault g c).After-commit_import in
+    let before = old g (planning g p) in
+    let between = mid g (planning g p) in
+    let name = c.args.name.now in
+    let header = c.in_ok-header.header in
+    let early : HasCleanDisk between = clean_before _ between (new g p) c.commit_import.ensures.survives clean in
+    let kept = c.in_ok-header.ensures.unchanged early holds.schema in
+    let still = subst (λ (d : Database). HoldsRows d rows) (sym kept.0.now_is) holds in
+    let ids = subst (λ (d : Database). HaveFreeIds d.trees) (sym kept.0.now_is) free in
+    let order : c.in_ok-header.order ≡ New c.in-New.plan c.in-New.tally = search rules in
+    let planned = found g p rows early holds accept.faultless.sound in
+    let fits = subst HasTallyFor order c.in_ok-header.ensures.tally_fits in
+    let there = planned.0.there in
+    let ready : AcceptsImportOf between.now rows name header c.args.key.now = record {
+      book = accepts_header between.now rows name header still accept there;
+      known = knows_members rows name header accept there;
+      unused = planned.1;
+      short = key_short c.args.key.now c.in_ok-header.ensures.legal_key;
+      free_ids = ids;
+      id = (header_fits rows name header accept there).id;
+    } in
+    passed_cause c.from_residual-in_err-commit_import.result c.in_err-commit_import.field-0.0 _ c.from_residual-in_err-commit_import.ensures.1
+    (λ store. outside_later before between (new g p) _ _ c.plan_import.ensures.reads_only.survives early c.commit_import.ensures.survives
+    (c.in_err-commit_import.ensures.store_fault fits.0 (rw c.as_slice.ensures.value fits.1) rows name clean ready store))

@@ -1,4 +1,11 @@
-use Rattle.std.proofs.Common.{IsTrue, List, ℕ, ap, ◌∙◌}
+use Rattle.std.proofs.Common.{IsTrue, List, ℕ, ap, ◌∙◌, length, ◌^◌, arith, sym, subst}
+use Rattle.sqlite.proofs.StateLemmas.{survives_then}
+use Rattle.store_tables.specs.Acceptance.{HasFreeIds}
+use Rattle.store_tables.proofs.FailureLemmas.{outside_later}
+use Rattle.store_lookups.proofs.StoreFaultLemmas.{later_cause, passed_cause}
+use Rattle.store_inserts.specs.internal.Importing.{AcceptsKey}
+use Rattle.store_writes.proofs.TransactionFaults.{fewer_ids}
+use Rattle.store_inserts.specs.internal.Importing.{AcceptsCards}
 use Rattle.std.specs.FinMap as finite
 use Rattle.book_model.specs.Books.{Book}
 use Rattle.book_model.specs.Importing.{book_with_kept_import}
@@ -97,3 +104,61 @@ returns-clause-keeps_commit g c rows name clean inside line free =
     keeps_commit_then (old g p) (two g p) (new g p)
     (keeps_commit_then (old g p) (one g p) (two g p) (c.in_ok-after.ensures.keeps_commit rows name (before g p rows name) early inside start) (c.in_ok-insert_kept_import.ensures.keeps_commit rows name (stored g p rows name) late cards.inside cards.holds))
     (c.write_book_row.ensures.keeps_commit rows name (whole g p rows name) clean answer.inside answer.holds)
+
+-- ---- faults
+
+pub returns-in_err-after-clause-store_fault : goal.returns-in_err-after-clause-store_fault
+returns-in_err-after-clause-store_fault g c fits few rows name accepts clean inside obeys =
+    let old = state g.S.Store c.args.tx.now.conn.now in
+    let book = row_book rows (line_row name c.args.header) in
+    let ready : AcceptsCards old.now rows name c.args.header book (length c.args.stored.now) = record {
+      wrote = unwritten_book old.now rows name c.args.header accepts.book.line;
+      known = accepts.known;
+      free_ids = fewer_ids (length c.args.stored.now) (2 ^ 62) (old.now.trees 4) (omega (arith, few)) accepts.free_ids.members;
+      id = accepts.id;
+    } in
+    passed_cause c.from_residual.result c.in_err-after.field-0.0 _ c.from_residual.ensures.1 (c.in_err-after.ensures.store_fault rows name book ready clean inside obeys)
+
+pub returns-in_err-insert_kept_import-clause-store_fault : goal.returns-in_err-insert_kept_import-clause-store_fault
+returns-in_err-insert_kept_import-clause-store_fault g c fits few rows name accepts clean inside obeys =
+    let old = state g.S.Store c.args.tx.now.conn.now in
+    let mid = state g.S.Store c.write_next_cards.new.tx.conn.now in
+    let new = state g.S.Store c.insert_kept_import.new.tx.conn.now in
+    let book = row_book rows (line_row name c.args.header) in
+    let begun = unwritten_book old.now rows name c.args.header accepts.book.line in
+    let early : HasCleanDisk mid = clean_before _ mid new c.insert_kept_import.ensures.survives clean in
+    let put = c.in_ok-after.ensures.book_after rows name book early inside begun in
+    let kept = c.in_ok-after.ensures.obeys rows name book early inside begun obeys in
+    let same = (c.in_ok-after.ensures.takes_ids rows name book early inside begun).1 in
+    let id = c.in_ok-after.ensures.same_id in
+    let low = accepts.id in
+    let ready : AcceptsKey mid.now rows name c.in_ok-after.after (book_with_stored book c.args.stored.now) c.args.key.now = record {
+      wrote = put.holds;
+      unused = ap (λ imports. finite.get imports c.args.key.now) (stored_imports c.args.stored.now book) ∙ accepts.unused;
+      short = accepts.short;
+      free_id = subst (HasFreeIds 1) (sym same) accepts.free_ids.imports;
+      id = omega (arith, id, low);
+    } in
+    passed_cause c.from_residual-in_err-insert_kept_import.result c.in_err-insert_kept_import.field-0.0 _ c.from_residual-in_err-insert_kept_import.ensures.1
+    (λ store. outside_later old mid new _ _ c.write_next_cards.ensures.survives early c.insert_kept_import.ensures.survives
+    (c.in_err-insert_kept_import.ensures.store_fault fits.added fits.edited fits.same fits.number rows name (book_with_stored book c.args.stored.now) ready clean put.inside kept store))
+
+pub returns-clause-store_fault : goal.returns-clause-store_fault
+returns-clause-store_fault g c fits few rows name accepts clean inside obeys =
+    let p = (goal.at.returns-clause-store_fault g c).After-write_book_row in
+    let line = accepts.book.line in
+    let free = accepts.unused in
+    let start = begun g p rows name clean inside line free in
+    let cards = put g p rows name clean inside line free in
+    let answer = kept g p rows name clean inside line free in
+    let early = clean_one g p rows name clean inside line free in
+    let late = clean_two g p rows name clean inside line free in
+    let obeys_one = c.in_ok-after.ensures.obeys rows name (before g p rows name) early inside start obeys in
+    let obeys_two = c.in_ok-insert_kept_import.ensures.obeys rows name (stored g p rows name) late cards.inside cards.holds obeys_one in
+    let id = c.in_ok-after.ensures.same_id in
+    let low = accepts.id in
+    let number = c.in_ok-after.ensures.next_number in
+    let room = c.requires in
+    let both = survives_then (old g p) (one g p) (two g p) _ _ (λ _. ⊥) (λ _ db none. none) (λ _ db none. none) c.write_next_cards.ensures.survives c.insert_kept_import.ensures.survives in
+    later_cause (old g p) (two g p) (new g p) _ _ c.write_book_row.result both late c.write_book_row.ensures.survives
+    (c.write_book_row.ensures.store_fault (omega (arith, id, low)) (omega (arith, number, room)) rows name (whole g p rows name) answer.holds accepts.book.short clean answer.inside obeys_two)

@@ -1,4 +1,7 @@
-use Rattle.std.proofs.Common.{◌≡◌, pos, to_z, of_z, w64, refl}
+use Rattle.std.proofs.Common.{◌≡◌, pos, to_z, of_z, w64, refl, arith, subst, sym}
+use Rattle.store_tables.specs.Acceptance.{AcceptsImport}
+use Rattle.store_writes.proofs.TransactionFaults.{error_faults}
+use Rattle.store_inserts.proofs.ImportFaults.{accepts_key}
 use Rattle.sqlite.specs.Held.{state}
 use Rattle.store_lookups.proofs.FindLemmas.{back_of}
 use Rattle.store_inserts.proofs.WroteLemmas.{kept_as}
@@ -17,3 +20,45 @@ returns-in-Ok-clause-book_after g c rows name book clean inside wrote free =
     kept_as old new rows name c.args.header book c.args.key.now tally wrote _ _ _ _ _ id added edited same number free
     (c.in-Ok.ensures.adds wrote.now.imports clean inside wrote.holds.schema wrote.within.sound.imports wrote.holds.imports)
     (c.in-Ok.ensures.writes wrote.now.imports clean inside wrote.holds.schema wrote.within.sound.imports wrote.holds.imports)
+
+pub returns-in-Ok-clause-obeys : goal.returns-in-Ok-clause-obeys
+returns-in-Ok-clause-obeys g c rows name book clean inside wrote obeys =
+    c.in-Ok.ensures.obeys wrote.now.imports clean inside wrote.holds.schema wrote.within.sound.imports wrote.holds.imports
+
+-- ---- faults
+
+pub returns-in_err-id-clause-store_fault : goal.returns-in_err-id-clause-store_fault
+returns-in_err-id-clause-store_fault g c added edited same number rows name book accepts clean inside obeys =
+    let fits = accepts.id in
+    let great = c.in_err-id.ensures.too_great in
+    let is = c.id.ensures in
+    absurd (omega (arith, fits, great, is))
+
+pub returns-in_err-added-clause-store_fault : goal.returns-in_err-added-clause-store_fault
+returns-in_err-added-clause-store_fault g c added edited same number rows name book accepts clean inside obeys =
+    let great = c.in_err-added.ensures.too_great in
+    absurd (omega (arith, great, added))
+
+pub returns-in_err-edited-clause-store_fault : goal.returns-in_err-edited-clause-store_fault
+returns-in_err-edited-clause-store_fault g c added edited same number rows name book accepts clean inside obeys =
+    let great = c.in_err-edited.ensures.too_great in
+    absurd (omega (arith, great, edited))
+
+pub returns-in_err-same-clause-store_fault : goal.returns-in_err-same-clause-store_fault
+returns-in_err-same-clause-store_fault g c added edited same number rows name book accepts clean inside obeys =
+    let great = c.in_err-same.ensures.too_great in
+    absurd (omega (arith, great, same))
+
+pub returns-in_err-number-clause-store_fault : goal.returns-in_err-number-clause-store_fault
+returns-in_err-number-clause-store_fault g c added edited same number rows name book accepts clean inside obeys =
+    let great = c.in_err-number.ensures.too_great in
+    absurd (omega (arith, great, number))
+
+pub returns-in-Err-clause-store_fault : goal.returns-in-Err-clause-store_fault
+returns-in-Err-clause-store_fault g c added edited same number rows name book accepts clean inside obeys =
+    let old = state g.S.Store c.args.tx.now.conn.now in
+    let wrote = accepts.wrote in
+    let id : to_z w64 (of_z w64 c.in_ok-id.id) ≡ pos c.args.header.id = back_of c.in_ok-id.id c.id.result c.args.header.id c.in_ok-id.ensures.ok c.in_ok-id.ensures.fits c.id.ensures in
+    let ready = subst (λ z. AcceptsImport wrote.now.books wrote.now.imports z c.args.key.now) (sym id) (accepts_key old.now rows name c.args.header book wrote c.args.key.now accepts.unused accepts.short) in
+    error_faults c.in-Err.error c.fault_of.result _ c.fault_of.ensures.value
+    (c.in-Err.ensures.fails_from_outside wrote.now.imports clean inside wrote.holds.schema wrote.within.sound.imports wrote.holds.imports wrote.now.books wrote.holds.books accepts.free_id ready clean inside wrote.holds.schema obeys)

@@ -1,4 +1,5 @@
-use Rattle.std.proofs.Common.{rules, ◌≡◌, pos, to_z, of_z, w64, sym, ap, subst, ◌∙◌}
+use Rattle.std.proofs.Common.{rules, ◌≡◌, pos, to_z, of_z, w64, sym, ap, subst, ◌∙◌, arith}
+use Rattle.store_writes.proofs.TransactionFaults.{error_faults, memory_cause}
 use Rattle.sqlite.specs.Held.{state}
 use Rattle.store_tables.specs.Books.{HasBooks, numbers_of, with_book_numbers}
 use Rattle.store_rows.specs.TableBooks.{line_row, numbers_row}
@@ -23,4 +24,34 @@ returns-clause-books_after g c rows name book clean inside wrote =
           (w.in-Ok.ensures.renumbers wrote.now.books clean inside wrote.holds.schema wrote.within.sound.books wrote.holds.books (line_row name wrote.line) there same)))
           (w.in-Ok.ensures.writes wrote.now.books clean inside wrote.holds.schema wrote.within.sound.books wrote.holds.books (line_row name wrote.line) there same))
       | in-Err w ↦ rw w.result-is tt
+    ]
+
+-- ---- faults
+
+pub returns-in_err-id-clause-store_fault : goal.returns-in_err-id-clause-store_fault
+returns-in_err-id-clause-store_fault g c id number rows name book wrote short clean inside obeys =
+    let great = c.in_err-id.ensures.too_great in
+    let is = c.id.ensures in
+    absurd (omega (arith, id, great, is))
+
+pub returns-in_err-numbers-clause-store_fault : goal.returns-in_err-numbers-clause-store_fault
+returns-in_err-numbers-clause-store_fault g c id number rows name book wrote short clean inside obeys =
+    let same = c.number.ensures in
+    let horizon = c.horizon.ensures.value in
+    let low = c.horizon.ensures.most in
+    let sum = c.counts.ensures.sum in
+    memory_cause c.from_residual-in_err-numbers.result c.in_err-numbers.field-0.0 _ c.from_residual-in_err-numbers.ensures.1
+    (c.in_err-numbers.ensures.memory (omega (arith, number, same)) (omega (arith, number, horizon, low)) (omega (arith, number, sum)))
+
+pub returns-clause-store_fault : goal.returns-clause-store_fault
+returns-clause-store_fault g c id number rows name book wrote short clean inside obeys =
+    let header = c.args.header in
+    let id_is : to_z w64 (of_z w64 c.in_ok-id.id) ≡ pos header.id = back_of c.in_ok-id.id c.id.result header.id c.in_ok-id.ensures.ok c.in_ok-id.ensures.fits c.id.ensures in
+    let same : to_z w64 (of_z w64 c.in_ok-id.id) ≡ pos wrote.line.id = id_is ∙ ap pos (sym wrote.same_id) in
+    let there = row_remains rows wrote.now name wrote.line wrote.within.books wrote.there in
+    elim c.match-renumber_book.branch [
+      | in-Ok w ↦ rw w.result-is tt
+      | in-Err w ↦ rw w.result-is
+          (error_faults w.in-Err.error w.fault_of.result _ w.fault_of.ensures.value
+          (w.in-Err.ensures.fails_from_outside wrote.now.books clean inside wrote.holds.schema wrote.within.sound.books wrote.holds.books (line_row name wrote.line, there, same, short) clean inside wrote.holds.schema obeys))
     ]

@@ -1,7 +1,8 @@
-use Rattle.std.proofs.Common.{◌≡◌, ◌+◌, take}
+use Rattle.std.proofs.Common.{◌≡◌, ◌+◌, ℕ, take}
 use Rattle.sqlite.specs.Held.{state}
 use Rattle.sqlite.specs.State.{KeepsCommit, Survives}
 use Rattle.store_inserts.specs.internal.Importing.{InWrittenBookTx, WritesBook, book_with_stored}
+use Rattle.store_tables.specs.Acceptance.{HasFreeIds, ObeyTables}
 use Rattle.store_tables.specs.SchemaCreation.{HoldsInTx}
 use Rattle.store_inserts.proofs.importing.write_next_cards.Given as goal
 
@@ -17,4 +18,7 @@ invariant-loop-card g l =
       same_id : l.so_far.id ≡ l.fn.header.id;
       kept : InWrittenBookTx old now l.fn.header (λ rows name book. KeepsCommit old now);
       survives : Survives old now (λ _. ⊥);
+      obeys : InWrittenBookTx old now l.fn.header (λ rows name book. ObeyTables old.now.trees → ObeyTables now.now.trees);
+      ids : InWrittenBookTx old now l.fn.header (λ rows name book. (count : ℕ) → HasFreeIds (count + l.card-index) (old.now.trees 4) → HasFreeIds count (now.now.trees 4));
+      imports : InWrittenBookTx old now l.fn.header (λ rows name book. now.now.trees 7 ≡ old.now.trees 7);
     }

@@ -1,0 +1,88 @@
+-- The tables accept a planned import.
+use Rattle.std.proofs.lemmas.Bool.{cases_lt}
+use Rattle.std.proofs.Common.{inl, inr, ◌≡◌, ◌<◌, ◌≤◌, ◌+◌, ◌^◌, ◌==◌, ◌||◌, ℕ, pos, true, List, length, None, Some, Result, Ok, int_eq, sym, ap, subst, ◌∙◌, arith}
+use Rattle.std.specs.Prelude.{nat_le}
+use Rattle.std.specs.Option.{option_map}
+use Rattle.std.specs.FinMap as finite
+use Rattle.std.specs.List.{AllByRecursion, list_any, list_all}
+use Rattle.sqlite.specs.Effect.{Database}
+use Rattle.sqlite.specs.State.{State, IsUnchanged, Survives}
+use Rattle.sqlite.specs.Tree.{Trees}
+use Rattle.sqlite_rules.specs.Lists.{Has}
+use Rattle.sqlite_rules.proofs.ListLemmas.{some_from}
+use Rattle.book_model.specs.declared.answers.ImportTally.{ImportTally}
+use Rattle.book_model.specs.declared.denied.Denied.{Denied}
+use Rattle.book_model.specs.declared.refusal.Refusal.{Refusal}
+use Rattle.book_model.specs.declared.refusal.Refusal.TheVariants.{BookFull, ChangesSpent}
+use Rattle.book_model.specs.Books.{Book}
+use Rattle.book_model.specs.Bounds.{Bounds}
+use Rattle.book_model.specs.CallOutcomes.{◌>>=◌, refuse_unless}
+use Rattle.book_model.specs.Importing.{Importing, import_tally, imported_so_far, is_key_octet, is_legal_key}
+use Rattle.store_tables.specs.Acceptance.{AcceptsImport, AcceptsMember, IsShort}
+use Rattle.store_tables.specs.Books.{has_id}
+use Rattle.store_tables.specs.Imports.{has_key}
+use Rattle.store_tables.specs.StatementEffects.{GivenTables, KeepsOtherTables}
+use Rattle.store_tables.proofs.KeyedRows.{int_itself}
+use Rattle.store_tables.proofs.SchemaCreationLemmas.{clean_before}
+use Rattle.store_rows.specs.TableBooks.{HeaderRow, line_row, row_tally}
+use Rattle.store_rows.specs.TableRows.{TableRows, HoldsRows}
+use Rattle.store_rows.proofs.RowLemmas.{get-imports_in}
+use Rattle.store_lookups.specs.ChangeFaults.{KnowsMembers}
+use Rattle.store_lookups.specs.StoreFaults.{FaultsFromOutside}
+use Rattle.store_lookups.proofs.StoreFaultLemmas.{later_cause}
+use Rattle.store_writes.proofs.AcceptLemmas.{accepts_next, at_most, middle_true}
+use Rattle.store_writes.proofs.NumberLemmas.{passed}
+use Rattle.store_inserts.specs.internal.Importing.{IsImportKeyFree, WritesBook}
+use Rattle.store_inserts.proofs.CreateFaults.{none_passes}
+use Rattle.store_inserts.proofs.WroteLemmas.{found_none, row_remains}
+
+-- one look-up after another
+pub then_reads : {A : Type 0} (old mid new : State) (P Q : Trees → Type 0) (r : Result A Denied) → Survives old mid P → GivenTables old mid (IsUnchanged old mid) → Survives mid new Q → FaultsFromOutside mid new r → FaultsFromOutside old new r
+then_reads old mid new P Q r before same after fails rows clean holds faultless =
+    let early = clean_before Q mid new after clean in
+    let kept = same early holds.schema in
+    later_cause old mid new P Q r before early after (fails rows clean (subst (λ (d : Database). HoldsRows d rows) (sym kept.0.now_is) holds) faultless)
+
+pub key_short : (key : List ℕ) → is_legal_key key ≡ true → IsShort key
+key_short key legal = let low = at_most (length key) 64 (middle_true (nat_le 1 (length key)) (nat_le (length key) 64) (list_all is_key_octet key) legal) in omega (arith, low)
+
+-- the answer has the counts and the number of the import
+pub tally_is : {S : Type 0} (limits : Bounds) (state : Importing S) (cards number : ℕ) (tally : ImportTally) → import_tally limits state cards number ≡ Ok tally → record { added = state.added; edited = state.edited; same = state.same; number = number } ≡ tally
+tally_is limits state cards number tally is =
+    let last : Result ImportTally Refusal = Ok (record { added = state.added; edited = state.edited; same = state.same; number = number }) in
+    let left = (state.added + state.edited == 0) || nat_le number limits.changes_max in
+    let room = passed ((state.added == 0) || nat_le cards limits.cards_max) BookFull (refuse_unless left ChangesSpent >>= λ _. last) tally is in
+    let done = passed left ChangesSpent last tally room.1 in
+    let same = done.1 in cc
+
+-- an import that stores cards stays within the limit of changes
+pub few_stored : (limits : Bounds) (added edited same cards before : ℕ) (tally : ImportTally) → import_tally limits (imported_so_far added edited same) cards (before + added + edited) ≡ Ok tally → (0 < tally.added + tally.edited → tally.number ≤ limits.changes_max)
+    → limits.changes_max ≤ 1000000000000 → added + edited < 2 ^ 62
+few_stored limits added edited same cards before tally is within most =
+    let here : 0 < added + edited → before + added + edited ≤ limits.changes_max = subst (λ (t : ImportTally). 0 < t.added + t.edited → t.number ≤ limits.changes_max) (sym (tally_is limits (imported_so_far added edited same) cards (before + added + edited) tally is)) within in
+    elim (cases_lt 0 (added + edited)) [
+      | inl some ↦ let low = here some in omega (arith, low, most)
+      | inr none ↦ omega (arith, none)
+    ]
+
+pub spares_imports : (old new : Trees) → KeepsOtherTables 4 old new → new 7 ≡ old 7
+spares_imports old new h = h.1.1.1.0 (λ e. cc)
+
+-- rows of the book were written
+module _ (db : Database) (rows : TableRows) (name : List ℕ) (header : HeaderRow) (book : Book) (wrote : WritesBook db rows name header book) where
+  there : Has wrote.now.books (line_row name wrote.line)
+  there = row_remains rows wrote.now name wrote.line wrote.within.books wrote.there
+
+  pub accepts_card : KnowsMembers book → (uid text : List ℕ) → IsShort uid → IsShort text → AcceptsMember wrote.now.books wrote.now.members (pos header.id) uid (pos (header.number + 1)) (Some text)
+  accepts_card known uid text short slim =
+      accepts_next wrote.now name header uid (Some text) wrote.within.sound (subst KnowsMembers (sym wrote.is) known) (line_row name wrote.line) there (ap pos wrote.same_id) short slim
+
+  pub accepts_key : (key : List ℕ) → IsImportKeyFree book key → IsShort key → AcceptsImport wrote.now.books wrote.now.imports (pos header.id) key
+  accepts_key key free short =
+      let none : option_map row_tally (Rattle.std.specs.Prelude.find (has_key (pos header.id) key) wrote.now.imports) ≡ None =
+      sym (get-imports_in (pos header.id) wrote.now.imports key) ∙ ap (λ (b : Book). finite.get b.imports key) wrote.is ∙ free in
+      record {
+        listed = some_from (has_id (pos header.id)) wrote.now.books (line_row name wrote.line) there (ap (λ n. int_eq (pos n) (pos header.id)) wrote.same_id ∙ int_itself (pos header.id));
+        unused = none_passes (has_key (pos header.id) key) wrote.now.imports (found_none (has_key (pos header.id) key) wrote.now.imports none);
+        short = short;
+      }
