@@ -1,5 +1,5 @@
 -- What a planned removal or move gives to its writes.
-use Rattle.std.proofs.Common.{◌≡◌, ◌<◌, ◌≤◌, ◌+◌, ◌^◌, ℕ, ℤ, pos, Bool, true, false, not, is_some, List, [], ◌∷◌, filter, map, take, min, inl, inr, Option, Some, None, Result, Ok, Err, IfSome, IsSome, refl, sym, ap, subst, ◌∙◌, arith}
+use Rattle.std.proofs.Common.{◌≡◌, ◌<◌, ◌≤◌, ◌+◌, ◌^◌, ℕ, ℤ, pos, Bool, true, false, not, is_some, List, [], ◌∷◌, filter, map, take, min, inl, Option, Some, None, Result, Ok, IfSome, refl, sym, ap, subst, ◌∙◌, arith}
 use Rattle.std.specs.Option.{option_map_or}
 use Rattle.std.specs.List.{AllByRecursion}
 use Rattle.sqlite.specs.Effect.{Database}
@@ -24,12 +24,11 @@ use Rattle.book_model.specs.Removing.{remove_number}
 use Rattle.store_tables.specs.Acceptance.{IsShort}
 use Rattle.store_tables.specs.Books.{BookRow}
 use Rattle.store_tables.specs.Members.{MemberRow, by_changed, has_uid, is_removed_above, number_shown}
-use Rattle.store_tables.specs.QueryResults.{AreFirstRowsInOrder, FindsFirstRow}
+use Rattle.store_tables.specs.QueryResults.{FindsFirstRow}
 use Rattle.store_tables.specs.StatementEffects.{GivenTables}
 use Rattle.store_tables.proofs.KeyedRows.{all_has}
 use Rattle.store_tables.proofs.SchemaCreationLemmas.{clean_before}
 use Rattle.store_tables.proofs.RowLemmas.{at_parts}
-use Rattle.store_rows.specs.SoundTables.{IsReadableMember}
 use Rattle.store_rows.specs.TableBooks.{row_book}
 use Rattle.store_rows.specs.TableRows.{TableRows, HoldsRows}
 use Rattle.store_rows.specs.Values.{natural}

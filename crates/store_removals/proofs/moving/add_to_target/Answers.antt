@@ -1,4 +1,4 @@
-use Rattle.std.proofs.Common.{rules, ◌≡◌, ◌+◌, Some, option_copied, pos, to_z, of_z, w64, ap, subst, sym, arith, None}
+use Rattle.std.proofs.Common.{rules, ◌≡◌, ◌+◌, Some, option_copied, pos, to_z, of_z, w64, ap, subst, sym, arith}
 use Rattle.sqlite.specs.Held.{state}
 use Rattle.store_writes.specs.AcceptedChanges.{AcceptsMemberOf}
 use Rattle.store_writes.proofs.TransactionFaults.{error_faults, memory_cause}
