@@ -1,6 +1,5 @@
 -- The tables accept a planned import.
-use Rattle.std.proofs.lemmas.Bool.{cases_lt}
-use Rattle.std.proofs.Common.{inl, inr, ◌≡◌, ◌<◌, ◌≤◌, ◌+◌, ◌^◌, ◌==◌, ◌||◌, ℕ, pos, true, List, length, None, Some, Result, Ok, int_eq, sym, ap, subst, ◌∙◌, arith}
+use Rattle.std.proofs.Common.{◌≡◌, ◌+◌, ℕ, pos, true, List, length, None, Some, Result, int_eq, sym, ap, subst, ◌∙◌, arith}
 use Rattle.std.specs.Prelude.{nat_le}
 use Rattle.std.specs.Option.{option_map}
 use Rattle.std.specs.FinMap as finite
@@ -10,14 +9,9 @@ use Rattle.sqlite.specs.State.{State, IsUnchanged, Survives}
 use Rattle.sqlite.specs.Tree.{Trees}
 use Rattle.sqlite_rules.specs.Lists.{Has}
 use Rattle.sqlite_rules.proofs.ListLemmas.{some_from}
-use Rattle.book_model.specs.declared.answers.ImportTally.{ImportTally}
 use Rattle.book_model.specs.declared.denied.Denied.{Denied}
-use Rattle.book_model.specs.declared.refusal.Refusal.{Refusal}
-use Rattle.book_model.specs.declared.refusal.Refusal.TheVariants.{BookFull, ChangesSpent}
 use Rattle.book_model.specs.Books.{Book}
-use Rattle.book_model.specs.Bounds.{Bounds}
-use Rattle.book_model.specs.CallOutcomes.{◌>>=◌, refuse_unless}
-use Rattle.book_model.specs.Importing.{Importing, import_tally, imported_so_far, is_key_octet, is_legal_key}
+use Rattle.book_model.specs.Importing.{is_key_octet, is_legal_key}
 use Rattle.store_tables.specs.Acceptance.{AcceptsImport, AcceptsMember, IsShort}
 use Rattle.store_tables.specs.Books.{has_id}
 use Rattle.store_tables.specs.Imports.{has_key}
@@ -31,7 +25,6 @@ use Rattle.store_lookups.specs.ChangeFaults.{KnowsMembers}
 use Rattle.store_lookups.specs.StoreFaults.{FaultsFromOutside}
 use Rattle.store_lookups.proofs.StoreFaultLemmas.{later_cause}
 use Rattle.store_writes.proofs.AcceptLemmas.{accepts_next, at_most, middle_true}
-use Rattle.store_writes.proofs.NumberLemmas.{passed}
 use Rattle.store_inserts.specs.internal.Importing.{IsImportKeyFree, WritesBook}
 use Rattle.store_inserts.proofs.CreateFaults.{none_passes}
 use Rattle.store_inserts.proofs.WroteLemmas.{found_none, row_remains}
@@ -45,25 +38,6 @@ then_reads old mid new P Q r before same after fails rows clean holds faultless 
 
 pub key_short : (key : List ℕ) → is_legal_key key ≡ true → IsShort key
 key_short key legal = let low = at_most (length key) 64 (middle_true (nat_le 1 (length key)) (nat_le (length key) 64) (list_all is_key_octet key) legal) in omega (arith, low)
-
--- the answer has the counts and the number of the import
-pub tally_is : {S : Type 0} (limits : Bounds) (state : Importing S) (cards number : ℕ) (tally : ImportTally) → import_tally limits state cards number ≡ Ok tally → record { added = state.added; edited = state.edited; same = state.same; number = number } ≡ tally
-tally_is limits state cards number tally is =
-    let last : Result ImportTally Refusal = Ok (record { added = state.added; edited = state.edited; same = state.same; number = number }) in
-    let left = (state.added + state.edited == 0) || nat_le number limits.changes_max in
-    let room = passed ((state.added == 0) || nat_le cards limits.cards_max) BookFull (refuse_unless left ChangesSpent >>= λ _. last) tally is in
-    let done = passed left ChangesSpent last tally room.1 in
-    let same = done.1 in cc
-
--- an import that stores cards stays within the limit of changes
-pub few_stored : (limits : Bounds) (added edited same cards before : ℕ) (tally : ImportTally) → import_tally limits (imported_so_far added edited same) cards (before + added + edited) ≡ Ok tally → (0 < tally.added + tally.edited → tally.number ≤ limits.changes_max)
-    → limits.changes_max ≤ 1000000000000 → added + edited < 2 ^ 62
-few_stored limits added edited same cards before tally is within most =
-    let here : 0 < added + edited → before + added + edited ≤ limits.changes_max = subst (λ (t : ImportTally). 0 < t.added + t.edited → t.number ≤ limits.changes_max) (sym (tally_is limits (imported_so_far added edited same) cards (before + added + edited) tally is)) within in
-    elim (cases_lt 0 (added + edited)) [
-      | inl some ↦ let low = here some in omega (arith, low, most)
-      | inr none ↦ omega (arith, none)
-    ]
 
 pub spares_imports : (old new : Trees) → KeepsOtherTables 4 old new → new 7 ≡ old 7
 spares_imports old new h = h.1.1.1.0 (λ e. cc)
