@@ -74,7 +74,8 @@ fn write_next_card<S: Alter>(
     ensures book_after { InWrittenBookTx S.Store tx.old.conn.now tx.new.conn.now header
         (λ rows name book. IfOk result
         (λ next. HoldsInTx S.Store tx.new.conn.now
-        (λ db. internals.WritesBook db rows name next (book_with_pair book (planned_pair stored.entry))))) }
+        (λ db. internals.WritesBook db rows name next
+        (book_with_pair book (planned_pair stored.entry))))) }
     ensures next_header { IfOk result (λ next.
         next ≡ header_after (Stores stored.entry.card.now stored.entry.why) header) }
     ensures obeys { ObeysInWrittenBook S.Store tx.old.conn.now tx.new.conn.now header result }
@@ -142,7 +143,8 @@ fn insert_kept_import<S: Alter>(
     ensures book_after { InWrittenBookTx S.Store tx.old.conn.now tx.new.conn.now header
         (λ rows name book. IsImportKeyFree book key.now
         → OnOk result (HoldsInTx S.Store tx.new.conn.now
-        (λ db. internals.WritesBook db rows name header (book_with_kept_import book key.now tally)))) }
+        (λ db. internals.WritesBook db rows name header
+        (book_with_kept_import book key.now tally)))) }
     ensures obeys { ObeysInWrittenBook S.Store tx.old.conn.now tx.new.conn.now header result }
     ensures store_fault { tally.added < 2 ^ 63 → tally.edited < 2 ^ 63 → tally.same < 2 ^ 63
         → tally.number < 2 ^ 63 → (rows : TableRows) (name : List ℕ) (book : Book)

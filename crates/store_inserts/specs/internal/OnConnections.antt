@@ -56,8 +56,8 @@ module _ {S : Type 0} (store : Ghosts S) (old new : Held S) where
   CommitsNewBookOnce name book = (rows : TableRows) → LacksBookRow store old rows name →
       Survives store old new (TreesHold (finite.insert (books_of rows) name book))
 
-  -- Over rows that can be changed and that accept the new book, a fault of the store comes only from
-  -- an outside cause.
+  -- Over rows that can be changed and that accept the new book, a fault of the store comes only
+  -- from an outside cause.
   abbrev pub CreationFaultsFromOutside :
       {A : Type 0} → ℕ → List ℕ → Result A Denied → Type 0
   CreationFaultsFromOutside id name result = (rows : TableRows) → HasCleanDisk store new →
