@@ -1,0 +1,44 @@
+-- What one more logical line becomes.
+use Rattle.std.proofs.Common.{◌≡◌, true, List, [], ◌∷◌, ◌++◌, refl, ap, subst, inl, inr}
+use Rattle.std.proofs.lemmas.List.{append-nil}
+use Rattle.import_text.specs.declared.raw_line.RawLine.{RawLine}
+use Rattle.vcard_lines.specs.declared.line.Line.{Line}
+use Rattle.vcard_import.specs.declared.change.Change.{Change}
+use Rattle.vcard_import.specs.Conversions.{AreLine, Become}
+use Rattle.vcard_import.specs.Delimiters.{is_delimiter}
+
+more : (raws : List RawLine) (raw : RawLine) (line : List Line) (change : List Change) → Become (raw ∷ []) line change → (card : List Line) (changes : List Change) → Become raws card changes → Become (raws ++ raw ∷ []) (card ++ line) (changes ++ change)
+more [] raw line change last card changes b = rw (b.0, b.1) last
+more (first ∷ raws) raw line change last card changes (inl b) = inl (b.0, more raws raw line change last card changes b.1)
+more (first ∷ raws) raw line change last card changes (inr (inl k)) = inr (inl (record {
+  line = k.line;
+  others = k.others ++ line;
+  card_is = ap (λ c. c ++ line) k.card_is;
+  same = k.same;
+  rest = more raws raw line change last k.others changes k.rest;
+}))
+more (first ∷ raws) raw line change last card changes (inr (inr k)) = inr (inr (record {
+  line = k.line;
+  others = k.others ++ line;
+  card_is = ap (λ c. c ++ line) k.card_is;
+  differs = k.differs;
+  change = k.change;
+  more = k.more ++ change;
+  changes_are = ap (λ c. c ++ change) k.changes_are;
+  place = k.place;
+  rest = more raws raw line change last k.others k.more k.rest;
+}))
+
+pub left_out : (raws : List RawLine) (raw : RawLine) (card : List Line) (changes : List Change) → is_delimiter raw.octets ≡ true → Become raws card changes → Become (raws ++ raw ∷ []) card changes
+left_out raws raw card changes d b =
+    subst (λ c. Become (raws ++ raw ∷ []) c changes) (append-nil card)
+    (subst (λ c. Become (raws ++ raw ∷ []) (card ++ []) c) (append-nil changes)
+    (more raws raw [] [] (inl (d, (refl, refl))) card changes b))
+
+pub kept : (raws : List RawLine) (raw : RawLine) (card : List Line) (changes : List Change) (line : Line) → AreLine raw.octets line → Become raws card changes → Become (raws ++ raw ∷ []) (card ++ line ∷ []) changes
+kept raws raw card changes line same b = subst (λ c. Become (raws ++ raw ∷ []) (card ++ line ∷ []) c) (append-nil changes)
+    (more raws raw (line ∷ []) [] (inr (inl (record { line = line; others = []; card_is = refl; same = same; rest = (refl, refl) }))) card changes b)
+
+pub changed : (raws : List RawLine) (raw : RawLine) (card : List Line) (changes : List Change) (line : Line) (change : Change) → (AreLine raw.octets line → ⊥) → change.place ≡ raw.place → Become raws card changes → Become (raws ++ raw ∷ []) (card ++ line ∷ []) (changes ++ change ∷ [])
+changed raws raw card changes line change differs place b =
+    more raws raw (line ∷ []) (change ∷ []) (inr (inr (record { line = line; others = []; card_is = refl; differs = differs; change = change; more = []; changes_are = refl; place = place; rest = (refl, refl) }))) card changes b

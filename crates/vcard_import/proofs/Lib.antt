@@ -1,0 +1,4 @@
+mod BecomeLemmas
+mod MakesLemmas
+mod ResultLemmas
+mod UpperLemmas

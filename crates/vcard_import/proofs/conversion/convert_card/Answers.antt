@@ -1,0 +1,14 @@
+use Rattle.std.proofs.Common.{rules}
+use Rattle.vcard_import.proofs.ResultLemmas.{ok_is_no_err, err_is_no_ok, same_ok, ok_either}
+use Rattle.vcard_import.proofs.conversion.convert_card.Goals as goal
+
+pub returns-in-Ok-clause-same : goal.returns-in-Ok-clause-same
+returns-in-Ok-clause-same c = λ lines spells n.
+    (same_ok c.in-Ok.card lines (c.in-Ok.ensures.every lines spells (ok_is_no_err c.in-Ok.card)), c.new.ensures)
+
+pub returns-in-Err : goal.returns-in-Err
+returns-in-Err c = record {
+  same = λ lines spells n. absurd (err_is_no_ok c.in-Err.field-0 lines (c.in-Err.ensures.every lines spells (search rules)));
+  converted = ok_either c.args.octets.now c.convert_refused.result c.convert_refused.ensures.converted;
+  refused = c.convert_refused.ensures.refused;
+}

@@ -1,0 +1,5 @@
+pub mod Conversions
+pub mod Delimiters
+pub mod DerivedUid
+pub mod Versions
+pub mod internal

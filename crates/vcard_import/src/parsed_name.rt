@@ -1,0 +1,70 @@
+//! The formatted name of a card that has none, from its other properties.
+
+use std::alloc::Global;
+use vcard_text::{Line, NoMemory, components, escape};
+
+/// Appends a word, after a space if there is one before it.
+fn push_word(name: &mut String, word: &str) -> Result<(), NoMemory> {
+    let word = word.trim();
+    if word.is_empty() {
+        return Ok(());
+    }
+    if !name.is_empty() {
+        name.push(' ')?;
+    }
+    name.push_str(word)?;
+    Ok(())
+}
+
+/// The component at the index, or an empty text.
+fn part(parts: &[String], place: usize) -> &str {
+    match parts.get(place) {
+        Some(part) => part.as_str(),
+        None => "",
+    }
+}
+
+/// The name that the components of N give: prefixes, given, additional and family names, suffixes
+/// (RFC 6350, section 6.2.2).
+fn name_of_parts(alloc: Global, parts: &[String]) -> Result<String, NoMemory> {
+    let mut name = String::new(alloc);
+    for place in [3usize, 1, 2, 0, 4] {
+        push_word(&mut name, part(parts, place))?;
+    }
+    Ok(name)
+}
+
+/// The name that a line gives: all components of N, and the first of any other.
+fn name_of_line(alloc: Global, line: &Line) -> Result<String, NoMemory> {
+    let parts = components(alloc, line.value.as_str())?;
+    if line.name.as_str() == "N" {
+        return name_of_parts(alloc, parts.as_slice());
+    }
+    let mut name = String::new(alloc);
+    push_word(&mut name, part(parts.as_slice(), 0))?;
+    Ok(name)
+}
+
+/// The first nonempty name that a line of that name gives.
+fn name_from(alloc: Global, lines: &[Line], source: &str) -> Result<Option<String>, NoMemory> {
+    for line in lines {
+        if line.name.as_str() == source {
+            let name = name_of_line(alloc, line)?;
+            if !name.is_empty() {
+                return Ok(Some(name));
+            }
+        }
+    }
+    Ok(None)
+}
+
+/// The formatted name of a card without FN, as a value: from N, or else from NICKNAME, ORG, EMAIL
+/// or TEL. It is empty if none of them gives one.
+pub(crate) fn name_value(alloc: Global, lines: &[Line]) -> Result<String, NoMemory> {
+    for source in ["N", "NICKNAME", "ORG", "EMAIL", "TEL"] {
+        if let Some(name) = name_from(alloc, lines, source)? {
+            return escape(alloc, name.as_str());
+        }
+    }
+    Ok(String::new(alloc))
+}
