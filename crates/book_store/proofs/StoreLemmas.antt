@@ -18,6 +18,7 @@ use Rattle.store_rows.specs.TableRows.{no_rows}
 use Rattle.store_rows.proofs.HeldRows.{books_held, nothing_held, no_rows_sound}
 use Rattle.store_rows.proofs.OpenLemmas.{new_tables_empty}
 use Rattle.store_lookups.specs.CallResults.{FollowsStep, GivenSoundRows}
+use Rattle.store_lookups.specs.ChangeFaults.{ChangeFaultsFromOutside}
 use Rattle.store_lookups.specs.StoreFaults.{FaultsFromOutside}
 use Rattle.book_store.specs.OpenOutcomes.{IsNewStoreCommitted}
 use Rattle.book_store.specs.StoreViews.{ChangesStore, IsStore, ReadsStore, StoreView}
@@ -79,8 +80,8 @@ new_store_books s h = (nothing_held s.now (new_tables_empty s.now h.created)).bo
 
 -- a call that changed the tables of a store
 pub changes_store : {S A : Type 0} (g : Ghosts S) (old new : StoreView S) (r : Result A Denied) (step : Bounds → Books → Result (A × Books) Refusal) → IsStore (state g old.conn) old.limits → new.limits ≡ old.limits
-    → AppliesStep (state g old.conn) (state g new.conn) r (step old.limits) → CommitsOnce (state g old.conn) (state g new.conn) (step old.limits) → ChangesStore g old new r step
-changes_store g old new r step store same changed commits = record {
+    → AppliesStep (state g old.conn) (state g new.conn) r (step old.limits) → CommitsOnce (state g old.conn) (state g new.conn) (step old.limits) → ChangeFaultsFromOutside (state g old.conn) (state g new.conn) r → ChangesStore g old new r step
+changes_store g old new r step store same changed commits causes = record {
   keeps_terms = record {
     premise = changed.was_open_on_honest_disk;
     limits = same;
@@ -88,4 +89,5 @@ changes_store g old new r step store same changed commits = record {
   };
   matches_step = λ order. changed.matches_step order (store.stays_sound (changed.was_open_on_honest_disk order));
   crash = λ order. commits (store.stays_sound order);
+  store_fault = causes;
 }

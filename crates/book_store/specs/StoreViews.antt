@@ -11,6 +11,7 @@ use Rattle.book_model.specs.declared.refusal.Refusal.{Refusal}
 use Rattle.book_model.specs.Books.{Books}
 use Rattle.book_model.specs.Bounds.{Bounds, IsInRange}
 use Rattle.store_tables.specs.StatementEffects.{OnlyReads}
+use Rattle.store_lookups.specs.ChangeFaults.{ChangeFaultsFromOutside}
 use Rattle.store_lookups.specs.StoreFaults.{FaultsFromOutside}
 use Rattle.store_writes.specs.TableChanges.{HoldBooksAfter}
 use Rattle.store_writes.specs.StoredBooks.{IsOpenOnHonestDisk, IsCommittedAndSound, stored_books}
@@ -58,7 +59,8 @@ pub record ReadsStore {S : Type 0} {T A : Type 0} (g : Ghosts S) (allows : T →
   pub store_fault : FaultsFromOutside (state g old.conn) (state g new.conn) r
 
 -- A call that changes the books: the contract of every store, and what a crash can leave. That is
--- what it could leave before the call, or the one commit, with the books after the whole call.
+-- what it could leave before the call, or the one commit, with the books after the whole call. Over
+-- rows that can be changed, a fault of the store comes only from an outside cause.
 pub record ChangesStore {S : Type 0} {A : Type 0} (g : Ghosts S) (old new : StoreView S)
     (r : Result A Denied) (step : Bounds → Books → Result (A × Books) Refusal) : Type 0 where
   pub keeps_terms : KeepsTerms (table_model g) old new
@@ -66,3 +68,4 @@ pub record ChangesStore {S : Type 0} {A : Type 0} (g : Ghosts S) (old new : Stor
   pub crash : IsOpenOnHonestDisk (state g old.conn) →
       Survives (state g old.conn) (state g new.conn)
       (HoldBooksAfter (step old.limits (books_of_store g old)))
+  pub store_fault : ChangeFaultsFromOutside (state g old.conn) (state g new.conn) r

@@ -1,9 +1,11 @@
 //! Laws of stores over tables.
 ghost use Rattle.book_model.specs.Bounds.{Bounds};
 ghost use Rattle.book_store.specs.Crashes.{StoresSurviveCrashes};
+ghost use Rattle.store_lookups.specs.ChangeFaults.{AcceptChanges};
 ghost use Rattle.store_lookups.specs.StoreFaults.{AreFaultless};
 ghost use Rattle.store_rows.specs.SoundTables.{AreWellFormed};
 ghost use Rattle.store_rows.specs.TableRows.{TableRows};
+ghost use Rattle.store_tables.specs.Acceptance.{IsShort};
 ghost use Rattle.std.specs.List.{AllByRecursion};
 ghost use Rattle.std.specs.Prelude.{◌<◌, ◌^◌, IsUtf8, length};
 
@@ -16,6 +18,16 @@ pub fn well_formed_rows_cause_no_fault()
         → limits.changes_max < 2 ^ 63 → AreWellFormed limits rows
         → AllByRecursion (λ m. IsUtf8 m.uid) rows.members
         → length rows.members < 9223372036854775807 → AreFaultless rows }
+{}
+
+/// The rows of well-formed books can be changed without a fault of the store, if each UID is UTF-8
+/// and has at most 2^20 octets, and there are fewer than 2^63 - 1 books and as many members.
+pub fn well_formed_rows_accept_changes()
+    ensures { (limits : Bounds) (rows : TableRows) → limits.books_max < 9223372036854775807
+        → limits.changes_max < 2 ^ 63 → AreWellFormed limits rows
+        → AllByRecursion (λ m. IsUtf8 m.uid) rows.members
+        → AllByRecursion (λ m. IsShort m.uid) rows.members
+        → length rows.members < 9223372036854775807 → AcceptChanges rows }
 {}
 
 /// A crash between two calls of a store leaves its books, with each change that a call made before

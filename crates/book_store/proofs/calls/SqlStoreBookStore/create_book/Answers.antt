@@ -13,5 +13,5 @@ returns g c =
     let step = λ (limits : Bounds) (books : Books). create_step limits books c.args.name.now in
     record {
       changes = subst (λ (v : StoreView _). ChangesStore g.S.Store v new c.create_in_tables.result step) c.self.view_is
-          (changes_store g.S.Store old new c.create_in_tables.result step c.self.invariant refl c.create_in_tables.ensures.changes c.create_in_tables.ensures.crash);
+          (changes_store g.S.Store old new c.create_in_tables.result step c.self.invariant refl c.create_in_tables.ensures.changes c.create_in_tables.ensures.crash c.create_in_tables.ensures.store_fault);
     }

@@ -13,5 +13,5 @@ returns g c =
     let step = λ (limits : Bounds) (books : Books). forget_step books c.args.book.now c.args.upto in
     record {
       changes = subst (λ (v : StoreView _). ChangesStore g.S.Store v new c.forget_in_book.result step) c.self.view_is
-          (changes_store g.S.Store old new c.forget_in_book.result step c.self.invariant refl c.forget_in_book.ensures.changes c.forget_in_book.ensures.crash);
+          (changes_store g.S.Store old new c.forget_in_book.result step c.self.invariant refl c.forget_in_book.ensures.changes c.forget_in_book.ensures.crash c.forget_in_book.ensures.store_fault);
     }

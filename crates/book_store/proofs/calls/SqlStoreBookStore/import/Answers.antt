@@ -13,5 +13,5 @@ returns g c =
     let step = λ (limits : Bounds) (books : Books). import_step limits books c.args.book.now c.args.key.now c.args.cards.now in
     record {
       changes = subst (λ (v : StoreView _). ChangesStore g.S.Store v new c.import_in_book.result step) c.self.view_is
-          (changes_store g.S.Store old new c.import_in_book.result step c.self.invariant refl c.import_in_book.ensures.changes c.import_in_book.ensures.crash);
+          (changes_store g.S.Store old new c.import_in_book.result step c.self.invariant refl c.import_in_book.ensures.changes c.import_in_book.ensures.crash c.import_in_book.ensures.store_fault);
     }

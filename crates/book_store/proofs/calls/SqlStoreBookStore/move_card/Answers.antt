@@ -13,5 +13,5 @@ returns g c =
     let step = λ (limits : Bounds) (books : Books). move_step limits books c.args.from.now c.args.to.now c.args.uid.now c.args.expect in
     record {
       changes = subst (λ (v : StoreView _). ChangesStore g.S.Store v new c.move_in_tables.result step) c.self.view_is
-          (changes_store g.S.Store old new c.move_in_tables.result step c.self.invariant refl c.move_in_tables.ensures.changes c.move_in_tables.ensures.crash);
+          (changes_store g.S.Store old new c.move_in_tables.result step c.self.invariant refl c.move_in_tables.ensures.changes c.move_in_tables.ensures.crash c.move_in_tables.ensures.store_fault);
     }

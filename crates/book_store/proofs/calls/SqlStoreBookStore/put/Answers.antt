@@ -13,5 +13,5 @@ returns g c =
     let step = λ (limits : Bounds) (books : Books). put_step limits books c.args.book.now c.args.card.now c.args.expect in
     record {
       changes = subst (λ (v : StoreView _). ChangesStore g.S.Store v new c.put_in_book.result step) c.self.view_is
-          (changes_store g.S.Store old new c.put_in_book.result step c.self.invariant refl c.put_in_book.ensures.changes c.put_in_book.ensures.crash);
+          (changes_store g.S.Store old new c.put_in_book.result step c.self.invariant refl c.put_in_book.ensures.changes c.put_in_book.ensures.crash c.put_in_book.ensures.store_fault);
     }

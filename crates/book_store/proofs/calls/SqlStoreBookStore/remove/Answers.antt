@@ -13,5 +13,5 @@ returns g c =
     let step = λ (limits : Bounds) (books : Books). remove_step limits books c.args.book.now c.args.uid.now c.args.expect in
     record {
       changes = subst (λ (v : StoreView _). ChangesStore g.S.Store v new c.remove_in_book.result step) c.self.view_is
-          (changes_store g.S.Store old new c.remove_in_book.result step c.self.invariant refl c.remove_in_book.ensures.changes c.remove_in_book.ensures.crash);
+          (changes_store g.S.Store old new c.remove_in_book.result step c.self.invariant refl c.remove_in_book.ensures.changes c.remove_in_book.ensures.crash c.remove_in_book.ensures.store_fault);
     }
