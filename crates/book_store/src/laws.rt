@@ -20,8 +20,10 @@ pub fn well_formed_rows_cause_no_fault()
         → length rows.members < 9223372036854775807 → AreFaultless rows }
 {}
 
-/// The rows of well-formed books can be changed without a fault of the store, if each UID is UTF-8
-/// and has at most 2^20 octets, and there are fewer than 2^63 - 1 books and as many members.
+/// The rows of well-formed books accept changes, if each UID is UTF-8 and has at most 2^20 octets,
+/// there are fewer than 2^63 - 1 members, and the limits allow fewer than 2^63 - 1 books and fewer
+/// than 2^63 changes. A change of such rows fails with `Store` only from outside, while SQLite has
+/// ids for new rows (`HaveFreeIds`).
 pub fn well_formed_rows_accept_changes()
     ensures { (limits : Bounds) (rows : TableRows) → limits.books_max < 9223372036854775807
         → limits.changes_max < 2 ^ 63 → AreWellFormed limits rows

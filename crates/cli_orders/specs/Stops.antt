@@ -8,6 +8,9 @@ use Rattle.book_model.specs.declared.denied.Denied.{Denied}
 use Rattle.book_model.specs.declared.denied.Denied.TheVariants.{Refused as WasRefused}
 use Rattle.book_model.specs.declared.denied.Denied.TheVariants.{Fault as WasFault}
 use Rattle.book_model.specs.declared.denied.Fault.TheVariants.{Memory}
+use Rattle.book_http.specs.declared.listen_fault.ListenFault.{ListenFault}
+use Rattle.book_http.specs.declared.listen_fault.ListenFault.TheVariants.{Serve as Aborted}
+use Rattle.book_http.specs.declared.listen_fault.ListenFault.TheVariants.{Device as ListenerFailed}
 use Rattle.hub_server.specs.declared.endpoint_fault.EndpointFault.{EndpointFault}
 use Rattle.hub_server.specs.declared.endpoint_fault.EndpointFault.TheVariants as endpoint
 use Rattle.cli_orders.specs.declared.stop.Stop.{Stop}
@@ -28,6 +31,11 @@ stop_of_endpoint endpoint.Wait = Device
 stop_of_endpoint endpoint.Accept = Device
 stop_of_endpoint endpoint.TooManyWaits = Device
 stop_of_endpoint endpoint.Memory = out_of_memory
+
+-- the stop for an error of serving connections one after another
+abbrev pub stop_of_listening : ListenFault → Stop
+stop_of_listening (Aborted fault) = Serve fault
+stop_of_listening ListenerFailed = Device
 
 -- the exit status of the program
 abbrev pub status_of : Stop → ℕ

@@ -2,7 +2,7 @@
 ghost use Rattle.std.specs.Prelude.{◌≡◌};
 ghost use Rattle.cli_orders.specs.Stops.{out_of_memory, status_of};
 
-use book_http::ServeFault;
+use book_http::{ListenFault, ServeFault};
 use hub_server::EndpointFault;
 use std::alloc::AllocError;
 use std::fmt;
@@ -123,6 +123,20 @@ impl From<EndpointFault> for Stop {
                 Stop::Device
             }
             EndpointFault::Memory => Stop::out_of_memory(),
+        }
+    }
+}
+
+impl From<ListenFault> for Stop {
+    ghost use Rattle.std.specs.Prelude.{◌≡◌};
+    ghost use Rattle.cli_orders.specs.Stops.{stop_of_listening};
+
+    ghost from_gives = { λ fault stop. stop ≡ stop_of_listening fault };
+
+    fn from(fault: ListenFault) -> Stop {
+        match fault {
+            ListenFault::Serve(fault) => Stop::Serve(fault),
+            ListenFault::Device => Stop::Device,
         }
     }
 }
