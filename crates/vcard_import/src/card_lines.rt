@@ -18,12 +18,31 @@ use std::alloc::Global;
 use vcard_lines::read_line;
 use vcard_text::{CardFault, Items, Line, NoMemory, Text, UID_OCTETS_MAX};
 
-/// The lines and the changes so far, and how deep the cards are nested.
+/// Which of the names that a card has at most once its lines have so far.
+#[derive(Clone, Copy, Debug)]
+pub(crate) struct Seen {
+    uid: bool,
+    kind: bool,
+}
+
+impl Seen {
+    /// What the lines have with one more line of this name.
+    fn with(self, name: &str) -> Seen {
+        Seen {
+            uid: self.uid || name.eq_ignore_ascii_case("UID"),
+            kind: self.kind || name.eq_ignore_ascii_case("KIND"),
+        }
+    }
+}
+
+/// The lines and the changes so far, and how deep the cards are nested. `seen` spares a search of
+/// all lines for each UID and each KIND.
 #[derive(Debug, Drop)]
 pub(crate) struct CardLines {
     pub(crate) lines: Items<Line>,
     pub(crate) changes: Items<Change>,
     pub(crate) depth: u32,
+    pub(crate) seen: Seen,
 }
 
 /// How lines are read.
@@ -41,10 +60,10 @@ fn is_uid(value: &str) -> bool {
 
 /// Whether the card can't have the line after the others: it is an illegal or a second UID, a
 /// second KIND, a MEMBER that isn't in a group, or named as a line that begins or ends a card.
-fn breaks_rule(lines: &[Line], line: &Line, reading: Reading) -> bool {
+fn breaks_rule(seen: Seen, line: &Line, reading: Reading) -> bool {
     match line.name.as_str() {
-        "UID" => !is_uid(line.value.as_str()) || has_line_named(lines, "UID"),
-        "KIND" => has_line_named(lines, "KIND"),
+        "UID" => seen.uid || !is_uid(line.value.as_str()),
+        "KIND" => seen.kind,
         "MEMBER" => !reading.keeps_members,
         "BEGIN" | "END" | "VERSION" => true,
         _ => false,
@@ -80,13 +99,13 @@ fn converted(alloc: Global, text: &str, version: Version) -> Result<(Line, Chang
 /// The line for the octets of a logical line after the others, and what became of it.
 fn line_after(
     alloc: Global,
-    lines: &[Line],
+    seen: Seen,
     octets: &[u8],
     reading: Reading,
 ) -> Result<(Line, ChangeKind), NoMemory> {
     let text = read_text(alloc, octets)?;
     let (line, kind) = converted(alloc, text.as_str(), reading.version)?;
-    if !breaks_rule(lines, &line, reading) {
+    if !breaks_rule(seen, &line, reading) {
         return Ok((line, kind));
     }
     let name = aside_name(alloc, line.name.as_str())?;
@@ -144,6 +163,10 @@ impl CardLines {
             lines: Items::new(alloc),
             changes: Items::new(alloc),
             depth: 0,
+            seen: Seen {
+                uid: false,
+                kind: false,
+            },
         }
     }
 
@@ -182,7 +205,8 @@ impl CardLines {
         if is_delimiter(octets) {
             return Ok(());
         }
-        let (line, kind) = line_after(alloc, self.lines.as_slice(), octets, reading)?;
+        let (line, kind) = line_after(alloc, self.seen, octets, reading)?;
+        self.seen = self.seen.with(line.name.as_str());
         self.push(alloc, raw, line, kind)
     }
 }

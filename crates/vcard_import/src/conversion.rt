@@ -42,6 +42,7 @@ fn convert_lines(alloc: Global, octets: &[u8]) -> Result<(Items<Line>, Items<Cha
         mut lines,
         mut changes,
         depth: _,
+        seen: _,
     } = lines_of_card(alloc, raws.as_slice(), version)?;
     let missing = missing_lines(alloc, octets, lines.as_slice())?;
     add_lines(&mut lines, &mut changes, missing)?;

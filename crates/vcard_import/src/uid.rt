@@ -7,7 +7,7 @@ use uuid::Uuid;
 use vcard_text::NoMemory;
 
 /// The UID that a card with these octets gets: `urn:uuid:` and the UUID of version 5 of the octets
-/// in this project's namespace. The only `Err` is out of memory.
+/// in the namespace of object identifiers. The only `Err` is out of memory.
 pub(crate) fn derived_uid(alloc: Global, octets: &[u8]) -> Result<String, NoMemory>
     ensures { IfOk result (λ uid. string_bytes uid ≡ derived_uid octets.now) }
 {
