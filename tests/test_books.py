@@ -1,7 +1,7 @@
 """`contacts books`, `contacts verify` and `contacts --version`.
 
-The lines are worked out by hand from the changes that were made; the words after `--version` are
-those of CHANGELOG.md, README.md and the tables of the newest schema.
+The lines are worked out by hand from the changes that were made. The words after `--version` are
+those of CHANGELOG.md and README.md, and the schema of a file that the program made.
 """
 
 import re
@@ -11,7 +11,7 @@ import unittest
 import order_rows as rows
 from order_texts import books_text
 from order_trials import FIVE_CHANGES, MORE_CHANGES, NEEDS_STRICT, OrderTest
-from program import ROOT, Ended, run
+from program import ROOT, Ended, Folder, run
 
 STAFF = {"name": "staff", "id": 1, "cards": 2, "number": 9, "horizon": 0}
 CLIENTS = {"name": "clients", "id": 2, "cards": 2, "number": 2, "horizon": 0}
@@ -19,7 +19,7 @@ CLIENTS = {"name": "clients", "id": 2, "cards": 2, "number": 2, "horizon": 0}
 
 class Books(OrderTest):
     def assert_lists(self, lines):
-        """`books` prints these lines, and `verify` besides how many there are. No row changes."""
+        """`books` prints these lines, and `verify` besides how many there are, each time."""
         listed = books_text(lines)
         counted = listed + b"verified %d\n" % len(lines)
         for _ in range(2):
@@ -67,11 +67,17 @@ class Books(OrderTest):
 
 
 class Version(unittest.TestCase):
+    @NEEDS_STRICT
     def test_version(self):
         changes = (ROOT / "CHANGELOG.md").read_text()
         newest = re.search(r"^## (\S+)", changes, re.MULTILINE).group(1).lower()
         kit = re.search(r"^Toolchain: `(.*)`\.$", (ROOT / "README.md").read_text(), re.MULTILINE)
-        text = f"contacts {newest}\nschema 2\nkit {kit.group(1)}\n".encode()
+        with Folder() as folder:
+            self.assertEqual(0, run("init", "a.db", cwd=folder).status)
+            connection = sqlite3.connect(folder / "a.db")
+            (schema,) = connection.execute("SELECT val FROM meta").fetchone()
+            connection.close()
+        text = f"contacts {newest}\nschema {schema}\nkit {kit.group(1)}\n".encode()
         for row in ["--version"], ["-V"], ["--version", "tally", "a.db", "staff"]:
             with self.subTest(row):
                 self.assertEqual(Ended(0, text, b""), run(*row))

@@ -1,8 +1,8 @@
 """`contacts check`: a file of rows or a card, without a store.
 
-What is printed is worked out by hand, and the verdict is compared with that of an import into an
-empty book, or of a put, of the same octets. The words stand in tables here; the rows and numbers
-of causes are the plain model's.
+What is printed is worked out by hand. The words are in tables here; the rows and numbers of causes
+are the plain model's. The refusals are those of an import into an empty book, and of `try`, which
+puts a card, of the same octets.
 """
 
 import unittest
@@ -84,6 +84,14 @@ class Check(OrderTest):
                     Ended(1, f"row {place[0]}: {words}\n".encode(), b"refused bad-import 14\n"),
                     self.check("a.csv", text.encode()))
 
+    def test_an_import_has_the_same_refusal(self):
+        self.make_books()
+        for title, text, _, _ in BAD_ROWS:
+            with self.subTest(title):
+                (self.folder / "a.csv").write_bytes(text.encode())
+                self.assertEqual(run("check", "a.csv", cwd=self.folder)._replace(out=b""),
+                                 run("import", "a.db", "staff", "key", "a.csv", cwd=self.folder))
+
     def test_a_field_in_another_encoding(self):
         octets = HEAD.encode() + "a,Änn,,,,,,\n".encode("latin-1")
         self.assertEqual(Ended(1, b"row 1: a field isn't UTF-8\n", b"refused bad-import 14\n"),
@@ -105,6 +113,12 @@ class Check(OrderTest):
                     Ended(1, f"card: {words}\n".encode(), b"refused bad-card 5\n"),
                     self.check("a.vcf", text.encode()))
 
+    def test_a_put_has_the_same_refusal(self):
+        for title, text, _, _ in BAD_CARDS:
+            with self.subTest(title):
+                self.assertEqual(self.check("a.vcf", text.encode())._replace(out=b""),
+                                 run("try", input=text.encode()))
+
     def test_a_card_in_another_encoding(self):
         octets = ANN.replace("Ann", "Änn").encode("latin-1")
         self.assertEqual(Ended(1, b"card: the text isn't UTF-8\n", b"refused bad-card 5\n"),
@@ -115,6 +129,17 @@ class Check(OrderTest):
             with self.subTest(name):
                 self.assertEqual(1, self.check(name, ANN.encode()).status)
                 (self.folder / name).unlink()
+
+    def test_the_most_octets(self):
+        text = HEAD
+        while len(text) < 8_188_608:
+            text += f"n{len(text)},Ann,,,,,,{'x' * 200_000}\n"
+        count = text.count("\n")
+        for octets, ended in (8_388_608, Ended(0, b"rows %d\n" % count, b"")), (8_388_609, DEVICE):
+            with self.subTest(octets):
+                row = "last,Ann,,,,,,"
+                row += "x" * (octets - len(text) - len(row) - 1) + "\n"
+                self.assertEqual(ended, self.check("a.csv", (text + row).encode()))
 
     def test_no_file(self):
         for name in "none.csv", "none.vcf", ".":

@@ -19,6 +19,8 @@ from program import PATIENCE, PROGRAM, Ended, Folder, Server, run
 CARD = ANN.encode()
 REFUSED = Ended(1, b"", b"refused bad-card 5\n")
 DEVICE = Ended(3, b"", b"fault device 1\n")
+WAITING = (b"waiting for a vCard on standard input; "
+           b"Ctrl-D ends it, contacts --help lists commands\n")
 # What is printed of Ann's card: 147 octets.
 PRINTED = b"""\
 put created 1
@@ -119,6 +121,24 @@ class Inputs(unittest.TestCase):
     def test_no_input(self):
         with open(os.devnull, "rb") as nothing:
             self.assertEqual(REFUSED, run("try", input=None, stdin=nothing))
+
+    def test_a_terminal_shows_what_is_awaited(self):
+        """Only if standard input is a terminal: each other test here finds no line."""
+        for arguments, first in ([], WAITING), (["try"], WAITING), (["nothing"], None):
+            with self.subTest(arguments):
+                keyboard, terminal = os.openpty()
+                pipes = {"stdout": subprocess.PIPE, "stderr": subprocess.PIPE}
+                with subprocess.Popen([PROGRAM, *arguments], stdin=terminal, **pipes) as process:
+                    os.close(terminal)
+                    line = process.stderr.readline()
+                    if first:
+                        self.assertEqual(first, line)
+                        os.write(keyboard, CARD.replace(b"\r", b"") + b"\x04")
+                        out, err = process.communicate(timeout=PATIENCE)
+                        self.assertEqual((0, PRINTED, b""), (process.returncode, out, err))
+                    else:
+                        self.assertNotEqual(WAITING, line)
+                os.close(keyboard)
 
     def test_octet_by_octet(self):
         """Each read gets one octet."""
