@@ -8,7 +8,7 @@ A row is the arguments, separated by spaces, and the text; arguments with spaces
 """
 
 # The usage of each order.
-TOP = "[OPTIONS] [COMMAND]"
+TOP = "[COMMAND]"
 TRY = "try"
 INIT = "init <FILE>"
 BOOK = "book <FILE> <BOOK>"

@@ -10,7 +10,7 @@ HELP = {}
 HELP[""] = """\
 Contact server that stores address books and syncs them to many devices
 
-Usage: contacts [OPTIONS] [COMMAND]
+Usage: contacts [COMMAND]
 
 Commands:
   try      Read a vCard from standard input, add it to an empty book in memory, and print the \
