@@ -53,7 +53,7 @@ module _ {X : Type 0} (id : X → ℤ) (stored : X → Row) (at_id : (x : X) →
 
 -- ---- an import
 
-cast_import : (book : ℤ) (key : List ℕ) (added edited same number : ℤ) → cast_row import_key (Null ∷ Int book ∷ Text key ∷ Int added ∷ Int edited ∷ Int same ∷ Int number ∷ [])
+pub cast_import : (book : ℤ) (key : List ℕ) (added edited same number : ℤ) → cast_row import_key (Null ∷ Int book ∷ Text key ∷ Int added ∷ Int edited ∷ Int same ∷ Int number ∷ [])
     ≡ Null ∷ Int book ∷ Text key ∷ Int added ∷ Int edited ∷ Int same ∷ Int number ∷ []
 cast_import book key added edited same number = rw (cast_null, cast_int book, cast_int added, cast_int edited, cast_int same, cast_int number)
 
@@ -148,7 +148,7 @@ adds_book_inside old new id name bs (Ok count) schema has h =
 
 -- ---- a keep
 
-cast_keep : (k : KeepRow) → cast_row keeping (keep_row k) ≡ keep_row k
+pub cast_keep : (k : KeepRow) → cast_row keeping (keep_row k) ≡ keep_row k
 cast_keep k = rw (cast_null, cast_int k.book, cast_int k.keep)
 
 module _ (limit : Option ℕ) (book keep : ℤ) (keeps : List KeepRow) (db : Trees) (has : HoldKeeps (db 9) keeps) where

@@ -21,3 +21,9 @@ pub mod SchemaCreationLemmas
 pub mod TransactionLemmas
 pub mod FailureLemmas
 pub mod QueryFailures
+pub mod EditLemmas
+pub mod StopLemmas
+pub mod ReferenceLemmas
+pub mod WriteFailures
+pub mod ForgetFailures
+pub mod FreshLemmas

@@ -67,23 +67,23 @@ cast_card : (card : Option (List ℕ)) → cast kind.Text (or_null Text card) �
 cast_card None = refl
 cast_card (Some t) = refl
 
-abbrev row_of : Value → ℤ → List ℕ → ℤ → Option (List ℕ) → Row
+abbrev pub row_of : Value → ℤ → List ℕ → ℤ → Option (List ℕ) → Row
 row_of id book uid changed card = id ∷ Int book ∷ Text uid ∷ Int changed ∷ or_null Text card ∷ []
 
-cast_new : (book : ℤ) (uid : List ℕ) (changed : ℤ) (card : Option (List ℕ)) → cast_row member (row_of Null book uid changed card) ≡ row_of Null book uid changed card
+pub cast_new : (book : ℤ) (uid : List ℕ) (changed : ℤ) (card : Option (List ℕ)) → cast_row member (row_of Null book uid changed card) ≡ row_of Null book uid changed card
 cast_new book uid changed card = rw (cast_null, cast_int book, cast_int changed, cast_card card)
 
-cast_same : (m : MemberRow) → cast_row member (member_row m) ≡ member_row m
+pub cast_same : (m : MemberRow) → cast_row member (member_row m) ≡ member_row m
 cast_same m = rw (cast_int m.id, cast_int m.book, cast_int m.changed, cast_card m.card)
 
-conflicts_at : (n m : MemberRow) → conflicts (Some (1 ∷ 2 ∷ [])) book_schema.indexes member (member_row n) (member_row m) ≡ has_uid n.book n.uid m
+pub conflicts_at : (n m : MemberRow) → conflicts (Some (1 ∷ 2 ∷ [])) book_schema.indexes member (member_row n) (member_row m) ≡ has_uid n.book n.uid m
 unfolding first_key
 conflicts_at n m = last_or (then_term (at_ints false Eq m.book n.book) (last_term (at_texts false Eq m.uid n.uid ∙ is_eq-slice_cmp m.uid n.uid)))
   where
     last_or : {x a : Bool} → x ≡ a → (x || false) ≡ a
     last_or {x} p = elim x as (λ b. (b || false) ≡ b) [ true ↦ refl | false ↦ refl ] ∙ p
 
-has_back : (ms : List MemberRow) (r : Row) → Has (map member_row ms) r → (m : MemberRow) × Has ms m × (r ≡ member_row m)
+pub has_back : (ms : List MemberRow) (r : Row) → Has (map member_row ms) r → (m : MemberRow) × Has ms m × (r ≡ member_row m)
 has_back [] r h = absurd h
 has_back (m ∷ ms) r (inl e) = (m, inl refl, e)
 has_back (m ∷ ms) r (inr h) = let it = has_back ms r h in (it.0, inr it.1, it.2)
@@ -121,7 +121,7 @@ module _ (limit : Option ℕ) (book : ℤ) (uid : List ℕ) (changed : ℤ) (car
   abbrev task : Task
   task = record { limit = limit; keys = Enforced; schema = book_schema; table = member; params = params }
 
-  abbrev new : MemberRow
+  abbrev pub new : MemberRow
   new = record { id = next_rowid (db 4); book = book; uid = uid; changed = changed; card = card }
 
   abbrev Ends : Written → Type 0
@@ -142,13 +142,13 @@ module _ (limit : Option ℕ) (book : ℤ) (uid : List ℕ) (changed : ℤ) (car
         subst (KeepsOtherTables 4 db) (sym trees) step.tables,
       )
 
-  abbrev given_for : MemberRow → Row
+  abbrev pub given_for : MemberRow → Row
   given_for m = params ++ rowid (member_row m) ∷ shows_row member (member_row new)
 
   abbrev edit_by : List Row → Edit
   edit_by rows = edit_of db member (ids_of rows) Given 1 rows
 
-  only_it : (m : MemberRow) → Has ms m → filter (passes 4 put_query.filter put_query.project (overlay db []) (given_for m)) (map member_row ms) ≡ member_row m ∷ []
+  pub only_it : (m : MemberRow) → Has ms m → filter (passes 4 put_query.filter put_query.project (overlay db []) (given_for m)) (map member_row ms) ≡ member_row m ∷ []
   only_it m there =
       filter-map (passes 4 put_query.filter put_query.project (overlay db []) (given_for m)) member_row ms
       ∙ ap (map member_row) ((λ i. filter (λ (x : MemberRow). last_term (at_ints false Eq x.id m.id) i) ms) ∙ only_one member_id member_row (λ _. refl) ms m (apart ms kept) there)
@@ -174,7 +174,7 @@ module _ (limit : Option ℕ) (book : ℤ) (uid : List ℕ) (changed : ℤ) (car
         subst (KeepsOtherTables 4 db) (sym trees) one.tables,
       )
 
-  nobody : (found : List Row) → found ≡ [] → AreConflicts (Some (1 ∷ 2 ∷ [])) book_schema.indexes member (db 4) (member_row new) found → AllByRecursion (λ m. has_uid book uid m ≡ false) ms
+  pub nobody : (found : List Row) → found ≡ [] → AreConflicts (Some (1 ∷ 2 ∷ [])) book_schema.indexes member (db 4) (member_row new) found → AllByRecursion (λ m. has_uid book uid m ≡ false) ms
   nobody found empty h =
       none_at book uid ms ms (λ m k. k) (λ m there here.
       let it = cells_has member_cells (λ _. refl) (db 4) (member_row m) (has_permuted _ _ (member_row m) has (has_on ms m there)) in

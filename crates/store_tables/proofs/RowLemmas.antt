@@ -29,7 +29,7 @@ put_new id book uid changed card (m ∷ ms) h = rw h.0 (ap (λ l. m ∷ l) (put_
 
 -- ---- the members afterwards
 
-at_parts : (book : ℤ) (uid : List ℕ) (m : MemberRow) → has_uid book uid m ≡ true → (m.book ≡ book) × (m.uid ≡ uid)
+pub at_parts : (book : ℤ) (uid : List ℕ) (m : MemberRow) → has_uid book uid m ≡ true → (m.book ≡ book) × (m.uid ≡ uid)
 at_parts book uid m h = go (int_eq m.book book) (bytes_eq m.uid uid) refl refl h
   where
     go : (a b : Bool) → int_eq m.book book ≡ a → bytes_eq m.uid uid ≡ b → (a && b) ≡ true → (m.book ≡ book) × (m.uid ≡ uid)
@@ -37,7 +37,7 @@ at_parts book uid m h = go (int_eq m.book book) (bytes_eq m.uid uid) refl refl h
     go true false e k h = absurd (true≢false (sym h))
     go false b e k h = absurd (true≢false (sym h))
 
-at_itself : (m : MemberRow) → has_uid m.book m.uid m ≡ true
+pub at_itself : (m : MemberRow) → has_uid m.book m.uid m ≡ true
 at_itself m = ap₂ (λ a b. a && b) (int_itself m.book) ((bytes_eq-Decides m.uid m.uid).1 refl)
 
 -- the test of a key is symmetric

@@ -6,6 +6,7 @@ pub mod Members
 pub mod Books
 pub mod Imports
 pub mod Keeps
+pub mod Acceptance
 pub mod Meta
 pub mod SchemaCreation
 pub mod OnConnections

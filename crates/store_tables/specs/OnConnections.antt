@@ -14,6 +14,7 @@ use Rattle.sqlite.specs.Schema.{Schema}
 use Rattle.sqlite.specs.State as states
 use Rattle.sqlite.specs.Tree.{Trees}
 pub use Rattle.sqlite_trees.specs.declared.store.Store.{Ghosts}
+use Rattle.store_tables.specs.Acceptance as acceptance
 use Rattle.store_tables.specs.Books as books
 use Rattle.store_tables.specs.Failures as failures
 use Rattle.store_tables.specs.Imports as imports
@@ -44,6 +45,10 @@ module _ {S : Type 0} (store : Ghosts S) (conn : Held S) where
   -- the rows of the table in the tree with this number
   abbrev pub table_rows : ℕ → List Row
   table_rows = (state store conn).now.trees
+
+  -- the rows obey the constraints of the declared tables
+  abbrev pub ObeyTables : Type 0
+  ObeyTables = acceptance.ObeyTables table_rows
 
   -- on success, the result is every row of this table, as `show` returns it, in any order
   abbrev pub ListsTable :
@@ -155,13 +160,18 @@ module _ {S : Type 0} (store : Ghosts S) (old new : Held S) where
   abbrev pub HasOutsideCause : Type 0
   HasOutsideCause = failures.HasOutsideCause (state store old) (state store new)
 
-  -- a query of the declared tables fails only for want of memory or for an outside cause
+  -- a query of the declared tables fails only for lack of memory or for an outside cause
   abbrev pub FailsFromOutside : {T : Type 0} → Result T Error → Type 0
   FailsFromOutside = failures.FailsFromOutside (state store old) (state store new)
 
   -- the same for a look-up, which may also find no row
   abbrev pub MissesOrFailsFromOutside : {T : Type 0} → Result T Error → Type 0
   MissesOrFailsFromOutside = failures.MissesOrFailsFromOutside (state store old) (state store new)
+
+  -- inside a transaction over the declared tables, a write fails only for lack of memory or for an
+  -- outside cause
+  abbrev pub WriteFailsFromOutside : {T : Type 0} → Result T Error → Type 0
+  WriteFailsFromOutside = acceptance.WriteFailsFromOutside (state store old) (state store new)
 
   -- only an open connection succeeds
   abbrev pub WasOpenOnOk : {T E : Type 0} → Result T E → Type 0

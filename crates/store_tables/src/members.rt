@@ -2,6 +2,8 @@
 //! card.
 ghost use Rattle.store_tables.specs.QueryResults.{AreRowsInOrder, FindsRow, FindsFirstRow};
 ghost use Rattle.store_tables.specs.QueryResults.{count_value};
+ghost use Rattle.store_tables.specs.Acceptance.{AcceptsMember, HasFreeId, HaveColumnIds};
+ghost use Rattle.store_tables.specs.Books.{BookRow};
 ghost use Rattle.store_tables.specs.Members.{
   by_changed,
   number_card_shown,
@@ -19,18 +21,32 @@ ghost use Rattle.store_tables.specs.OnConnections.{
   GivenMembers,
   GivenMembersTx,
   GivenTables,
+  HasBooks,
   HasMembers,
   ListsTable,
   MissesOrFailsFromOutside,
   NoCommit,
+  ObeyTables,
   OnlyReads,
   PutsRow,
   UnchangedIfAnswered,
   UnchangedOnOk,
   UndoneOnErr,
+  WriteFailsFromOutside,
   WritesOnly,
+  table_rows,
 };
-ghost use Rattle.std.specs.Prelude.{[], ◌∷◌, ◌≡◌, IfOk, OnOk, filter, length, option_copied};
+ghost use Rattle.std.specs.Prelude.{
+  [],
+  ◌∷◌,
+  ◌≡◌,
+  IfOk,
+  List,
+  OnOk,
+  filter,
+  length,
+  option_copied,
+};
 
 use sqlite::{Alter, Connection, Error, Row, Transaction, params};
 
@@ -158,6 +174,8 @@ pub fn forget_members<S: Alter>(
         (λ _. OnOk result (WritesOnly S.Store tx.old.conn.now tx.new.conn.now 4)) }
     ensures no_commit { NoCommit S.Store tx.old.conn.now tx.new.conn.now }
     ensures rolled_back { UndoneOnErr S.Store tx.old.conn.now tx.new.conn.now result }
+    ensures fails_from_outside {
+        WriteFailsFromOutside S.Store tx.old.conn.now tx.new.conn.now result }
 {
     tx.execute(
         "DELETE FROM member WHERE book = ?1 AND card IS NULL AND changed <= ?2",

@@ -1,7 +1,12 @@
 use Rattle.std.proofs.Math.Facts.{to_z-of_z}
 use Rattle.std.proofs.lemmas.Result.{on_ok_weaker}
 use Rattle.sqlite.specs.Held.{state}
+use Rattle.std.proofs.Common.{[]}
+use Rattle.sqlite.specs.Command.TheVariants.{Delete}
+use Rattle.store_tables.proofs.Texts.{forget_is}
+use Rattle.store_tables.proofs.Queries.{forget_query, forget_text}
 use Rattle.store_tables.proofs.ReturningLemmas.{stays_executed, undone_executed, executed_inside, written_by}
+use Rattle.store_tables.proofs.ForgetFailures.{forget_fails}
 use Rattle.store_tables.proofs.ForgetLemmas.{forgets_inside, counts_inside}
 use Rattle.store_tables.proofs.members.forget_members.Goals as goal
 
@@ -29,3 +34,8 @@ returns-clause-no_commit g c =
 pub returns-clause-rolled_back : goal.returns-clause-rolled_back
 returns-clause-rolled_back g c clean inside =
     undone_executed _ _ (state g.S.Store c.args.tx.now.conn.now) (state g.S.Store c.execute.new.self.conn.now) c.execute.result (c.execute.ensures.runs clean inside)
+
+pub returns-clause-fails_from_outside : goal.returns-clause-fails_from_outside
+returns-clause-fails_from_outside g c clean inside has obeys =
+    forget_fails (state g.S.Store c.args.tx.now.conn.now) (state g.S.Store c.execute.new.self.conn.now) c.args.book c.args.upto c.execute.result has obeys
+    (rw (c.params-to_sql.ensures, c.params-to_sql-2.ensures, to_z-of_z c.ranges.book, to_z-of_z c.ranges.upto) at (c.execute.ensures.runs clean inside))
