@@ -27,3 +27,5 @@ pub mod ReferenceLemmas
 pub mod WriteFailures
 pub mod ForgetFailures
 pub mod FreshLemmas
+pub mod StorableLemmas
+pub mod UpdateFailures

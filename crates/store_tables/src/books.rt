@@ -1,6 +1,7 @@
 //! Statements over the table `book`.
 ghost use Rattle.store_tables.specs.QueryResults.{AreRowsInOrder, FindsRow};
 ghost use Rattle.store_tables.specs.QueryResults.{count_value};
+ghost use Rattle.store_tables.specs.Acceptance.{AcceptsBook, AcceptsNumbers};
 ghost use Rattle.store_tables.specs.Books.{
   BookRow,
   book_listed,
@@ -22,10 +23,12 @@ ghost use Rattle.store_tables.specs.OnConnections.{
   ListsTable,
   MissesOrFailsFromOutside,
   NoCommit,
+  ObeyTables,
   OnlyReads,
   UnchangedIfAnswered,
   UnchangedOnOk,
   UndoneOnErr,
+  WriteFailsFromOutside,
   WritesOnly,
 };
 ghost use Rattle.sqlite_rules.specs.Lists.{Has};
@@ -131,6 +134,9 @@ fn renumber<S: Alter>(
         → OnOk result (WritesOnly S.Store tx.old.conn.now tx.new.conn.now 2)) }
     ensures no_commit { NoCommit S.Store tx.old.conn.now tx.new.conn.now }
     ensures rolled_back { UndoneOnErr S.Store tx.old.conn.now tx.new.conn.now result }
+    ensures fails_from_outside { GivenBooksTx S.Store tx.old.conn.now tx.new.conn.now
+        (λ bs. AcceptsNumbers bs id
+        → WriteFailsFromOutside S.Store tx.old.conn.now tx.new.conn.now result) }
 {
     tx.query_all(
         "UPDATE book SET number = ?2, horizon = ?3, created = ?4, edited = ?5, imported = ?6, \
@@ -169,6 +175,9 @@ pub fn renumber_book<S: Alter>(
         → OnOk result (WritesOnly S.Store tx.old.conn.now tx.new.conn.now 2)) }
     ensures no_commit { NoCommit S.Store tx.old.conn.now tx.new.conn.now }
     ensures rolled_back { UndoneOnErr S.Store tx.old.conn.now tx.new.conn.now result }
+    ensures fails_from_outside { GivenBooksTx S.Store tx.old.conn.now tx.new.conn.now
+        (λ bs. AcceptsNumbers bs id
+        → WriteFailsFromOutside S.Store tx.old.conn.now tx.new.conn.now result) }
 {
     renumber(
         tx,

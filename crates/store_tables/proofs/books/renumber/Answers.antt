@@ -1,6 +1,14 @@
+use Rattle.std.proofs.Common.{◌≡◌, subst}
 use Rattle.std.proofs.Math.Facts.{to_z-of_z}
+use Rattle.std.specs.Int.{w64}
+use Rattle.std.specs.Prelude.{FitsSigned}
 use Rattle.std.proofs.lemmas.Result.{on_ok_weaker}
 use Rattle.sqlite.specs.Held.{state}
+use Rattle.store_tables.proofs.Queries.{update_query}
+use Rattle.sqlite.specs.Command.TheVariants.{Update}
+use Rattle.std.proofs.Common.{[]}
+use Rattle.store_tables.proofs.Texts.{update_is}
+use Rattle.store_tables.proofs.UpdateFailures.{update_fails}
 use Rattle.store_tables.specs.Tables.{book_schema}
 use Rattle.store_tables.proofs.Queries.{update_text, update_shows}
 use Rattle.store_tables.specs.Books.{numbers}
@@ -29,3 +37,10 @@ returns-clause-no_commit g c =
 pub returns-clause-rolled_back : goal.returns-clause-rolled_back
 returns-clause-rolled_back g c clean inside =
     undone_shown update_text _ (state g.S.Store c.args.tx.now.conn.now) (state g.S.Store c.query_all.new.self.conn.now) c.query_all.result (c.query_all.ensures.err clean)
+
+pub returns-clause-fails_from_outside : goal.returns-clause-fails_from_outside
+returns-clause-fails_from_outside g c bs clean inside has kept rows accepts _ _ _ obeys =
+    let is : c.args.id ≡ accepts.0.id = accepts.2 in
+    update_fails (state g.S.Store c.args.tx.now.conn.now) (state g.S.Store c.query_all.new.self.conn.now) (numbers c.args.number c.args.horizon c.args.created c.args.edited c.args.imported c.args.import_edited c.args.moved_in c.args.deleted c.args.moved_out) bs accepts.0 c.query_all.result
+    inside has kept rows accepts.1 (subst (FitsSigned w64) is c.ranges.id) accepts.3 obeys
+    (rw (c.params-to_sql.ensures, c.params-to_sql-2.ensures, c.params-to_sql-3.ensures, c.params-to_sql-4.ensures, c.params-to_sql-5.ensures, c.params-to_sql-6.ensures, c.params-to_sql-7.ensures, c.params-to_sql-8.ensures, c.params-to_sql-9.ensures, c.params-to_sql-10.ensures, to_z-of_z c.ranges.id, to_z-of_z c.ranges.number, to_z-of_z c.ranges.horizon, to_z-of_z c.ranges.created, to_z-of_z c.ranges.edited, to_z-of_z c.ranges.imported, to_z-of_z c.ranges.import_edited, to_z-of_z c.ranges.moved_in, to_z-of_z c.ranges.deleted, to_z-of_z c.ranges.moved_out, is) at (c.query_all.ensures.err clean))
