@@ -29,3 +29,4 @@ pub mod ForgetFailures
 pub mod FreshLemmas
 pub mod StorableLemmas
 pub mod UpdateFailures
+pub mod InsertFailures

@@ -1,6 +1,8 @@
 //! Statements over the table `keeping`, which holds the keep of each book: how many removed members
 //! it remembers at most.
 ghost use Rattle.store_tables.specs.QueryResults.{FindsRow};
+ghost use Rattle.store_tables.specs.Acceptance.{AcceptsKeep};
+ghost use Rattle.store_tables.specs.Books.{BookRow};
 ghost use Rattle.store_tables.specs.Keeps.{is_keep_of, keep_listed, keep_shown};
 ghost use Rattle.store_tables.specs.OnConnections.{
   AddsKeep,
@@ -8,16 +10,19 @@ ghost use Rattle.store_tables.specs.OnConnections.{
   GivenKeeps,
   GivenKeepsTx,
   GivenTables,
+  HasBooks,
   ListsTable,
   MissesOrFailsFromOutside,
   NoCommit,
+  ObeyTables,
   OnlyReads,
   UnchangedIfAnswered,
   UnchangedOnOk,
   UndoneOnErr,
+  WriteFailsFromOutside,
   WritesOnly,
 };
-ghost use Rattle.std.specs.Prelude.{◌≡◌, OnOk};
+ghost use Rattle.std.specs.Prelude.{◌≡◌, List, OnOk};
 
 use sqlite::{Alter, Connection, Error, Row, Transaction, params};
 
@@ -49,6 +54,10 @@ pub fn insert_keep<S: Alter>(
         (λ _. OnOk result (WritesOnly S.Store tx.old.conn.now tx.new.conn.now 9)) }
     ensures no_commit { NoCommit S.Store tx.old.conn.now tx.new.conn.now }
     ensures rolled_back { UndoneOnErr S.Store tx.old.conn.now tx.new.conn.now result }
+    ensures fails_from_outside { GivenKeepsTx S.Store tx.old.conn.now tx.new.conn.now
+        (λ keeps. (bs : List BookRow) → HasBooks S.Store tx.old.conn.now bs
+        → AcceptsKeep bs keeps book
+        → WriteFailsFromOutside S.Store tx.old.conn.now tx.new.conn.now result) }
 {
     tx.execute(
         "INSERT INTO keeping (book, keep) VALUES (?1, ?2)",

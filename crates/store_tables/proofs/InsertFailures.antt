@@ -1,0 +1,131 @@
+-- The cause of an error of an INSERT of one row.
+use Rattle.std.proofs.Common.{◌≡◌, ◌≢◌, ◌⊎◌, inl, inr, ℕ, ℤ, pos, ◌<◌, ◌≤◌, ◌^◌, Bool, true, false, not, ◌&&◌, ◌||◌, int_eq, bytes_eq, is_eq, List, [], ◌∷◌, length, Option, Some, None, Ok, Err, Result, IfErr, IsSome, refl, sym, ap, subst, ◌∙◌, arith}
+use Rattle.std.specs.List.{AllByRecursion, list_any}
+use Rattle.std.specs.Int.{w64}
+use Rattle.std.specs.Prelude.{FitsSigned}
+use Rattle.std.proofs.lemmas.Map.Text.{is_eq-slice_cmp}
+use Rattle.sqlite.specs.Does.{OnRows}
+use Rattle.sqlite.specs.Edit.{Edit, edit_of}
+use Rattle.sqlite.specs.Listing.{understood}
+use Rattle.sqlite.specs.Order.{Row, column, value_cmp}
+use Rattle.sqlite.specs.Rowids.TheVariants.{Chosen}
+use Rattle.sqlite.specs.Rows.{Edited, Written, Inserts}
+use Rattle.sqlite.specs.Source.TheVariants.{Values}
+use Rattle.sqlite.specs.State.{State, ExecutesInside}
+use Rattle.sqlite.specs.Tree.{Trees}
+use Rattle.sqlite.specs.declared.error.Error.{Error}
+use Rattle.sqlite.specs.declared.error.Error.TheVariants.{SqliteFailure}
+use Rattle.sqlite.specs.declared.error.ErrorCode.TheVariants.{OutOfMemory}
+use Rattle.sqlite.specs.declared.types.Value.TheVariants.{Null, Int, Text}
+use Rattle.sqlite.proofs.Callers.{one_step}
+use Rattle.sqlite_rules.specs.Edit.{IsOversized, is_referred, is_taken, next_rowid, with_rowid}
+use Rattle.sqlite_rules.specs.Lists.{Has}
+use Rattle.sqlite_rules.proofs.ListLemmas.{all_has}
+use Rattle.sqlite_rules.proofs.TableLemmas.{has_put, put_has, put_all_keeps}
+use Rattle.sqlite_schema.specs.declared.schema.Among.TheVariants.{All}
+use Rattle.sqlite_schema.specs.declared.schema.Index.{Index}
+use Rattle.sqlite_schema.specs.declared.schema.Keys.TheVariants.{Enforced}
+use Rattle.sqlite_schema.specs.Rules.{Obeys, Refers, agree}
+use Rattle.sqlite_sql.specs.Catalog.{entry_of}
+use Rattle.sqlite_sql.specs.Ops.{fits_i64}
+use Rattle.sqlite_sql.specs.declared.ops.CompareOp.TheVariants.{Eq}
+use Rattle.sqlite_tied.specs.Compute.{everything}
+use Rattle.sqlite_trees.specs.Tree.{rowid}
+use Rattle.sqlite_trees.specs.View.{IsStorable}
+use Rattle.sqlite_typed.proofs.TestLemmas.{at_ints, at_texts, last_term, then_term}
+use Rattle.sqlite_value.specs.Keys.{first_key, plain}
+use Rattle.store_tables.specs.Books.{BookRow, HoldBooks, blank_book, book_cells, book_row, has_id, has_name}
+use Rattle.store_tables.specs.Failures.{HasOutsideCause}
+use Rattle.store_tables.specs.Imports.{HoldImports, ImportRow, has_key, import_cells, import_row, new_import_row}
+use Rattle.store_tables.specs.Keeps.{HoldKeeps, KeepRow, is_keep_of, keep_cells, keep_row, keep_row_of}
+use Rattle.store_tables.specs.Tables.{book, book_schema, import_key, keeping}
+use Rattle.store_tables.proofs.EditLemmas.{IsAdmitted, edit_never_stops, never_stops, stops}
+use Rattle.store_tables.proofs.FreshLemmas.{free_id, fresh_one, item_of, no_clash}
+use Rattle.store_tables.proofs.InsertLemmas.{cast_import, cast_keep}
+use Rattle.store_tables.proofs.PutLemmas.{went_on, same_value}
+use Rattle.store_tables.proofs.Queries.{add_book_command, add_book_terms, add_book_text, add_import_command, add_import_terms, add_import_text, add_keep_command, add_keep_terms, add_keep_text}
+use Rattle.store_tables.proofs.ReferenceLemmas.{KeepBooks, refers_after, refers_there, same_books}
+use Rattle.store_tables.proofs.StopLemmas.{concludes_quietly, outside, task, values_stop}
+use Rattle.store_tables.proofs.StorableLemmas.{fits_column, fits_in, int_is_number, is_storable, null_is_number, text_is_number}
+use Rattle.store_tables.proofs.Texts.{add_book_is, add_import_is, add_keep_is}
+use Rattle.store_tables.proofs.UpdateLemmas.{cast_book}
+use Rattle.store_tables.proofs.WriteFailures.{execute_fails}
+
+-- ---- a keep
+
+module _ (limit : Option ℕ) (book keep : ℤ) (bs : List BookRow) (keeps : List KeepRow) (db : Trees) (holds : HoldBooks (db 2) bs) (held : HoldKeeps (db 9) keeps) (some : list_any (has_id book) bs ≡ true) (none : AllByRecursion (λ k. is_keep_of book k ≡ false) keeps) (fits : FitsSigned w64 book) (obeys : Obeys book_schema db) where
+  abbrev keep_params : Row
+  keep_params = Int book ∷ Int keep ∷ []
+
+  abbrev keep_new : Row
+  keep_new = keep_row (keep_row_of book keep)
+
+  abbrev keep_edit : Row → Edit
+  keep_edit row = record { table = keeping; gone = []; news = with_rowid Chosen (db 9) row ∷ [] }
+
+  keep_free : is_taken (db 9) keep_new ≡ false
+  keep_free = free_id keep_row keep_cells (λ _. refl) keeps (db 9) held (λ (k : KeepRow). k.book) (λ _. refl) book none
+
+  keep_referred : is_referred book_schema Enforced (keep_edit (keep_row (keep_row_of book keep))) ≡ true
+  unfolding everything
+  keep_referred = refl
+
+  keep_row_fits : IsStorable 0 keep_new
+  keep_row_fits = is_storable keep_new (omega arith) (omega arith) (int_is_number book, (null_is_number, (int_is_number keep, tt))) (omega (arith))
+
+  keep_fits : (row : Row) → Has (keep_new ∷ []) row → ¬ IsOversized book_schema keeping row
+  keep_fits row (inl e) = subst (λ r. ¬ IsOversized book_schema keeping r) (sym e) (fits_in book_schema keeping keep_new refl keep_row_fits (omega arith)
+      (λ i known. all_has (λ (i : Index). i.table ≡ 9 → IsStorable 0 (entry_of i.columns keep_new)) book_schema.indexes i ((λ e. absurd (omega (arith, e))), ((λ e. absurd (omega (arith, e))), ((λ e. absurd (omega (arith, e))), ((λ e. absurd (omega (arith, e))), ((λ e. absurd (omega (arith, e))), tt))))) known))
+  keep_fits row (inr h) = absurd h
+
+  keep_admitted : IsAdmitted db (keep_edit (keep_row (keep_row_of book keep)))
+  keep_admitted = record {
+    keyed = refl;
+    numbered = last_term (fits_column book fits);
+    typed = refl;
+    present = refl;
+    checked = refl;
+    fresh = fresh_one (db 9) keep_new keep_free;
+    unique = refl;
+    referred = keep_referred;
+    storable = keep_fits;
+    listed = inr (inr (inr (inr (inl refl))));
+  }
+
+  keep_is : edit_of db keeping [] Chosen 0 ((keep_row (keep_row_of book keep)) ∷ []) ≡ keep_edit (keep_row (keep_row_of book keep))
+  keep_is = ap keep_edit (cast_keep (keep_row_of book keep))
+
+  keep_inserts : (stop : Option Error) → Inserts (task limit keeping keep_params) (Values add_keep_terms 3) db (Err stop) → IsSome limit
+  keep_inserts stop h =
+      stops h (λ s k. values_stop limit (record { schema = book_schema; trees = db }) keep_params add_keep_terms 3 refl s k)
+      (λ given. stops given.2 (λ s k. never_stops _ s k)
+      (λ counter. stops counter.2
+      (λ s k. edit_never_stops db (keep_edit (keep_row (keep_row_of book keep))) keep_admitted obeys refl s (subst (λ e. Edited book_schema Enforced db e (Err s)) keep_is
+      (subst (λ rows. Edited book_schema Enforced db (edit_of db keeping [] Chosen 0 rows) (Err s)) given.1.1 k)))
+      (λ mid. stops mid.2 (λ s k. never_stops _ s k) (λ next. never_stops _ stop next.2))))
+
+  keep_after : (w : Written) → Inserts (task limit keeping keep_params) (Values add_keep_terms 3) db (Ok w) → Refers All book_schema w.trees
+  keep_after w h =
+      let given = went_on h in
+      let counter = went_on given.2 in
+      let wrote = went_on counter.2 in
+      let counted = went_on wrote.2 in
+      let trees : w.trees ≡ wrote.0 = ap (λ (it : Written). it.trees) (same_value counted.2) ∙ same_value counted.1 in
+      let step = one_step book_schema Enforced db wrote.0 (keep_edit (keep_row (keep_row_of book keep))) refl (subst (λ e. Edited book_schema Enforced db e (Ok wrote.0)) keep_is
+      (subst (λ rows. Edited book_schema Enforced db (edit_of db keeping [] Chosen 0 rows) (Ok wrote.0)) given.1.1 wrote.1)) in
+      let books = step.tables.1.0 (λ e. omega (arith, e)) in
+      subst (Refers All book_schema) (sym trees) (refers_after db wrote.0 (same_books db wrote.0 books) keeping (inr (inr (inr (inr (inl refl))))) step.tables obeys (λ r there. elim (put_has (keep_row (keep_row_of book keep)) (db 9) r (subst (λ l. Has l r) step.rows there)) [
+        | inl new ↦ inr (refers_there wrote.0 bs (subst (λ l. HoldBooks l bs) (sym books) holds) book some 0 r (ap (λ (x : Row). column x 0) new))
+        | inr was ↦ inl was
+      ]))
+
+  pub keep_stops : (stop : Option Error) → OnRows (task limit keeping keep_params) outside None add_keep_command db (Err stop) → IsSome limit
+  keep_stops stop h = stops h (λ s k. keep_inserts s k) (λ it. concludes_quietly limit keeping keep_params it.0 (keep_after it.0 it.1) stop it.2)
+
+pub keep_fails : (old new : State) (book keep : ℤ) (bs : List BookRow) (keeps : List KeepRow) (r : Result ℕ Error) → old.now.schema ≡ book_schema → HoldBooks (old.now.trees 2) bs → HoldKeeps (old.now.trees 9) keeps → list_any (has_id book) bs ≡ true → AllByRecursion (λ k. is_keep_of book k ≡ false) keeps → FitsSigned w64 book → Obeys book_schema old.now.trees
+    → ExecutesInside 0 add_keep_text (Int book ∷ Int keep ∷ []) old new r → IfErr r (λ e. e ≢ SqliteFailure OutOfMemory → HasOutsideCause old new)
+unfolding understood everything
+keep_fails old new book keep bs keeps (Ok count) has holds held some none fits obeys h = tt
+keep_fails old new book keep bs keeps (Err e) has holds held some none fits obeys h =
+    execute_fails add_keep_text (Int book ∷ Int keep ∷ []) old new has add_keep_command None add_keep_is.0 tt refl refl (refl, refl)
+    (λ stop did. keep_stops old.step_limit book keep bs keeps old.now.trees holds held some none fits obeys stop did) refl e h
