@@ -129,3 +129,86 @@ keep_fails old new book keep bs keeps (Ok count) has holds held some none fits o
 keep_fails old new book keep bs keeps (Err e) has holds held some none fits obeys h =
     execute_fails add_keep_text (Int book ∷ Int keep ∷ []) old new has add_keep_command None add_keep_is.0 tt refl refl (refl, refl)
     (λ stop did. keep_stops old.step_limit book keep bs keeps old.now.trees holds held some none fits obeys stop did) refl e h
+
+-- ---- a book
+
+module _ (limit : Option ℕ) (id : ℤ) (name : List ℕ) (bs : List BookRow) (db : Trees) (holds : HoldBooks (db 2) bs) (none : AllByRecursion (λ b. has_id id b ≡ false) bs) (unnamed : AllByRecursion (λ b. has_name name b ≡ false) bs) (fits : FitsSigned w64 id) (short : length name ≤ 2 ^ 20) (obeys : Obeys book_schema db) where
+  abbrev book_params : Row
+  book_params = Int id ∷ Text name ∷ []
+
+  abbrev book_new : Row
+  book_new = book_row (blank_book id name)
+
+  abbrev book_edit : Row → Edit
+  book_edit row = record { table = book; gone = []; news = with_rowid Chosen (db 2) row ∷ [] }
+
+  book_free : is_taken (db 2) book_new ≡ false
+  book_free = free_id book_row book_cells (λ _. refl) bs (db 2) holds (λ (b : BookRow). b.id) (λ _. refl) id none
+
+  book_apart : (r : Row) → Has (db 2) r → agree plain (2 ∷ []) r (2 ∷ []) book_new ≡ false
+  unfolding first_key
+  book_apart r there =
+      let item = item_of book_row book_cells (λ _. refl) bs (db 2) holds r there in
+      subst (λ (c : Row). agree plain (2 ∷ []) c (2 ∷ []) book_new ≡ false) (sym item.2)
+      (last_term (at_texts false Eq item.0.name name ∙ is_eq-slice_cmp item.0.name name) ∙ all_has (λ b. has_name name b ≡ false) bs item.0 unnamed item.1)
+
+  book_referred : is_referred book_schema Enforced (book_edit (book_row (blank_book id name))) ≡ true
+  unfolding everything
+  book_referred = refl
+
+  book_row_fits : IsStorable 0 book_new
+  book_row_fits = is_storable book_new (omega arith) (omega arith) (int_is_number id, (null_is_number, (text_is_number name, (int_is_number (pos 0), (int_is_number (pos 0), (int_is_number (pos 0), (int_is_number (pos 0), (int_is_number (pos 0), (int_is_number (pos 0), (int_is_number (pos 0), (int_is_number (pos 0), (int_is_number (pos 0), tt)))))))))))) (omega (arith, short))
+
+  book_fits : (row : Row) → Has (book_new ∷ []) row → ¬ IsOversized book_schema book row
+  book_fits row (inl e) = subst (λ r. ¬ IsOversized book_schema book r) (sym e) (fits_in book_schema book book_new refl book_row_fits (omega arith)
+      (λ i known. all_has (λ (i : Index). i.table ≡ 2 → IsStorable 0 (entry_of i.columns book_new)) book_schema.indexes i ((λ e. absurd (omega (arith, e))), ((λ _. is_storable (Text name ∷ Int id ∷ []) (omega arith) (omega arith) (text_is_number name, (int_is_number id, tt)) (omega (arith, short))), ((λ e. absurd (omega (arith, e))), ((λ e. absurd (omega (arith, e))), ((λ e. absurd (omega (arith, e))), tt))))) known))
+  book_fits row (inr h) = absurd h
+
+  book_admitted : IsAdmitted db (book_edit (book_row (blank_book id name)))
+  book_admitted = record {
+    keyed = refl;
+    numbered = last_term (fits_column id fits);
+    typed = refl;
+    present = refl;
+    checked = refl;
+    fresh = fresh_one (db 2) book_new book_free;
+    unique = ap (λ t. not (t || false) && true) (no_clash plain (2 ∷ []) (db 2) book_new id refl book_apart);
+    referred = book_referred;
+    storable = book_fits;
+    listed = inr (inl refl);
+  }
+
+  book_is : edit_of db book [] Chosen 0 ((book_row (blank_book id name)) ∷ []) ≡ book_edit (book_row (blank_book id name))
+  book_is = ap book_edit (cast_book (blank_book id name))
+
+  book_inserts : (stop : Option Error) → Inserts (task limit book book_params) (Values add_book_terms 12) db (Err stop) → IsSome limit
+  book_inserts stop h =
+      stops h (λ s k. values_stop limit (record { schema = book_schema; trees = db }) book_params add_book_terms 12 refl s k)
+      (λ given. stops given.2 (λ s k. never_stops _ s k)
+      (λ counter. stops counter.2
+      (λ s k. edit_never_stops db (book_edit (book_row (blank_book id name))) book_admitted obeys refl s (subst (λ e. Edited book_schema Enforced db e (Err s)) book_is
+      (subst (λ rows. Edited book_schema Enforced db (edit_of db book [] Chosen 0 rows) (Err s)) given.1.1 k)))
+      (λ mid. stops mid.2 (λ s k. never_stops _ s k) (λ next. never_stops _ stop next.2))))
+
+  book_after : (w : Written) → Inserts (task limit book book_params) (Values add_book_terms 12) db (Ok w) → Refers All book_schema w.trees
+  book_after w h =
+      let given = went_on h in
+      let counter = went_on given.2 in
+      let wrote = went_on counter.2 in
+      let counted = went_on wrote.2 in
+      let trees : w.trees ≡ wrote.0 = ap (λ (it : Written). it.trees) (same_value counted.2) ∙ same_value counted.1 in
+      let step = one_step book_schema Enforced db wrote.0 (book_edit (book_row (blank_book id name))) refl (subst (λ e. Edited book_schema Enforced db e (Ok wrote.0)) book_is
+      (subst (λ rows. Edited book_schema Enforced db (edit_of db book [] Chosen 0 rows) (Ok wrote.0)) given.1.1 wrote.1)) in
+      let books : KeepBooks (db 2) (wrote.0 2) = λ p was. (p, subst (λ l. Has l p) (sym step.rows) (put_all_keeps (book_new ∷ []) (db 2) p (fresh_one (db 2) book_new book_free) was), refl) in
+      subst (Refers All book_schema) (sym trees) (refers_after db wrote.0 books book (inr (inl refl)) step.tables obeys (λ r _. inr (λ ref known. absurd known)))
+
+  pub book_stops : (stop : Option Error) → OnRows (task limit book book_params) outside None add_book_command db (Err stop) → IsSome limit
+  book_stops stop h = stops h (λ s k. book_inserts s k) (λ it. concludes_quietly limit book book_params it.0 (book_after it.0 it.1) stop it.2)
+
+pub book_fails : (old new : State) (id : ℤ) (name : List ℕ) (bs : List BookRow) (r : Result ℕ Error) → old.now.schema ≡ book_schema → HoldBooks (old.now.trees 2) bs → AllByRecursion (λ b. has_id id b ≡ false) bs → AllByRecursion (λ b. has_name name b ≡ false) bs → FitsSigned w64 id → length name ≤ 2 ^ 20 → Obeys book_schema old.now.trees
+    → ExecutesInside 0 add_book_text (Int id ∷ Text name ∷ []) old new r → IfErr r (λ e. e ≢ SqliteFailure OutOfMemory → HasOutsideCause old new)
+unfolding understood everything
+book_fails old new id name bs (Ok count) has holds none unnamed fits short obeys h = tt
+book_fails old new id name bs (Err e) has holds none unnamed fits short obeys h =
+    execute_fails add_book_text (Int id ∷ Text name ∷ []) old new has add_book_command None add_book_is.0 tt refl refl (refl, refl)
+    (λ stop did. book_stops old.step_limit id name bs old.now.trees holds none unnamed fits short obeys stop did) refl e h

@@ -102,6 +102,9 @@ pub fn insert_book<S: Alter>(
         (λ _. OnOk result (WritesOnly S.Store tx.old.conn.now tx.new.conn.now 2)) }
     ensures no_commit { NoCommit S.Store tx.old.conn.now tx.new.conn.now }
     ensures rolled_back { UndoneOnErr S.Store tx.old.conn.now tx.new.conn.now result }
+    ensures fails_from_outside { GivenBooksTx S.Store tx.old.conn.now tx.new.conn.now
+        (λ bs. AcceptsBook bs id name.now
+        → WriteFailsFromOutside S.Store tx.old.conn.now tx.new.conn.now result) }
 {
     tx.execute(
         "INSERT INTO book (id, name, number, horizon, created, edited, imported, import_edited, \

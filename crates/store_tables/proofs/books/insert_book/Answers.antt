@@ -1,6 +1,9 @@
 use Rattle.std.proofs.Math.Facts.{to_z-of_z}
 use Rattle.std.proofs.lemmas.Result.{on_ok_weaker}
 use Rattle.sqlite.specs.Held.{state}
+use Rattle.store_tables.proofs.Texts.{add_book_is}
+use Rattle.store_tables.proofs.Queries.{add_book_command, add_book_text}
+use Rattle.store_tables.proofs.InsertFailures.{book_fails}
 use Rattle.store_tables.proofs.ReturningLemmas.{stays_executed, undone_executed, executed_inside, written_by}
 use Rattle.store_tables.proofs.InsertLemmas.{adds_book_inside}
 use Rattle.store_tables.proofs.books.insert_book.Goals as goal
@@ -22,3 +25,8 @@ returns-clause-no_commit g c = stays_executed _ _ (state g.S.Store c.args.tx.now
 
 pub returns-clause-rolled_back : goal.returns-clause-rolled_back
 returns-clause-rolled_back g c clean inside = undone_executed _ _ (state g.S.Store c.args.tx.now.conn.now) (state g.S.Store c.execute.new.self.conn.now) c.execute.result (c.execute.ensures.runs clean inside)
+
+pub returns-clause-fails_from_outside : goal.returns-clause-fails_from_outside
+returns-clause-fails_from_outside g c bs clean inside has kept rows accepts _ _ _ obeys =
+    book_fails (state g.S.Store c.args.tx.now.conn.now) (state g.S.Store c.execute.new.self.conn.now) c.args.id c.args.name.now bs c.execute.result has rows accepts.id_unused accepts.name_unused c.ranges.id accepts.short obeys
+    (rw (c.params-to_sql.ensures, c.params-to_sql-2.ensures, to_z-of_z c.ranges.id) at (c.execute.ensures.runs clean inside))
