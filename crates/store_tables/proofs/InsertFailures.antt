@@ -212,3 +212,89 @@ book_fails old new id name bs (Ok count) has holds none unnamed fits short obeys
 book_fails old new id name bs (Err e) has holds none unnamed fits short obeys h =
     execute_fails add_book_text (Int id ∷ Text name ∷ []) old new has add_book_command None add_book_is.0 tt refl refl (refl, refl)
     (λ stop did. book_stops old.step_limit id name bs old.now.trees holds none unnamed fits short obeys stop did) refl e h
+
+-- ---- an import
+
+module _ (limit : Option ℕ) (book : ℤ) (key : List ℕ) (added edited same number : ℤ) (bs : List BookRow) (imports : List ImportRow) (db : Trees) (holds : HoldBooks (db 2) bs) (held : HoldImports (db 7) imports) (some : list_any (has_id book) bs ≡ true) (none : AllByRecursion (λ i. has_key book key i ≡ false) imports) (short : length key ≤ 2 ^ 20) (fits : fits_i64 (next_rowid (db 7)) ≡ true) (free : is_taken (db 7) (Int (next_rowid (db 7)) ∷ []) ≡ false) (obeys : Obeys book_schema db) where
+  abbrev import_params : Row
+  import_params = Int book ∷ Text key ∷ Int added ∷ Int edited ∷ Int same ∷ Int number ∷ []
+
+  abbrev import_new : Row
+  import_new = Int (next_rowid (db 7)) ∷ Int book ∷ Text key ∷ Int added ∷ Int edited ∷ Int same ∷ Int number ∷ []
+
+  abbrev import_edit : Row → Edit
+  import_edit row = record { table = import_key; gone = []; news = with_rowid Chosen (db 7) row ∷ [] }
+
+  import_free : is_taken (db 7) import_new ≡ false
+  import_free = free
+
+  import_apart : (r : Row) → Has (db 7) r → agree plain (1 ∷ 2 ∷ []) r (1 ∷ 2 ∷ []) import_new ≡ false
+  unfolding first_key
+  import_apart r there =
+      let item = item_of import_row import_cells (λ _. refl) imports (db 7) held r there in
+      subst (λ (c : Row). agree plain (1 ∷ 2 ∷ []) c (1 ∷ 2 ∷ []) import_new ≡ false) (sym item.2)
+      (then_term (at_ints false Eq item.0.book book) (last_term (at_texts false Eq item.0.key key ∙ is_eq-slice_cmp item.0.key key)) ∙ all_has (λ i. has_key book key i ≡ false) imports item.0 none item.1)
+
+  import_referred : is_referred book_schema Enforced (import_edit (Null ∷ Int book ∷ Text key ∷ Int added ∷ Int edited ∷ Int same ∷ Int number ∷ [])) ≡ true
+  unfolding everything
+  import_referred = refl
+
+  import_row_fits : IsStorable 0 import_new
+  import_row_fits = is_storable import_new (omega arith) (omega arith) (int_is_number (next_rowid (db 7)), (int_is_number book, (text_is_number key, (int_is_number added, (int_is_number edited, (int_is_number same, (int_is_number number, tt))))))) (omega (arith, short))
+
+  import_fits : (row : Row) → Has (import_new ∷ []) row → ¬ IsOversized book_schema import_key row
+  import_fits row (inl e) = subst (λ r. ¬ IsOversized book_schema import_key r) (sym e) (fits_in book_schema import_key import_new refl import_row_fits (omega arith)
+      (λ i known. all_has (λ (i : Index). i.table ≡ 7 → IsStorable 0 (entry_of i.columns import_new)) book_schema.indexes i ((λ e. absurd (omega (arith, e))), ((λ e. absurd (omega (arith, e))), ((λ e. absurd (omega (arith, e))), ((λ e. absurd (omega (arith, e))), ((λ _. is_storable (Int book ∷ Text key ∷ Int (next_rowid (db 7)) ∷ []) (omega arith) (omega arith) (int_is_number book, (text_is_number key, (int_is_number (next_rowid (db 7)), tt))) (omega (arith, short))), tt))))) known))
+  import_fits row (inr h) = absurd h
+
+  import_admitted : IsAdmitted db (import_edit (Null ∷ Int book ∷ Text key ∷ Int added ∷ Int edited ∷ Int same ∷ Int number ∷ []))
+  import_admitted = record {
+    keyed = refl;
+    numbered = last_term fits;
+    typed = refl;
+    present = refl;
+    checked = refl;
+    fresh = fresh_one (db 7) import_new import_free;
+    unique = ap (λ t. not (t || false) && true) (no_clash plain (1 ∷ 2 ∷ []) (db 7) import_new (next_rowid (db 7)) refl import_apart);
+    referred = import_referred;
+    storable = import_fits;
+    listed = inr (inr (inr (inl refl)));
+  }
+
+  import_is : edit_of db import_key [] Chosen 0 ((Null ∷ Int book ∷ Text key ∷ Int added ∷ Int edited ∷ Int same ∷ Int number ∷ []) ∷ []) ≡ import_edit (Null ∷ Int book ∷ Text key ∷ Int added ∷ Int edited ∷ Int same ∷ Int number ∷ [])
+  import_is = ap import_edit (cast_import book key added edited same number)
+
+  import_inserts : (stop : Option Error) → Inserts (task limit import_key import_params) (Values add_import_terms 7) db (Err stop) → IsSome limit
+  import_inserts stop h =
+      stops h (λ s k. values_stop limit (record { schema = book_schema; trees = db }) import_params add_import_terms 7 refl s k)
+      (λ given. stops given.2 (λ s k. never_stops _ s k)
+      (λ counter. stops counter.2
+      (λ s k. edit_never_stops db (import_edit (Null ∷ Int book ∷ Text key ∷ Int added ∷ Int edited ∷ Int same ∷ Int number ∷ [])) import_admitted obeys refl s (subst (λ e. Edited book_schema Enforced db e (Err s)) import_is
+      (subst (λ rows. Edited book_schema Enforced db (edit_of db import_key [] Chosen 0 rows) (Err s)) given.1.1 k)))
+      (λ mid. stops mid.2 (λ s k. never_stops _ s k) (λ next. never_stops _ stop next.2))))
+
+  import_after : (w : Written) → Inserts (task limit import_key import_params) (Values add_import_terms 7) db (Ok w) → Refers All book_schema w.trees
+  import_after w h =
+      let given = went_on h in
+      let counter = went_on given.2 in
+      let wrote = went_on counter.2 in
+      let counted = went_on wrote.2 in
+      let trees : w.trees ≡ wrote.0 = ap (λ (it : Written). it.trees) (same_value counted.2) ∙ same_value counted.1 in
+      let step = one_step book_schema Enforced db wrote.0 (import_edit (Null ∷ Int book ∷ Text key ∷ Int added ∷ Int edited ∷ Int same ∷ Int number ∷ [])) refl (subst (λ e. Edited book_schema Enforced db e (Ok wrote.0)) import_is
+      (subst (λ rows. Edited book_schema Enforced db (edit_of db import_key [] Chosen 0 rows) (Ok wrote.0)) given.1.1 wrote.1)) in
+      let books = step.tables.1.0 (λ e. omega (arith, e)) in
+      subst (Refers All book_schema) (sym trees) (refers_after db wrote.0 (same_books db wrote.0 books) import_key (inr (inr (inr (inl refl)))) step.tables obeys (λ r there. elim (put_has import_new (db 7) r (subst (λ l. Has l r) step.rows there)) [
+        | inl new ↦ inr (refers_there wrote.0 bs (subst (λ l. HoldBooks l bs) (sym books) holds) book some 1 r (ap (λ (x : Row). column x 1) new))
+        | inr was ↦ inl was
+      ]))
+
+  pub import_stops : (stop : Option Error) → OnRows (task limit import_key import_params) outside None add_import_command db (Err stop) → IsSome limit
+  import_stops stop h = stops h (λ s k. import_inserts s k) (λ it. concludes_quietly limit import_key import_params it.0 (import_after it.0 it.1) stop it.2)
+
+pub import_fails : (old new : State) (book : ℤ) (key : List ℕ) (added edited same number : ℤ) (bs : List BookRow) (imports : List ImportRow) (r : Result ℕ Error) → old.now.schema ≡ book_schema → HoldBooks (old.now.trees 2) bs → HoldImports (old.now.trees 7) imports → list_any (has_id book) bs ≡ true → AllByRecursion (λ i. has_key book key i ≡ false) imports → length key ≤ 2 ^ 20 → fits_i64 (next_rowid (old.now.trees 7)) ≡ true → is_taken (old.now.trees 7) (Int (next_rowid (old.now.trees 7)) ∷ []) ≡ false → Obeys book_schema old.now.trees
+    → ExecutesInside 0 add_import_text (Int book ∷ Text key ∷ Int added ∷ Int edited ∷ Int same ∷ Int number ∷ []) old new r → IfErr r (λ e. e ≢ SqliteFailure OutOfMemory → HasOutsideCause old new)
+unfolding understood everything
+import_fails old new book key added edited same number bs imports (Ok count) has holds held some none short fits free obeys h = tt
+import_fails old new book key added edited same number bs imports (Err e) has holds held some none short fits free obeys h =
+    execute_fails add_import_text (Int book ∷ Text key ∷ Int added ∷ Int edited ∷ Int same ∷ Int number ∷ []) old new has add_import_command None add_import_is.0 tt refl refl (refl, refl)
+    (λ stop did. import_stops old.step_limit book key added edited same number bs imports old.now.trees holds held some none short fits free obeys stop did) refl e h

@@ -1,5 +1,7 @@
 //! Statements over the table `import_key`.
 ghost use Rattle.store_tables.specs.QueryResults.{FindsRow};
+ghost use Rattle.store_tables.specs.Acceptance.{AcceptsImport, HasFreeId};
+ghost use Rattle.store_tables.specs.Books.{BookRow};
 ghost use Rattle.store_tables.specs.Imports.{import_cells, import_shown, has_key};
 ghost use Rattle.store_tables.specs.OnConnections.{
   AddsImport,
@@ -7,16 +9,20 @@ ghost use Rattle.store_tables.specs.OnConnections.{
   GivenImports,
   GivenImportsTx,
   GivenTables,
+  HasBooks,
   ListsTable,
   MissesOrFailsFromOutside,
   NoCommit,
+  ObeyTables,
   OnlyReads,
   UnchangedIfAnswered,
   UnchangedOnOk,
   UndoneOnErr,
+  WriteFailsFromOutside,
   WritesOnly,
+  table_rows,
 };
-ghost use Rattle.std.specs.Prelude.{◌≡◌, OnOk};
+ghost use Rattle.std.specs.Prelude.{◌≡◌, List, OnOk};
 
 use sqlite::{Alter, Connection, Error, Row, Transaction, params};
 
@@ -59,6 +65,11 @@ pub fn insert_import<S: Alter>(
         (λ _. OnOk result (WritesOnly S.Store tx.old.conn.now tx.new.conn.now 7)) }
     ensures no_commit { NoCommit S.Store tx.old.conn.now tx.new.conn.now }
     ensures rolled_back { UndoneOnErr S.Store tx.old.conn.now tx.new.conn.now result }
+    ensures fails_from_outside { GivenImportsTx S.Store tx.old.conn.now tx.new.conn.now
+        (λ imports. (bs : List BookRow) → HasBooks S.Store tx.old.conn.now bs
+        → HasFreeId (table_rows S.Store tx.old.conn.now 7)
+        → AcceptsImport bs imports book key.now
+        → WriteFailsFromOutside S.Store tx.old.conn.now tx.new.conn.now result) }
 {
     tx.execute(
         "INSERT INTO import_key (book, ikey, added, edited, same, number) \
