@@ -30,3 +30,4 @@ pub mod FreshLemmas
 pub mod StorableLemmas
 pub mod UpdateFailures
 pub mod InsertFailures
+pub mod PutFailures

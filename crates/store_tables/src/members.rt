@@ -149,6 +149,11 @@ pub fn put_member<S: Alter>(
         (λ _. OnOk result (WritesOnly S.Store tx.old.conn.now tx.new.conn.now 4)) }
     ensures no_commit { NoCommit S.Store tx.old.conn.now tx.new.conn.now }
     ensures rolled_back { UndoneOnErr S.Store tx.old.conn.now tx.new.conn.now result }
+    ensures fails_from_outside { GivenMembersTx S.Store tx.old.conn.now tx.new.conn.now
+        (λ ms. (bs : List BookRow) → HasBooks S.Store tx.old.conn.now bs
+        → HasFreeId (table_rows S.Store tx.old.conn.now 4) → HaveColumnIds ms
+        → AcceptsMember bs ms book uid.now changed (option_copied card.entry)
+        → WriteFailsFromOutside S.Store tx.old.conn.now tx.new.conn.now result) }
 {
     tx.query_all(
         "INSERT INTO member (book, uid, changed, card) VALUES (?1, ?2, ?3, ?4) \

@@ -2,10 +2,13 @@ use Rattle.std.proofs.Common.{option_copied}
 use Rattle.std.proofs.Math.Facts.{to_z-of_z}
 use Rattle.std.proofs.lemmas.Result.{on_ok_weaker}
 use Rattle.sqlite.specs.Held.{state}
+use Rattle.store_tables.proofs.Queries.{put_command}
+use Rattle.store_tables.proofs.Texts.{put_is}
 use Rattle.store_tables.specs.Tables.{book_schema}
 use Rattle.store_tables.proofs.Queries.{put_text, put_shows}
 use Rattle.store_tables.proofs.Texts.{put_returns}
 use Rattle.store_tables.proofs.ReturningLemmas.{stays_shown, undone_shown, stays_inside, written_by}
+use Rattle.store_tables.proofs.PutFailures.{put_fails}
 use Rattle.store_tables.proofs.PutLemmas.{puts_rows, card_bound}
 use Rattle.store_tables.proofs.members.put_member.Goals as goal
 
@@ -29,3 +32,9 @@ returns-clause-no_commit g c =
 pub returns-clause-rolled_back : goal.returns-clause-rolled_back
 returns-clause-rolled_back g c clean inside =
     undone_shown put_text _ (state g.S.Store c.args.tx.now.conn.now) (state g.S.Store c.query_all.new.self.conn.now) c.query_all.result (c.query_all.ensures.err clean)
+
+pub returns-clause-fails_from_outside : goal.returns-clause-fails_from_outside
+returns-clause-fails_from_outside g c ms clean inside has kept rows bs books free wide accepts _ _ _ obeys =
+    put_fails (state g.S.Store c.args.tx.now.conn.now) (state g.S.Store c.query_all.new.self.conn.now) c.args.book c.args.uid.now c.args.changed (option_copied c.args.card) bs ms c.query_all.result
+    inside has kept books rows accepts.listed accepts.unused accepts.short_uid accepts.short_card free.fits free.unused wide obeys
+    (rw (c.params-to_sql.ensures, c.params-to_sql-2.ensures, c.params-to_sql-3.ensures, c.params-to_sql-4.ensures, card_bound c.args.card, to_z-of_z c.ranges.book, to_z-of_z c.ranges.changed) at (c.query_all.ensures.err clean))
