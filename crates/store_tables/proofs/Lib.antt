@@ -31,3 +31,4 @@ pub mod StorableLemmas
 pub mod UpdateFailures
 pub mod InsertFailures
 pub mod PutFailures
+pub mod ObeyLemmas

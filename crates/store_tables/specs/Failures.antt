@@ -13,7 +13,7 @@ abbrev pub HasOutsideCause : State → State → Type 0
 HasOutsideCause old new =
     (old.is_open ≡ false) ⊎ (MoreFaults old.faults new.faults ⊎ IsSome old.step_limit)
 
--- Over the declared tables, a query fails only for want of memory or for an outside cause.
+-- Over the declared tables, a query fails only for lack of memory or for an outside cause.
 abbrev pub FailsFromOutside : {T : Type 0} → State → State → Result T Error → Type 0
 FailsFromOutside old new result = GivenTables old new
     (IfErr result (λ e. e ≢ SqliteFailure OutOfMemory → HasOutsideCause old new))

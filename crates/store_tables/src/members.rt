@@ -147,6 +147,8 @@ pub fn put_member<S: Alter>(
         (PutsRow S.Store tx.new.conn.now book uid.now changed (option_copied card.entry) ms)) }
     ensures writes { GivenMembersTx S.Store tx.old.conn.now tx.new.conn.now
         (λ _. OnOk result (WritesOnly S.Store tx.old.conn.now tx.new.conn.now 4)) }
+    ensures obeys { GivenMembersTx S.Store tx.old.conn.now tx.new.conn.now
+        (λ _. OnOk result (ObeyTables S.Store tx.new.conn.now)) }
     ensures no_commit { NoCommit S.Store tx.old.conn.now tx.new.conn.now }
     ensures rolled_back { UndoneOnErr S.Store tx.old.conn.now tx.new.conn.now result }
     ensures fails_from_outside { GivenMembersTx S.Store tx.old.conn.now tx.new.conn.now
@@ -177,6 +179,8 @@ pub fn forget_members<S: Alter>(
         (λ ms. IfOk result (λ count. count ≡ length (filter (is_removed_up_to book upto) ms))) }
     ensures writes { GivenMembersTx S.Store tx.old.conn.now tx.new.conn.now
         (λ _. OnOk result (WritesOnly S.Store tx.old.conn.now tx.new.conn.now 4)) }
+    ensures obeys { GivenMembersTx S.Store tx.old.conn.now tx.new.conn.now
+        (λ _. OnOk result (ObeyTables S.Store tx.new.conn.now)) }
     ensures no_commit { NoCommit S.Store tx.old.conn.now tx.new.conn.now }
     ensures rolled_back { UndoneOnErr S.Store tx.old.conn.now tx.new.conn.now result }
     ensures fails_from_outside {

@@ -3,6 +3,7 @@ use Rattle.std.proofs.lemmas.Result.{on_ok_weaker}
 use Rattle.sqlite.specs.Held.{state}
 use Rattle.store_tables.proofs.Texts.{add_book_is}
 use Rattle.store_tables.proofs.Queries.{add_book_command, add_book_text}
+use Rattle.store_tables.proofs.ObeyLemmas.{executed_obeys}
 use Rattle.store_tables.proofs.InsertFailures.{book_fails}
 use Rattle.store_tables.proofs.ReturningLemmas.{stays_executed, undone_executed, executed_inside, written_by}
 use Rattle.store_tables.proofs.InsertLemmas.{adds_book_inside}
@@ -30,3 +31,10 @@ pub returns-clause-fails_from_outside : goal.returns-clause-fails_from_outside
 returns-clause-fails_from_outside g c bs clean inside has kept rows accepts _ _ _ obeys =
     book_fails (state g.S.Store c.args.tx.now.conn.now) (state g.S.Store c.execute.new.self.conn.now) c.args.id c.args.name.now bs c.execute.result has rows accepts.id_unused accepts.name_unused c.ranges.id accepts.short obeys
     (rw (c.params-to_sql.ensures, c.params-to_sql-2.ensures, to_z-of_z c.ranges.id) at (c.execute.ensures.runs clean inside))
+
+pub returns-clause-obeys : goal.returns-clause-obeys
+returns-clause-obeys g c xs clean inside has kept rows =
+    let old = state g.S.Store c.args.tx.now.conn.now in
+    let new = state g.S.Store c.execute.new.self.conn.now in
+    let ran = rw (c.params-to_sql.ensures, c.params-to_sql-2.ensures, to_z-of_z c.ranges.id) at (c.execute.ensures.runs clean inside) in
+    executed_obeys add_book_text _ old new has add_book_command add_book_is.0 add_book_is.1 tt c.execute.result ran (on_ok_weaker c.execute.result (λ h. h.0) (adds_book_inside old new c.args.id c.args.name.now xs c.execute.result has rows ran))

@@ -8,6 +8,7 @@ use Rattle.store_tables.proofs.Queries.{update_query}
 use Rattle.sqlite.specs.Command.TheVariants.{Update}
 use Rattle.std.proofs.Common.{[]}
 use Rattle.store_tables.proofs.Texts.{update_is}
+use Rattle.store_tables.proofs.ObeyLemmas.{shown_obeys}
 use Rattle.store_tables.proofs.UpdateFailures.{update_fails}
 use Rattle.store_tables.specs.Tables.{book_schema}
 use Rattle.store_tables.proofs.Queries.{update_text, update_shows}
@@ -44,3 +45,11 @@ returns-clause-fails_from_outside g c bs clean inside has kept rows accepts _ _ 
     update_fails (state g.S.Store c.args.tx.now.conn.now) (state g.S.Store c.query_all.new.self.conn.now) (numbers c.args.number c.args.horizon c.args.created c.args.edited c.args.imported c.args.import_edited c.args.moved_in c.args.deleted c.args.moved_out) bs accepts.0 c.query_all.result
     inside has kept rows accepts.1 (subst (FitsSigned w64) is c.ranges.id) accepts.3 obeys
     (rw (c.params-to_sql.ensures, c.params-to_sql-2.ensures, c.params-to_sql-3.ensures, c.params-to_sql-4.ensures, c.params-to_sql-5.ensures, c.params-to_sql-6.ensures, c.params-to_sql-7.ensures, c.params-to_sql-8.ensures, c.params-to_sql-9.ensures, c.params-to_sql-10.ensures, to_z-of_z c.ranges.id, to_z-of_z c.ranges.number, to_z-of_z c.ranges.horizon, to_z-of_z c.ranges.created, to_z-of_z c.ranges.edited, to_z-of_z c.ranges.imported, to_z-of_z c.ranges.import_edited, to_z-of_z c.ranges.moved_in, to_z-of_z c.ranges.deleted, to_z-of_z c.ranges.moved_out, is) at (c.query_all.ensures.err clean))
+
+pub returns-clause-obeys : goal.returns-clause-obeys
+returns-clause-obeys g c bs clean inside has kept rows b there is =
+    let old = state g.S.Store c.args.tx.now.conn.now in
+    let new = state g.S.Store c.query_all.new.self.conn.now in
+    shown_obeys update_text _ old new has (Update 1 (record { lets = []; body = update_query })) update_is update_shows update_returns c.query_all.result (c.query_all.ensures.ok clean)
+    (on_ok_weaker c.query_all.result (λ h. h.0) (updates_rows old new (numbers c.args.number c.args.horizon c.args.created c.args.edited c.args.imported c.args.import_edited c.args.moved_in c.args.deleted c.args.moved_out) bs b c.query_all.result has kept there rows
+    (rw (c.params-to_sql.ensures, c.params-to_sql-2.ensures, c.params-to_sql-3.ensures, c.params-to_sql-4.ensures, c.params-to_sql-5.ensures, c.params-to_sql-6.ensures, c.params-to_sql-7.ensures, c.params-to_sql-8.ensures, c.params-to_sql-9.ensures, c.params-to_sql-10.ensures, to_z-of_z c.ranges.id, to_z-of_z c.ranges.number, to_z-of_z c.ranges.horizon, to_z-of_z c.ranges.created, to_z-of_z c.ranges.edited, to_z-of_z c.ranges.imported, to_z-of_z c.ranges.import_edited, to_z-of_z c.ranges.moved_in, to_z-of_z c.ranges.deleted, to_z-of_z c.ranges.moved_out, is) at (c.query_all.ensures.ok clean))))

@@ -3,6 +3,7 @@ use Rattle.std.proofs.lemmas.Result.{on_ok_weaker}
 use Rattle.sqlite.specs.Held.{state}
 use Rattle.store_tables.proofs.Texts.{add_keep_is}
 use Rattle.store_tables.proofs.Queries.{add_keep_command, add_keep_text}
+use Rattle.store_tables.proofs.ObeyLemmas.{executed_obeys}
 use Rattle.store_tables.proofs.InsertFailures.{keep_fails}
 use Rattle.store_tables.proofs.ReturningLemmas.{stays_executed, undone_executed, executed_inside, written_by}
 use Rattle.store_tables.proofs.InsertLemmas.{adds_keep_inside}
@@ -30,3 +31,10 @@ pub returns-clause-fails_from_outside : goal.returns-clause-fails_from_outside
 returns-clause-fails_from_outside g c keeps clean inside has kept rows bs books accepts _ _ _ obeys =
     keep_fails (state g.S.Store c.args.tx.now.conn.now) (state g.S.Store c.execute.new.self.conn.now) c.args.book c.args.keep bs keeps c.execute.result has books rows accepts.listed accepts.unused c.ranges.book obeys
     (rw (c.params-to_sql.ensures, c.params-to_sql-2.ensures, to_z-of_z c.ranges.book, to_z-of_z c.ranges.keep) at (c.execute.ensures.runs clean inside))
+
+pub returns-clause-obeys : goal.returns-clause-obeys
+returns-clause-obeys g c xs clean inside has kept rows =
+    let old = state g.S.Store c.args.tx.now.conn.now in
+    let new = state g.S.Store c.execute.new.self.conn.now in
+    let ran = rw (c.params-to_sql.ensures, c.params-to_sql-2.ensures, to_z-of_z c.ranges.book, to_z-of_z c.ranges.keep) at (c.execute.ensures.runs clean inside) in
+    executed_obeys add_keep_text _ old new has add_keep_command add_keep_is.0 add_keep_is.1 tt c.execute.result ran (on_ok_weaker c.execute.result (λ h. h.0) (adds_keep_inside old new c.args.book c.args.keep xs c.execute.result has rows ran))

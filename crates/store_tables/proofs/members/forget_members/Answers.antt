@@ -5,6 +5,7 @@ use Rattle.std.proofs.Common.{[]}
 use Rattle.sqlite.specs.Command.TheVariants.{Delete}
 use Rattle.store_tables.proofs.Texts.{forget_is}
 use Rattle.store_tables.proofs.Queries.{forget_query, forget_text}
+use Rattle.store_tables.proofs.ObeyLemmas.{executed_obeys}
 use Rattle.store_tables.proofs.ReturningLemmas.{stays_executed, undone_executed, executed_inside, written_by}
 use Rattle.store_tables.proofs.ForgetFailures.{forget_fails}
 use Rattle.store_tables.proofs.ForgetLemmas.{forgets_inside, counts_inside}
@@ -39,3 +40,10 @@ pub returns-clause-fails_from_outside : goal.returns-clause-fails_from_outside
 returns-clause-fails_from_outside g c clean inside has obeys =
     forget_fails (state g.S.Store c.args.tx.now.conn.now) (state g.S.Store c.execute.new.self.conn.now) c.args.book c.args.upto c.execute.result has obeys
     (rw (c.params-to_sql.ensures, c.params-to_sql-2.ensures, to_z-of_z c.ranges.book, to_z-of_z c.ranges.upto) at (c.execute.ensures.runs clean inside))
+
+pub returns-clause-obeys : goal.returns-clause-obeys
+returns-clause-obeys g c xs clean inside has kept rows =
+    let old = state g.S.Store c.args.tx.now.conn.now in
+    let new = state g.S.Store c.execute.new.self.conn.now in
+    let ran = rw (c.params-to_sql.ensures, c.params-to_sql-2.ensures, to_z-of_z c.ranges.book, to_z-of_z c.ranges.upto) at (c.execute.ensures.runs clean inside) in
+    executed_obeys forget_text _ old new has (Delete 2 (record { lets = []; body = forget_query })) forget_is.0 forget_is.1 tt c.execute.result ran (on_ok_weaker c.execute.result (λ h. h.0) (forgets_inside old new c.args.book c.args.upto xs c.execute.result has kept rows ran))

@@ -4,6 +4,7 @@ use Rattle.std.proofs.lemmas.Result.{on_ok_weaker}
 use Rattle.sqlite.specs.Held.{state}
 use Rattle.store_tables.proofs.Queries.{put_command}
 use Rattle.store_tables.proofs.Texts.{put_is}
+use Rattle.store_tables.proofs.ObeyLemmas.{shown_obeys}
 use Rattle.store_tables.specs.Tables.{book_schema}
 use Rattle.store_tables.proofs.Queries.{put_text, put_shows}
 use Rattle.store_tables.proofs.Texts.{put_returns}
@@ -38,3 +39,11 @@ returns-clause-fails_from_outside g c ms clean inside has kept rows bs books fre
     put_fails (state g.S.Store c.args.tx.now.conn.now) (state g.S.Store c.query_all.new.self.conn.now) c.args.book c.args.uid.now c.args.changed (option_copied c.args.card) bs ms c.query_all.result
     inside has kept books rows accepts.listed accepts.unused accepts.short_uid accepts.short_card free.fits free.unused wide obeys
     (rw (c.params-to_sql.ensures, c.params-to_sql-2.ensures, c.params-to_sql-3.ensures, c.params-to_sql-4.ensures, card_bound c.args.card, to_z-of_z c.ranges.book, to_z-of_z c.ranges.changed) at (c.query_all.ensures.err clean))
+
+pub returns-clause-obeys : goal.returns-clause-obeys
+returns-clause-obeys g c ms clean inside has kept rows =
+    let old = state g.S.Store c.args.tx.now.conn.now in
+    let new = state g.S.Store c.query_all.new.self.conn.now in
+    shown_obeys put_text _ old new has put_command put_is put_shows put_returns c.query_all.result (c.query_all.ensures.ok clean)
+    (on_ok_weaker c.query_all.result (λ h. h.0) (puts_rows old new c.args.book c.args.uid.now c.args.changed (option_copied c.args.card) ms c.query_all.result has kept rows
+    (rw (c.params-to_sql.ensures, c.params-to_sql-2.ensures, c.params-to_sql-3.ensures, c.params-to_sql-4.ensures, card_bound c.args.card, to_z-of_z c.ranges.book, to_z-of_z c.ranges.changed) at (c.query_all.ensures.ok clean))))
