@@ -1,12 +1,11 @@
 -- An edit of a declared table that no rule refuses.
 use Rattle.std.proofs.Common.{◌≡◌, ◌≢◌, ◌⊎◌, inl, inr, ℕ, zero, suc, ◌==◌, Bool, true, false, List, [], ◌∷◌, ◌++◌, length, Option, Some, None, Ok, Err, Result, refl, sym, ap, subst, ◌∙◌, length-append, true≢false, arith}
-use Rattle.std.specs.List.{AllByRecursion, list_all}
-use Rattle.std.proofs.lemmas.Bool.{cases_eq, false_from_ne_true}
+use Rattle.std.specs.List.{list_all}
+use Rattle.std.proofs.lemmas.Bool.{cases_eq}
 use Rattle.std.proofs.lemmas.Bool.{cases_Bool}
-use Rattle.std.proofs.Math.Dec.{eqb}
 use Rattle.std.proofs.Common.{eqb-true}
 use Rattle.sqlite.specs.Order.{Row}
-use Rattle.sqlite.specs.Rows.{Part, Then, Edited, Gives}
+use Rattle.sqlite.specs.Rows.{Edited}
 use Rattle.sqlite.specs.Tree.{Trees}
 use Rattle.sqlite.specs.declared.error.Error.{Error}
 use Rattle.sqlite_rules.specs.Action.{Leads, Writes, works}
@@ -50,11 +49,16 @@ pub record IsAdmitted (db : Trees) (edit : Edit) : Type 0 where
   pub listed : Has book_schema.tables edit.table
 
 pub tables_apart : Rattle.sqlite_trees.specs.Tree.IsAscending (λ (a b : Table). a.tree ≡ b.tree → ⊥) book_schema.tables
-tables_apart =
-    (((λ e. omega (arith, e)), ((λ e. omega (arith, e)), ((λ e. omega (arith, e)), ((λ e. omega (arith, e)), tt)))),
-    (((λ e. omega (arith, e)), ((λ e. omega (arith, e)), ((λ e. omega (arith, e)), tt))),
-    (((λ e. omega (arith, e)), ((λ e. omega (arith, e)), tt)),
-    (((λ e. omega (arith, e)), tt), (tt, tt)))))
+tables_apart = (
+  ((λ e. omega (arith, e)), ((λ e. omega (arith, e)), ((λ e. omega (arith, e)), ((λ e. omega (arith, e)), tt)))),
+  (
+    ((λ e. omega (arith, e)), ((λ e. omega (arith, e)), ((λ e. omega (arith, e)), tt))),
+    (
+      ((λ e. omega (arith, e)), ((λ e. omega (arith, e)), tt)),
+      (((λ e. omega (arith, e)), tt), (tt, tt)),
+    ),
+  ),
+)
 
 at_tree : (db : Trees) (tree : ℕ) (rows : List Row) → with_tree db tree rows tree ≡ rows
 at_tree db tree rows = elim (cases_eq tree tree) [ inl same ↦ rw (Rattle.std.proofs.Common.eq-eqb tree tree refl) refl | inr other ↦ absurd (other refl) ]

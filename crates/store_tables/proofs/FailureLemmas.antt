@@ -1,19 +1,18 @@
 -- The cause of an error of a query.
-use Rattle.std.proofs.Common.{◌≡◌, ◌≢◌, ◌⊎◌, ◌<◌, inl, inr, ℕ, zero, suc, slice_index_or, true, false, List, [], ◌∷◌, length, map, filter, None, Some, Ok, Err, Result, IfErr, IsTrue, IsSome, refl, sym, ap, subst, ◌∙◌, append-nil, true≢false, arith}
+use Rattle.std.proofs.Common.{◌≡◌, ◌≢◌, ◌<◌, inl, inr, ℕ, zero, suc, slice_index_or, true, false, List, [], ◌∷◌, length, None, Ok, Err, Result, IfErr, IsSome, refl, sym, ap, subst, ◌∙◌, append-nil, true≢false, arith}
 use Rattle.std.proofs.Math.Dec.{leb}
 use Rattle.std.proofs.lemmas.Bool.{leb-true}
 use Rattle.std.proofs.lemmas.Bool.{cases_Bool}
 use Rattle.std.proofs.lemmas.List.Sorted.{IsPermutation-refl}
 use Rattle.std.specs.Prelude.{Vec}
 use Rattle.std.specs.declared.alloc.Global.{Global}
-use Rattle.sqlite.specs.Clock.{timed}
 use Rattle.sqlite.specs.Command.TheVariants.{Select}
 use Rattle.sqlite.specs.Effect.{Database, RefusesToRead}
 use Rattle.sqlite.specs.Listing.{understood, reads_listing, IsSourceOf}
 use Rattle.sqlite.specs.Order.{Row}
 use Rattle.sqlite.specs.Program.{overlay}
 use Rattle.sqlite.specs.Query.{Query}
-use Rattle.sqlite.specs.State.{State, HasCleanDisk, QueriesRow, Shown, FailsToQuery, FailsToShow, IsNotRun, IsNoStatement, HasCause, Fails, Survives, store_error}
+use Rattle.sqlite.specs.State.{State, HasCleanDisk, QueriesRow, Shown, FailsToQuery, FailsToShow, IsNotRun, IsNoStatement, HasCause, Survives, store_error}
 use Rattle.sqlite.specs.Term.{Term, col, lit}
 use Rattle.sqlite.specs.Collation.TheVariants.{Binary}
 use Rattle.sqlite.specs.declared.types.Value.TheVariants.{Null}

@@ -1,5 +1,5 @@
 -- The cause of an error of an INSERT of one row.
-use Rattle.std.proofs.Common.{◌≡◌, ◌≢◌, ◌⊎◌, inl, inr, ℕ, ℤ, pos, ◌<◌, ◌≤◌, ◌^◌, Bool, true, false, not, ◌&&◌, ◌||◌, int_eq, bytes_eq, is_eq, List, [], ◌∷◌, length, Option, Some, None, Ok, Err, Result, IfErr, IsSome, refl, sym, ap, subst, ◌∙◌, arith}
+use Rattle.std.proofs.Common.{◌≡◌, ◌≢◌, inl, inr, ℕ, ℤ, pos, ◌≤◌, ◌^◌, true, false, not, ◌&&◌, ◌||◌, List, [], ◌∷◌, length, Option, None, Ok, Err, Result, IfErr, IsSome, refl, sym, ap, subst, ◌∙◌, arith}
 use Rattle.std.specs.List.{AllByRecursion, list_any}
 use Rattle.std.specs.Int.{w64}
 use Rattle.std.specs.Prelude.{FitsSigned}
@@ -7,7 +7,7 @@ use Rattle.std.proofs.lemmas.Map.Text.{is_eq-slice_cmp}
 use Rattle.sqlite.specs.Does.{OnRows}
 use Rattle.sqlite.specs.Edit.{Edit, edit_of}
 use Rattle.sqlite.specs.Listing.{understood}
-use Rattle.sqlite.specs.Order.{Row, column, value_cmp}
+use Rattle.sqlite.specs.Order.{Row, column}
 use Rattle.sqlite.specs.Rowids.TheVariants.{Chosen}
 use Rattle.sqlite.specs.Rows.{Edited, Written, Inserts}
 use Rattle.sqlite.specs.Source.TheVariants.{Values}
@@ -21,7 +21,7 @@ use Rattle.sqlite.proofs.Callers.{one_step}
 use Rattle.sqlite_rules.specs.Edit.{IsOversized, is_referred, is_taken, next_rowid, with_rowid}
 use Rattle.sqlite_rules.specs.Lists.{Has}
 use Rattle.sqlite_rules.proofs.ListLemmas.{all_has}
-use Rattle.sqlite_rules.proofs.TableLemmas.{has_put, put_has, put_all_keeps}
+use Rattle.sqlite_rules.proofs.TableLemmas.{put_has, put_all_keeps}
 use Rattle.sqlite_schema.specs.declared.schema.Among.TheVariants.{All}
 use Rattle.sqlite_schema.specs.declared.schema.Index.{Index}
 use Rattle.sqlite_schema.specs.declared.schema.Keys.TheVariants.{Enforced}
@@ -30,13 +30,12 @@ use Rattle.sqlite_sql.specs.Catalog.{entry_of}
 use Rattle.sqlite_sql.specs.Ops.{fits_i64}
 use Rattle.sqlite_sql.specs.declared.ops.CompareOp.TheVariants.{Eq}
 use Rattle.sqlite_tied.specs.Compute.{everything}
-use Rattle.sqlite_trees.specs.Tree.{rowid}
 use Rattle.sqlite_trees.specs.View.{IsStorable}
 use Rattle.sqlite_typed.proofs.TestLemmas.{at_ints, at_texts, last_term, then_term}
 use Rattle.sqlite_value.specs.Keys.{first_key, plain}
 use Rattle.store_tables.specs.Books.{BookRow, HoldBooks, blank_book, book_cells, book_row, has_id, has_name}
 use Rattle.store_tables.specs.Failures.{HasOutsideCause}
-use Rattle.store_tables.specs.Imports.{HoldImports, ImportRow, has_key, import_cells, import_row, new_import_row}
+use Rattle.store_tables.specs.Imports.{HoldImports, ImportRow, has_key, import_cells, import_row}
 use Rattle.store_tables.specs.Keeps.{HoldKeeps, KeepRow, is_keep_of, keep_cells, keep_row, keep_row_of}
 use Rattle.store_tables.specs.Tables.{book, book_schema, import_key, keeping}
 use Rattle.store_tables.proofs.EditLemmas.{IsAdmitted, edit_never_stops, never_stops, stops}

@@ -7,6 +7,7 @@ pub mod Lookups
 pub mod FindLemmas
 pub mod KeyedRows
 pub mod RowLemmas
+pub mod IdLemmas
 pub mod PutLemmas
 pub mod ForgetLemmas
 pub mod CountLemmas

@@ -1,9 +1,8 @@
 -- The cause of an error of the upsert of a member.
-use Rattle.std.proofs.Common.{◌≡◌, ◌≢◌, ◌⊎◌, inl, inr, ℕ, ℤ, ◌<◌, ◌≤◌, ◌^◌, Bool, true, false, not, ◌&&◌, ◌||◌, int_eq, is_eq, List, [], ◌∷◌, ◌++◌, length, map, filter, Option, Some, None, Ok, Err, Result, IfErr, IsSome, IsTrue, refl, sym, ap, ap₂, subst, subst₂, ◌∙◌, true≢false, arith}
+use Rattle.std.proofs.Common.{◌≡◌, ◌≢◌, ◌⊎◌, inl, inr, ℕ, ℤ, ◌≤◌, ◌^◌, Bool, true, false, not, ◌&&◌, ◌||◌, int_eq, List, [], ◌∷◌, ◌++◌, length, map, filter, Option, Some, None, Ok, Err, Result, IfErr, IsSome, IsTrue, refl, sym, ap, ap₂, subst, subst₂, ◌∙◌, true≢false, arith}
 use Rattle.std.specs.List.{AllByRecursion, list_any}
 use Rattle.std.specs.List.Sorted.{IsPermutation}
-use Rattle.std.specs.Int.{w64}
-use Rattle.std.specs.Prelude.{FitsSigned, IfSome, Vec}
+use Rattle.std.specs.Prelude.{IfSome, Vec}
 use Rattle.std.specs.declared.alloc.Global.{Global}
 use Rattle.std.proofs.lemmas.Bool.{and_from, and_parts, both_ways, false_from_ne_true, not-true}
 use Rattle.std.proofs.lemmas.List.Sorted.{IsPermutation-map, IsPermutation-sym, IsPermutation-trans}
@@ -11,7 +10,7 @@ use Rattle.std.proofs.lemmas.Map.Text.{is_eq-slice_cmp}
 use Rattle.sqlite.specs.Does.{OnRows}
 use Rattle.sqlite.specs.Edit.{Edit, edit_of}
 use Rattle.sqlite.specs.Listing.{understood}
-use Rattle.sqlite.specs.Order.{Row, column, value_cmp}
+use Rattle.sqlite.specs.Order.{Row, column}
 use Rattle.sqlite.specs.Program.{overlay}
 use Rattle.sqlite.specs.Rowids.TheVariants.{Chosen, Given}
 use Rattle.sqlite.specs.Rows.{Clears, Edited, InsertsOr, Judged, Meets, Puts, Resolves, Tries, TriesEach, Updates, Upserts, Written, count_of, joined, nothing, shown}
@@ -33,7 +32,7 @@ use Rattle.sqlite_rules.specs.Lists.{Has}
 use Rattle.sqlite_rules.specs.Steps.{IsJudged}
 use Rattle.sqlite_rules.specs.declared.error.Refusal.{Refusal}
 use Rattle.sqlite_rules.specs.declared.error.Refusal.TheVariants.{Violates, Mismatch, NoRowid, BadReference, TooDeep}
-use Rattle.sqlite_rules.proofs.ListLemmas.{all_has, has_filtered, some_has, some_from}
+use Rattle.sqlite_rules.proofs.ListLemmas.{all_has, has_filtered, some_from}
 use Rattle.sqlite_rules.proofs.RuleLemmas.{keeps_at}
 use Rattle.sqlite_rules.proofs.TableLemmas.{put_has, without_all_has}
 use Rattle.sqlite_schema.specs.declared.command.Conflict.TheVariants.{Abort}
@@ -55,7 +54,7 @@ use Rattle.sqlite_typing.specs.Types.{accepts_program, accepts_terms}
 use Rattle.sqlite_value.specs.Order.{number}
 use Rattle.std.specs.Float.{NotNan}
 use Rattle.sqlite_value.specs.Keys.{first_key, plain}
-use Rattle.store_tables.specs.Acceptance.{IsShort, has_number}
+use Rattle.store_tables.specs.Acceptance.{has_number}
 use Rattle.store_tables.specs.Books.{BookRow, HoldBooks, has_id}
 use Rattle.store_tables.specs.Failures.{HasOutsideCause}
 use Rattle.store_tables.specs.Members.{AreMembers, HoldMembers, MemberRow, has_uid, member_cells, member_row}
@@ -63,7 +62,7 @@ use Rattle.store_tables.specs.Tables.{book_schema, member}
 use Rattle.store_tables.proofs.Cells.{has_cells, shaped}
 use Rattle.store_tables.proofs.EditLemmas.{IsAdmitted, edit_never_stops, never_stops, stops}
 use Rattle.store_tables.proofs.FreshLemmas.{fresh_one, has_permuted, item_of, left_free, no_clash, row_of}
-use Rattle.store_tables.proofs.KeyedRows.{has_stored, same_int}
+use Rattle.store_tables.proofs.KeyedRows.{has_stored}
 use Rattle.store_tables.proofs.Picks.{passes, picked, shows}
 use Rattle.store_tables.proofs.PutLemmas.{cast_new, cast_same, conflicts_at, given_for, has_back, nobody, only_it, went_on, same_value}
 use Rattle.store_tables.proofs.Queries.{put_clause, put_command, put_query, put_shows, put_terms, put_text}
@@ -104,10 +103,22 @@ shown_at params book uid changed given n (Some text) e = rw e refl
 module _ (n : MemberRow) (short : length n.uid ≤ 2 ^ 20) (slim : IfSome n.card (λ text. length text ≤ 2 ^ 20)) where
   member_fits : (row : Row) → Has (member_row n ∷ []) row → ¬ IsOversized book_schema member row
   member_fits row (inl e) = subst (λ r. ¬ IsOversized book_schema member r) (sym e) (fits_in book_schema member (member_row n) refl (member_storable n.id n.book n.uid n.changed n.card short slim) (omega arith)
-      (λ i known. all_has (λ (i : Index). i.table ≡ 4 → IsStorable 0 (entry_of i.columns (member_row n))) book_schema.indexes i ((λ e. absurd (omega (arith, e))), ((λ e. absurd (omega (arith, e))), ((λ _. is_storable (Int n.book ∷ Text n.uid ∷ Int n.id ∷ []) (omega arith) (omega arith) (int_is_number n.book, (text_is_number n.uid, (int_is_number n.id, tt))) (omega (arith, short))),
-      ((λ _. is_storable (Int n.book ∷ Int n.changed ∷ Int n.id ∷ []) (omega arith) (omega arith) (int_is_number n.book, (int_is_number n.changed, (int_is_number n.id, tt))) (omega arith)),
-      ((λ e. absurd (omega (arith, e))),
-      tt))))) known))
+      (λ i known. all_has (λ (i : Index). i.table ≡ 4 → IsStorable 0 (entry_of i.columns (member_row n))) book_schema.indexes i (
+        (λ e. absurd (omega (arith, e))),
+        (
+          (λ e. absurd (omega (arith, e))),
+          (
+            (λ _. is_storable (Int n.book ∷ Text n.uid ∷ Int n.id ∷ []) (omega arith) (omega arith) (int_is_number n.book, (text_is_number n.uid, (int_is_number n.id, tt))) (omega (arith, short))),
+            (
+              (λ _. is_storable (Int n.book ∷ Int n.changed ∷ Int n.id ∷ []) (omega arith) (omega arith) (int_is_number n.book, (int_is_number n.changed, (int_is_number n.id, tt))) (omega arith)),
+              (
+                (λ e. absurd (omega (arith, e))),
+                tt,
+              ),
+            ),
+          ),
+        ),
+      ) known))
   member_fits row (inr h) = absurd h
 
 module _ (limit : Option ℕ) (book : ℤ) (uid : List ℕ) (changed : ℤ) (card : Option (List ℕ)) (bs : List BookRow) (ms : List MemberRow) (kept : AreMembers ms) (db : Trees)

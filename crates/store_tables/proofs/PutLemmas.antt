@@ -1,5 +1,5 @@
 -- The effect of the upsert on the members.
-use Rattle.std.proofs.Common.{Bor, option_copied, ◌≡◌, ◌⊎◌, inl, inr, ℕ, ℤ, Bool, true, false, ◌||◌, List, [], ◌∷◌, ◌++◌, map, filter, Option, Some, None, Ok, Err, Result, refl, sym, ap, subst, ◌∙◌}
+use Rattle.std.proofs.Common.{Bor, option_copied, ◌≡◌, ◌⊎◌, inl, inr, ℕ, ◌+◌, ℤ, Bool, true, false, ◌||◌, List, [], ◌∷◌, ◌++◌, map, filter, Option, Some, None, Ok, Err, Result, refl, sym, ap, subst, ◌∙◌}
 use Rattle.std.specs.List.{AllByRecursion}
 use Rattle.std.specs.List.Sorted.{IsPermutation}
 use Rattle.std.proofs.lemmas.Map.Text.{is_eq-slice_cmp}
@@ -13,7 +13,7 @@ use Rattle.sqlite.specs.Cast.{cast}
 use Rattle.sqlite.specs.Kind.TheVariants as kind
 use Rattle.sqlite.specs.Program.{overlay}
 use Rattle.sqlite.specs.Edit.{Edit, edit_of}
-use Rattle.sqlite_rules.specs.Edit.{with_rowid, next_rowid}
+use Rattle.sqlite_rules.specs.Edit.{id_in, with_rowid, next_rowid}
 use Rattle.sqlite_rules.specs.Cast.{cast_row}
 use Rattle.sqlite_rules.specs.Keys.{conflicts, AreConflicts}
 use Rattle.sqlite_rules.specs.Lists.{Has}
@@ -22,7 +22,7 @@ use Rattle.sqlite.specs.Source.TheVariants.{Values}
 use Rattle.sqlite_rules.specs.declared.error.Refusal.{Refusal}
 use Rattle.sqlite_sql.specs.declared.ops.CompareOp.TheVariants.{Eq}
 use Rattle.sqlite_typed.proofs.TestLemmas.{at_ints, at_texts, then_term, last_term}
-use Rattle.sqlite_trees.specs.Tree.{rowid, without_rowid}
+use Rattle.sqlite_trees.specs.Tree.{put_row, rowid, without_rowid}
 use Rattle.sqlite_trees.proofs.ListLemmas.{filter-map, IsPermutation-filter, along_permutation}
 use Rattle.sqlite_schema.specs.declared.schema.Keys.TheVariants.{Enforced}
 use Rattle.sqlite_schema.specs.declared.command.Conflict.TheVariants.{Abort}
@@ -33,7 +33,10 @@ use Rattle.store_tables.specs.Tables.{book_schema, member}
 use Rattle.store_tables.specs.StatementEffects.{KeepsOtherTables}
 use Rattle.store_tables.proofs.Queries.{put_terms, put_query, put_clause}
 use Rattle.store_tables.specs.Members.{MemberRow, member_row, member_cells, HoldMembers, has_uid, AreMembers, upsert_member}
+use Rattle.store_tables.specs.Acceptance.{HasFreeIds}
 use Rattle.store_tables.proofs.Cells.{shaped, has_cells, cells_has}
+use Rattle.store_tables.proofs.FreshLemmas.{row_of as stored_row}
+use Rattle.store_tables.proofs.IdLemmas.{HaveIds, have_ids, ids_after_change, ids_after_new}
 use Rattle.store_tables.proofs.Picks.{passes, shows, picked}
 use Rattle.store_tables.proofs.RowLemmas.{member_id, apart, adds, adds_kept, put_is_map, changes_kept}
 use Rattle.store_tables.proofs.KeyedRows.{only_one, replaced, free_one}
@@ -106,6 +109,10 @@ none_at book uid all (m ∷ ms) sub h = (false_of (has_uid book uid m) (h m (sub
     false_of true h = absurd (h refl)
     false_of false h = refl
 
+-- at most one new id is used
+abbrev pub TakesOneId : List Row → List Row → Type 0
+TakesOneId old new = (count : ℕ) → HasFreeIds (count + 1) old → HasFreeIds count new
+
 -- a part that returned a value did not fail
 pub went_on : {B E R : Type 0} {b : B} {Stops : E → Type 0} → ((stop : E) × Stops stop × (Ok b ≡ Err stop)) ⊎ R → R
 went_on (inl stopped) = absurd (let e = stopped.2 in cc)
@@ -125,7 +132,10 @@ module _ (limit : Option ℕ) (book : ℤ) (uid : List ℕ) (changed : ℤ) (car
   new = record { id = next_rowid (db 4); book = book; uid = uid; changed = changed; card = card }
 
   abbrev Ends : Written → Type 0
-  Ends w = HoldMembers (w.trees 4) (upsert_member (next_rowid (db 4)) book uid changed card ms) × AreMembers (upsert_member (next_rowid (db 4)) book uid changed card ms) × KeepsOtherTables 4 db w.trees
+  Ends w = HoldMembers (w.trees 4) (upsert_member (next_rowid (db 4)) book uid changed card ms) × AreMembers (upsert_member (next_rowid (db 4)) book uid changed card ms) × KeepsOtherTables 4 db w.trees × TakesOneId (db 4) (w.trees 4)
+
+  whole : HaveIds (db 4)
+  whole = have_ids member_row member_cells (λ _. refl) member_id (λ _. refl) ms (db 4) has
 
   -- no row has the name
   puts : (w : Written) → AllByRecursion (λ m. has_uid book uid m ≡ false) ms → Puts task (member_row new) db (Ok w) → Ends w
@@ -140,6 +150,7 @@ module _ (limit : Option ℕ) (book : ℤ) (uid : List ℕ) (changed : ℤ) (car
         subst (λ rows. HoldMembers rows (upsert_member (next_rowid (db 4)) book uid changed card ms)) (sym (ap (λ (t : Trees). t 4) trees ∙ step.rows)) hold,
         adds_kept (next_rowid (db 4)) book uid changed card ms (db 4) row shows has free kept,
         subst (KeepsOtherTables 4 db) (sym trees) step.tables,
+        λ count ids. subst (HasFreeIds count) (sym (ap (λ (t : Trees). t 4) trees ∙ step.rows)) (ids_after_new count (db 4) row (ap rowid shows) whole ids),
       )
 
   abbrev pub given_for : MemberRow → Row
@@ -152,6 +163,11 @@ module _ (limit : Option ℕ) (book : ℤ) (uid : List ℕ) (changed : ℤ) (car
   only_it m there =
       filter-map (passes 4 put_query.filter put_query.project (overlay db []) (given_for m)) member_row ms
       ∙ ap (map member_row) ((λ i. filter (λ (x : MemberRow). last_term (at_ints false Eq x.id m.id) i) ms) ∙ only_one member_id member_row (λ _. refl) ms m (apart ms kept) there)
+
+  changed_ids : (m : MemberRow) → Has ms m → (row : Row) → rowid row ≡ Int m.id → (count : ℕ) → HasFreeIds (count + 1) (db 4) → HasFreeIds count (put_row row (without_rowid m.id (db 4)))
+  changed_ids m there row at count ids =
+      let mine = stored_row member_row member_cells (λ _. refl) ms (db 4) has m there in
+      ids_after_change count (db 4) row m.id at whole mine.0 mine.1 (ap (λ r. id_in (rowid r)) (sym mine.2)) ids
 
   -- the row of the member is updated in its place
   updates : (w : Written) (m : MemberRow) → Has ms m → has_uid book uid m ≡ true → Updates task (record { lets = []; body = put_query }) (given_for m) db (Ok w) → Ends w
@@ -172,6 +188,7 @@ module _ (limit : Option ℕ) (book : ℤ) (uid : List ℕ) (changed : ℤ) (car
         subst₂ HoldMembers (sym (ap (λ (t : Trees). t 4) trees ∙ one.rows)) (sym (put_is_map (next_rowid (db 4)) book uid changed card ms m kept there here)) hold,
         changes_kept (next_rowid (db 4)) book uid changed card ms m kept there here,
         subst (KeepsOtherTables 4 db) (sym trees) one.tables,
+        λ count ids. subst (HasFreeIds count) (sym (ap (λ (t : Trees). t 4) trees ∙ one.rows)) (changed_ids m there row (ap rowid (ap member_cells (cast_same later))) count ids),
       )
 
   pub nobody : (found : List Row) → found ≡ [] → AreConflicts (Some (1 ∷ 2 ∷ [])) book_schema.indexes member (db 4) (member_row new) found → AllByRecursion (λ m. has_uid book uid m ≡ false) ms
@@ -215,11 +232,11 @@ module _ (limit : Option ℕ) (book : ℤ) (uid : List ℕ) (changed : ℤ) (car
       let numbered : with_rowid Chosen (db 4) (cast_row member (row_of Null book uid changed card)) ≡ member_row new = ap (with_rowid Chosen (db 4)) (cast_new book uid changed card) in
       let ends = tries one.0 (subst (λ row. Tries task Abort (put_clause ∷ []) row db (Ok one.0)) numbered one.1) in
       let all = trees ∙ ap (λ (p : Written × ℤ). p.0.trees) done in
-      (subst (λ rows. HoldMembers rows (upsert_member (next_rowid (db 4)) book uid changed card ms)) (ap (λ (t : Trees). t 4) (sym all)) ends.0, ends.1, subst (KeepsOtherTables 4 db) (sym all) ends.2)
+      (subst (λ rows. HoldMembers rows (upsert_member (next_rowid (db 4)) book uid changed card ms)) (ap (λ (t : Trees). t 4) (sym all)) ends.0, ends.1, subst (KeepsOtherTables 4 db) (sym all) ends.2, subst (λ (t : Trees). TakesOneId (db 4) (t 4)) (sym all) ends.3)
 
 pub puts_member : (old new : State) (book : ℤ) (uid : List ℕ) (changed : ℤ) (card : Option (List ℕ)) (ms : List MemberRow) (rows : List Row) → old.now.schema ≡ book_schema → AreMembers ms → HoldMembers (old.now.trees 4) ms
     → Shown put_text (Int book ∷ Text uid ∷ Int changed ∷ or_null Text card ∷ []) old new rows
-    → (new.now.schema ≡ book_schema) × PutsRow new.now.trees book uid changed card ms × KeepsOtherTables 4 old.now.trees new.now.trees
+    → (new.now.schema ≡ book_schema) × PutsRow new.now.trees book uid changed card ms × KeepsOtherTables 4 old.now.trees new.now.trees × TakesOneId (old.now.trees 4) (new.now.trees 4)
 puts_member old new book uid changed card ms rows schema kept has h =
     let params = Int book ∷ Text uid ∷ Int changed ∷ or_null Text card ∷ [] in
     let w = writes_as put_text params old new book_schema schema put_command put_shows put_is put_returns rows h in
@@ -232,6 +249,7 @@ puts_member old new book uid changed card ms rows schema kept has h =
       ap (λ (d : Database). d.schema) now,
       record { id = next_rowid (old.now.trees 4); hold = subst (λ rows. HoldMembers rows (upsert_member (next_rowid (old.now.trees 4)) book uid changed card ms)) (ap (λ (d : Database). d.trees 4) (sym now)) ends.0; kept = ends.1 },
       subst (KeepsOtherTables 4 old.now.trees) (ap (λ (d : Database). d.trees) (sym now)) ends.2,
+      subst (λ (d : Database). TakesOneId (old.now.trees 4) (d.trees 4)) (sym now) ends.3,
     )
 
 pub card_bound : (card : Option (Bor (List ℕ))) → bound_value (or_null (λ s. Text s.now) card) ≡ or_null Text (option_copied card)
@@ -240,6 +258,6 @@ card_bound (Some s) = refl
 
 pub puts_rows : (old new : State) (book : ℤ) (uid : List ℕ) (changed : ℤ) (card : Option (List ℕ)) (ms : List MemberRow) (r : Result (Vec Row Global) Error) → old.now.schema ≡ book_schema → AreMembers ms → HoldMembers (old.now.trees 4) ms
     → IfOk r (λ rows. Shown put_text (Int book ∷ Text uid ∷ Int changed ∷ or_null Text card ∷ []) old new rows.items)
-    → OnOk r ((new.now.schema ≡ book_schema) × PutsRow new.now.trees book uid changed card ms × KeepsOtherTables 4 old.now.trees new.now.trees)
+    → OnOk r ((new.now.schema ≡ book_schema) × PutsRow new.now.trees book uid changed card ms × KeepsOtherTables 4 old.now.trees new.now.trees × TakesOneId (old.now.trees 4) (new.now.trees 4))
 puts_rows old new book uid changed card ms (Ok rows) schema kept has h = puts_member old new book uid changed card ms rows.items schema kept has h
 puts_rows old new book uid changed card ms (Err e) schema kept has h = tt

@@ -1,5 +1,5 @@
 -- Each row refers to a book, after a write too.
-use Rattle.std.proofs.Common.{◌≡◌, ◌≢◌, ◌⊎◌, inl, inr, ℕ, ℤ, Bool, true, false, ◌||◌, ◌&&◌, List, [], ◌∷◌, Option, Some, refl, sym, ap, subst, subst₂, ◌∙◌}
+use Rattle.std.proofs.Common.{◌≡◌, ◌≢◌, ◌⊎◌, inl, inr, ℕ, ℤ, Bool, true, false, ◌&&◌, List, [], ◌∷◌, Some, refl, sym, ap, subst, subst₂, ◌∙◌}
 use Rattle.std.specs.List.{AllByRecursion, list_any}
 use Rattle.std.proofs.lemmas.Bool.{cases_eq, or_cases, or_left, or_right}
 use Rattle.sqlite.specs.Order.{Row, column}
@@ -16,7 +16,6 @@ use Rattle.sqlite_schema.specs.Rules.{Obeys, ParentKey, Refers, agree, equal, ha
 use Rattle.sqlite_sql.specs.declared.ops.CompareOp.TheVariants.{Eq}
 use Rattle.sqlite_tied.specs.Compute.{everything}
 use Rattle.sqlite_typed.proofs.TestLemmas.{at_ints, last_term}
-use Rattle.sqlite_value.specs.declared.keys.Order.{Order}
 use Rattle.sqlite_value.specs.Keys.{first_key, plain}
 use Rattle.store_tables.specs.Books.{BookRow, HoldBooks, book_cells, book_row, has_id}
 use Rattle.store_tables.specs.Tables.{book_schema, book_reference}

@@ -1,9 +1,8 @@
 -- Where a statement stops: at the limit on steps, if there is one.
-use Rattle.std.proofs.Common.{◌≡◌, ◌⊎◌, inl, inr, ℕ, Bool, true, false, List, [], ◌∷◌, ◌++◌, Option, Some, None, Ok, Err, Result, IsSome, refl, sym, ap, subst, ◌∙◌, true≢false}
-use Rattle.sqlite.specs.Does.{Concludes, Counted, Returns, Shows, Tested}
+use Rattle.std.proofs.Common.{◌≡◌, inl, inr, ℕ, true, false, List, [], ◌∷◌, ◌++◌, Option, Some, None, Err, IsSome, sym, subst, ◌∙◌, true≢false}
+use Rattle.sqlite.specs.Does.{Concludes, Returns, Shows, Tested}
 use Rattle.sqlite.specs.Effect.{Database}
 use Rattle.sqlite.specs.Order.{Row}
-use Rattle.sqlite.specs.Program.{overlay}
 use Rattle.sqlite.specs.Query.{Query}
 use Rattle.sqlite.specs.Rows.{Task, Queried, Sourced, Written, shown}
 use Rattle.sqlite.specs.Source.TheVariants.{Values}

@@ -1,5 +1,5 @@
 -- Rows and index entries that fit into a record.
-use Rattle.std.proofs.Common.{◌≡◌, ◌⊎◌, inl, inr, ℕ, ℤ, pos, negsuc, ◌+◌, ◌*◌, ◌^◌, ◌<◌, ◌≤◌, Bool, true, false, List, [], ◌∷◌, length, refl, sym, ap, subst, ◌∙◌, arith}
+use Rattle.std.proofs.Common.{◌≡◌, inl, inr, ℕ, ℤ, pos, negsuc, ◌+◌, ◌^◌, ◌<◌, ◌≤◌, true, List, [], ◌∷◌, length, refl, sym, ap, subst, ◌∙◌, arith}
 use Rattle.std.proofs.lemmas.Bool.{lt-ltb}
 use Rattle.std.proofs.lemmas.List.Elements.{All-from_recursion}
 use Rattle.std.proofs.lemmas.Nat.Bits.{bit_at-zero}
@@ -18,7 +18,7 @@ use Rattle.sqlite_schema.specs.declared.schema.Table.{Table}
 use Rattle.sqlite_schema.specs.Rules.{index_reals, table_reals}
 use Rattle.sqlite_sql.specs.Catalog.{entry_of}
 use Rattle.sqlite_sql.specs.Ops.{fits_i64}
-use Rattle.sqlite_trees.specs.View.{IsStorable, IsStorableRow}
+use Rattle.sqlite_trees.specs.View.{IsStorable}
 use Rattle.sqlite_value.specs.Order.{bytes, number}
 
 -- a column value that an `i64` holds is a column value

@@ -1,6 +1,5 @@
 -- The cause of an error of the update of a book's numbers.
-use Rattle.std.proofs.Common.{◌≡◌, ◌≢◌, ◌⊎◌, inl, inr, ℕ, ℤ, ◌<◌, ◌≤◌, ◌^◌, Bool, true, false, not, ◌&&◌, ◌||◌, int_eq, List, [], ◌∷◌, length, map, filter, Option, Some, None, Ok, Err, Result, IfErr, IsSome, IsTrue, is_eq, refl, sym, ap, subst, subst₂, ◌∙◌, true≢false, arith}
-use Rattle.std.specs.List.{AllByRecursion, list_any}
+use Rattle.std.proofs.Common.{◌≡◌, ◌≢◌, ◌⊎◌, inl, inr, ℕ, ◌≤◌, ◌^◌, Bool, true, false, not, ◌&&◌, ◌||◌, int_eq, List, [], ◌∷◌, length, map, filter, Option, Some, Ok, Err, Result, IfErr, IsSome, IsTrue, refl, sym, ap, subst, subst₂, ◌∙◌, true≢false, arith}
 use Rattle.std.specs.List.Sorted.{IsPermutation}
 use Rattle.std.specs.Int.{w64}
 use Rattle.std.specs.Prelude.{FitsSigned, Vec}
@@ -11,24 +10,24 @@ use Rattle.sqlite.specs.Command.TheVariants.{Update}
 use Rattle.sqlite.specs.Does.{OnRows}
 use Rattle.sqlite.specs.Edit.{Edit, edit_of}
 use Rattle.sqlite.specs.Listing.{understood}
-use Rattle.sqlite.specs.Order.{Row, column, value_cmp}
+use Rattle.sqlite.specs.Order.{Row, column}
 use Rattle.sqlite.specs.Program.{overlay}
 use Rattle.sqlite.specs.Rowids.TheVariants.{Given}
-use Rattle.sqlite.specs.Rows.{Then, Edited, Gives, Queried, Written, Updates}
+use Rattle.sqlite.specs.Rows.{Edited, Written, Updates}
 use Rattle.sqlite.specs.State.{State, FailsToQuery, IsTooLate}
 use Rattle.sqlite.specs.Term.{Term, col}
 use Rattle.sqlite.specs.Tree.{Trees}
 use Rattle.sqlite.specs.declared.error.Error.{Error}
 use Rattle.sqlite.specs.declared.error.Error.TheVariants.{SqliteFailure}
 use Rattle.sqlite.specs.declared.error.ErrorCode.TheVariants.{OutOfMemory}
-use Rattle.sqlite.specs.declared.types.Value.TheVariants.{Null, Int, Text}
+use Rattle.sqlite.specs.declared.types.Value.TheVariants.{Int, Text}
 use Rattle.sqlite.proofs.Callers.{one_permutation, one_step}
 use Rattle.sqlite_rules.specs.Calls.{ids_of}
 use Rattle.sqlite_rules.specs.Edit.{IsOversized, is_referred, is_taken}
 use Rattle.sqlite_rules.specs.Lists.{Has}
-use Rattle.sqlite_rules.proofs.ListLemmas.{all_has, has_filtered, has_kept, some_has, some_from}
+use Rattle.sqlite_rules.proofs.ListLemmas.{all_has, has_filtered, has_kept, some_from}
 use Rattle.sqlite_rules.proofs.RuleLemmas.{keeps_at}
-use Rattle.sqlite_rules.proofs.TableLemmas.{has_put, put_has, put_all_keeps}
+use Rattle.sqlite_rules.proofs.TableLemmas.{has_put, put_all_keeps}
 use Rattle.sqlite_schema.specs.declared.schema.Among.TheVariants.{All}
 use Rattle.sqlite_schema.specs.declared.schema.Constraint.TheVariants.{Unique}
 use Rattle.sqlite_schema.specs.declared.schema.Index.{Index}
@@ -37,10 +36,10 @@ use Rattle.sqlite_schema.specs.Rules.{Obeys, Refers, agree, clashes, differ, equ
 use Rattle.sqlite_sql.specs.Catalog.{entry_of}
 use Rattle.sqlite_sql.specs.declared.ops.CompareOp.TheVariants.{Eq, Ne}
 use Rattle.sqlite_tied.specs.Compute.{everything}
-use Rattle.sqlite_trees.specs.Tree.{has_rowid, put_row, rowid, without_rowid}
+use Rattle.sqlite_trees.specs.Tree.{has_rowid, rowid, without_rowid}
 use Rattle.sqlite_trees.specs.View.{IsStorable}
 use Rattle.sqlite_trees.proofs.ListLemmas.{filter-map, IsPermutation-filter}
-use Rattle.sqlite_typed.proofs.TestLemmas.{at_ints, at_texts, last_term}
+use Rattle.sqlite_typed.proofs.TestLemmas.{at_ints, last_term}
 use Rattle.sqlite_value.specs.Keys.{first_key, plain}
 use Rattle.store_tables.specs.Books.{AreBooks, BookRow, HoldBooks, Numbers, book_cells, book_row, number_cells}
 use Rattle.store_tables.specs.Failures.{HasOutsideCause}
@@ -120,15 +119,44 @@ module _ (limit : Option ℕ) (numbers : Numbers) (bs : List BookRow) (kept : Ar
       both_ways _ alone (some_from _ (db 2) r stays.0 (and_from _ _ agrees differs)))
 
   storable : (i : Index) → Has book_schema.indexes i → i.table ≡ 2 → IsStorable 0 (entry_of i.columns (book_row new))
-  storable i known = all_has (λ (i : Index). i.table ≡ 2 → IsStorable 0 (entry_of i.columns (book_row new))) book_schema.indexes i ((λ e. absurd (omega (arith, e))), ((λ _. is_storable (Text b.name ∷ Int b.id ∷ []) (omega arith) (omega arith) (text_is_number b.name, (int_is_number b.id, tt)) (omega (arith, short))),
-      ((λ e. absurd (omega (arith, e))),
-      ((λ e. absurd (omega (arith, e))), ((λ e. absurd (omega (arith, e))), tt))))) known
+  storable i known = all_has (λ (i : Index). i.table ≡ 2 → IsStorable 0 (entry_of i.columns (book_row new))) book_schema.indexes i (
+    (λ e. absurd (omega (arith, e))),
+    (
+      (λ _. is_storable (Text b.name ∷ Int b.id ∷ []) (omega arith) (omega arith) (text_is_number b.name, (int_is_number b.id, tt)) (omega (arith, short))),
+      (
+        (λ e. absurd (omega (arith, e))),
+        ((λ e. absurd (omega (arith, e))), ((λ e. absurd (omega (arith, e))), tt)),
+      ),
+    ),
+  ) known
 
   row_storable : IsStorable 0 (book_row new)
   row_storable =
-      is_storable (book_row new) (omega arith) (omega arith)
-      (int_is_number b.id, (null_is_number, (text_is_number b.name, (int_is_number numbers.number, (int_is_number numbers.horizon, (int_is_number numbers.created, (int_is_number numbers.edited, (int_is_number numbers.imported,
-      (int_is_number numbers.import_edited, (int_is_number numbers.moved_in, (int_is_number numbers.deleted, (int_is_number numbers.moved_out, tt))))))))))))
+      is_storable (book_row new) (omega arith) (omega arith) (
+        int_is_number b.id,
+        (
+          null_is_number,
+          (
+            text_is_number b.name,
+            (
+              int_is_number numbers.number,
+              (
+                int_is_number numbers.horizon,
+                (
+                  int_is_number numbers.created,
+                  (
+                    int_is_number numbers.edited,
+                    (
+                      int_is_number numbers.imported,
+                      (int_is_number numbers.import_edited, (int_is_number numbers.moved_in, (int_is_number numbers.deleted, (int_is_number numbers.moved_out, tt)))),
+                    ),
+                  ),
+                ),
+              ),
+            ),
+          ),
+        ),
+      )
       (omega (arith, short))
 
   referred : is_referred book_schema Enforced edit ≡ true

@@ -1,16 +1,13 @@
 -- The cause of an error of a statement that writes rows.
-use Rattle.std.proofs.Common.{◌≡◌, ◌≢◌, ◌⊎◌, inl, inr, ℕ, true, false, Bool, List, [], ◌∷◌, length, Option, Some, None, Ok, Err, Result, IfErr, IsTrue, IsSome, refl, sym, ap, subst, subst₂, ◌∙◌, append-nil, true≢false}
+use Rattle.std.proofs.Common.{◌≡◌, ◌≢◌, ◌⊎◌, inl, inr, ℕ, false, Bool, List, [], length, Option, Some, None, Ok, Err, Result, IsTrue, IsSome, sym, ap, subst, subst₂, ◌∙◌, append-nil, true≢false}
 use Rattle.std.proofs.lemmas.Bool.{leb-true}
-use Rattle.std.specs.Prelude.{Vec}
-use Rattle.std.specs.declared.alloc.Global.{Global}
 use Rattle.sqlite.specs.Clock.{timed}
 use Rattle.sqlite.specs.Command.{Command}
 use Rattle.sqlite.specs.Command.TheVariants.{Insert, InsertOr, Update, Delete}
 use Rattle.sqlite.specs.Does.{Does}
-use Rattle.sqlite.specs.Effect.{Database}
 use Rattle.sqlite.specs.Listing.{understood}
 use Rattle.sqlite.specs.Order.{Row}
-use Rattle.sqlite.specs.State.{State, ExecutesInside, ExecutesIn, FailsToQuery, FailsToShow, IsTooLate, IsMisplaced, IsNoStatement, IsNotRun, IsStatement, EndsScope, Escapes, RunsCommand, RunsAlone, HasCause, Fails, shows_rows, text_of, mode_of, store_error}
+use Rattle.sqlite.specs.State.{State, ExecutesInside, ExecutesIn, FailsToQuery, FailsToShow, IsTooLate, IsMisplaced, IsNoStatement, IsNotRun, IsStatement, EndsScope, Escapes, RunsCommand, HasCause, shows_rows, text_of, mode_of, store_error}
 use Rattle.sqlite.specs.declared.error.Error.{Error}
 use Rattle.sqlite.specs.declared.error.Error.TheVariants.{SqliteFailure}
 use Rattle.sqlite.specs.declared.error.ErrorCode.TheVariants.{OutOfMemory}

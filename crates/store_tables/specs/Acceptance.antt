@@ -1,16 +1,15 @@
 -- When the declared tables accept a write, and how an accepted write fails. This project's own.
-use Rattle.std.specs.Prelude.{◌≡◌, ◌≢◌, ◌≤◌, ◌^◌, ℤ, true, false, List, [], ◌∷◌, length}
-use Rattle.std.specs.Prelude.{ℕ, Bool, ◌&&◌, IfErr, IfSome, IsTrue, Option, Result}
+use Rattle.std.specs.Prelude.{◌≡◌, ◌≢◌, ◌≤◌, ◌^◌, ℕ, Bool, true, false, ◌&&◌, List, length}
+use Rattle.std.specs.Prelude.{◌+ℤ◌, ◌<ℤ◌, ◌≤ℤ◌, ℤ, pos, IfErr, IfSome, IsTrue, Option, Result}
 use Rattle.std.specs.List.{AllByRecursion, list_any}
 use Rattle.std.specs.Ordering.{int_eq}
 use Rattle.sqlite.specs.Order.{Row}
 use Rattle.sqlite.specs.State.{State, HasCleanDisk}
-use Rattle.sqlite.specs.Tree.{Trees}
+use Rattle.sqlite.specs.Tree.{Trees, rowid}
 use Rattle.sqlite.specs.declared.error.Error.{Error}
 use Rattle.sqlite.specs.declared.error.Error.TheVariants.{SqliteFailure}
 use Rattle.sqlite.specs.declared.error.ErrorCode.TheVariants.{OutOfMemory}
-use Rattle.sqlite.specs.declared.types.Value.TheVariants.{Int}
-use Rattle.sqlite_rules.specs.Edit.{is_taken, next_rowid}
+use Rattle.sqlite_rules.specs.Edit.{id_in, next_rowid}
 use Rattle.sqlite_rules.specs.Lists.{Has}
 use Rattle.sqlite_schema.specs.Rules.{Obeys}
 use Rattle.sqlite_sql.specs.Ops.{fits_i64}
@@ -29,16 +28,17 @@ use Rattle.store_tables.specs.Tables.{book_schema}
 abbrev pub ObeyTables : Trees → Type 0
 ObeyTables = Obeys book_schema
 
--- The id that SQLite chooses for a new row, one above the id of the last row, is a column value and
--- unused. It is unused because SQLite keeps rows in the order of their ids, and a column value
--- until a table has had 2^63 - 1 new rows.
-pub record HasFreeId (rows : List Row) : Type 0 where
-  pub fits : fits_i64 (next_rowid rows) ≡ true
-  pub unused : is_taken rows (Int (next_rowid rows) ∷ []) ≡ false
+-- the id of a stored row
+abbrev pub row_id : Row → ℤ
+row_id r = id_in (rowid r)
 
--- The ids of the members are column values, as row ids in SQLite always are.
-abbrev pub HaveColumnIds : List MemberRow → Type 0
-HaveColumnIds = AllByRecursion (λ m. fits_i64 m.id ≡ true)
+-- SQLite has ids for this many new rows. Each id in the table is a column value, and no id is above
+-- that of the last row, because SQLite keeps rows in the order of their ids. A new row gets the id
+-- one above that of the last row, which is a column value until a table has had 2^63 - 1 rows.
+pub record HasFreeIds (count : ℕ) (rows : List Row) : Type 0 where
+  pub columns : AllByRecursion (λ r. fits_i64 (row_id r) ≡ true) rows
+  pub last_greatest : AllByRecursion (λ r. row_id r <ℤ next_rowid rows) rows
+  pub room : (next_rowid rows +ℤ pos count) ≤ℤ pos (2 ^ 63)
 
 -- The text has at most 2^20 octets, so a row with two of them fits into a record of SQLite. The
 -- longest text of this project is a card of 262,144 octets.

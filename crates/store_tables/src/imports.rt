@@ -1,6 +1,6 @@
 //! Statements over the table `import_key`.
 ghost use Rattle.store_tables.specs.QueryResults.{FindsRow};
-ghost use Rattle.store_tables.specs.Acceptance.{AcceptsImport, HasFreeId};
+ghost use Rattle.store_tables.specs.Acceptance.{AcceptsImport, HasFreeIds};
 ghost use Rattle.store_tables.specs.Books.{BookRow};
 ghost use Rattle.store_tables.specs.Imports.{import_cells, import_shown, has_key};
 ghost use Rattle.store_tables.specs.OnConnections.{
@@ -69,7 +69,7 @@ pub fn insert_import<S: Alter>(
     ensures rolled_back { UndoneOnErr S.Store tx.old.conn.now tx.new.conn.now result }
     ensures fails_from_outside { GivenImportsTx S.Store tx.old.conn.now tx.new.conn.now
         (λ imports. (bs : List BookRow) → HasBooks S.Store tx.old.conn.now bs
-        → HasFreeId (table_rows S.Store tx.old.conn.now 7)
+        → HasFreeIds 1 (table_rows S.Store tx.old.conn.now 7)
         → AcceptsImport bs imports book key.now
         → WriteFailsFromOutside S.Store tx.old.conn.now tx.new.conn.now result) }
 {

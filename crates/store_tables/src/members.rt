@@ -2,7 +2,7 @@
 //! card.
 ghost use Rattle.store_tables.specs.QueryResults.{AreRowsInOrder, FindsRow, FindsFirstRow};
 ghost use Rattle.store_tables.specs.QueryResults.{count_value};
-ghost use Rattle.store_tables.specs.Acceptance.{AcceptsMember, HasFreeId, HaveColumnIds};
+ghost use Rattle.store_tables.specs.Acceptance.{AcceptsMember, HasFreeIds};
 ghost use Rattle.store_tables.specs.Books.{BookRow};
 ghost use Rattle.store_tables.specs.Members.{
   by_changed,
@@ -38,6 +38,7 @@ ghost use Rattle.store_tables.specs.OnConnections.{
 };
 ghost use Rattle.std.specs.Prelude.{
   [],
+  ◌+◌,
   ◌∷◌,
   ◌≡◌,
   IfOk,
@@ -46,6 +47,7 @@ ghost use Rattle.std.specs.Prelude.{
   filter,
   length,
   option_copied,
+  ℕ,
 };
 
 use sqlite::{Alter, Connection, Error, Row, Transaction, params};
@@ -149,11 +151,14 @@ pub fn put_member<S: Alter>(
         (λ _. OnOk result (WritesOnly S.Store tx.old.conn.now tx.new.conn.now 4)) }
     ensures obeys { GivenMembersTx S.Store tx.old.conn.now tx.new.conn.now
         (λ _. OnOk result (ObeyTables S.Store tx.new.conn.now)) }
+    ensures takes_one_id { GivenMembersTx S.Store tx.old.conn.now tx.new.conn.now
+        (λ _. (count : ℕ) → HasFreeIds (count + 1) (table_rows S.Store tx.old.conn.now 4)
+        → OnOk result (HasFreeIds count (table_rows S.Store tx.new.conn.now 4))) }
     ensures no_commit { NoCommit S.Store tx.old.conn.now tx.new.conn.now }
     ensures rolled_back { UndoneOnErr S.Store tx.old.conn.now tx.new.conn.now result }
     ensures fails_from_outside { GivenMembersTx S.Store tx.old.conn.now tx.new.conn.now
         (λ ms. (bs : List BookRow) → HasBooks S.Store tx.old.conn.now bs
-        → HasFreeId (table_rows S.Store tx.old.conn.now 4) → HaveColumnIds ms
+        → HasFreeIds 1 (table_rows S.Store tx.old.conn.now 4)
         → AcceptsMember bs ms book uid.now changed (option_copied card.entry)
         → WriteFailsFromOutside S.Store tx.old.conn.now tx.new.conn.now result) }
 {
@@ -183,8 +188,8 @@ pub fn forget_members<S: Alter>(
         (λ _. OnOk result (ObeyTables S.Store tx.new.conn.now)) }
     ensures no_commit { NoCommit S.Store tx.old.conn.now tx.new.conn.now }
     ensures rolled_back { UndoneOnErr S.Store tx.old.conn.now tx.new.conn.now result }
-    ensures fails_from_outside {
-        WriteFailsFromOutside S.Store tx.old.conn.now tx.new.conn.now result }
+    ensures fails_from_outside { WriteFailsFromOutside S.Store tx.old.conn.now tx.new.conn.now
+        result }
 {
     tx.execute(
         "DELETE FROM member WHERE book = ?1 AND card IS NULL AND changed <= ?2",
