@@ -17,8 +17,8 @@ fn slot_expiry(slot: &Option<Slot>, patience: u64) -> Option<u64>
     }
 }
 
-/// The earlier of two times.
-fn earlier(first: Option<u64>, second: Option<u64>) -> Option<u64>
+/// The earlier of two times at which something first holds. `None` is never.
+pub fn earlier(first: Option<u64>, second: Option<u64>) -> Option<u64>
     ensures { (test other : ℕ → Bool) → IsFirstTime test first → IsFirstTime other second
         → IsFirstTime (λ now. test now || other now) result }
 {

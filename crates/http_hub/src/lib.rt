@@ -8,6 +8,7 @@ mod link;
 mod places;
 mod slot;
 
+pub use expiry::earlier;
 pub use hub::Hub;
 pub use link::Link;
 pub use slot::Slot;

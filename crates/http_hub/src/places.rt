@@ -22,7 +22,8 @@ fn first_free(slots: &[Option<Slot>]) -> Option<usize>
     None
 }
 
-/// A smaller bound on the places that have a connection, if the places below this one are free.
+/// One past the last place below `end` that has a connection, or 0. That bounds the places of all
+/// connections if `end` does.
 pub(crate) fn last_end(slots: &[Option<Slot>], end: usize) -> usize
     requires below { AreOpenBelow slots.now end }
     requires within { end ≤ length slots.now }

@@ -1,5 +1,5 @@
 //! Waits until a connection of a server, or its listener, is ready.
-ghost use Rattle.std.specs.Prelude.{◌≡◌, ◌↔◌, ◌||◌, ℕ, Bool, false, IfErr, OnOk, IsTrue, length};
+ghost use Rattle.std.specs.Prelude.{◌≡◌, ◌↔◌, ℕ, Bool, false, IfErr, OnOk, IsTrue, length};
 ghost use Rattle.http_hub.specs.Links.{IsFirstTime};
 ghost use Rattle.hub_server.specs.EndpointRuns.{ReachesByWait, FailsAtWait};
 ghost use Rattle.hub_server.specs.Seats.{seats_after_wait};
@@ -13,18 +13,7 @@ use crate::limits::ServeLimits;
 use crate::listener_state::ListenerState;
 use crate::seat::Seat;
 use crate::server::Server;
-
-/// The earlier of two times.
-fn earlier(first: Option<u64>, second: Option<u64>) -> Option<u64>
-    ensures { (test other : ℕ → Bool) → IsFirstTime test first → IsFirstTime other second
-        → IsFirstTime (λ time. test time || other time) result }
-{
-    match (first, second) {
-        (Some(first), Some(second)) => Some(first.min(second)),
-        (Some(first), None) => Some(first),
-        (None, second) => second,
-    }
-}
+use http_hub::earlier;
 
 /// A new turn for each connection that is ready, or was cut off at the end of its turn.
 fn begin_turns(seats: &mut [Seat], ready: &[bool])
