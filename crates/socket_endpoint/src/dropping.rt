@@ -1,12 +1,10 @@
 //! Reads the input of a closed connection, and drops it.
-ghost use Rattle.std.specs.Prelude.{◌≤◌};
+ghost use Rattle.std.specs.Prelude.{◌≡◌, ◌<◌, ◌≤◌};
 ghost use Rattle.socket_endpoint.specs.Streams.{ReadsCount};
+ghost use Rattle.socket_endpoint.specs.declared.dropping.Dropped.{Dropped as TheEnd};
 
 use crate::transfers::{is_interrupted, would_wait};
 use std::io::Read;
-
-/// The most reads of one look at a connection, so that the others have their turn.
-const READS_MAX: u32 = 16;
 
 /// How a look at the input of a closed connection ended.
 #[derive(Clone, Copy, Debug, PartialEq, Eq)]
@@ -19,32 +17,25 @@ pub(crate) enum Dropped {
     More,
 }
 
-/// Reads octets and drops them, at most `most`. Returns their number, and how it ended.
+/// Reads octets once and drops them, at most `most`. Returns their number, and what to expect of
+/// the next read. One read, so that however much a client sends, the others have their turn.
 pub(crate) fn drop_input<R: Read>(reader: &mut R, room: &mut [u8], most: u64) -> (u64, Dropped)
     ensures within { result.0 ≤ most }
     ensures read { ReadsCount result.0 (R.remaining reader.old) (R.remaining reader.new) }
+    ensures more { 0 < result.0 → result.1 ≡ TheEnd.More }
 {
-    let mut count: u64 = 0;
-    for _read in 0..READS_MAX {
-        let Ok(left) = usize::try_from(most - count) else {
-            return (count, Dropped::More);
-        };
-        let len = left.min(room.len());
-        if len == 0 {
-            return (count, Dropped::More);
-        }
-        match reader.read(&mut room[..len]) {
-            Ok(0) => return (count, Dropped::Ended),
-            Ok(read) => count += read as u64,
-            Err(error) => {
-                if would_wait(&error) {
-                    return (count, Dropped::NoneNow);
-                }
-                if !is_interrupted(&error) {
-                    return (count, Dropped::Ended);
-                }
-            }
-        }
+    let len = match usize::try_from(most) {
+        Ok(most) => most.min(room.len()),
+        Err(_) => room.len(),
+    };
+    if len == 0 {
+        return (0, Dropped::More);
     }
-    (count, Dropped::More)
+    match reader.read(&mut room[..len]) {
+        Ok(0) => (0, Dropped::Ended),
+        Ok(count) => (count as u64, Dropped::More),
+        Err(error) if would_wait(&error) => (0, Dropped::NoneNow),
+        Err(error) if is_interrupted(&error) => (0, Dropped::More),
+        Err(_) => (0, Dropped::Ended),
+    }
 }

@@ -43,7 +43,7 @@ impl Linger {
         DROPPED_OCTETS_MAX.saturating_sub(self.dropped)
     }
 
-    /// Records that so many octets were dropped.
+    /// Records that `count` octets were dropped.
     pub(crate) fn note_dropped(&mut self, count: u64, now: u64)
         ensures { self.new ≡ linger_after self.old count now }
     {
