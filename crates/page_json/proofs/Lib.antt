@@ -4,3 +4,5 @@ pub mod OnePageLemmas
 pub mod OneFaultLemmas
 pub mod ReportableLemmas
 pub mod WrittenLemmas
+pub mod TokenLemmas
+pub mod CardTextLemmas

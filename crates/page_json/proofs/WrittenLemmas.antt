@@ -1,37 +1,13 @@
--- The written value of a page: without floats, nested 3 deep, and it encodes the page.
-use Rattle.std.proofs.Common.{◌≡◌, ◌≤◌, List, [], ◌∷◌, map, false, refl, arith}
+-- The written value of a page encodes the page.
+use Rattle.std.proofs.Common.{List, [], ◌∷◌, map, refl}
 use Rattle.std.specs.List.{AllByRecursion}
-use Rattle.serde_json.specs.Data.{depth, items_depth}
-use Rattle.serde_json.specs.View.{items_of}
-use Rattle.serde_json.specs.Read.{max_depth}
-use Rattle.serde_json.specs.Written.{has_float, items_have_float}
 use Rattle.book_model.specs.declared.page.Entry.{Entry}
 use Rattle.book_model.specs.declared.page.Entry.TheVariants.{Changed, Removed}
 use Rattle.book_model.specs.declared.page.Page.{Page}
-use Rattle.page_json.specs.PageTexts.{MemberTexts, changed, removed, PageTexts, HasVersion, DescribeEntries, DescribesEntry}
+use Rattle.page_json.specs.PageTexts.{HasVersion, DescribeEntries, DescribesEntry}
 use Rattle.page_json.specs.PageValues.{EncodeMembers, member_value, page_value}
 use Rattle.page_json.specs.PageJson.{PageOf}
 use Rattle.page_json.specs.WrittenPages.{IsWellFormedPage, IsWellFormedEntry, SpellsItsCard, member_texts, page_texts}
-
--- ---- the value
-
-members_have_none : (ms : List MemberTexts) → items_have_float (items_of (map member_value ms)) ≡ false
-members_have_none [] = refl
-members_have_none (changed uid version text ∷ ms) = members_have_none ms
-members_have_none (removed uid ∷ ms) = members_have_none ms
-
-pub page_has_no_float : (page : PageTexts) → has_float (page_value page) ≡ false
-page_has_no_float page = rw (members_have_none page.members) refl
-
-members_are_shallow : (ms : List MemberTexts) → items_depth (items_of (map member_value ms)) ≤ 1
-members_are_shallow [] = omega arith
-members_are_shallow (changed uid version text ∷ ms) = omega (arith, members_are_shallow ms)
-members_are_shallow (removed uid ∷ ms) = omega (arith, members_are_shallow ms)
-
-pub page_is_shallow : (page : PageTexts) → depth (page_value page) ≤ max_depth
-page_is_shallow page = omega (arith, members_are_shallow page.members)
-
--- ---- the encoded page
 
 has_version : (e : Entry) → IsWellFormedEntry e → HasVersion (member_texts e)
 has_version (Changed uid version card) is = is.0

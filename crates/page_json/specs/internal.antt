@@ -1,1 +1,2 @@
 pub mod ParsedTexts
+pub mod WrittenTokens

@@ -1,9 +1,11 @@
 //! Writes and reads a page of a report as JSON (RFC 8259).
 #![tactic(auto)]
 
+mod card_texts;
 mod fault;
 pub mod laws;
 mod member;
+mod members;
 mod parts;
 mod reading;
 mod writing;

@@ -1,73 +1,96 @@
 //! Writes the JSON text of a page.
-ghost use Rattle.std.specs.Prelude.{◌≡◌, IfOk, OnOk, map, string_bytes};
+ghost use Rattle.std.specs.Prelude.{◌≡◌, IfOk, OnOk};
 ghost use Rattle.std.specs.List.{AllByRecursion};
-ghost use Rattle.serde_json.specs.View.{view};
-ghost use Rattle.vcard_text.specs.Cards.{canonical_text};
-ghost use Rattle.vcard_text.specs.Spelling.{Spells};
+ghost use Rattle.page_json.specs.PageTexts.{changed, removed};
 ghost use Rattle.page_json.specs.PageValues.{member_value, page_value};
 ghost use Rattle.page_json.specs.PageJson.{IsTextOfPage};
 ghost use Rattle.page_json.specs.WrittenPages.{IsWellFormedPage, SpellsItsCard, member_texts};
 ghost use Rattle.page_json.specs.WrittenPages.{page_texts, report_text};
+ghost use Rattle.page_json.specs.internal.WrittenTokens.{AppendsTokens, value_tokens};
+ghost use Rattle.page_json.specs.internal.WrittenTokens.{entries_tokens};
 
+use crate::card_texts::write_card_text;
 use crate::member::{STATUS_NOT_FOUND, STATUS_OK};
+use crate::members::{write_number, write_text};
 use book_model::{Entry, Page};
-use serde_json::{Value, json};
+use json::Writer;
 use std::alloc::Global;
 use sync_core::token_text;
-use vcard_text::{Card, NoMemory, write_card};
+use vcard_text::NoMemory;
 
-/// The card's canonical text.
-fn card_text(alloc: Global, card: &Card) -> Result<String, NoMemory>
-    ensures text { IfOk result (λ text. string_bytes text ≡ canonical_text card.now) }
-    ensures read_back { OnOk result (Spells (canonical_text card.now) card.now) }
+/// Writes the object of a live member, whose card has this text.
+fn write_changed(out: &mut Writer, uid: &str, version: u64, text: &str) -> Result<(), NoMemory>
+    ensures { AppendsTokens result out.old out.new
+        (value_tokens (member_value (changed uid.now version text.now))) }
 {
-    let text = write_card(alloc, card)?;
-    Ok(String::from_utf8(text).unwrap())
+    out.begin_object()?;
+    write_text(out, "card", text)?;
+    write_number(out, "status", STATUS_OK)?;
+    write_text(out, "uid", uid)?;
+    write_number(out, "version", version)?;
+    Ok(out.end_object()?)
 }
 
-/// The JSON value of a member.
-fn member_value(alloc: Global, entry: &Entry) -> Result<Value, NoMemory>
-    ensures value { IfOk result (λ value. view value ≡ member_value (member_texts entry.now)) }
+/// Writes the object of a removed member.
+fn write_removed(out: &mut Writer, uid: &str) -> Result<(), NoMemory>
+    ensures { AppendsTokens result out.old out.new
+        (value_tokens (member_value (removed uid.now))) }
+{
+    out.begin_object()?;
+    write_number(out, "status", STATUS_NOT_FOUND)?;
+    write_text(out, "uid", uid)?;
+    Ok(out.end_object()?)
+}
+
+/// Writes the object of an entry. `text` and `line` are buffers for its card's text.
+fn write_entry(
+    out: &mut Writer,
+    text: &mut String,
+    line: &mut String,
+    entry: &Entry,
+) -> Result<(), NoMemory>
+    ensures tokens { AppendsTokens result out.old out.new
+        (value_tokens (member_value (member_texts entry.now))) }
     ensures card { OnOk result (SpellsItsCard entry.now) }
 {
     match entry {
         Entry::Changed { uid, version, card } => {
-            let text = card_text(alloc, card)?;
-            let (uid, version) = (uid.as_str(), *version);
-            let status = STATUS_OK;
-            Ok(json!(in alloc; {"card": text, "status": status, "uid": uid, "version": version})?)
+            write_card_text(text, line, card)?;
+            write_changed(out, uid.as_str(), *version, text.as_str())
         }
-        Entry::Removed { uid } => {
-            let uid = uid.as_str();
-            let status = STATUS_NOT_FOUND;
-            Ok(json!(in alloc; {"status": status, "uid": uid})?)
-        }
+        Entry::Removed { uid } => write_removed(out, uid.as_str()),
     }
 }
 
-/// The JSON values of the members, in order.
-fn member_values(alloc: Global, entries: &[Entry]) -> Result<Vec<Value>, NoMemory>
-    ensures values { IfOk result (λ values. map view values.items
-        ≡ map member_value (map member_texts entries.now)) }
+/// Writes the objects of the entries, in order.
+fn write_entries(alloc: Global, out: &mut Writer, entries: &[Entry]) -> Result<(), NoMemory>
+    ensures tokens { AppendsTokens result out.old out.new (entries_tokens entries.now) }
     ensures cards { OnOk result (AllByRecursion SpellsItsCard entries.now) }
 {
-    let mut values = Vec::new(alloc);
+    let mut text = String::new(alloc);
+    let mut line = String::new(alloc);
     for entry in entries {
-        let value = member_value(alloc, entry)?;
-        values.push(value)?;
+        write_entry(out, &mut text, &mut line, entry)?;
     }
-    Ok(values)
+    Ok(())
 }
 
-/// The JSON value of a page.
-fn page_value(alloc: Global, page: &Page) -> Result<Value, NoMemory>
-    ensures value { IfOk result (λ value. view value ≡ page_value (page_texts page.now)) }
+/// Writes the object of a page.
+fn write_page(alloc: Global, out: &mut Writer, page: &Page) -> Result<(), NoMemory>
+    ensures tokens { AppendsTokens result out.old out.new
+        (value_tokens (page_value (page_texts page.now))) }
     ensures cards { OnOk result (AllByRecursion SpellsItsCard page.now.entries) }
 {
-    let members = member_values(alloc, page.entries.as_slice())?;
     let token = token_text(alloc, &page.token())?;
-    let truncated = page.truncated;
-    Ok(json!(in alloc; {"members": members, "token": token, "truncated": truncated})?)
+    out.begin_object()?;
+    out.key("members")?;
+    out.begin_array()?;
+    write_entries(alloc, out, page.entries.as_slice())?;
+    out.end_array()?;
+    write_text(out, "token", token.as_str())?;
+    out.key("truncated")?;
+    out.boolean(page.truncated)?;
+    Ok(out.end_object()?)
 }
 
 /// The page as JSON (RFC 8259) in UTF-8, without white space: an object of `members`, `token` and
@@ -81,6 +104,7 @@ pub fn write_report(alloc: Global, page: &Page) -> Result<Vec<u8>, NoMemory>
     ensures read_back { IfOk result
         (λ text. IsWellFormedPage page.now → IsTextOfPage text.items page.now) }
 {
-    let value = page_value(alloc, page)?;
-    Ok(value.to_vec(alloc)?)
+    let mut out = Writer::new(Vec::new(alloc));
+    write_page(alloc, &mut out, page)?;
+    Ok(out.into_inner())
 }
