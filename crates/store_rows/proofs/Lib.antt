@@ -13,3 +13,4 @@ pub mod CardLemmas
 pub mod LineLemmas
 pub mod AddedLemmas
 pub mod OpenLemmas
+pub mod StripLemmas

@@ -10,3 +10,4 @@ pub mod ForgetLaws
 pub mod ReadLaws
 pub mod AddLaws
 pub mod OpenLaws
+pub mod internal

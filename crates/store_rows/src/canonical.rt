@@ -1,0 +1,136 @@
+//! Tests that a stored text is canonical. Each line of the card is compared with the octets of the
+//! text in place, so that the card's canonical text is not written.
+ghost use Rattle.std.specs.Prelude.{◌≡◌, ◌↔◌, IfOk, IsTrue, flat_map, map};
+ghost use Rattle.vcard_lines.specs.Folding.{folded_text};
+ghost use Rattle.vcard_lines.specs.Grammar.{line_text};
+ghost use Rattle.vcard_text.specs.Cards.{canonical_text};
+ghost use Rattle.store_rows.specs.internal.Stripping.{Strips, short_text};
+
+use std::alloc::Global;
+use vcard_lines::laws::folding_is_unique;
+use vcard_lines::{Line, write_folded, write_line};
+use vcard_text::{Card, NoMemory};
+
+/// The most octets of a line that is written without a fold.
+const PHYSICAL_OCTETS_MAX: usize = 75;
+
+/// The rest of the text after the part. `None` if the text doesn't begin with the part.
+fn strip<'a>(text: &'a [u8], part: &[u8]) -> Option<&'a [u8]>
+    ensures { Strips text.now part.now result }
+{
+    text.strip_prefix(part)
+}
+
+/// Whether the line has only a name and a value, and is written without a fold.
+fn is_short(line: &Line) -> bool
+    ensures { IsTrue result
+        → (folded_text (line_text line.now) ≡ short_text line.now.name line.now.value) }
+{
+    // A law without effect: a line has one folding.
+    folding_is_unique();
+
+    if line.group.is_some() {
+        return false;
+    }
+    if !line.params.as_slice().is_empty() {
+        return false;
+    }
+    line.name.as_str().len() + line.value.as_str().len() < PHYSICAL_OCTETS_MAX
+}
+
+/// The rest of the text after a short line.
+fn strip_short<'a>(text: &'a [u8], name: &[u8], value: &[u8]) -> Option<&'a [u8]>
+    ensures { Strips text.now (short_text name.now value.now) result }
+{
+    let Some(after_name) = strip(text, name) else {
+        return None;
+    };
+    let Some(after_colon) = strip(after_name, b":") else {
+        return None;
+    };
+    let Some(after_value) = strip(after_colon, value) else {
+        return None;
+    };
+    strip(after_value, b"\r\n")
+}
+
+/// The rest of the text after any line. `unfolded` and `folded` are buffers for its text.
+fn strip_folded<'a>(
+    text: &'a [u8],
+    line: &Line,
+    unfolded: &mut String,
+    folded: &mut String,
+) -> Result<Option<&'a [u8]>, NoMemory>
+    ensures { IfOk result (Strips text.now (folded_text (line_text line.now))) }
+{
+    write_line(unfolded, line)?;
+    folded.clear();
+    write_folded(folded, unfolded.as_str())?;
+    Ok(strip(text, folded.as_bytes()))
+}
+
+/// The rest of the text after a line. Most lines are short and need no buffer.
+fn strip_line<'a>(
+    text: &'a [u8],
+    line: &Line,
+    unfolded: &mut String,
+    folded: &mut String,
+) -> Result<Option<&'a [u8]>, NoMemory>
+    ensures { IfOk result (Strips text.now (folded_text (line_text line.now))) }
+{
+    if is_short(line) {
+        return Ok(strip_short(
+            text,
+            line.name.as_str().as_bytes(),
+            line.value.as_str().as_bytes(),
+        ));
+    }
+    strip_folded(text, line, unfolded, folded)
+}
+
+/// The rest of the text after the lines, each folded.
+fn strip_lines<'a>(
+    alloc: Global,
+    text: &'a [u8],
+    lines: &[Line],
+) -> Result<Option<&'a [u8]>, NoMemory>
+    ensures { IfOk result (Strips text.now (flat_map folded_text (map line_text lines.now))) }
+{
+    let mut unfolded = String::new(alloc);
+    let mut folded = String::new(alloc);
+    let mut rest = text;
+    for line in lines {
+        match strip_line(rest, line, &mut unfolded, &mut folded)? {
+            Some(after) => rest = after,
+            None => return Ok(None),
+        }
+    }
+    Ok(Some(rest))
+}
+
+/// The rest of the text after the card's canonical text.
+fn strip_card<'a>(alloc: Global, text: &'a [u8], card: &Card) -> Result<Option<&'a [u8]>, NoMemory>
+    ensures { IfOk result (Strips text.now (canonical_text card.now)) }
+{
+    // A law without effect: a line has one folding.
+    folding_is_unique();
+
+    let Some(rest) = strip(text, b"BEGIN:VCARD\r\nVERSION:4.0\r\n") else {
+        return Ok(None);
+    };
+    match strip_lines(alloc, rest, card.lines())? {
+        Some(rest) => Ok(strip(rest, b"END:VCARD\r\n")),
+        None => Ok(None),
+    }
+}
+
+/// Whether the text is the card's canonical text, octet for octet. Allocates two buffers at most,
+/// for one line that is folded or has a group or parameters. The only `Err` is out of memory.
+pub fn is_canonical_text(alloc: Global, text: &str, card: &Card) -> Result<bool, NoMemory>
+    ensures { IfOk result (λ same. IsTrue same ↔ (text.now ≡ canonical_text card.now)) }
+{
+    match strip_card(alloc, text.as_bytes(), card)? {
+        Some(rest) => Ok(rest.is_empty()),
+        None => Ok(false),
+    }
+}
