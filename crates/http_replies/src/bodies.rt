@@ -9,8 +9,8 @@ ghost use Rattle.reply_json.specs.ReplyValues.{fault_value};
 use book_commands::Reply;
 use page_json::write_report;
 use reply_json::{
-    books_value, card_value, created_value, fault_value, forgot_value, gone_value, imported_value,
-    moved_value, people_value, put_value, refusal_value, tally_value,
+    books_value, created_value, fault_value, forgot_value, gone_value, imported_value, moved_value,
+    people_value, put_value, refusal_value, tally_value, write_card_reply,
 };
 use serde_json::Value;
 use std::alloc::Global;
@@ -55,7 +55,7 @@ pub(crate) fn body_of(alloc: Global, reply: Reply) -> Result<Vec<u8>, NoMemory>
         Reply::Created { id } => text_of(alloc, created_value(alloc, id)),
         Reply::Books(books) => text_of(alloc, books_value(alloc, &books)),
         Reply::Card { uid, version, card } => {
-            text_of(alloc, card_value(alloc, uid, version, &card))
+            write_card_reply(alloc, uid.as_str(), version, &card)
         }
         Reply::Put(answer) => text_of(alloc, put_value(alloc, answer)),
         Reply::Gone { number } => text_of(alloc, gone_value(alloc, number)),

@@ -9,6 +9,9 @@ use base_types::NoMemory;
 use http::StatusCode;
 use std::alloc::Global;
 
+/// Most heads are shorter. A longer one makes the octets of the reply grow.
+const HEAD_OCTETS: usize = 256;
+
 /// A reply before it is formatted.
 #[derive(Drop)]
 pub(crate) struct Message {
@@ -76,13 +79,13 @@ fn length_text(alloc: Global, body: &[u8]) -> Result<String, NoMemory>
     Ok(format!(in alloc; "{length}")?)
 }
 
-/// The head of the reply, with the empty line that ends it.
+/// The head of the reply, with the empty line that ends it. It has capacity for the body after it.
 fn head_of(alloc: Global, message: &Message, close: bool) -> Result<String, NoMemory>
     ensures { IfOk result (λ head.
         string_bytes head ≡ head_octets (message_value message.now) close) }
 {
     let length = length_text(alloc, message.body.as_slice())?;
-    let mut head = String::new(alloc);
+    let mut head = String::with_capacity(alloc, message.body.len() + HEAD_OCTETS)?;
     push_status(&mut head, message.status)?;
     push_field(&mut head, "Content-Type", message.media_type)?;
     push_allow(&mut head, message.allow)?;

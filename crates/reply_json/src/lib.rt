@@ -4,12 +4,14 @@
 //! Each function returns `NoMemory` if an allocation fails.
 #![tactic(auto)]
 
+mod card;
 mod lists;
 mod refusals;
 mod values;
 
+pub use card::write_card_reply;
 pub use refusals::{fault_value, refusal_value};
 pub use values::{
-    books_value, card_value, created_value, forgot_value, gone_value, imported_value, moved_value,
+    books_value, created_value, forgot_value, gone_value, imported_value, moved_value,
     people_value, put_value, tally_value,
 };

@@ -1,8 +1,7 @@
 //! Replies as JSON values. The members of each object are in byte order of name.
-ghost use Rattle.std.specs.Prelude.{◌≡◌, IfOk, string_bytes};
+ghost use Rattle.std.specs.Prelude.{◌≡◌, IfOk};
 ghost use Rattle.serde_json.specs.View.{view};
-ghost use Rattle.vcard_text.specs.Cards.{canonical_text};
-ghost use Rattle.reply_json.specs.ReplyValues.{books_value, card_value, created_value};
+ghost use Rattle.reply_json.specs.ReplyValues.{books_value, created_value};
 ghost use Rattle.reply_json.specs.ReplyValues.{forgot_value, gone_value, imported_value};
 ghost use Rattle.reply_json.specs.ReplyValues.{moved_value, people_value, put_object, put_value};
 ghost use Rattle.reply_json.specs.ReplyValues.{tally_value};
@@ -12,7 +11,7 @@ use book_model::{BookLine, ImportTally, Moved, PutAnswer, Tally};
 use card_core::Expansion;
 use serde_json::{Value, json};
 use std::alloc::Global;
-use vcard_text::{Card, Items, NoMemory, Text, write_card};
+use vcard_text::{Items, NoMemory};
 
 /// `{"id":1}`: the id of the new book.
 pub fn created_value(alloc: Global, id: u64) -> Result<Value, NoMemory>
@@ -80,23 +79,6 @@ pub fn books_value(alloc: Global, books: &Items<BookLine>) -> Result<Value, NoMe
 {
     let books = book_values(alloc, books.as_slice())?;
     Ok(json!(in alloc; {"books": books})?)
-}
-
-/// The card's canonical text.
-fn card_text(alloc: Global, card: &Card) -> Result<String, NoMemory>
-    ensures { IfOk result (λ text. string_bytes text ≡ canonical_text card.now) }
-{
-    let text = write_card(alloc, card)?;
-    Ok(String::from_utf8(text).unwrap())
-}
-
-/// `{"card":"..","uid":"a","version":1}`: the card's canonical text, its UID and its version.
-pub fn card_value(alloc: Global, uid: Text, version: u64, card: &Card) -> Result<Value, NoMemory>
-    ensures { IfOk result (λ value. view value ≡ card_value uid version card.now) }
-{
-    let text = card_text(alloc, card)?;
-    let uid = uid.into_string();
-    Ok(json!(in alloc; {"card": text, "uid": uid, "version": version})?)
 }
 
 /// The eleven numbers of a tally, by name.

@@ -10,9 +10,6 @@ returns-in-Books c =
     rw c.in-Books.is
     (c.text_of-in-Books.ensures _ (books_have_no_float c.in-Books.books) c.books_value.ensures)
 
-pub returns-in-Card : goal.returns-in-Card
-returns-in-Card c = rw c.in-Card.is (c.text_of-in-Card.ensures _ refl c.card_value.ensures)
-
 pub returns-in-Gone : goal.returns-in-Gone
 returns-in-Gone c = rw c.in-Gone.is (c.text_of-in-Gone.ensures _ refl c.gone_value.ensures)
 

@@ -16,6 +16,6 @@ returns c =
       c.in_ok-push_allow.ensures,
       c.in_ok-push_field.ensures,
       c.in_ok-push_status.ensures,
-      c.new-head.ensures.bytes,
+      c.in_ok-head.ensures.bytes,
     )
     refl
