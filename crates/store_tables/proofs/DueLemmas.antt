@@ -1,12 +1,12 @@
 -- The results of the ordered queries over members.
-use Rattle.std.proofs.Common.{◌≡◌, ℕ, ℤ, false, true, not, ◌≤◌, List, [], ◌∷◌, filter, length, Option, Some, None, is_some, IfOk, Result, refl, ◌∙◌}
+use Rattle.std.proofs.Common.{◌≡◌, ℕ, ℤ, pos, false, true, not, ◌≤◌, List, [], ◌∷◌, filter, length, Option, Some, None, is_some, IfOk, Result, refl, ◌∙◌}
 use Rattle.std.specs.declared.alloc.Global.{Global}
 use Rattle.std.specs.Prelude.{Vec}
 use Rattle.sqlite.specs.declared.error.Error.{Error}
 use Rattle.sqlite.specs.declared.types.Value.TheVariants.{Int, Text}
 use Rattle.sqlite.specs.Order.{Row}
 use Rattle.sqlite.specs.Query.{output_cmp}
-use Rattle.sqlite.specs.State.{State, Begins, Shown, QueriesRow}
+use Rattle.sqlite.specs.State.{State, Shown, QueriesRow}
 use Rattle.sqlite_sql.specs.declared.ops.CompareOp.TheVariants.{Eq, Gt}
 use Rattle.sqlite_typed.proofs.TestLemmas.{at_ints, at_or, at_not, at_is_null, then_term, last_term}
 use Rattle.sqlite_value.proofs.OrderLemmas.{value_cmp-Int, then-Equal}
@@ -14,7 +14,7 @@ use Rattle.store_tables.specs.QueryResults.{AreFirstRowsInOrder, AreRowsInOrder,
 use Rattle.store_tables.specs.Members.{MemberRow, member_row, member_cells, HoldMembers, is_member_due, is_in_book, is_removed_above, member_shown, number_shown, by_changed}
 use Rattle.store_tables.specs.Tables.{book_schema}
 use Rattle.store_tables.proofs.ForgetLemmas.{null_first, gone_card}
-use Rattle.store_tables.proofs.OrderLemmas.{first_rows, whole_rows, first_row, all_of}
+use Rattle.store_tables.proofs.OrderLemmas.{first_of, first_row, all_of}
 use Rattle.store_tables.proofs.Picks.{passes}
 use Rattle.store_tables.proofs.Queries.{due_text, due_query, due_tests, count_tests, removed_text, removed_query, members_text, members_query}
 use Rattle.store_tables.proofs.Texts.{due_is, removed_is, members_is}
@@ -26,22 +26,17 @@ there : (card : Option (List ℕ)) → not (Rattle.sqlite_typed.specs.Tests.is_n
 there None = refl
 there (Some t) = refl
 
-module _ (s : State) (book at base : ℤ) (ms : List MemberRow) (schema : s.now.schema ≡ book_schema) (has : HoldMembers (s.now.trees 4) ms) where
-  abbrev asked : Row
-  asked = Int book ∷ Int at ∷ Int base ∷ []
-
-  passing : (m : MemberRow) → passes 4 due_tests due_query.project (λ _. []) asked (member_row m) ≡ is_member_due book at base m
-  passing m =
-      then_term (at_ints false Eq m.book book) (then_term (at_ints false Gt m.changed at)
-      (last_term (at_or false _ _ (at_not false _ (at_is_null Text true null_first m.card) ∙ there m.card) (at_ints false Gt m.changed base))))
-
-  pub due_first : (most : ℕ) (rows : List Row) → length rows ≡ most → Begins due_text asked s rows → AreFirstRowsInOrder by_changed member_shown most (filter (is_member_due book at base) ms) rows
-  due_first = first_rows 4 due_tests due_query.project due_query.order asked member_cells member_row number_shown member_shown (is_member_due book at base) by_changed
-      (λ _. refl) (λ _. refl) passing (λ _. refl) by_change due_text _ due_is (λ _. refl) s ms schema has
-
-  pub due_whole : (new : State) (most : ℕ) (rows : List Row) → length rows ≤ most → Shown due_text asked s new rows → AreFirstRowsInOrder by_changed member_shown most (filter (is_member_due book at base) ms) rows
-  due_whole = whole_rows 4 due_tests due_query.project due_query.order asked member_cells member_row number_shown member_shown (is_member_due book at base) by_changed
-      (λ _. refl) (λ _. refl) passing (λ _. refl) by_change due_text _ due_is (λ _. refl) s ms schema has
+-- the first due members
+pub due_first : (old new : State) (book at base : ℤ) (most : ℕ) (ms : List MemberRow) (r : Result (Vec Row Global) Error) → old.now.schema ≡ book_schema → HoldMembers (old.now.trees 4) ms
+    → IfOk r (λ rows. Shown due_text (Int book ∷ Int at ∷ Int base ∷ Int (pos most) ∷ []) old new rows.items)
+    → IfOk r (λ rows. AreFirstRowsInOrder by_changed member_shown most (filter (is_member_due book at base) ms) rows.items)
+due_first old new book at base most ms r schema has =
+    let asked : Row = Int book ∷ Int at ∷ Int base ∷ Int (pos most) ∷ [] in
+    let passing : (m : MemberRow) → passes 4 due_tests due_query.project (λ _. []) asked (member_row m) ≡ is_member_due book at base m = λ m.
+    then_term (at_ints false Eq m.book book) (then_term (at_ints false Gt m.changed at)
+    (last_term (at_or false _ _ (at_not false _ (at_is_null Text true null_first m.card) ∙ there m.card) (at_ints false Gt m.changed base)))) in
+    first_of 4 due_tests due_query.project due_query.order asked member_cells member_row number_shown member_shown (is_member_due book at base) by_changed
+    (λ _. refl) (λ _. refl) passing (λ _. refl) by_change due_query.limit most refl due_text _ due_is (λ _. refl) old ms schema has new r
 
 -- the least removed row
 pub removed_first : (old new : State) (book horizon : ℤ) (ms : List MemberRow) (r : Result Row Error) → old.now.schema ≡ book_schema → HoldMembers (old.now.trees 4) ms

@@ -1,5 +1,5 @@
 -- The sorted result of a query over one table with ORDER BY, for any SQL text.
-use Rattle.std.proofs.Common.{inl, inr, ◌≡◌, ℕ, Bool, false, List, [], ◌∷◌, ◌++◌, ◌+◌, ◌<◌, ◌≤◌, map, filter, take, length, slice_index_or, IsPermutation, IfOk, Ok, Err, Result, is_lt, refl, sym, ap, ap₂, subst, ◌∙◌, arith}
+use Rattle.std.proofs.Common.{inl, inr, ◌≡◌, ℕ, Bool, false, List, [], ◌∷◌, ◌++◌, ◌+◌, ◌<◌, ◌≤◌, map, filter, take, length, slice_index_or, IsPermutation, IfOk, Ok, Err, Result, Option, Some, is_lt, refl, sym, ap, ap₂, subst, ◌∙◌, arith}
 use Rattle.std.specs.declared.cmp.Ordering.{Ordering}
 use Rattle.std.specs.declared.alloc.Global.{Global}
 use Rattle.std.specs.Prelude.{Vec}
@@ -14,9 +14,9 @@ use Rattle.sqlite.specs.Command.TheVariants.{Select}
 use Rattle.sqlite.specs.Listing.{understood, reads_listing}
 use Rattle.sqlite.specs.Order.{Row}
 use Rattle.sqlite.specs.Program.{overlay}
-use Rattle.sqlite.specs.Query.{Query, Output, IsSureAnswer, IsAnswer, output, output_cmp}
+use Rattle.sqlite.specs.Query.{Query, Output, IsSureAnswer, IsAnswer, as_count, limited, output, output_cmp}
 use Rattle.sqlite.specs.State.{State, Begins, Shown, QueriesRow, FailsToQuery}
-use Rattle.sqlite.specs.Term.{Term}
+use Rattle.sqlite.specs.Term.{Term, eval}
 use Rattle.sqlite.specs.Tree.{Trees}
 use Rattle.sqlite.proofs.Callers.{IsPlain, command_of, begins_as, first_as, reads_as}
 use Rattle.sqlite_trees.proofs.ListLemmas.{map-map, filter-map, pull_back, IsPermutation-filter}
@@ -51,10 +51,9 @@ module _ {X : Type 0} (tree : ℕ) (tests project : List Term) (order : List (Te
         ap is_lt (sym (comparing (slice_index_or ys (k + 1) d) (slice_index_or ys k d))) ∙ ap₂ (λ a b. is_lt (output_cmp q a b)) (sym (at (k + 1) below)) (sym (at k (omega (arith, below))))
         ∙ h k (out d) low (subst (λ n. k + 1 < n) (sym (length-map ys out)) below)
 
-    pub in_order : (db : Trees) (all : List X) → IsPermutation (map stored all) (map cells (db tree)) → (rows : List Row) → IsSureAnswer q db params rows → AreRowsInOrder compare show (filter test all) rows
-    in_order db all has rows h =
+    answer_in_order : (db : Trees) (all : List X) → IsPermutation (map stored all) (map cells (db tree)) → (rows : List Row) → IsAnswer q db params rows → AreRowsInOrder compare show (filter test all) rows
+    answer_in_order db all has rows a =
         let xs = filter test all in
-        let a : IsAnswer q db params rows = h Null in
         let picked : filter p (map stored all) ≡ map stored xs = filter-map p stored all ∙ (λ i. map stored (filter (λ x. passing x i) all)) in
         let staged : a.staged ≡ map (λ r. params ∷ r ∷ []) (filter p (db tree)) = a.grouped ∙ flat_filter p (λ r. params ∷ r ∷ []) (db tree) in
         let kept : a.kept ≡ map shape (filter p (map cells (db tree))) = a.distinct ∙ ap (map (output q)) staged ∙ map-map (output q) (λ r. params ∷ r ∷ []) (filter p (db tree)) ∙ shaped cells p shape tested same_shape (db tree) in
@@ -69,6 +68,9 @@ module _ {X : Type 0} (tree : ℕ) (tests project : List Term) (order : List (Te
           shown = a.shown ∙ ap (map (λ (o : Output). o.1)) back.2 ∙ map-map (λ (o : Output). o.1) out back.0;
         }
 
+    pub in_order : (db : Trees) (all : List X) → IsPermutation (map stored all) (map cells (db tree)) → (rows : List Row) → IsSureAnswer q db params rows → AreRowsInOrder compare show (filter test all) rows
+    in_order db all has rows h = answer_in_order db all has rows (h Null)
+
     fronts : (most : ℕ) (first rows : List Row) (xs : List X) → first ≡ take most rows → AreRowsInOrder compare show xs rows → AreFirstRowsInOrder compare show most xs first
     fronts most first rows xs front h = record { ordered = h.ordered; same = h.same; rises = h.rises; first = front ∙ ap (take most) h.shown }
 
@@ -79,19 +81,9 @@ module _ {X : Type 0} (tree : ℕ) (tests project : List Term) (order : List (Te
       held : IsPermutation (map stored all) (map cells (overlay s.now.trees [] tree))
       held = subst (λ rows. IsPermutation (map stored all) (map cells rows)) (sym (over s.now.trees)) has
 
-      -- a prefix of the result is its first rows
-      pub first_rows : (most : ℕ) (rows : List Row) → length rows ≡ most → Begins sql params s rows → AreFirstRowsInOrder compare show most (filter test all) rows
-      first_rows most rows count h =
-          let got = (begins_as sql _ s s book_schema schema _ is.0 is.2 is.1 rows h).1 in
-          fronts most rows (rows ++ got.0) _ (sym (take-append_seam rows got.0) ∙ ap (λ n. take n (rows ++ got.0)) count) (in_order (overlay s.now.trees []) all held (rows ++ got.0) got.1)
-
       -- the whole result
       pub all_rows : (new : State) (rows : List Row) → Shown sql params s new rows → AreRowsInOrder compare show (filter test all) rows
       all_rows new rows h = in_order (overlay s.now.trees []) all held rows (reads_as sql params s new book_schema schema _ is.0 is.2 is.1 rows h).answer
-
-      -- a result that is not longer than the limit is all of its first rows
-      pub whole_rows : (new : State) (most : ℕ) (rows : List Row) → length rows ≤ most → Shown sql params s new rows → AreFirstRowsInOrder compare show most (filter test all) rows
-      whole_rows new most rows count h = fronts most rows rows _ (sym (take_all most rows count)) (all_rows new rows h)
 
       pub all_of : (new : State) (r : Result (Vec Row Global) Error) → IfOk r (λ rows. Shown sql params s new rows.items) → IfOk r (λ rows. AreRowsInOrder compare show (filter test all) rows.items)
       all_of new (Ok rows) h = all_rows new rows.items h
@@ -106,3 +98,29 @@ module _ {X : Type 0} (tree : ℕ) (tests project : List Term) (order : List (Te
       first_row new (Err e) (inr h) = λ none.
           let got = all_rows new [] h.1 in
           nil_from_length _ (sym (length_permutation _ _ got.same) ∙ sym (length-map got.ordered show) ∙ ap length (sym got.shown))
+
+    -- the same with a LIMIT
+    module _ (limit : Term) (most : ℕ) (limits : as_count (eval limit (params ∷ [])) ≡ Some most) (sql : List ℕ) (names : List (List ℕ))
+        (is : (command_of (understood book_schema sql) ≡ Select (record { lets = []; body = record q { limit = limit } }) names) × (reads_listing book_schema sql ≡ false) × IsPlain (understood book_schema sql))
+        (over : (db : Trees) → overlay db [] tree ≡ db tree)
+        (s : State) (all : List X) (schema : s.now.schema ≡ book_schema) (has : IsPermutation (map stored all) (map cells (s.now.trees tree))) where
+      first_in_order : (db : Trees) → IsPermutation (map stored all) (map cells (db tree)) → (rows : List Row) → IsAnswer (record q { limit = limit }) db params rows → AreFirstRowsInOrder compare show most (filter test all) rows
+      first_in_order db there rows a =
+          let whole : List Row = map (λ (o : Output). o.1) a.ordered in
+          let unlimited : IsAnswer q db params whole = record {
+            staged = a.staged;
+            grouped = a.grouped;
+            kept = a.kept;
+            distinct = a.distinct;
+            ordered = a.ordered;
+            same = a.same;
+            sorted = a.sorted;
+            shown = refl;
+          } in
+          fronts most rows whole (filter test all) (a.shown ∙ ap (λ n. limited n whole) limits) (answer_in_order db all there whole unlimited)
+
+      pub first_of : (new : State) (r : Result (Vec Row Global) Error) → IfOk r (λ rows. Shown sql params s new rows.items) → IfOk r (λ rows. AreFirstRowsInOrder compare show most (filter test all) rows.items)
+      first_of new (Ok rows) h =
+          let held : IsPermutation (map stored all) (map cells (overlay s.now.trees [] tree)) = subst (λ stored_rows. IsPermutation (map stored all) (map cells stored_rows)) (sym (over s.now.trees)) has in
+          first_in_order (overlay s.now.trees []) held rows.items ((reads_as sql params s new book_schema schema _ is.0 is.2 is.1 rows.items h).answer Null)
+      first_of new (Err e) h = tt

@@ -55,7 +55,7 @@ abbrev pub find_query : Query
 find_query = picks 4 (op2 (Compare Eq Binary) (col 1 1) (col 0 0) ∷ op2 (Compare Eq Binary) (col 1 2) (col 0 1) ∷ []) (col 1 3 ∷ col 1 4 ∷ [])
 
 abbrev pub due_text : List ℕ
-due_text = codes "SELECT uid, changed, card FROM member WHERE book = ?1 AND changed > ?2 AND (card IS NOT NULL OR changed > ?3) ORDER BY changed"
+due_text = codes "SELECT uid, changed, card FROM member WHERE book = ?1 AND changed > ?2 AND (card IS NOT NULL OR changed > ?3) ORDER BY changed LIMIT ?4"
 
 abbrev pub due_tests : List Term
 due_tests =
@@ -63,7 +63,7 @@ due_tests =
     ∷ op2 Or (op1 Not (op2 (Is Binary) (col 1 4) (lit Null))) (op2 (Compare Gt Binary) (col 1 3) (col 0 2)) ∷ []
 
 abbrev pub due_query : Query
-due_query = record (picks 4 due_tests (col 1 2 ∷ col 1 3 ∷ col 1 4 ∷ [])) { order = (col 1 3, record { collation = Binary; descending = false }) ∷ [] }
+due_query = record (picks 4 due_tests (col 1 2 ∷ col 1 3 ∷ col 1 4 ∷ [])) { order = (col 1 3, record { collation = Binary; descending = false }) ∷ []; limit = col 0 3 }
 
 -- one table, sorted
 abbrev pub ordering : ℕ → List Term → List Term → List (Term × Key) → Query

@@ -64,7 +64,8 @@ pub all_keeps_fails : (old new : State) (r : Result (Vec Row Global) Error) → 
 unfolding understood everything
 all_keeps_fails old new r has = rows_fail all_keeps_text [] old new has (picks 9 [] all_keeps_terms) _ all_keeps_is (refl, refl) refl (λ db h. h) refl r
 
--- the query for the due members, at its start or at a later row
-pub first_due_fails : (old new : State) (book at base : ℤ) (e : Error) → old.now.schema ≡ book_schema → FailsToQuery due_text (Int book ∷ Int at ∷ Int base ∷ []) old new e → e ≢ SqliteFailure OutOfMemory → HasOutsideCause old new
+-- the query for the due members
+pub first_due_fails : (old new : State) (book at base most : ℤ) (r : Result (Vec Row Global) Error) → old.now.schema ≡ book_schema → IfErr r (FailsToQuery due_text (Int book ∷ Int at ∷ Int base ∷ Int most ∷ []) old new)
+    → IfErr r (λ e. e ≢ SqliteFailure OutOfMemory → HasOutsideCause old new)
 unfolding understood everything
-first_due_fails old new book at base e has = from_outside due_text (Int book ∷ Int at ∷ Int base ∷ []) old new has due_query _ due_is (refl, refl) refl (λ db h. h) refl e
+first_due_fails old new book at base most r has = rows_fail due_text (Int book ∷ Int at ∷ Int base ∷ Int most ∷ []) old new has due_query _ due_is (refl, refl) refl (λ db h. h) refl r

@@ -1,4 +1,4 @@
-//! The query for the due members of a sync report. Its rows are read one at a time.
+//! The query for the due members of a sync report.
 ghost use Rattle.store_tables.specs.QueryResults.{AreFirstRowsInOrder};
 ghost use Rattle.store_tables.specs.Members.{by_changed, member_shown, is_member_due};
 ghost use Rattle.store_tables.specs.OnConnections.{
@@ -10,21 +10,19 @@ ghost use Rattle.store_tables.specs.OnConnections.{
 ghost use Rattle.std.specs.Prelude.{IfOk, filter};
 
 use sqlite::{Alter, Connection, Error, Row, params};
-use std::alloc::Global;
 
 /// Returns at most `most` due members of the book with this id, in the order of their numbers. A
 /// member is due if its number is above `at` and it is live or was removed above `base`. Each row
 /// is the UID, the number and the card; the card is null for a removed member.
 ///
-/// The index of the key `(book, changed)` gives the order, so no member after the last returned one
-/// is read.
+/// The index of the key `(book, changed)` gives the order, and the library reads no member after
+/// the last returned one: it reads ahead no further than the LIMIT.
 pub fn first_due<S: Alter>(
-    alloc: Global,
     conn: &mut Connection<S>,
     book: i64,
     at: i64,
     base: i64,
-    most: usize,
+    most: u32,
 ) -> Result<Vec<Row>, Error>
     ensures first { GivenMembers S.Store conn.old conn.new
         (λ ms. IfOk result
@@ -34,18 +32,11 @@ pub fn first_due<S: Alter>(
     ensures fails_from_outside { FailsFromOutside S.Store conn.old conn.new result }
     ensures reads_only { OnlyReads S.Store conn.old conn.new }
 {
-    let mut first = Vec::new(alloc);
-    let mut rows = conn.query(
+    let most = i64::from(most);
+    conn.query_all(
         "SELECT uid, changed, card FROM member \
          WHERE book = ?1 AND changed > ?2 AND (card IS NOT NULL OR changed > ?3) \
-         ORDER BY changed",
-        params![book, at, base],
-    )?;
-    'rows: for _ in 0..most {
-        let Some(row) = rows.next()? else {
-            return Ok(first);
-        };
-        first.push(row.copy()?)?;
-    }
-    Ok(first)
+         ORDER BY changed LIMIT ?4",
+        params![book, at, base, most],
+    )
 }
