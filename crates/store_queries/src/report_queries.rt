@@ -73,9 +73,8 @@ fn page_at<S: Alter>(
     let id = column_of(header.id())?;
     let at = column_of(mark.at)?;
     let base = column_of(mark.base)?;
-    let size = size as usize;
-    match first_due(alloc, conn, id, at, base, size + 1) {
-        Ok(rows) => page_of_rows(alloc, header, mark, size, rows.as_slice()),
+    match first_due(conn, id, at, base, size as u32 + 1) {
+        Ok(rows) => page_of_rows(alloc, header, mark, size as usize, rows.as_slice()),
         Err(error) => Err(fault_of(error)),
     }
 }
