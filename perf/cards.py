@@ -28,7 +28,8 @@ def card(number, edition=0):
     return (head + "x" * (SIZE - len(head) - len(END)) + END).encode()
 
 
-def rows(count):
-    """The first cards as CSV rows of whole cards, a form that an import accepts."""
-    body = [b'%s,"%s"\n' % (uid(number).encode(), card(number)) for number in range(count)]
+def rows(count, first=0):
+    """Some cards as CSV rows of whole cards, a form that an import accepts."""
+    numbers = range(first, first + count)
+    body = [b'%s,"%s"\n' % (uid(number).encode(), card(number)) for number in numbers]
     return b"uid,vcard\n" + b"".join(body)

@@ -6,6 +6,7 @@ calls' part.
 
 import re
 import shutil
+import tempfile
 from pathlib import Path
 
 from cards import rows
@@ -44,21 +45,21 @@ def count_instructions(program, folder, cards):
 
 def count_run(program, template, call, times):
     """The instructions of a server from start to end, which has this many calls on a connection."""
-    copy = template.with_name("copy")
-    shutil.copytree(str(template), str(copy))
-    log = copy / "valgrind.log"
-    valgrind = ["valgrind", "--tool=callgrind", "--callgrind-out-file=/dev/null"]
-    server = Tosculai(program, copy, before=valgrind + [f"--log-file={log}"])
-    try:
-        server.start(connections=1)
-        server.wire.open()
-        for number in range(times):
-            call(server, number)
-        server.wait()
-    finally:
-        server.stop()
-    counted = re.search(r"Collected\s*:\s*(\d+)", log.read_text())
-    if not counted:
-        raise Failure(f"valgrind counted nothing: {log.read_text()}")
-    shutil.rmtree(str(copy))
-    return int(counted[1])
+    with tempfile.TemporaryDirectory(dir=str(template.parent)) as folder:
+        copy = Path(folder) / "copy"
+        shutil.copytree(str(template), str(copy))
+        log = copy / "valgrind.log"
+        valgrind = ["valgrind", "--tool=callgrind", "--callgrind-out-file=/dev/null"]
+        server = Tosculai(program, copy, before=valgrind + [f"--log-file={log}"])
+        try:
+            server.start(connections=1)
+            server.wire.open()
+            for number in range(times):
+                call(server, number)
+            server.wait()
+        finally:
+            server.stop()
+        counted = re.search(r"Collected\s*:\s*(\d+)", log.read_text())
+        if not counted:
+            raise Failure(f"valgrind counted nothing: {log.read_text()}")
+        return int(counted[1])

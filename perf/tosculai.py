@@ -42,9 +42,9 @@ class Tosculai(Server):
         """`before` is a command, as valgrind's, that runs the server."""
         self.program, self.file, self.before = program, Path(folder) / "office.db", list(before)
         if not self.file.exists():
-            self._order("init", self.file)
+            self.order("init", self.file)
             for book in BOOKS:
-                self._order("book", self.file, book)
+                self.order("book", self.file, book)
 
     def start(self, connections=1_000_000, more=()):
         """Starts the server with these further arguments, and returns once it listens. By then it
@@ -101,9 +101,9 @@ class Tosculai(Server):
         """Exports the book, and returns how many cards that has."""
         return self._ask("GET", "/books/staff/export").count(b"BEGIN:VCARD")
 
-    def load(self, rows, book="imports"):
+    def load(self, rows, book="imports", key="day"):
         """Imports the rows."""
-        self._ask("POST", f"/books/{book}/import?key=day", rows)
+        self._ask("POST", f"/books/{book}/import?key={key}", rows)
 
     def miss(self):
         """Asks for a route that does not exist: the server does not look at its books for that."""
@@ -118,7 +118,7 @@ class Tosculai(Server):
             raise Failure(f"{method} {path}: {status} {body[:200]!r}")
         return body
 
-    def _order(self, *arguments):
+    def order(self, *arguments):
         """Runs an order of the program to its end."""
         command = [self.program, *map(str, arguments)]
         ended = subprocess.run(command, stdin=subprocess.DEVNULL, stdout=subprocess.DEVNULL)
