@@ -97,7 +97,7 @@ class Drawing:
 
     KINDS = {
         "put": 30, "remove": 18, "move": 14, "import_rows": 6, "forget": 2, "get": 4, "report": 8,
-        "tally": 2, "export": 3, "people": 6, "list_books": 1, "create": 2, "no_command": 3,
+        "tally": 6, "export": 3, "people": 6, "list_books": 1, "create": 2, "no_command": 3,
     }
     FRESH = 0.7  # the share of the cards that differ from each earlier one
     ROWS = (0, 6)  # the least and the greatest number of an import's rows

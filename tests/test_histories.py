@@ -84,11 +84,23 @@ class History(Trial):
         """A server that ends by its number of connections, or is killed between two of them."""
         count = self.random.randint(1, 40)
         is_killed = self.random.random() < 0.5
-        with Server(self.file, count) as server:
-            for _ in range(count - 1 if is_killed else count):
+        with Server(self.file, count + 2 + is_killed) as server:
+            self.tallies(server)
+            for _ in range(count):
                 self.random.choice([self.write, self.write, self.page])(server)
+            self.tallies(server)
             if not is_killed:
                 self.equal(server.end(), Ended(0, server.line, b""))
+
+    def tallies(self, server):
+        """The tally of each book. A server keeps the number of a book's tombstones while it runs:
+        the last tally of one server has the number that was kept, and the first of the next one
+        that which was found in the file."""
+        with server.connect() as connection:
+            for book in BOOKS:
+                octets = request("GET", path(book, "tally"))
+                connection.send(octets)
+                self.equal(connection.reply(), self.model_reply(octets), octets)
 
     # Writers.
 
