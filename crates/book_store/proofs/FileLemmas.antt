@@ -9,7 +9,7 @@ use Rattle.store_schema.specs.StoredSchema.{ChangesNothing}
 use Rattle.store_rows.specs.SoundTables.{HoldsWellFormed}
 use Rattle.store_check.specs.OpenResults.{max_limits}
 use Rattle.store_tables.specs.SchemaCreation.{empty_schema}
-use Rattle.store_writes.specs.StoredBooks.{IsOpenOnHonestDisk}
+use Rattle.store_lookups.specs.StoredBooks.{IsOpenOnHonestDisk}
 use Rattle.book_store.specs.OpenOutcomes.{AreNewStoreTrees, StartsWithoutTables}
 
 -- a connection that was just opened and only tested shows what the files held

@@ -23,7 +23,7 @@ use Rattle.store_lookups.specs.StoreFaults.{FaultsFromOutside}
 use Rattle.book_store.specs.OpenOutcomes.{IsNewStoreCommitted}
 use Rattle.book_store.specs.StoreViews.{ChangesStore, IsStore, ReadsStore, StoreView}
 use Rattle.store_writes.specs.TableChanges.{AppliesStep, CommitsOnce}
-use Rattle.store_writes.specs.StoredBooks.{IsOpenOnHonestDisk, IsCommittedAndSound, stored_books}
+use Rattle.store_lookups.specs.StoredBooks.{IsOpenOnHonestDisk, IsCommittedAndSound, stored_books}
 use Rattle.store_writes.proofs.CallLemmas.{read_before}
 
 -- the answer of a call that changed nothing

@@ -5,7 +5,7 @@ use Rattle.sqlite.specs.Tree.{Trees}
 use Rattle.sqlite_trees.specs.declared.store.Store.{Ghosts}
 use Rattle.book_model.specs.Books.{Books}
 use Rattle.book_store.specs.StoreViews.{IsStore, StoreView, books_of_store}
-use Rattle.store_writes.specs.StoredBooks.{IsOpenOnHonestDisk}
+use Rattle.store_lookups.specs.StoredBooks.{IsOpenOnHonestDisk}
 use Rattle.store_writes.specs.TableChanges.{TreesHold}
 
 -- An open after a crash at this moment finds something, and whatever it finds holds these books.

@@ -14,7 +14,7 @@ use Rattle.store_tables.specs.StatementEffects.{OnlyReads}
 use Rattle.store_lookups.specs.ChangeFaults.{ChangeFaultsFromOutside}
 use Rattle.store_lookups.specs.StoreFaults.{FaultsFromOutside}
 use Rattle.store_writes.specs.TableChanges.{HoldBooksAfter}
-use Rattle.store_writes.specs.StoredBooks.{IsOpenOnHonestDisk, IsCommittedAndSound, stored_books}
+use Rattle.store_lookups.specs.StoredBooks.{IsOpenOnHonestDisk, IsCommittedAndSound, stored_books}
 
 pub record StoreView (S : Type 0) : Type 0 where
   pub conn : Held S

@@ -11,7 +11,7 @@ ghost use Rattle.book_store.specs.FileRefusals.{
 ghost use Rattle.book_store.specs.OpenOutcomes.{StartsWithoutTables};
 ghost use Rattle.store_check.specs.OpenResults.{max_limits};
 ghost use Rattle.store_rows.specs.SoundTables.{HoldsWellFormed};
-ghost use Rattle.store_writes.specs.StoredBooks.{IsOpenOnHonestDisk, stored_books};
+ghost use Rattle.store_lookups.specs.StoredBooks.{IsOpenOnHonestDisk, stored_books};
 ghost use Rattle.store_schema.specs.OpenFaults.{IsCreationFault};
 ghost use Rattle.sqlite.specs.Files.{file_state};
 ghost use Rattle.sqlite.specs.Start.{FindsIn};

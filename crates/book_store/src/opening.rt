@@ -4,7 +4,7 @@ ghost use Rattle.store_check.specs.OpenResults.{max_limits};
 ghost use Rattle.book_store.specs.OpenOutcomes.{DropsRefused, IsOpenRefusal};
 ghost use Rattle.store_schema.specs.OnConnections.{ChangesNothing};
 ghost use Rattle.store_tables.specs.OnConnections.{HoldsNow};
-ghost use Rattle.store_writes.specs.OnConnections.{IsOpenOnHonestDisk, stored_books};
+ghost use Rattle.store_lookups.specs.OnConnections.{IsOpenOnHonestDisk, stored_books};
 ghost use Rattle.std.specs.Prelude.{◌≡◌, IfErr, IfOk, false};
 
 use crate::sql_store::SqlStore;

@@ -5,7 +5,7 @@ ghost use Rattle.store_schema.specs.OpenFaults.{IsErrorFault, IsCreationFault};
 ghost use Rattle.store_schema.specs.declared.open_fault.OpenFault.TheVariants.{NotEmpty};
 ghost use Rattle.book_store.specs.OnConnections.{IsStore};
 ghost use Rattle.store_tables.specs.OnConnections.{Survives};
-ghost use Rattle.store_writes.specs.OnConnections.{IsOpenOnHonestDisk, stored_books};
+ghost use Rattle.store_lookups.specs.OnConnections.{IsOpenOnHonestDisk, stored_books};
 ghost use Rattle.sqlite.specs.Steps.{over_memory};
 ghost use Rattle.std.specs.FinMap as finite;
 ghost use Rattle.std.specs.Prelude.{◌≡◌, Err, IfErr, IfOk, OnOk, false};

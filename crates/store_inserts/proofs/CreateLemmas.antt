@@ -31,7 +31,7 @@ use Rattle.store_rows.proofs.RowLemmas.{get-books_of, single_named}
 use Rattle.store_lookups.specs.Faults.{IsDeniedFault}
 use Rattle.store_writes.specs.TableChanges.{HoldBooksAfter, HoldsBooks, LacksBookRow, TreesHold}
 use Rattle.store_inserts.specs.internal.Creating.{IsCreationPlanned, IsNameFound, new_id_among}
-use Rattle.store_writes.specs.StoredBooks.{stored_books}
+use Rattle.store_lookups.specs.StoredBooks.{stored_books}
 use Rattle.store_writes.proofs.ForgetLemmas.{writes_table}
 use Rattle.store_writes.proofs.PlanLemmas.{refusal_is_exact}
 

@@ -2,5 +2,6 @@ pub mod Faults
 pub mod StoreFaults
 pub mod ChangeFaults
 pub mod RowChecks
+pub mod StoredBooks
 pub mod CallResults
 pub mod OnConnections

@@ -1,7 +1,7 @@
 -- Definitions over connections, for contracts, as in `store_tables`. This project's own.
 use Rattle.std.specs.Prelude.{Result}
 use Rattle.sqlite.specs.Held.{Held, state}
-use Rattle.book_model.specs.Books.{Book}
+use Rattle.book_model.specs.Books.{Book, Books}
 use Rattle.book_model.specs.declared.denied.Denied.{Denied}
 use Rattle.store_tables.specs.OnConnections.{Ghosts}
 use Rattle.store_rows.specs.TableBooks.{HeaderRow}
@@ -9,6 +9,18 @@ use Rattle.store_rows.specs.TableRows.{TableRows}
 use Rattle.store_lookups.specs.CallResults as calls
 use Rattle.store_lookups.specs.ChangeFaults as changes
 use Rattle.store_lookups.specs.StoreFaults as faults
+use Rattle.store_lookups.specs.StoredBooks as stored
+
+-- ---- one connection
+
+module _ {S : Type 0} (store : Ghosts S) (conn : Held S) where
+  abbrev pub stored_books : Books
+  stored_books = stored.stored_books (state store conn)
+
+  abbrev pub IsOpenOnHonestDisk : Type 0
+  IsOpenOnHonestDisk = stored.IsOpenOnHonestDisk (state store conn)
+
+-- ---- a connection before and after a call
 
 module _ {S : Type 0} (store : Ghosts S) (old new : Held S) where
   abbrev pub GivenSoundRows : (TableRows → Type 0) → Type 0

@@ -37,7 +37,7 @@ use Rattle.store_rows.proofs.BookLemmas.{same_row}
 use Rattle.store_removals.specs.declared.move_call.Transfer.{Transfer}
 use Rattle.store_removals.specs.internal.Moves.{HasBothRows, IsMoveOf, table_books_after_move, moving_between_named, moving_between_books}
 use Rattle.store_removals.specs.internal.Removals.{drop_by_next_removal}
-use Rattle.store_writes.specs.StoredBooks.{stored_books}
+use Rattle.store_lookups.specs.StoredBooks.{stored_books}
 use Rattle.store_writes.proofs.CallLemmas.{denied_does}
 use Rattle.store_writes.proofs.HeldLemmas.{change_inside}
 use Rattle.store_writes.proofs.PlanLemmas.{lookup_of}

@@ -43,7 +43,7 @@ use Rattle.store_lookups.specs.CallResults.{FollowsStep, IsExactly}
 use Rattle.store_lookups.specs.Faults.{IsDeniedFault}
 use Rattle.store_writes.specs.TableChanges.{HasBookRow, HoldBooksAfter, HoldsBooks, HoldsChange, TreesHold}
 use Rattle.store_removals.specs.internal.Removals.{IsRemovalPlanned, drop_by_next_removal, removal_number_in}
-use Rattle.store_writes.specs.StoredBooks.{stored_books}
+use Rattle.store_lookups.specs.StoredBooks.{stored_books}
 use Rattle.store_writes.proofs.CallLemmas.{denied_does}
 use Rattle.store_writes.proofs.ForgetLemmas.{writes_table}
 use Rattle.store_writes.proofs.HeldLemmas.{row_remains}

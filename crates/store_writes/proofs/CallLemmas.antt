@@ -22,7 +22,7 @@ use Rattle.store_rows.proofs.HeldRows.{books_held}
 use Rattle.store_lookups.specs.CallResults.{FollowsStep, FindsHeader, IsExactly, GivenSoundRows}
 use Rattle.store_lookups.specs.Faults.{IsDeniedFault}
 use Rattle.store_writes.specs.TableChanges.{AppliesStep, CommitsOnce, HasBookRow, HoldBooksAfter, IsAtomic}
-use Rattle.store_writes.specs.StoredBooks.{IsOpenOnHonestDisk, IsCommittedAndSound, stored_books}
+use Rattle.store_lookups.specs.StoredBooks.{IsOpenOnHonestDisk, IsCommittedAndSound, stored_books}
 
 -- ---- the step of a book
 

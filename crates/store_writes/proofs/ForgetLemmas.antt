@@ -23,7 +23,7 @@ use Rattle.store_rows.proofs.HeldRows.{books_held}
 use Rattle.store_rows.proofs.RemovedLemmas.{forgetting_forgets, forgetting_held}
 use Rattle.store_lookups.specs.Faults.{IsDeniedFault}
 use Rattle.store_writes.specs.TableChanges.{HasBookRow, HoldBooksAfter, HoldsBooks, IsAtomic, TreesHold}
-use Rattle.store_writes.specs.StoredBooks.{stored_books}
+use Rattle.store_lookups.specs.StoredBooks.{stored_books}
 use Rattle.store_writes.proofs.CallLemmas.{fault_does}
 
 pub writes_table : (tree : ℕ) (old new : State) → WritesOnly tree old new → WritesTable tree old.now new.now

@@ -22,7 +22,7 @@ use Rattle.store_rows.specs.TableRows.{TableRows}
 use Rattle.store_lookups.specs.CallResults.{FollowsStep, IsExactly}
 use Rattle.store_writes.specs.TableChanges.{HoldBooksAfter, HoldsBooks, TreesHold}
 use Rattle.store_writes.specs.internal.PutPlans.{put_answer_in}
-use Rattle.store_writes.specs.StoredBooks.{stored_books}
+use Rattle.store_lookups.specs.StoredBooks.{stored_books}
 
 -- ---- what was found
 

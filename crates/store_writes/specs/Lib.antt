@@ -1,4 +1,3 @@
-pub mod StoredBooks
 pub mod TableChanges
 pub mod AcceptedChanges
 pub mod OnConnections

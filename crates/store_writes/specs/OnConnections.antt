@@ -11,19 +11,12 @@ use Rattle.store_rows.specs.TableBooks.{HeaderRow, books_of, line_row, row_book}
 use Rattle.store_rows.specs.TableRows.{TableRows}
 use Rattle.store_tables.specs.OnConnections.{Ghosts, HasCleanDisk, HoldsInTx, KeepsCommit, Survives}
 use Rattle.store_writes.specs.AcceptedChanges as accepted
-use Rattle.store_writes.specs.StoredBooks as stored
 use Rattle.store_writes.specs.TableChanges as changes
 use Rattle.store_writes.specs.TableChanges.{HoldsBooks, HoldsChange, TreesHold}
 
 -- ---- one connection
 
 module _ {S : Type 0} (store : Ghosts S) (conn : Held S) where
-  abbrev pub stored_books : Books
-  stored_books = stored.stored_books (state store conn)
-
-  abbrev pub IsOpenOnHonestDisk : Type 0
-  IsOpenOnHonestDisk = stored.IsOpenOnHonestDisk (state store conn)
-
   abbrev pub HasBookRow : TableRows → List ℕ → HeaderRow → Type 0
   HasBookRow = changes.HasBookRow (state store conn).now
 

@@ -17,7 +17,7 @@ use Rattle.store_rows.specs.TableRows.{TableRows, HoldsRows}
 use Rattle.store_tables.specs.Books.{BookRow, numbers_of}
 use Rattle.store_tables.specs.Tables.{book_schema}
 use Rattle.store_tables.specs.declared.books.BookNumbers.{BookNumbers}
-use Rattle.store_writes.specs.StoredBooks.{IsOpenOnHonestDisk, IsCommittedAndSound, stored_books}
+use Rattle.store_lookups.specs.StoredBooks.{IsOpenOnHonestDisk, IsCommittedAndSound, stored_books}
 
 -- ---- the contents of tables
 

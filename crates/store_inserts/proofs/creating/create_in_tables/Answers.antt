@@ -17,7 +17,7 @@ use Rattle.store_rows.specs.TableBooks.{books_in, books_of}
 use Rattle.store_rows.specs.TableRows.{TableRows}
 use Rattle.store_writes.specs.TableChanges.{AppliesStep, CommitsOnce, HoldsBooks, IsAtomic, LacksBookRow, TreesHold}
 use Rattle.store_inserts.specs.internal.Creating.{IsCreationPlanned, new_id_among}
-use Rattle.store_writes.specs.StoredBooks.{stored_books}
+use Rattle.store_lookups.specs.StoredBooks.{stored_books}
 use Rattle.store_writes.proofs.CallLemmas.{denied_does, fault_does, reads_changes, wrote_changes, wrote_commits}
 use Rattle.store_inserts.proofs.CreateLemmas.{created_does, created_holds}
 use Rattle.store_inserts.proofs.creating.create_in_tables.Given as given

@@ -24,7 +24,7 @@ use Rattle.store_rows.proofs.HeldRows.{books_held}
 use Rattle.store_lookups.specs.CallResults.{GivenSoundRows}
 use Rattle.store_writes.specs.TableChanges.{AppliesStep, CommitsOnce, HasBookRow, HoldsBooks, IsAtomic, TreesHold}
 use Rattle.store_inserts.specs.internal.Importing.{IsImportPlanned, book_with_import}
-use Rattle.store_writes.specs.StoredBooks.{stored_books}
+use Rattle.store_lookups.specs.StoredBooks.{stored_books}
 use Rattle.store_inserts.specs.declared.import_plan.ImportDecision.TheVariants.{Kept, New}
 use Rattle.store_writes.proofs.CallLemmas.{fault_does, reads_changes, wrote_changes, wrote_commits}
 use Rattle.store_inserts.proofs.ImportLemmas.{answered_does, answered_holds, line_of, refused_does}

@@ -20,7 +20,7 @@ use Rattle.store_rows.specs.TableBooks.{books_in, books_of}
 use Rattle.store_rows.specs.TableRows.{TableRows, HoldsRows}
 use Rattle.store_writes.specs.TableChanges.{AppliesStep, CommitsOnce, HoldsBooks, IsAtomic, TreesHold}
 use Rattle.store_removals.specs.internal.Moves.{HasBothRows, IsMovePlanned, table_books_after_move, moving_between_books}
-use Rattle.store_writes.specs.StoredBooks.{stored_books}
+use Rattle.store_lookups.specs.StoredBooks.{stored_books}
 use Rattle.store_writes.proofs.CallLemmas.{fault_does, reads_changes, wrote_changes, wrote_commits}
 use Rattle.store_removals.proofs.MoveLemmas.{denied_move, lines_of, moved_does, moved_holds}
 use Rattle.store_removals.proofs.move_call.move_in_tables.Given as given

@@ -20,7 +20,7 @@ use Rattle.store_rows.specs.TableBooks.{row_book, books_of, books_in, line_row}
 use Rattle.store_rows.specs.TableRows.{TableRows}
 use Rattle.store_writes.specs.TableChanges.{AppliesStep, CommitsOnce, HasBookRow, HoldsBooks, IsAtomic, TreesHold}
 use Rattle.store_removals.specs.internal.Removals.{IsRemovalOf}
-use Rattle.store_writes.specs.StoredBooks.{stored_books}
+use Rattle.store_lookups.specs.StoredBooks.{stored_books}
 use Rattle.store_writes.proofs.CallLemmas.{fault_does, named_does, named_row_held, reads_changes, written_changes, written_commits}
 use Rattle.store_removals.proofs.RemoveLemmas.{denied_remove, remove_of, removed_does, removed_holds}
 use Rattle.store_removals.proofs.remove_call.remove_in_book.Given as given

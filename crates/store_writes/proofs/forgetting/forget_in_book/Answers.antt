@@ -13,7 +13,7 @@ use Rattle.std.specs.FinMap as finite
 use Rattle.store_lookups.specs.CallResults.{FindsHeader}
 use Rattle.store_rows.specs.TableBooks.{row_book, books_of, line_row}
 use Rattle.store_writes.specs.TableChanges.{AppliesStep, TreesHold}
-use Rattle.store_writes.specs.StoredBooks.{stored_books}
+use Rattle.store_lookups.specs.StoredBooks.{stored_books}
 use Rattle.store_writes.proofs.CallLemmas.{named_does, named_row_held, reads_changes, unnamed_does, written_changes, written_commits}
 use Rattle.store_writes.proofs.ForgetLemmas.{ForgetsRows, forget_does, forget_holds, forget_of, refused_forget}
 use Rattle.store_writes.proofs.forgetting.forget_in_book.Given as given

@@ -19,7 +19,7 @@ use Rattle.store_rows.specs.TableRows.{TableRows}
 use Rattle.store_rows.proofs.HeldRows.{books_held}
 use Rattle.store_writes.specs.TableChanges.{AppliesStep, CommitsOnce, HasBookRow, HoldsBooks, IsAtomic, TreesHold}
 use Rattle.store_writes.specs.internal.PutPlans.{IsPutPlanned}
-use Rattle.store_writes.specs.StoredBooks.{stored_books}
+use Rattle.store_lookups.specs.StoredBooks.{stored_books}
 use Rattle.store_writes.proofs.CallLemmas.{fault_does, named_does, named_row_held, reads_changes, written_changes, written_commits}
 use Rattle.store_writes.proofs.PlanLemmas.{denied_put, put_holds, put_of, same_put, stored_put}
 use Rattle.store_writes.proofs.put_call.put_in_book.Given as given
