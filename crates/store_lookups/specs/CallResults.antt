@@ -6,9 +6,10 @@ use Rattle.book_model.specs.declared.denied.Denied.TheVariants.{Refused, Fault}
 use Rattle.book_model.specs.declared.refusal.Refusal.{Refusal}
 use Rattle.book_model.specs.declared.refusal.Refusal.TheVariants.{NoSuchBook}
 use Rattle.book_model.specs.Books.{Book}
+use Rattle.book_counts.specs.Counts.{AreCountsOf, CountsByName}
 use Rattle.store_rows.specs.LookupLaws.{IsBookNamed, IsNameFree}
 use Rattle.store_rows.specs.SoundTables.{AreSoundRows}
-use Rattle.store_rows.specs.TableBooks.{HeaderRow, line_row, row_book}
+use Rattle.store_rows.specs.TableBooks.{HeaderRow, books_of, line_row, row_book}
 use Rattle.store_rows.specs.TableRows.{TableRows, HoldsRows}
 
 -- the condition of a read call: the tables hold these rows before it, and they are sound
@@ -20,6 +21,11 @@ GivenSoundRows old new Then = (rows : TableRows) → HasCleanDisk new → HoldsR
 abbrev pub GivenBook : State → State → HeaderRow → (Book → Type 0) → Type 0
 GivenBook old new header Then = GivenSoundRows old new (λ rows. (name : List ℕ) →
     Then (row_book rows (line_row name header)))
+
+-- the same, and these numbers of tombstones are right for the books
+abbrev pub GivenCounts : State → State → CountsByName → (TableRows → Type 0) → Type 0
+GivenCounts old new counts Then = GivenSoundRows old new (λ rows.
+    AreCountsOf counts (books_of rows) → Then rows)
 
 -- The result is one that the model's step allows, or its refusal. A fault is possible in place of
 -- either.

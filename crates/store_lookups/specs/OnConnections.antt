@@ -3,6 +3,7 @@ use Rattle.std.specs.Prelude.{Result}
 use Rattle.sqlite.specs.Held.{Held, state}
 use Rattle.book_model.specs.Books.{Book, Books}
 use Rattle.book_model.specs.declared.denied.Denied.{Denied}
+use Rattle.book_counts.specs.Counts.{CountsByName}
 use Rattle.store_tables.specs.OnConnections.{Ghosts}
 use Rattle.store_rows.specs.TableBooks.{HeaderRow}
 use Rattle.store_rows.specs.TableRows.{TableRows}
@@ -20,6 +21,9 @@ module _ {S : Type 0} (store : Ghosts S) (conn : Held S) where
   abbrev pub IsOpenOnHonestDisk : Type 0
   IsOpenOnHonestDisk = stored.IsOpenOnHonestDisk (state store conn)
 
+  abbrev pub HoldCounts : CountsByName → Type 0
+  HoldCounts = stored.HoldCounts (state store conn)
+
 -- ---- a connection before and after a call
 
 module _ {S : Type 0} (store : Ghosts S) (old new : Held S) where
@@ -28,6 +32,12 @@ module _ {S : Type 0} (store : Ghosts S) (old new : Held S) where
 
   abbrev pub GivenBook : HeaderRow → (Book → Type 0) → Type 0
   GivenBook = calls.GivenBook (state store old) (state store new)
+
+  abbrev pub KeepsCounts : CountsByName → CountsByName → Type 0
+  KeepsCounts = stored.KeepsCounts (state store old) (state store new)
+
+  abbrev pub GivenCounts : CountsByName → (TableRows → Type 0) → Type 0
+  GivenCounts = calls.GivenCounts (state store old) (state store new)
 
   abbrev pub FaultsFromOutside : {A : Type 0} → Result A Denied → Type 0
   FaultsFromOutside = faults.FaultsFromOutside (state store old) (state store new)

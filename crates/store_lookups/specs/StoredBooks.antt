@@ -1,7 +1,8 @@
--- The books in a database, and the invariant of a store over it. This project's own.
+-- The books in a database, and the invariants of a store over it. This project's own.
 use Rattle.std.specs.Prelude.{◌≡◌, IsTrue}
 use Rattle.sqlite.specs.State.{State, HasCleanDisk}
 use Rattle.book_model.specs.Books.{Books}
+use Rattle.book_counts.specs.Counts.{AreCountsOf, CountsByName}
 use Rattle.store_rows.specs.SoundTables.{HoldsSoundRows}
 use Rattle.store_rows.specs.TableBooks.{books_in}
 
@@ -17,3 +18,15 @@ IsOpenOnHonestDisk s = HasCleanDisk s × IsTrue s.is_open
 pub record IsCommittedAndSound (s : State) : Type 0 where
   pub committed : s.now ≡ s.committed
   pub sound : HoldsSoundRows s.now
+
+-- the numbers are those of the stored books, as long as these are known: the connection is open on an
+-- honest disk, and the tables are committed and sound
+abbrev pub HoldCounts : State → CountsByName → Type 0
+HoldCounts s counts =
+    IsOpenOnHonestDisk s → IsCommittedAndSound s → AreCountsOf counts (stored_books s)
+
+-- If the numbers before a call are those of the books before it, the numbers after it are those of
+-- the books after it.
+abbrev pub KeepsCounts : State → State → CountsByName → CountsByName → Type 0
+KeepsCounts old new before after = IsOpenOnHonestDisk new → IsCommittedAndSound old →
+    AreCountsOf before (stored_books old) → AreCountsOf after (stored_books new)

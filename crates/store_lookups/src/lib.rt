@@ -5,11 +5,17 @@
 mod columns;
 mod faults;
 mod header;
+mod kept_counts;
 mod lookups;
+mod member_states;
 mod row_values;
 
 pub use columns::number_in;
 pub use faults::{column_of, fault_of};
 pub use header::BookHeader;
-pub use lookups::{count_removals, fetch_keep, find_header, find_import_tally, find_live};
+pub use kept_counts::remembered;
+pub use lookups::{
+    count_removals, fetch_keep, find_header, find_import_tally, find_live, find_member_state,
+};
+pub use member_states::MemberState;
 pub use row_values::{count_in, line_in, member_in};

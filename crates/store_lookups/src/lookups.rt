@@ -6,6 +6,7 @@ ghost use Rattle.book_model.specs.Books.{live_at};
 ghost use Rattle.book_model.specs.BookQueries.{tombstone_count};
 ghost use Rattle.store_lookups.specs.CallResults.{FindsHeader};
 ghost use Rattle.store_lookups.specs.Faults.{IsDeniedFault};
+ghost use Rattle.store_lookups.specs.MemberStates.{member_state};
 ghost use Rattle.store_lookups.specs.OnConnections.{
   ChangeFaultsFromOutsideInBook,
   FaultsFromOutside,
@@ -20,7 +21,8 @@ ghost use Rattle.std.specs.Prelude.{◌≡◌, IfErr, IfOk};
 use crate::columns::number_in;
 use crate::faults::{column_of, fault_of};
 use crate::header::{BookHeader, header_in};
-use crate::row_values::{count_in, live_in, tally_in};
+use crate::member_states::MemberState;
+use crate::row_values::{count_in, live_in, member_state_in, tally_in};
 use book_model::{Denied, ImportTally, Refusal, Stored};
 use sqlite::{Alter, Connection, Error};
 use std::alloc::Global;
@@ -65,6 +67,29 @@ pub fn find_live<S: Alter>(
     match find_member(conn, id, uid) {
         Ok(row) => live_in(alloc, &row),
         Err(Error::QueryReturnedNoRows) => Ok(None),
+        Err(error) => Err(fault_of(error)),
+    }
+}
+
+/// Returns what the book with this header has under the UID: a live card, a tombstone, or neither.
+/// Fails with `Store` if its row is malformed.
+pub fn find_member_state<S: Alter>(
+    alloc: Global,
+    conn: &mut Connection<S>,
+    header: BookHeader,
+    uid: &str,
+) -> Result<MemberState, Denied>
+    ensures state { GivenBook S.Store conn.old conn.new header
+        (λ book. IfOk result (λ state. member_state book uid.now ≡ state)) }
+    ensures fault { IfErr result IsDeniedFault }
+    ensures store_fault { FaultsFromOutsideInBook S.Store conn.old conn.new header result }
+    ensures unchanged { UnchangedOnOk S.Store conn.old conn.new result }
+    ensures reads_only { OnlyReads S.Store conn.old conn.new }
+{
+    let id = column_of(header.id())?;
+    match find_member(conn, id, uid) {
+        Ok(row) => member_state_in(alloc, &row, header.horizon()),
+        Err(Error::QueryReturnedNoRows) => Ok(MemberState::Missing),
         Err(error) => Err(fault_of(error)),
     }
 }

@@ -6,6 +6,7 @@ ghost use Rattle.store_tables.specs.Imports.{ImportRow, import_shown};
 ghost use Rattle.store_tables.specs.Members.{MemberRow, number_card_shown};
 ghost use Rattle.store_tables.specs.QueryResults.{count_value};
 ghost use Rattle.store_lookups.specs.Faults.{IsDeniedFault};
+ghost use Rattle.store_lookups.specs.MemberStates.{ShowsState};
 ghost use Rattle.store_lookups.specs.StoreFaults.{
   FailsOnlyForMemory,
   ShowsFaultlessBook,
@@ -14,6 +15,7 @@ ghost use Rattle.store_lookups.specs.StoreFaults.{
 ghost use Rattle.std.specs.Prelude.{[], ◌∷◌, ◌≡◌, ◌<◌, ℕ, IfErr, IfOk};
 
 use crate::columns::{card_in, number_in, text_in};
+use crate::member_states::MemberState;
 use book_model::{BookLine, Denied, Fault, ImportTally, Row as Kept, Stored};
 use sqlite::Row;
 use std::alloc::Global;
@@ -34,6 +36,25 @@ pub(crate) fn live_in(alloc: Global, row: &Row) -> Result<Option<Stored>, Denied
     match card_in(alloc, row, 1)? {
         Some(card) => Ok(Some(Stored { version, card })),
         None => Ok(None),
+    }
+}
+
+/// Reads the state of the member in a row of `find_member`, in a book with this horizon. Fails with
+/// `Store` if the row is malformed, and with `Memory` when out of memory.
+pub(crate) fn member_state_in(alloc: Global, row: &Row, horizon: u64) -> Result<MemberState, Denied>
+    ensures state { IfOk result (ShowsState horizon row.now) }
+    ensures fault { IfErr result IsDeniedFault }
+    ensures memory { (m : MemberRow) → IsReadableMember m → row.now ≡ number_card_shown m
+        → FailsOnlyForMemory result }
+{
+    let changed = number_in(row, 0)?;
+    match card_in(alloc, row, 1)? {
+        Some(card) => Ok(MemberState::Live(Stored {
+            version: changed,
+            card,
+        })),
+        None if horizon < changed => Ok(MemberState::Tombstone),
+        None => Ok(MemberState::Missing),
     }
 }
 
