@@ -1,1 +1,2 @@
+pub mod KeepQueries
 pub mod internal

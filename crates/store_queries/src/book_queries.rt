@@ -6,32 +6,38 @@ ghost use Rattle.book_model.specs.Books.{live_at, live_or_no_such_card};
 ghost use Rattle.book_model.specs.Importing.{kept_import_step};
 ghost use Rattle.book_model.specs.BookQueries.{
   book_line_step,
-  get_step,
   book_line_with,
-  tombstone_count,
+  book_tally,
+  get_step,
   tally_step,
-  tally_with,
 };
-ghost use Rattle.book_model.specs.Counting.{live_count};
-ghost use Rattle.store_rows.specs.TableBooks.{books_of};
+ghost use Rattle.book_counts.specs.Counts.{AreCountsOf};
+ghost use Rattle.store_rows.specs.LookupLaws.{IsBookNamed};
+ghost use Rattle.store_rows.specs.TableBooks.{books_of, line_row, row_book};
 ghost use Rattle.store_lookups.specs.CallResults.{FollowsStep, IsExactly};
 ghost use Rattle.store_lookups.specs.Faults.{IsDeniedFault};
 ghost use Rattle.store_lookups.specs.StoreFaults.{FailsOnlyForMemory};
+ghost use Rattle.store_queries.specs.KeepQueries.{keep_step};
 ghost use Rattle.store_queries.specs.internal.QuerySteps.{import_tally_step};
 ghost use Rattle.store_lookups.specs.OnConnections.{
+  ChangeFaultsFromOutside,
   FaultsFromOutside,
   FaultsFromOutsideInBook,
   GivenBook,
+  GivenCounts,
   GivenSoundRows,
 };
 ghost use Rattle.store_tables.specs.OnConnections.{OnlyReads};
 ghost use Rattle.std.specs.Prelude.{◌≡◌, IfErr, IfOk, Ok};
 
+use book_counts::TombstoneCounts;
 use book_model::decisions::is_import_key;
 use book_model::{BookLine, Denied, ImportTally, Refusal, Stored, Tally};
 use sqlite::{Alter, Connection};
 use std::alloc::Global;
-use store_lookups::{BookHeader, count_removals, find_header, find_import_tally, find_live};
+use store_lookups::{
+    BookHeader, fetch_keep, find_header, find_import_tally, find_live, remembered,
+};
 use vcard_text::Text;
 
 fn line_with(alloc: Global, name: &str, header: BookHeader) -> Result<BookLine, Denied>
@@ -130,31 +136,57 @@ pub fn import_of_book<S: Alter>(
     import_at(conn, header, key)
 }
 
-fn tally_at<S: Alter>(conn: &mut Connection<S>, header: BookHeader) -> Result<Tally, Denied>
-    ensures answers { GivenBook S.Store conn.old conn.new header
-        (λ book. FollowsStep IsExactly result
-        (Ok (tally_with header.number header.horizon (live_count header.counts) header.counts
-        (tombstone_count book)))) }
+/// The tally of the named book, which has this header.
+fn tally_at<S: Alter>(
+    conn: &mut Connection<S>,
+    counts: &mut TombstoneCounts,
+    header: BookHeader,
+    name: &str,
+) -> Result<Tally, Denied>
+    ensures answers { GivenCounts S.Store conn.old conn.new counts.old (λ rows.
+        IsBookNamed rows name.now header → FollowsStep IsExactly result
+        (Ok (book_tally (row_book rows (line_row name.now header))))) }
+    ensures counts { GivenCounts S.Store conn.old conn.new counts.old (λ rows.
+        IsBookNamed rows name.now header → AreCountsOf counts.new (books_of rows)) }
     ensures store_fault { FaultsFromOutsideInBook S.Store conn.old conn.new header result }
     ensures reads_only { OnlyReads S.Store conn.old conn.new }
 {
-    let remembered = count_removals(conn, header)?;
+    let tombstones = remembered(conn, counts, header, name)?;
     Ok(Tally::of(
         header.number(),
         header.horizon(),
         header.counts(),
-        remembered,
+        tombstones,
     ))
 }
 
-/// Returns the tally of the book with this name. The query counts the remembered removals; the
+/// Returns the tally of the book with this name. The number of its tombstones is that of `counts`,
+/// whose numbers must be right; if there is none, the query counts them, and the number is set. The
 /// number of cards follows from the counts of changes. Refused with `NoSuchBook`.
-pub fn tally_of_book<S: Alter>(conn: &mut Connection<S>, name: &str) -> Result<Tally, Denied>
-    ensures answers { GivenSoundRows S.Store conn.old conn.new
+pub fn tally_of_book<S: Alter>(
+    conn: &mut Connection<S>,
+    counts: &mut TombstoneCounts,
+    name: &str,
+) -> Result<Tally, Denied>
+    ensures answers { GivenCounts S.Store conn.old conn.new counts.old
         (λ rows. FollowsStep IsExactly result (tally_step (books_of rows) name.now)) }
+    ensures counts { GivenCounts S.Store conn.old conn.new counts.old
+        (λ rows. AreCountsOf counts.new (books_of rows)) }
     ensures store_fault { FaultsFromOutside S.Store conn.old conn.new result }
     ensures reads_only { OnlyReads S.Store conn.old conn.new }
 {
     let header = find_header(conn, name)?;
-    tally_at(conn, header)
+    tally_at(conn, counts, header, name)
+}
+
+/// Returns the keep of the book with this name: the most tombstones that it keeps. Refused with
+/// `NoSuchBook`.
+pub fn keep_of_book<S: Alter>(conn: &mut Connection<S>, name: &str) -> Result<u64, Denied>
+    ensures answers { GivenSoundRows S.Store conn.old conn.new
+        (λ rows. FollowsStep IsExactly result (keep_step (books_of rows) name.now)) }
+    ensures store_fault { ChangeFaultsFromOutside S.Store conn.old conn.new result }
+    ensures reads_only { OnlyReads S.Store conn.old conn.new }
+{
+    let header = find_header(conn, name)?;
+    fetch_keep(conn, header)
 }
