@@ -2,6 +2,7 @@ pub mod OpenLemmas
 pub mod ListLemmas
 pub mod GetLemmas
 pub mod WellLemmas
+pub mod CountLemmas
 pub mod CheckedLemmas
 pub mod DistinctLemmas
 pub mod NameLemmas

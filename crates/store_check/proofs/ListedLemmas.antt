@@ -203,10 +203,14 @@ module _ (limits : Bounds) (db : Database) (books members imports keeps : List R
     keeps = decoded_shown keep_listed IsKeepRow decode_keep keep_pair keep_back keeps (db.trees 9) listed.all_keeps shown.each_keep;
   }
 
+  -- the tables hold the rows
+  pub rows_are_held : AreWellStored limits books members imports keeps → HoldsRows db (decode_rows books members imports keeps)
+  rows_are_held w = listed_held db (decode_rows books members imports keeps) ours.schema (lists w.shown)
+
   held_of_stored : AreWellStored limits books members imports keeps → HoldsWellFormed limits db
   held_of_stored w = record {
     rows = decode_rows books members imports keeps;
-    holds = listed_held db (decode_rows books members imports keeps) ours.schema (lists w.shown);
+    holds = rows_are_held w;
     well_formed = w.well_formed;
   }
 

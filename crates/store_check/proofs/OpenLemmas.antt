@@ -1,5 +1,5 @@
 -- The result of opening stored tables.
-use Rattle.std.proofs.Common.{◌≡◌, inl, inr, IsTrue, List, map, Result, Err, IsPermutation, sym, ap, subst, ◌∙◌}
+use Rattle.std.proofs.Common.{◌≡◌, inl, inr, IsTrue, List, map, Err, IsPermutation, sym, ap, subst, ◌∙◌}
 use Rattle.sqlite.specs.Effect.{Database}
 use Rattle.sqlite.specs.Order.{Row}
 use Rattle.sqlite.specs.State.{State, HasCleanDisk, IsUnchanged}
@@ -88,15 +88,15 @@ module _ (a b c d : State) (ab : GivenTables a b (IsUnchanged a b)) (bc : GivenT
       }
 
 -- the rows were listed, and then tested
-pub opened_later : (a b c : State) (limits : Bounds) (r : Result (Unit {0}) OpenFault) (books imports keeps : List Row) → GivenTables a b (IsUnchanged a b) → OnlyReads b c
+pub opened_later : (a b c : State) (Opens : Database → Type 0) (books imports keeps : List Row) → GivenTables a b (IsUnchanged a b) → OnlyReads b c
     → GivenTables a b (AreBookRows a.now books imports keeps)
-    → (HasCleanDisk c → IsCurrentSchema b.now → IsTrue b.is_open → AreBookRows b.now books imports keeps → IsOpenResult limits b.now r)
-    → HasCleanDisk c → IsCurrentSchema a.now → IsOpenResult limits a.now r
-opened_later a b c limits r books imports keeps same left listed answers clean ours =
+    → (HasCleanDisk c → IsCurrentSchema b.now → IsTrue b.is_open → AreBookRows b.now books imports keeps → Opens b.now)
+    → HasCleanDisk c → IsCurrentSchema a.now → Opens a.now
+opened_later a b c Opens books imports keeps same left listed answers clean ours =
     let early = clean_before _ b c left.survives clean in
     let before = same early ours.schema in
     let now = before.0.now_is in
-    subst (λ (db : Database). IsOpenResult limits db r) now
+    subst Opens now
     (answers clean (subst IsCurrentSchema (sym now) ours) before.0.is_open (subst (λ (db : Database). AreBookRows db books imports keeps) (sym now) (listed early ours.schema)))
 
 -- ---- the schema was tested, and then the rows
@@ -108,10 +108,10 @@ module _ (a b c : State) (ours : HasCleanDisk b → IsCurrentSchema a.now) (kept
   still : HasCleanDisk c → b.now.schema ≡ book_schema
   still clean = ap (λ (d : Database). d.schema) (kept (early clean)).0.now_is ∙ (ours (early clean)).schema
 
-  pub tables_opened : (limits : Bounds) (r : Result (Unit {0}) OpenFault) → (HasCleanDisk c → IsCurrentSchema b.now → IsOpenResult limits b.now r) → HasCleanDisk c → IsOpenResult limits a.now r
-  tables_opened limits r returned clean =
+  pub tables_opened : (Opens : Database → Type 0) → (HasCleanDisk c → IsCurrentSchema b.now → Opens b.now) → HasCleanDisk c → Opens a.now
+  tables_opened Opens returned clean =
       let now = (kept (early clean)).0.now_is in
-      subst (λ (db : Database). IsOpenResult limits db r) now (returned clean (subst IsCurrentSchema (sym now) (ours (early clean))))
+      subst Opens now (returned clean (subst IsCurrentSchema (sym now) (ours (early clean))))
 
   pub nothing_then : ChangesNothing a b → ChangesNothing a c
   nothing_then before = record {

@@ -1,5 +1,6 @@
 -- What the tests of all rows say of the tables.
-use Rattle.std.proofs.Common.{◌≡◌, ◌↔◌, Bool, false, true≢false, List, map, IsTrue, IsPermutation, sym, ◌∙◌}
+use Rattle.std.proofs.Common.{◌≡◌, ◌↔◌, Bool, false, true≢false, List, Some, None, Result, Ok, Err, IfOk, IfErr, Vec, map, IsTrue, IsPermutation, refl, sym, ◌∙◌}
+use Rattle.std.specs.declared.alloc.Global.{Global}
 use Rattle.std.proofs.lemmas.List.Sorted.{IsPermutation-refl}
 use Rattle.sqlite.specs.Effect.{Database}
 use Rattle.sqlite.specs.Order.{Row}
@@ -8,15 +9,23 @@ use Rattle.book_model.specs.Bounds.{Bounds}
 use Rattle.store_tables.specs.Acceptance.{ObeyTables}
 use Rattle.store_tables.specs.Members.{MemberRow, member_cells}
 use Rattle.store_rows.specs.SoundTables.{HoldsWellFormed}
+use Rattle.store_rows.specs.TableBooks.{books_in}
 use Rattle.store_rows.specs.TableRows.{load_member}
+use Rattle.store_schema.specs.OpenFaults.{IsErrorFault}
 use Rattle.store_schema.specs.StoredSchema.{IsCurrentSchema}
+use Rattle.store_schema.specs.declared.open_fault.OpenFault.{OpenFault}
+use Rattle.store_check.specs.declared.counts.TombstoneCount.{TombstoneCount}
+use Rattle.store_check.specs.declared.tallies.BookTally.{BookTally}
 use Rattle.store_check.specs.ListedRows.{AreBookRows, AreListedRows}
 use Rattle.store_check.specs.MemberScans.{TestedMembers}
-use Rattle.store_check.specs.MemberTallies.{IsGoodMember}
+use Rattle.store_check.specs.MemberTallies.{AreCounted, IsGoodMember}
 use Rattle.store_check.specs.RowChecks.{AreWellStored, IsBookAnd, IsMemberRow, IsValidMember, decode_book}
 use Rattle.store_check.specs.StoredTests.{HaveMemberKeys, PassAllTests, PassBookTests, PassMemberTests, StoredPassTests}
-use Rattle.store_check.proofs.ListedLemmas.{well_stored_held}
+use Rattle.store_check.specs.TombstoneCounts.{AreTombstoneCounts, IsCountedResult, count_entry, removed_entry}
+use Rattle.store_check.proofs.CountLemmas.{counts_held}
+use Rattle.store_check.proofs.ListedLemmas.{rows_are_held, well_stored_held}
 use Rattle.store_check.proofs.MemberKeyLemmas.{keys_hold}
+use Rattle.store_check.proofs.OpenLemmas.{error_opens}
 use Rattle.store_check.proofs.StoredLemmas.{good_of_stored, keys_of_stored, well_stored}
 
 -- ---- rows pass all tests exactly if they are well stored
@@ -88,11 +97,30 @@ module _ (limits : Bounds) (db : Database) (books imports keeps : List Row) (our
   pub own_of_held : HoldsWellFormed limits db → PassBookTests limits books imports keeps
   own_of_held held = (all_tests (map member_cells (db.trees 4)) (IsPermutation-refl _) held).own
 
-  pub tests_held : ObeyTables db.trees → PassBookTests limits books imports keeps → (good : Bool) → TestedMembers (db.trees 4) limits books keeps good → IsTrue good ↔ HoldsWellFormed limits db
-  tests_held obeys own good t = (
-    λ yes.
-        let passed = t.tested.0 yes in
-        let keys = keys_hold db.trees obeys t.rows t.all (t.rising yes) (all_weaker (IsGoodMember (map decode_book books)) IsMemberRow (λ r h. h.0) t.rows passed.good) in
-        (well_stored_held limits db books t.rows imports keeps ours (with_members t.rows t.all)).0 (tests_stored limits books t.rows imports keeps (record { own = own; keys = keys; passed = passed })),
-    λ held. t.tested.1 (all_tests t.rows t.all held).passed,
-  )
+  module _ (obeys : ObeyTables db.trees) (own : PassBookTests limits books imports keeps) where
+    -- the rows that were counted are well stored
+    stored_rows : (tallies : List BookTally) (t : TestedMembers (db.trees 4) limits books keeps (Some tallies)) → AreWellStored limits books t.rows imports keeps
+    stored_rows tallies t =
+        let passed = t.tested.0 refl in
+        let keys = keys_hold db.trees obeys t.rows t.all t.taken.rising (all_weaker (IsGoodMember (map decode_book books)) IsMemberRow (λ r h. h.0) t.rows passed.good) in
+        tests_stored limits books t.rows imports keeps (record { own = own; keys = keys; passed = passed })
+
+    -- the counts were listed from the tallies
+    abbrev pub IsListing : List BookTally → List TombstoneCount → Type 0
+    IsListing tallies counts = (ms : List MemberRow) → AreCounted ms (map decode_book books) tallies → map count_entry counts ≡ map (removed_entry ms) (map decode_book books)
+
+    tests_pass : (tallies : List BookTally) (counts : List TombstoneCount) → TestedMembers (db.trees 4) limits books keeps (Some tallies) → IsListing tallies counts
+        → HoldsWellFormed limits db × AreTombstoneCounts (books_in db.trees) counts
+    tests_pass tallies counts t listing =
+        let stored = stored_rows tallies t in
+        let all = with_members t.rows t.all in
+        let holds = rows_are_held limits db books t.rows imports keeps ours all stored in
+        ((well_stored_held limits db books t.rows imports keeps ours all).0 stored, counts_held limits db books t.rows imports keeps counts holds stored (listing (map load_member t.rows) t.taken.counted))
+
+    pub tests_fail : TestedMembers (db.trees 4) limits books keeps None → ¬ HoldsWellFormed limits db
+    tests_fail t held = true≢false (sym (t.tested.1 (all_tests t.rows t.all held).passed))
+
+    pub listing_opens : (tallies : List BookTally) (r : Result (Vec TombstoneCount Global) OpenFault) → TestedMembers (db.trees 4) limits books keeps (Some tallies)
+        → IfOk r (λ counts. IsListing tallies counts.items) → IfErr r IsErrorFault → IsCountedResult limits db r
+    listing_opens tallies (Ok counts) t listing fault = tests_pass tallies counts.items t listing
+    listing_opens tallies (Err f) t listing fault = error_opens limits db f fault

@@ -5,4 +5,5 @@ pub mod MemberScans
 pub mod StoredTests
 pub mod ListedRows
 pub mod OpenResults
+pub mod TombstoneCounts
 pub mod OnConnections

@@ -1,6 +1,6 @@
 -- The members of the table, read and tested one at a time. This project's own.
 use Rattle.std.specs.Prelude.{◌≡◌, ◌↔◌, ℤ, Bool, true, false, List, [], Option, Some, None}
-use Rattle.std.specs.Prelude.{IsTrue, int_lt, map}
+use Rattle.std.specs.Prelude.{IsTrue, IfSome, int_lt, is_some, map}
 use Rattle.std.specs.List.{AllByRecursion}
 use Rattle.std.specs.List.Sorted.{IsPermutation}
 use Rattle.sqlite.specs.Order.{Row}
@@ -11,7 +11,7 @@ use Rattle.store_tables.specs.Members.{member_cells}
 use Rattle.store_rows.specs.TableRows.{load_member}
 use Rattle.store_check.specs.declared.tallies.BookTally.{BookTally}
 use Rattle.store_check.specs.MemberTallies.{AreCounted, DoesTally, IsGoodMember}
-use Rattle.store_check.specs.RowChecks.{int_cell}
+use Rattle.store_check.specs.RowChecks.{decode_book, int_cell}
 use Rattle.store_check.specs.StoredTests.{PassMemberTests}
 
 abbrev pub is_above : Option ℤ → ℤ → Bool
@@ -46,10 +46,11 @@ abbrev pub Scans : List Row → List BookTally → List BookTally → Bool → T
 Scans table old new good = (books : List BookRow) → AreCounted [] books old →
     Scanned table books new good
 
--- The rows of the table pass the tests of the members and have rising ids, or they don't pass.
-pub record TestedMembers (table : List Row) (limits : Bounds) (books keeps : List Row) (good : Bool)
-    : Type 0 where
+-- The rows of the table pass the tests of the members, have rising ids and were counted; or they
+-- don't pass.
+pub record TestedMembers (table : List Row) (limits : Bounds) (books keeps : List Row)
+    (found : Option (List BookTally)) : Type 0 where
   pub rows : List Row
   pub all : IsPermutation (map member_cells table) rows
-  pub rising : IsTrue good → HaveRisingIds rows
-  pub tested : IsTrue good ↔ PassMemberTests limits books rows keeps
+  pub taken : IfSome found (λ tallies. AreTaken (map decode_book books) tallies rows)
+  pub tested : IsTrue (is_some found) ↔ PassMemberTests limits books rows keeps

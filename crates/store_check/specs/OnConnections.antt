@@ -1,5 +1,6 @@
 -- Definitions over connections, for contracts, as in `store_tables`. This project's own.
-use Rattle.std.specs.Prelude.{◌≡◌, Bool, List, Result, IsTrue}
+use Rattle.std.specs.Prelude.{◌≡◌, List, Option, Result, Vec, IsTrue}
+use Rattle.std.specs.declared.alloc.Global.{Global}
 use Rattle.sqlite.specs.Held.{Held, state}
 use Rattle.sqlite.specs.Order.{Row}
 use Rattle.book_model.specs.Bounds.{Bounds}
@@ -7,9 +8,12 @@ use Rattle.store_tables.specs.Acceptance.{ObeyTables}
 use Rattle.store_tables.specs.OnConnections.{Ghosts}
 use Rattle.store_tables.specs.Tables.{book_schema}
 use Rattle.store_schema.specs.declared.open_fault.OpenFault.{OpenFault}
+use Rattle.store_check.specs.declared.counts.TombstoneCount.{TombstoneCount}
+use Rattle.store_check.specs.declared.tallies.BookTally.{BookTally}
 use Rattle.store_check.specs.ListedRows as listed
 use Rattle.store_check.specs.MemberScans as scans
 use Rattle.store_check.specs.OpenResults as results
+use Rattle.store_check.specs.TombstoneCounts as counts
 
 module _ {S : Type 0} (store : Ghosts S) (conn : Held S) where
   abbrev pub AreBookRows : List Row → List Row → List Row → Type 0
@@ -20,8 +24,11 @@ module _ {S : Type 0} (store : Ghosts S) (conn : Held S) where
   ObeySchema = IsTrue (state store conn).is_open → (state store conn).now.schema ≡ book_schema →
       ObeyTables (state store conn).now.trees
 
-  abbrev pub TestsMembers : Bounds → List Row → List Row → Bool → Type 0
+  abbrev pub TestsMembers : Bounds → List Row → List Row → Option (List BookTally) → Type 0
   TestsMembers = scans.TestedMembers ((state store conn).now.trees 4)
 
   abbrev pub IsOpenResult : Bounds → Result (Unit {0}) OpenFault → Type 0
   IsOpenResult limits = results.IsOpenResult limits (state store conn).now
+
+  abbrev pub IsCountedResult : Bounds → Result (Vec TombstoneCount Global) OpenFault → Type 0
+  IsCountedResult limits = counts.IsCountedResult limits (state store conn).now

@@ -3,6 +3,7 @@
 
 pub mod books;
 pub mod cells;
+pub mod counts;
 mod distinct;
 mod imports;
 mod keys;

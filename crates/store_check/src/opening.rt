@@ -1,17 +1,19 @@
 //! Tests whether the tables of a connection are a store's and hold well-formed books.
-ghost use Rattle.store_check.specs.OnConnections.{AreBookRows, IsOpenResult, ObeySchema};
-ghost use Rattle.store_check.specs.OnConnections.{TestsMembers};
+ghost use Rattle.store_check.specs.OnConnections.{AreBookRows, IsCountedResult, IsOpenResult};
+ghost use Rattle.store_check.specs.OnConnections.{ObeySchema, TestsMembers};
 ghost use Rattle.store_check.specs.StoredTests.{PassBookTests};
 ghost use Rattle.store_schema.specs.OpenFaults.{IsErrorFault};
 ghost use Rattle.store_schema.specs.OnConnections.{ChangesNothing, IsCurrentSchema};
 ghost use Rattle.store_tables.specs.OnConnections.{GivenTables, HasCleanDisk, IsConnectionOpen};
 ghost use Rattle.store_tables.specs.OnConnections.{OnlyReads, UnchangedOnOk};
+ghost use Rattle.std.specs.Option.{option_map};
 ghost use Rattle.std.specs.Prelude.{◌↔◌, IfErr, IfOk, IsTrue};
 
 use crate::books::are_valid_books;
+use crate::counts::{TombstoneCount, list_counts};
 use crate::scanning::scan_members;
 use crate::tables::pass_book_tests;
-use crate::tallies::start_tallies;
+use crate::tallies::{BookTally, start_tallies};
 use book_model::Limits;
 use sqlite::{Alter, Connection, Error, Row};
 use std::alloc::Global;
@@ -55,15 +57,17 @@ fn assert_rows_obey<S: Alter>(conn: &Connection<S>)
     let _schema = conn.schema();
 }
 
-/// Tests the members one at a time, and then whether each book agrees with its members.
+/// Tests the members one at a time, and then whether each book agrees with its members. Returns the
+/// tally of each book if all are good.
 fn test_members<S: Alter>(
     alloc: Global,
     conn: &mut Connection<S>,
     limits: Limits,
     listed: &BookRows,
-) -> Result<bool, OpenFault>
+) -> Result<Option<Vec<BookTally>>, OpenFault>
     ensures tests { GivenTables S.Store conn.old conn.new (IfOk result
-        (TestsMembers S.Store conn.old limits listed.now.books.items listed.now.keeps.items)) }
+        (λ found. TestsMembers S.Store conn.old limits listed.now.books.items
+        listed.now.keeps.items (option_map (λ tallies. tallies.items) found))) }
     ensures fault { IfErr result IsErrorFault }
     ensures reads_only { OnlyReads S.Store conn.old conn.new }
 {
@@ -72,15 +76,15 @@ fn test_members<S: Alter>(
         return Err(OpenFault::Memory);
     };
     match scan_members(alloc, conn, tallies.as_mut_slice()) {
-        Ok(true) => Ok(are_valid_books(
-            limits,
-            books.len(),
-            books,
-            tallies.as_slice(),
-            listed.keeps.as_slice(),
-        )),
-        Ok(false) => Ok(false),
-        Err(error) => Err(open_fault_of(error)),
+        Ok(true) => {}
+        Ok(false) => return Ok(None),
+        Err(error) => return Err(open_fault_of(error)),
+    }
+    let keeps = listed.keeps.as_slice();
+    if are_valid_books(limits, books.len(), books, tallies.as_slice(), keeps) {
+        Ok(Some(tallies))
+    } else {
+        Ok(None)
     }
 }
 
@@ -98,17 +102,17 @@ fn test_book_rows(alloc: Global, limits: Limits, listed: &BookRows) -> Result<bo
     )
 }
 
-/// Tests the listed rows, and then the members.
+/// Tests the listed rows, and then the members. Returns how many tombstones each book has.
 fn test_all_rows<S: Alter>(
     alloc: Global,
     conn: &mut Connection<S>,
     limits: Limits,
     listed: &BookRows,
-) -> Result<(), OpenFault>
+) -> Result<Vec<TombstoneCount>, OpenFault>
     ensures answers { HasCleanDisk S.Store conn.new → IsCurrentSchema S.Store conn.old
         → IsConnectionOpen S.Store conn.old → AreBookRows S.Store conn.old
         listed.now.books.items listed.now.imports.items listed.now.keeps.items
-        → IsOpenResult S.Store conn.old limits result }
+        → IsCountedResult S.Store conn.old limits result }
     ensures reads_only { OnlyReads S.Store conn.old conn.new }
 {
     assert_rows_obey(conn);
@@ -117,10 +121,9 @@ fn test_all_rows<S: Alter>(
         Ok(false) => return Err(OpenFault::Damaged),
         Err(NoMemory) => return Err(OpenFault::Memory),
     }
-    if test_members(alloc, conn, limits, listed)? {
-        Ok(())
-    } else {
-        Err(OpenFault::Damaged)
+    match test_members(alloc, conn, limits, listed)? {
+        Some(tallies) => list_counts(alloc, listed.books.as_slice(), tallies.as_slice()),
+        None => Err(OpenFault::Damaged),
     }
 }
 
@@ -129,15 +132,32 @@ fn check_rows<S: Alter>(
     alloc: Global,
     conn: &mut Connection<S>,
     limits: Limits,
-) -> Result<(), OpenFault>
+) -> Result<Vec<TombstoneCount>, OpenFault>
     ensures answers { HasCleanDisk S.Store conn.new → IsCurrentSchema S.Store conn.old
-        → IsOpenResult S.Store conn.old limits result }
+        → IsCountedResult S.Store conn.old limits result }
     ensures reads_only { OnlyReads S.Store conn.old conn.new }
 {
     match list_book_rows(conn) {
         Ok(listed) => test_all_rows(alloc, conn, limits, &listed),
         Err(error) => Err(open_fault_of(error)),
     }
+}
+
+/// Tests the tables as `test_tables` does, and returns how many tombstones each book has, in any
+/// order of the books. The number is counted as the members are read, so it costs no query.
+pub fn count_tombstones<S: Alter>(
+    alloc: Global,
+    conn: &mut Connection<S>,
+    limits: Limits,
+) -> Result<Vec<TombstoneCount>, OpenFault>
+    ensures answers { HasCleanDisk S.Store conn.new
+        → IsCountedResult S.Store conn.old limits result }
+
+    // Nothing is changed or committed, also on an error.
+    ensures changes_nothing { ChangesNothing S.Store conn.old conn.new }
+{
+    test_schema(conn)?;
+    check_rows(alloc, conn, limits)
 }
 
 /// Tests whether the tables of the connection are a store's and hold well-formed books within the
@@ -156,6 +176,8 @@ pub fn test_tables<S: Alter>(
     // Nothing is changed or committed, also on an error.
     ensures changes_nothing { ChangesNothing S.Store conn.old conn.new }
 {
-    test_schema(conn)?;
-    check_rows(alloc, conn, limits)
+    match count_tombstones(alloc, conn, limits) {
+        Ok(_) => Ok(()),
+        Err(fault) => Err(fault),
+    }
 }

@@ -1,7 +1,8 @@
-use Rattle.std.proofs.Common.{rules, ◌≡◌, ◌↔◌, IsTrue, true, false, true≢false, refl, sym, ◌∙◌}
+use Rattle.std.proofs.Common.{rules, ◌↔◌, IsTrue, true, false, true≢false, refl, sym, Some, None}
 use Rattle.sqlite.specs.Held.{state}
+use Rattle.store_check.specs.MemberScans.{TestedMembers}
 use Rattle.store_check.specs.StoredTests.{PassBookTests}
-use Rattle.store_check.proofs.TestedLemmas.{own_of_held, tests_held}
+use Rattle.store_check.proofs.TestedLemmas.{listing_opens, own_of_held, tests_fail}
 use Rattle.store_check.proofs.opening.test_all_rows.Goals as goal
 
 pub returns-in-Ok-false-clause-answers : goal.returns-in-Ok-false-clause-answers
@@ -10,20 +11,21 @@ returns-in-Ok-false-clause-answers g c clean says up listed =
     let own : IsTrue false ↔ PassBookTests c.args.limits all.books.items all.imports.items all.keeps.items = search rules in
     (says, λ held. true≢false (sym (own.1 (own_of_held c.args.limits (state g.S.Store c.args.conn.now).now all.books.items all.imports.items all.keeps.items says listed held))))
 
-pub returns-then-branch-clause-answers : goal.returns-then-branch-clause-answers
-returns-then-branch-clause-answers g c clean says up listed =
+pub returns-in-Some-clause-answers : goal.returns-in-Some-clause-answers
+returns-in-Some-clause-answers g c clean says up listed =
     let all = c.args.listed.now in
+    let db = (state g.S.Store c.args.conn.now).now in
     let own : IsTrue true ↔ PassBookTests c.args.limits all.books.items all.imports.items all.keeps.items = search rules in
-    let good : c.in_ok-test_members.field-0 ≡ true = search rules in
-    (tests_held c.args.limits (state g.S.Store c.args.conn.now).now all.books.items all.imports.items all.keeps.items says listed (c.assert_rows_obey.ensures up says.schema) (own.0 refl) c.in_ok-test_members.field-0
-    (c.in_ok-test_members.ensures.tests clean says.schema)).0 good
+    let tested = c.in_ok-tallies.ensures.tests clean says.schema in
+    let found : TestedMembers (db.trees 4) c.args.limits all.books.items all.keeps.items (Some c.in-Some.tallies.items) = rw c.in-Some.is at tested in
+    listing_opens c.args.limits db all.books.items all.imports.items all.keeps.items says listed (c.assert_rows_obey.ensures up says.schema) (own.0 refl)
+    c.in-Some.tallies.items c.list_counts.result found (search rules) c.list_counts.ensures.fault
 
-pub returns-else-branch-clause-answers : goal.returns-else-branch-clause-answers
-returns-else-branch-clause-answers g c clean says up listed =
+pub returns-in-None-clause-answers : goal.returns-in-None-clause-answers
+returns-in-None-clause-answers g c clean says up listed =
     let all = c.args.listed.now in
+    let db = (state g.S.Store c.args.conn.now).now in
     let own : IsTrue true ↔ PassBookTests c.args.limits all.books.items all.imports.items all.keeps.items = search rules in
-    let no : c.in_ok-test_members.field-0 ≡ false = search rules in (
-      says,
-      λ held. true≢false (sym (sym no ∙ (tests_held c.args.limits (state g.S.Store c.args.conn.now).now all.books.items all.imports.items all.keeps.items says listed (c.assert_rows_obey.ensures up says.schema) (own.0 refl) c.in_ok-test_members.field-0
-          (c.in_ok-test_members.ensures.tests clean says.schema)).1 held)),
-    )
+    let tested = c.in_ok-tallies.ensures.tests clean says.schema in
+    let none : TestedMembers (db.trees 4) c.args.limits all.books.items all.keeps.items None = rw c.in-None.is at tested in
+    (says, tests_fail c.args.limits db all.books.items all.imports.items all.keeps.items says listed (c.assert_rows_obey.ensures up says.schema) (own.0 refl) none)
