@@ -22,7 +22,7 @@ use Rattle.store_check.proofs.WellLemmas.{remembered_is}
 
 -- ---- items of a list under a function
 
-there_mapped : {X Y : Type 0} (f : X → Y) (xs : List X) (x : X) → Has xs x → Has (map f xs) (f x)
+pub there_mapped : {X Y : Type 0} (f : X → Y) (xs : List X) (x : X) → Has xs x → Has (map f xs) (f x)
 there_mapped f [] x h = absurd h
 there_mapped f (y ∷ ys) x (inl h) = inl (ap f h)
 there_mapped f (y ∷ ys) x (inr h) = inr (there_mapped f ys x h)

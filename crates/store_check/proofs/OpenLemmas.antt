@@ -16,25 +16,33 @@ use Rattle.store_schema.specs.OpenFaults.{IsErrorFault}
 use Rattle.store_schema.specs.StoredSchema.{ChangesNothing, IsCurrentSchema, ClassifiesSchema}
 use Rattle.store_schema.specs.declared.open_fault.OpenFault.{OpenFault}
 use Rattle.store_schema.specs.declared.open_fault.OpenFault.TheVariants.{Store, NotOurs, OtherSchema, Damaged, NotEmpty, Memory}
+use Rattle.store_check.specs.FaultSearches.{IsSearchFault}
 use Rattle.store_check.specs.OpenResults.{IsOpenResult}
 use Rattle.store_check.specs.ListedRows.{AreBookRows}
 
--- ---- the schema test
+-- ---- faults of the search
 
 -- an error of the schema test is the result for the tables
-pub schema_opens : (limits : Bounds) (db : Database) (fault : OpenFault) → ClassifiesSchema db (Err fault) → IsOpenResult limits db (Err fault)
-schema_opens limits db Store h = h
-schema_opens limits db NotOurs h = h
-schema_opens limits db (OtherSchema has) h = h
-schema_opens limits db Damaged h = absurd h
-schema_opens limits db NotEmpty h = absurd h
-schema_opens limits db Memory h = h
+pub schema_searched : (db : Database) (fault : OpenFault) → ClassifiesSchema db (Err fault) → IsSearchFault db fault
+schema_searched db Store h = tt
+schema_searched db NotOurs h = h
+schema_searched db (OtherSchema has) h = h
+schema_searched db Damaged h = absurd h
+schema_searched db NotEmpty h = absurd h
+schema_searched db Memory h = tt
 
--- ---- the test of the rows
+pub error_searched : (db : Database) (fault : OpenFault) → IsErrorFault fault → IsSearchFault db fault
+error_searched db fault (inl h) = subst (IsSearchFault db) (sym h) tt
+error_searched db fault (inr h) = subst (IsSearchFault db) (sym h) tt
 
-pub error_opens : (limits : Bounds) (db : Database) (fault : OpenFault) → IsErrorFault fault → IsOpenResult limits db (Err fault)
-error_opens limits db fault (inl h) = subst (λ f. IsOpenResult limits db (Err f)) (sym h) tt
-error_opens limits db fault (inr h) = subst (λ f. IsOpenResult limits db (Err f)) (sym h) tt
+-- a fault of the search is one of the opening
+pub fault_opens : (limits : Bounds) (db : Database) (fault : OpenFault) → IsSearchFault db fault → IsOpenResult limits db (Err fault)
+fault_opens limits db Store h = tt
+fault_opens limits db NotOurs h = h
+fault_opens limits db (OtherSchema has) h = h
+fault_opens limits db Damaged h = absurd h
+fault_opens limits db NotEmpty h = absurd h
+fault_opens limits db Memory h = tt
 
 -- ---- reads
 

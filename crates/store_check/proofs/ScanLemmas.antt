@@ -1,9 +1,10 @@
 -- Members that are read one at a time.
-use Rattle.std.proofs.Common.{◌≡◌, ◌++◌, ℤ, true, false, List, [], ◌∷◌, Option, Some, None, IsPermutation, int_lt, map, refl, sym, subst, arith}
+use Rattle.std.proofs.Common.{◌≡◌, ◌++◌, inl, inr, ℤ, true, false, List, [], ◌∷◌, Option, Some, None, IsPermutation, int_lt, map, refl, sym, subst, arith}
 use Rattle.std.proofs.lemmas.Int.{ints}
-use Rattle.std.proofs.lemmas.List.{map-append, append_assoc}
+use Rattle.std.proofs.lemmas.List.{map-append}
 use Rattle.std.specs.List.{AllByRecursion}
 use Rattle.sqlite.specs.Order.{Row}
+use Rattle.sqlite_rules.specs.Lists.{Has}
 use Rattle.sqlite.specs.Program.{overlay}
 use Rattle.sqlite.specs.State.{State, Begins, Shown}
 use Rattle.sqlite.proofs.Callers.{begins_as, reads_as}
@@ -16,10 +17,11 @@ use Rattle.store_tables.proofs.Picks.{picked}
 use Rattle.store_tables.proofs.Queries.{all_members_text, all_members_terms}
 use Rattle.store_tables.proofs.Texts.{all_members_is}
 use Rattle.store_rows.specs.TableRows.{load_member}
+use Rattle.store_check.specs.declared.faults.FaultyRow.{FaultyRow}
 use Rattle.store_check.specs.declared.tallies.BookTally.{BookTally}
 use Rattle.store_check.specs.MemberTallies.{AreCounted, IsGoodMember}
 use Rattle.store_check.specs.MemberScans.{AreTaken, DoesTake, Scanned, is_above}
-use Rattle.store_check.specs.RowChecks.{int_cell}
+use Rattle.store_check.specs.RowChecks.{decode_book, int_cell}
 
 -- ---- the rows so far
 
@@ -52,19 +54,18 @@ all_stay : (last : Option ℤ) (given : List Row) (r : Row) → RiseTo last give
 all_stay None given r h above = subst (AllByRecursion (λ x. int_lt (int_cell 0 r) (int_cell 0 x) ≡ false)) (sym h) tt
 all_stay (Some last) given r h above = all_weaker (λ x. int_lt last (int_cell 0 x) ≡ false) (λ x. int_lt (int_cell 0 r) (int_cell 0 x) ≡ false) (λ x k. stays (int_cell 0 x) last (int_cell 0 r) k above) given h
 
-pub one_more_taken : (old now next : List BookTally) (last after : Option ℤ) (given : List Row) (r : Row) → HasTaken old now last given → DoesTake now next last after r true → HasTaken old next after (given ++ r ∷ [])
-one_more_taken old now next last after given r h step =
-    let risen = step.1 refl in
+pub one_more_taken : (books : List Row) (old now next : List BookTally) (last after : Option ℤ) (given : List Row) (r : Row) → HasTaken old now last given → DoesTake books now next last after r None → HasTaken old next after (given ++ r ∷ [])
+one_more_taken books old now next last after given r h step =
     record {
-      last_is = subst (λ o. RiseTo o (given ++ r ∷ [])) (sym risen.1) (all-append (λ x. int_lt (int_cell 0 r) (int_cell 0 x) ≡ false) given (r ∷ []) (all_stay last given r h.last_is risen.0) (itself (int_cell 0 r), tt));
+      last_is = subst (λ o. RiseTo o (given ++ r ∷ [])) (sym step.2) (all-append (λ x. int_lt (int_cell 0 r) (int_cell 0 x) ≡ false) given (r ∷ []) (all_stay last given r h.last_is step.1) (itself (int_cell 0 r), tt));
       taken = λ books start.
           let was = h.taken books start in
           let does = step.0 (map load_member given) books was.counted in
           record {
-            good = all-append (IsGoodMember books) given (r ∷ []) was.good (does.0.0 refl, tt);
+            good = all-append (IsGoodMember books) given (r ∷ []) was.good (does.0, tt);
             rising = ascending-append (λ a b. int_lt (int_cell 0 a) (int_cell 0 b) ≡ true) given (r ∷ []) was.rising (tt, tt)
-                (all_weaker (λ x. int_lt (int_cell 0 x) (int_cell 0 r) ≡ true) (λ x. AllByRecursion (λ b. int_lt (int_cell 0 x) (int_cell 0 b) ≡ true) (r ∷ [])) (λ x k. (k, tt)) given (all_below last given r h.last_is risen.0));
-            counted = subst (λ ms. AreCounted ms books next) (sym (map-append load_member given (r ∷ []))) (does.1 refl);
+                (all_weaker (λ x. int_lt (int_cell 0 x) (int_cell 0 r) ≡ true) (λ x. AllByRecursion (λ b. int_lt (int_cell 0 x) (int_cell 0 b) ≡ true) (r ∷ [])) (λ x k. (k, tt)) given (all_below last given r h.last_is step.1));
+            counted = subst (λ ms. AreCounted ms books next) (sym (map-append load_member given (r ∷ []))) does.1;
           };
     }
 
@@ -83,25 +84,20 @@ first_listed s rows schema h =
 -- ---- the result
 
 -- the table was read to its end
-pub scanned_all : (table : List Row) (old now : List BookTally) (last : Option ℤ) (given : List Row) → HasTaken old now last given → IsPermutation (map member_cells table) given
-    → (books : List BookRow) → AreCounted [] books old → Scanned table books now true
-scanned_all table old now last given h all books start = record { rows = given; all = all; taken = λ _. h.taken books start; refused = λ e. absurd (let f = e in cc) }
+pub scanned_all : (table books : List Row) (old now : List BookTally) (last : Option ℤ) (given : List Row) → HasTaken old now last given → IsPermutation (map member_cells table) given
+    → AreCounted [] (map decode_book books) old → Scanned table books now None
+scanned_all table books old now last given h all start = record { rows = given; all = all; taken = λ _. h.taken (map decode_book books) start; faulty = tt }
 
-part_good : (P : Row → Type 0) (xs ys : List Row) → AllByRecursion P (xs ++ ys) → AllByRecursion P ys
-part_good P [] ys h = h
-part_good P (x ∷ xs) ys h = part_good P xs ys h.1
+among : {X : Type 0} (xs : List X) (x : X) (ys : List X) → Has ((xs ++ x ∷ []) ++ ys) x
+among [] x ys = inl refl
+among (z ∷ zs) x ys = inr (among zs x ys)
 
 -- a member is not good
-pub scanned_part : (table : List Row) (old now next : List BookTally) (last after : Option ℤ) (given : List Row) (r : Row) (tail : List Row) → HasTaken old now last given → DoesTake now next last after r false
-    → IsPermutation (map member_cells table) ((given ++ r ∷ []) ++ tail) → (books : List BookRow) → AreCounted [] books old → Scanned table books next false
-scanned_part table old now next last after given r tail h step all books start =
-    let does = step.0 (map load_member given) books (h.taken books start).counted in
-    record {
-      rows = (given ++ r ∷ []) ++ tail;
-      all = all;
-      taken = λ e. absurd (let f = e in cc);
-      refused = λ _ good.
-          let rest = part_good (IsGoodMember books) given (r ∷ tail) (subst (AllByRecursion (IsGoodMember books)) (append_assoc given (r ∷ []) tail) good) in
-          let yes = does.0.1 rest.0 in
-          absurd (let f = yes in cc);
-    }
+pub scanned_part : (table books : List Row) (old now next : List BookTally) (last after : Option ℤ) (given : List Row) (r : Row) (f : FaultyRow) (tail : List Row) → HasTaken old now last given
+    → DoesTake books now next last after r (Some f) → IsPermutation (map member_cells table) ((given ++ r ∷ []) ++ tail) → AreCounted [] (map decode_book books) old → Scanned table books next (Some f)
+scanned_part table books old now next last after given r f tail h step all start = record {
+  rows = (given ++ r ∷ []) ++ tail;
+  all = all;
+  taken = λ e. absurd (let k = e in cc);
+  faulty = (r, among given r tail, step (map load_member given) (h.taken (map decode_book books) start).counted);
+}

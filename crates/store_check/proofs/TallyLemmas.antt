@@ -1,15 +1,14 @@
 -- Members that are counted one at a time.
-use Rattle.std.proofs.Common.{ap₂, cond, filter, ◌≡◌, ◌∙◌, ◌≤◌, ◌+◌, ◌++◌, ◌↔◌, ℕ, ℤ, zero, suc, Bool, true, false, true≢false, List, [], ◌∷◌, Option, Some, None, IsTrue, refl, sym, ap, arith, drop, find, length, map, take, slice_get, slice_set}
+use Rattle.std.proofs.Common.{ap₂, cond, filter, ◌≡◌, ◌∙◌, ◌≤◌, ◌+◌, ◌++◌, ℕ, ℤ, zero, suc, Bool, true, false, List, [], ◌∷◌, Some, refl, sym, ap, arith, drop, find, length, map, take, slice_get, slice_set}
 use Rattle.std.proofs.lemmas.List.{length-append}
 use Rattle.std.proofs.lemmas.List.Elements.{filter-append}
-use Rattle.std.specs.Option.{IsSomeAnd, option_map}
+use Rattle.std.specs.Option.{option_map}
 use Rattle.store_tables.specs.Books.{BookRow, has_id}
 use Rattle.store_tables.specs.Members.{MemberRow, is_removed_above}
 use Rattle.store_rows.specs.Values.{natural}
 use Rattle.store_check.specs.declared.tallies.BookTally.{BookTally}
 use Rattle.store_check.specs.BookChecks.{is_live_in}
 use Rattle.store_check.specs.MemberTallies.{AreCounted, counted, has_book, one_more, tally_of}
-use Rattle.store_check.specs.RowChecks.{IsBookAnd}
 
 -- ---- a list of which a loop replaces one item after another
 
@@ -54,27 +53,6 @@ tally_found ms id (b ∷ bs) = step (has_id id b) refl (tally_found ms id bs)
         → find (has_book id) (map (tally_of ms) (b ∷ bs)) ≡ option_map (tally_of ms) (find (has_id id) (b ∷ bs))
     step true e more = rw e refl
     step false e more = rw e more
-
-module _ (ms : List MemberRow) (books : List BookRow) (tallies : List BookTally) (counts : AreCounted ms books tallies) (id : ℤ) (P : BookRow → Type 0) where
-  found_in : (o : Option BookTally) → find (has_book id) tallies ≡ o → option_map (tally_of ms) (find (has_id id) books) ≡ o
-  found_in o found = sym (tally_found ms id books) ∙ (ap (find (has_book id)) (sym counts) ∙ found)
-
-  -- what decides by a book's tally decides by the book
-  pub valid_there : (t : BookTally) → find (has_book id) tallies ≡ Some t → (valid : Bool) → ((b : BookRow) → natural b.numbers.number ≡ t.number → b.numbers.horizon ≡ t.horizon → IsTrue valid ↔ P b) → IsTrue valid ↔ IsBookAnd books id P
-  valid_there t found valid h = go (find (has_id id) books) (found_in (Some t) found)
-    where
-      go : (o : Option BookRow) → option_map (tally_of ms) o ≡ Some t → IsTrue valid ↔ IsSomeAnd o P
-      go None e = absurd (let f = e in cc)
-      go (Some b) e =
-          let same : tally_of ms b ≡ t = same_item (tally_of ms b) t e in
-          h b (ap (λ (u : BookTally). u.number) same) (ap (λ (u : BookTally). u.horizon) same)
-
-  pub absent_there : find (has_book id) tallies ≡ None → IsTrue false ↔ IsBookAnd books id P
-  absent_there found = go (find (has_id id) books) (found_in None found)
-    where
-      go : (o : Option BookRow) → option_map (tally_of ms) o ≡ None → IsTrue false ↔ IsSomeAnd o P
-      go None e = (λ t. absurd (true≢false (sym t)), λ k. absurd k)
-      go (Some b) e = absurd (let f = e in cc)
 
 -- ---- one more member
 

@@ -1,5 +1,5 @@
 -- What the tests of all rows say of the tables.
-use Rattle.std.proofs.Common.{◌≡◌, ◌↔◌, Bool, false, true≢false, List, Some, None, Result, Ok, Err, IfOk, IfErr, Vec, map, IsTrue, IsPermutation, refl, sym, ◌∙◌}
+use Rattle.std.proofs.Common.{◌≡◌, ◌↔◌, Bool, false, true≢false, List, Ok, Err, Vec, map, IsTrue, IsPermutation, sym, ◌∙◌}
 use Rattle.std.specs.declared.alloc.Global.{Global}
 use Rattle.std.proofs.lemmas.List.Sorted.{IsPermutation-refl}
 use Rattle.sqlite.specs.Effect.{Database}
@@ -11,21 +11,22 @@ use Rattle.store_tables.specs.Members.{MemberRow, member_cells}
 use Rattle.store_rows.specs.SoundTables.{HoldsWellFormed}
 use Rattle.store_rows.specs.TableBooks.{books_in}
 use Rattle.store_rows.specs.TableRows.{load_member}
-use Rattle.store_schema.specs.OpenFaults.{IsErrorFault}
 use Rattle.store_schema.specs.StoredSchema.{IsCurrentSchema}
-use Rattle.store_schema.specs.declared.open_fault.OpenFault.{OpenFault}
 use Rattle.store_check.specs.declared.counts.TombstoneCount.{TombstoneCount}
+use Rattle.store_check.specs.declared.faults.FaultyRow.{FaultyRow}
+use Rattle.store_check.specs.FaultSearches.{AreFaulty, FaultyAreNotStored}
 use Rattle.store_check.specs.declared.tallies.BookTally.{BookTally}
 use Rattle.store_check.specs.ListedRows.{AreBookRows, AreListedRows}
 use Rattle.store_check.specs.MemberScans.{TestedMembers}
 use Rattle.store_check.specs.MemberTallies.{AreCounted, IsGoodMember}
 use Rattle.store_check.specs.RowChecks.{AreWellStored, IsBookAnd, IsMemberRow, IsValidMember, decode_book}
+use Rattle.store_check.specs.RowFaults.{IsFaultyRow}
 use Rattle.store_check.specs.StoredTests.{HaveMemberKeys, PassAllTests, PassBookTests, PassMemberTests, StoredPassTests}
-use Rattle.store_check.specs.TombstoneCounts.{AreTombstoneCounts, IsCountedResult, count_entry, removed_entry}
+use Rattle.store_check.specs.TombstoneCounts.{AreTombstoneCounts, count_entry, removed_entry}
 use Rattle.store_check.proofs.CountLemmas.{counts_held}
+use Rattle.store_check.proofs.FaultLemmas.{faulty_fails}
 use Rattle.store_check.proofs.ListedLemmas.{rows_are_held, well_stored_held}
 use Rattle.store_check.proofs.MemberKeyLemmas.{keys_hold}
-use Rattle.store_check.proofs.OpenLemmas.{error_opens}
 use Rattle.store_check.proofs.StoredLemmas.{good_of_stored, keys_of_stored, well_stored}
 
 -- ---- rows pass all tests exactly if they are well stored
@@ -97,30 +98,41 @@ module _ (limits : Bounds) (db : Database) (books imports keeps : List Row) (our
   pub own_of_held : HoldsWellFormed limits db → PassBookTests limits books imports keeps
   own_of_held held = (all_tests (map member_cells (db.trees 4)) (IsPermutation-refl _) held).own
 
+  -- one of the rows is faulty
+  are_faulty : (f : FaultyRow) (rows : List Row) → IsPermutation (map member_cells (db.trees 4)) rows → IsFaultyRow limits books rows imports keeps f → AreFaulty limits db f
+  are_faulty f rows all faulty = record {
+    ours = ours;
+    damaged = λ held. faulty_fails limits books rows imports keeps (all_tests rows all held) f faulty;
+    held = record { books = books; members = rows; imports = imports; keeps = keeps; listed = with_members rows all; faulty = faulty };
+  }
+
+  pub listed_faulty : (f : FaultyRow) → ((members : List Row) → IsFaultyRow limits books members imports keeps f) → AreFaulty limits db f
+  listed_faulty f h = are_faulty f (map member_cells (db.trees 4)) (IsPermutation-refl _) (h (map member_cells (db.trees 4)))
+
+  pub tested_faulty : (f : FaultyRow) → TestedMembers (db.trees 4) limits books keeps (Err f) → AreFaulty limits db f
+  tested_faulty f t = are_faulty f t.rows t.all (t.faulty imports)
+
   module _ (obeys : ObeyTables db.trees) (own : PassBookTests limits books imports keeps) where
     -- the rows that were counted are well stored
-    stored_rows : (tallies : List BookTally) (t : TestedMembers (db.trees 4) limits books keeps (Some tallies)) → AreWellStored limits books t.rows imports keeps
+    stored_rows : (tallies : Vec BookTally Global) (t : TestedMembers (db.trees 4) limits books keeps (Ok tallies)) → AreWellStored limits books t.rows imports keeps
     stored_rows tallies t =
-        let passed = t.tested.0 refl in
-        let keys = keys_hold db.trees obeys t.rows t.all t.taken.rising (all_weaker (IsGoodMember (map decode_book books)) IsMemberRow (λ r h. h.0) t.rows passed.good) in
+        let passed = t.passed.0 in
+        let keys = keys_hold db.trees obeys t.rows t.all t.passed.1.rising (all_weaker (IsGoodMember (map decode_book books)) IsMemberRow (λ r h. h.0) t.rows passed.good) in
         tests_stored limits books t.rows imports keeps (record { own = own; keys = keys; passed = passed })
 
     -- the counts were listed from the tallies
     abbrev pub IsListing : List BookTally → List TombstoneCount → Type 0
     IsListing tallies counts = (ms : List MemberRow) → AreCounted ms (map decode_book books) tallies → map count_entry counts ≡ map (removed_entry ms) (map decode_book books)
 
-    tests_pass : (tallies : List BookTally) (counts : List TombstoneCount) → TestedMembers (db.trees 4) limits books keeps (Some tallies) → IsListing tallies counts
+    pub tests_pass : (tallies : Vec BookTally Global) (counts : List TombstoneCount) → TestedMembers (db.trees 4) limits books keeps (Ok tallies) → IsListing tallies.items counts
         → HoldsWellFormed limits db × AreTombstoneCounts (books_in db.trees) counts
     tests_pass tallies counts t listing =
         let stored = stored_rows tallies t in
         let all = with_members t.rows t.all in
         let holds = rows_are_held limits db books t.rows imports keeps ours all stored in
-        ((well_stored_held limits db books t.rows imports keeps ours all).0 stored, counts_held limits db books t.rows imports keeps counts holds stored (listing (map load_member t.rows) t.taken.counted))
+        ((well_stored_held limits db books t.rows imports keeps ours all).0 stored, counts_held limits db books t.rows imports keeps counts holds stored (listing (map load_member t.rows) t.passed.1.counted))
 
-    pub tests_fail : TestedMembers (db.trees 4) limits books keeps None → ¬ HoldsWellFormed limits db
-    tests_fail t held = true≢false (sym (t.tested.1 (all_tests t.rows t.all held).passed))
+-- ---- a faulty row
 
-    pub listing_opens : (tallies : List BookTally) (r : Result (Vec TombstoneCount Global) OpenFault) → TestedMembers (db.trees 4) limits books keeps (Some tallies)
-        → IfOk r (λ counts. IsListing tallies counts.items) → IfErr r IsErrorFault → IsCountedResult limits db r
-    listing_opens tallies (Ok counts) t listing fault = tests_pass tallies counts.items t listing
-    listing_opens tallies (Err f) t listing fault = error_opens limits db f fault
+pub faulty_not_stored : FaultyAreNotStored
+faulty_not_stored limits books members imports keeps f faulty w = faulty_fails limits books members imports keeps (stored_tests limits books members imports keeps w) f faulty

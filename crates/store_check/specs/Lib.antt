@@ -6,4 +6,6 @@ pub mod StoredTests
 pub mod ListedRows
 pub mod OpenResults
 pub mod TombstoneCounts
+pub mod RowFaults
+pub mod FaultSearches
 pub mod OnConnections

@@ -1,7 +1,7 @@
 -- What is counted of the members of each book, while they are read one at a time. This project's
 -- own.
 use Rattle.std.specs.Prelude.{◌≡◌, ◌+◌, ◌++◌, ◌↔◌, ℕ, ℤ, Bool, List, [], ◌∷◌, IsTrue, filter}
-use Rattle.std.specs.Prelude.{if◌then◌else◌, length, map}
+use Rattle.std.specs.Prelude.{if◌then◌else◌, Option, Some, None, length, map}
 use Rattle.std.specs.List.{AllByRecursion}
 use Rattle.std.specs.Ordering.{int_eq}
 use Rattle.sqlite.specs.Order.{Row}
@@ -10,8 +10,10 @@ use Rattle.store_tables.specs.Members.{MemberRow, is_removed_above}
 use Rattle.store_rows.specs.TableRows.{load_member}
 use Rattle.store_rows.specs.Values.{natural}
 use Rattle.store_check.specs.declared.tallies.BookTally.{BookTally}
+use Rattle.store_check.specs.declared.faults.MemberFault.{MemberFault}
 use Rattle.store_check.specs.BookChecks.{is_live_in}
 use Rattle.store_check.specs.RowChecks.{IsMemberRow, IsBookAnd, IsValidMember}
+use Rattle.store_check.specs.RowFaults.{HasMemberFault}
 
 -- ---- one book
 
@@ -49,11 +51,16 @@ abbrev pub IsGoodMember : List BookRow → Row → Type 0
 IsGoodMember books r =
     IsMemberRow r × IsBookAnd books (load_member r).book (IsValidMember (load_member r))
 
--- The member was tested against its book, and counted if it is good.
-abbrev pub DoesTally : List BookTally → List BookTally → Row → Bool → Type 0
-DoesTally old new r good = (ms : List MemberRow) (books : List BookRow) → AreCounted ms books old →
-    (IsTrue good ↔ IsGoodMember books r)
-    × (IsTrue good → AreCounted (ms ++ load_member r ∷ []) books new)
+-- The member was tested against its book: it is good and was counted, or it has the fault.
+abbrev pub TalliesOne : List MemberRow → List BookRow → List BookTally → Row
+    → Option MemberFault → Type 0
+TalliesOne ms books new r None =
+    IsGoodMember books r × AreCounted (ms ++ load_member r ∷ []) books new
+TalliesOne ms books new r (Some fault) = HasMemberFault books r fault
+
+abbrev pub DoesTally : List BookTally → List BookTally → Row → Option MemberFault → Type 0
+DoesTally old new r found = (ms : List MemberRow) (books : List BookRow) → AreCounted ms books old →
+    TalliesOne ms books new r found
 
 -- The same for several members: whether all are good.
 abbrev pub TallyAll : List BookTally → List BookTally → List Row → Bool → Type 0

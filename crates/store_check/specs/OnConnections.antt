@@ -10,6 +10,8 @@ use Rattle.store_tables.specs.Tables.{book_schema}
 use Rattle.store_schema.specs.declared.open_fault.OpenFault.{OpenFault}
 use Rattle.store_check.specs.declared.counts.TombstoneCount.{TombstoneCount}
 use Rattle.store_check.specs.declared.tallies.BookTally.{BookTally}
+use Rattle.store_check.specs.declared.faults.FaultyRow.{FaultyRow}
+use Rattle.store_check.specs.FaultSearches as searches
 use Rattle.store_check.specs.ListedRows as listed
 use Rattle.store_check.specs.MemberScans as scans
 use Rattle.store_check.specs.OpenResults as results
@@ -24,7 +26,8 @@ module _ {S : Type 0} (store : Ghosts S) (conn : Held S) where
   ObeySchema = IsTrue (state store conn).is_open → (state store conn).now.schema ≡ book_schema →
       ObeyTables (state store conn).now.trees
 
-  abbrev pub TestsMembers : Bounds → List Row → List Row → Option (List BookTally) → Type 0
+  abbrev pub TestsMembers : Bounds → List Row → List Row
+      → Result (Vec BookTally Global) FaultyRow → Type 0
   TestsMembers = scans.TestedMembers ((state store conn).now.trees 4)
 
   abbrev pub IsOpenResult : Bounds → Result (Unit {0}) OpenFault → Type 0
@@ -32,3 +35,10 @@ module _ {S : Type 0} (store : Ghosts S) (conn : Held S) where
 
   abbrev pub IsCountedResult : Bounds → Result (Vec TombstoneCount Global) OpenFault → Type 0
   IsCountedResult limits = counts.IsCountedResult limits (state store conn).now
+
+  abbrev pub IsTestResult : Bounds → Result (Result (Vec TombstoneCount Global) FaultyRow) OpenFault
+      → Type 0
+  IsTestResult limits = searches.IsTestResult limits (state store conn).now
+
+  abbrev pub IsFaultSearch : Bounds → Result (Option FaultyRow) OpenFault → Type 0
+  IsFaultSearch limits = searches.IsFaultSearch limits (state store conn).now

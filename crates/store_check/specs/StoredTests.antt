@@ -28,6 +28,16 @@ pub record PassBookTests (limits : Bounds) (books imports keeps : List Row) : Ty
   pub listed_keeps : AllByRecursion (λ k. HasBookId (map decode_book books) k.book)
       (map decode_keep keeps)
 
+-- the same but for the keys
+pub record PassRowTests (limits : Bounds) (books imports keeps : List Row) : Type 0 where
+  pub each_book : AllByRecursion IsBookRow books
+  pub each_import : AllByRecursion IsImportRow imports
+  pub each_keep : AllByRecursion IsKeepRow keeps
+  pub few : length (map decode_book books) ≤ limits.books_max
+  pub valid_imports : AreValidImports (map decode_book books) (map load_import imports)
+  pub listed_keeps : AllByRecursion (λ k. HasBookId (map decode_book books) k.book)
+      (map decode_keep keeps)
+
 -- the keys of the members are unique, and no change of a book wrote two members
 pub record HaveMemberKeys (members : List Row) : Type 0 where
   pub keys : AreMembers (map load_member members)

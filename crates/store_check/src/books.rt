@@ -1,10 +1,7 @@
 //! Checks the rows of `book` and `keeping`.
-ghost use Rattle.store_check.specs.BookChecks.{
-  AgreesWithMembers,
-  HasValidNumbers,
-  IsCheckedBook,
-};
+ghost use Rattle.store_check.specs.BookChecks.{HasValidNumbers, IsCheckedBook};
 ghost use Rattle.store_check.specs.MemberTallies.{AreCounted, tally_of};
+ghost use Rattle.store_check.specs.RowFaults.{HasBookFault, JudgesBook, JudgesMembers};
 ghost use Rattle.store_check.specs.RowChecks.{IsBookRow, IsKeepRow, decode_book, decode_keep};
 ghost use Rattle.book_model.specs.Counting.{arrived_cards, departed_cards, total_changes};
 ghost use Rattle.store_rows.specs.TableBooks.{row_counts, keep_of_book};
@@ -13,11 +10,14 @@ ghost use Rattle.store_tables.specs.Books.{has_id};
 ghost use Rattle.store_tables.specs.Members.{MemberRow, is_removed_above};
 ghost use Rattle.std.specs.Option.{option_map};
 ghost use Rattle.std.specs.List.{AllByRecursion};
-ghost use Rattle.std.specs.Prelude.{◌≡◌, ◌+◌, ◌↔◌, IsTrue, List, filter, find, length, map};
+ghost use Rattle.sqlite_rules.specs.Lists.{Has};
+ghost use Rattle.std.specs.Prelude.{◌≡◌, ◌+◌, ◌↔◌, IfSome, IsTrue, List, None, filter, find};
+ghost use Rattle.std.specs.Prelude.{length, map};
 
 use crate::cells::{
     has_natural, has_number, has_text, natural_at, number_at, text_at, text_if_any_at,
 };
+use crate::faults::BookFault;
 use crate::names::is_name_text;
 use crate::tallies::BookTally;
 use book_model::{Counts, Limits};
@@ -114,35 +114,77 @@ fn keep_of(keeps: &[Row], id: i64) -> u64
     0
 }
 
-/// Whether the keep is at least 1 and no less than the number of tombstones, and the live members
-/// are as many as were added minus those that left.
-fn agrees_with_members(book: &Row, tally: BookTally, keeps: &[Row]) -> bool
+/// What is wrong with the book's keep or its number of live members, if anything is.
+fn members_fault(book: &Row, tally: BookTally, keeps: &[Row]) -> Option<BookFault>
     ensures { (ms : List MemberRow) → tally ≡ tally_of ms (decode_book book.now)
-        → IsTrue result ↔ AgreesWithMembers ms (map decode_keep keeps.now) (decode_book book.now) }
+        → JudgesMembers ms (map decode_keep keeps.now) book.now result }
 {
     let counts = counts_at(book);
     let keep = keep_of(keeps, number_at(book, 0));
-    let is_kept = keep >= 1 && tally.removed <= keep;
-    is_kept && tally.live as u128 + departures_of(counts) == arrivals_of(counts)
+    if keep < 1 || tally.removed > keep {
+        return Some(BookFault::Keep);
+    }
+    if tally.live as u128 + departures_of(counts) == arrivals_of(counts) {
+        None
+    } else {
+        Some(BookFault::Cards)
+    }
 }
 
-/// Whether the book has a legal name, an id from 1 to the number of books, valid numbers, and
-/// agrees with its members and its keep.
-fn is_valid_book(limits: Limits, books: usize, tally: BookTally, keeps: &[Row], book: &Row) -> bool
+/// What is wrong with the book, one of `books`, if anything is. Its members were counted.
+fn book_fault(
+    limits: Limits,
+    books: usize,
+    tally: BookTally,
+    keeps: &[Row],
+    book: &Row,
+) -> Option<BookFault>
     ensures { (ms : List MemberRow) → tally ≡ tally_of ms (decode_book book.now)
-        → IsTrue result ↔ IsCheckedBook limits books ms (map decode_keep keeps.now)
-        (decode_book book.now) }
+        → JudgesBook limits books ms (map decode_keep keeps.now) book.now result }
 {
     let id = natural_at(book, 0);
-    let is_numbered = 1 <= id && id <= books as u64;
-    is_numbered
-        && is_name_text(text_at(book, 1))
-        && has_valid_numbers(limits, book)
-        && agrees_with_members(book, tally, keeps)
+    if id < 1 || id > books as u64 {
+        return Some(BookFault::Id);
+    }
+    if !is_name_text(text_at(book, 1)) {
+        return Some(BookFault::Name);
+    }
+    if !has_valid_numbers(limits, book) {
+        return Some(BookFault::Numbers);
+    }
+    members_fault(book, tally, keeps)
 }
 
-/// Whether each of these books, of `count`, has a legal name, an id from 1 to `count`, valid
-/// numbers, and agrees with its members, which are counted beside it, and its keep.
+/// The first of these books, of `count`, that is not valid, and what is wrong with it. Beside each
+/// stands the tally of its members.
+pub(crate) fn first_faulty_book<'a>(
+    limits: Limits,
+    count: usize,
+    books: &'a [Row],
+    tallies: &[BookTally],
+    keeps: &[Row],
+) -> Option<(&'a Row, BookFault)>
+    ensures good { (ms : List MemberRow) → AreCounted ms (map decode_book books.now) tallies.now
+        → result ≡ None → AllByRecursion
+        (IsCheckedBook limits count ms (map decode_keep keeps.now)) (map decode_book books.now) }
+    ensures bad { (ms : List MemberRow) → AreCounted ms (map decode_book books.now) tallies.now
+        → IfSome result (λ found. Has books.now found.0.now
+        × ¬ IsCheckedBook limits count ms (map decode_keep keeps.now) (decode_book found.0.now)
+        × HasBookFault limits count ms (map decode_keep keeps.now) found.0.now found.1) }
+{
+    let Some((book, others)) = books.split_first() else {
+        return None;
+    };
+    let Some((tally, rest)) = tallies.split_first() else {
+        return None;
+    };
+    match book_fault(limits, count, *tally, keeps, book) {
+        Some(fault) => Some((book, fault)),
+        None => first_faulty_book(limits, count, others, rest, keeps),
+    }
+}
+
+/// Whether each of these books, of `count`, is valid. Beside each stands the tally of its members.
 pub(crate) fn are_valid_books(
     limits: Limits,
     count: usize,
@@ -154,14 +196,7 @@ pub(crate) fn are_valid_books(
         → IsTrue result ↔ AllByRecursion
         (IsCheckedBook limits count ms (map decode_keep keeps.now)) (map decode_book books.now) }
 {
-    let Some((book, others)) = books.split_first() else {
-        return true;
-    };
-    let Some((tally, rest)) = tallies.split_first() else {
-        return false;
-    };
-    is_valid_book(limits, count, *tally, keeps, book)
-        && are_valid_books(limits, count, others, rest, keeps)
+    first_faulty_book(limits, count, books, tallies, keeps).is_none()
 }
 
 /// Whether the row has a book's columns: an id, a name and nine numbers, none of them negative.
@@ -183,26 +218,42 @@ fn is_keep_row(row: &Row) -> bool
     has_number(row, 0) && has_natural(row, 1)
 }
 
+/// The first row that doesn't have a book's columns.
+pub(crate) fn first_bad_book(rows: &[Row]) -> Option<&Row>
+    ensures good { result ≡ None → AllByRecursion IsBookRow rows.now }
+    ensures bad { IfSome result (λ row. Has rows.now row.now × ¬ IsBookRow row.now) }
+{
+    for row in rows {
+        if !is_book_row(row) {
+            return Some(row);
+        }
+    }
+    None
+}
+
+/// The first row that doesn't have a keep's columns.
+pub(crate) fn first_bad_keep(rows: &[Row]) -> Option<&Row>
+    ensures good { result ≡ None → AllByRecursion IsKeepRow rows.now }
+    ensures bad { IfSome result (λ row. Has rows.now row.now × ¬ IsKeepRow row.now) }
+{
+    for row in rows {
+        if !is_keep_row(row) {
+            return Some(row);
+        }
+    }
+    None
+}
+
 /// Whether each row has a book's columns.
 pub(crate) fn are_book_rows(rows: &[Row]) -> bool
     ensures { IsTrue result ↔ AllByRecursion IsBookRow rows.now }
 {
-    for row in rows {
-        if !is_book_row(row) {
-            return false;
-        }
-    }
-    true
+    first_bad_book(rows).is_none()
 }
 
 /// Whether each row has a keep's columns.
 pub(crate) fn are_keep_rows(rows: &[Row]) -> bool
     ensures { IsTrue result ↔ AllByRecursion IsKeepRow rows.now }
 {
-    for row in rows {
-        if !is_keep_row(row) {
-            return false;
-        }
-    }
-    true
+    first_bad_keep(rows).is_none()
 }

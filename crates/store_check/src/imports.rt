@@ -1,31 +1,59 @@
 //! Checks the rows of `import_key`.
 ghost use Rattle.store_check.specs.BookChecks.{IsCheckedImport};
 ghost use Rattle.store_check.specs.RowChecks.{AreValidImports, IsBookAnd, IsImportRow, decode_book};
+ghost use Rattle.store_check.specs.RowFaults.{HasImportFault, JudgesImport, JudgesImportOf};
 ghost use Rattle.store_rows.specs.TableRows.{load_import};
 ghost use Rattle.std.specs.List.{AllByRecursion};
-ghost use Rattle.std.specs.Prelude.{◌↔◌, IsTrue, map};
+ghost use Rattle.sqlite_rules.specs.Lists.{Has};
+ghost use Rattle.std.specs.Prelude.{◌≡◌, ◌↔◌, IfSome, IsTrue, None, map};
 
 use crate::books::book_with_id;
 use crate::cells::{has_natural, has_number, has_text, natural_at, number_at, text_at};
+use crate::faults::ImportFault;
 use crate::names::is_key_text;
 use sqlite::Row;
 
-/// Whether the import is valid in this book: a legal key, and a number that the book has reached.
-fn is_valid_import(import: &Row, book: &Row) -> bool
-    ensures { IsTrue result ↔ IsCheckedImport (load_import import.now) (decode_book book.now) }
+/// What is wrong with the import in this book, if anything is.
+fn fault_in_book(import: &Row, book: &Row) -> Option<ImportFault>
+    ensures { JudgesImportOf import.now (decode_book book.now) result }
 {
-    is_key_text(text_at(import, 2)) && natural_at(import, 6) <= natural_at(book, 2)
+    if !is_key_text(text_at(import, 2)) {
+        return Some(ImportFault::Key);
+    }
+    if natural_at(import, 6) > natural_at(book, 2) {
+        return Some(ImportFault::Number);
+    }
+    None
 }
 
-/// Whether the import's book is listed and the import is valid in it.
-fn is_valid_in_its_book(import: &Row, books: &[Row]) -> bool
-    ensures { IsTrue result ↔ IsBookAnd (map decode_book books.now)
-        (load_import import.now).book (IsCheckedImport (load_import import.now)) }
+/// What is wrong with the import, if anything is.
+fn import_fault(import: &Row, books: &[Row]) -> Option<ImportFault>
+    ensures { JudgesImport (map decode_book books.now) import.now result }
 {
     match book_with_id(books, number_at(import, 1)) {
-        Some(book) => is_valid_import(import, book),
-        None => false,
+        Some(book) => fault_in_book(import, book),
+        None => Some(ImportFault::NoBook),
     }
+}
+
+/// The first import whose book isn't listed or that is not valid there, and what is wrong with it.
+pub(crate) fn first_faulty_import<'a>(
+    imports: &'a [Row],
+    books: &[Row],
+) -> Option<(&'a Row, ImportFault)>
+    ensures good { result ≡ None
+        → AreValidImports (map decode_book books.now) (map load_import imports.now) }
+    ensures bad { IfSome result (λ found. Has imports.now found.0.now
+        × ¬ IsBookAnd (map decode_book books.now) (load_import found.0.now).book
+        (IsCheckedImport (load_import found.0.now))
+        × HasImportFault (map decode_book books.now) found.0.now found.1) }
+{
+    for import in imports {
+        if let Some(fault) = import_fault(import, books) {
+            return Some((import, fault));
+        }
+    }
+    None
 }
 
 /// Whether each import's book is listed and the import is valid in it.
@@ -33,12 +61,7 @@ pub(crate) fn are_valid_imports(imports: &[Row], books: &[Row]) -> bool
     ensures { IsTrue result
         ↔ AreValidImports (map decode_book books.now) (map load_import imports.now) }
 {
-    for import in imports {
-        if !is_valid_in_its_book(import, books) {
-            return false;
-        }
-    }
-    true
+    first_faulty_import(imports, books).is_none()
 }
 
 /// Whether the row has an import's columns: its id, its book's id, a key, and four numbers that are
@@ -51,14 +74,22 @@ fn is_import_row(row: &Row) -> bool
     is_keyed && has_cards && has_natural(row, 6)
 }
 
+/// The first row that doesn't have an import's columns.
+pub(crate) fn first_bad_import(rows: &[Row]) -> Option<&Row>
+    ensures good { result ≡ None → AllByRecursion IsImportRow rows.now }
+    ensures bad { IfSome result (λ row. Has rows.now row.now × ¬ IsImportRow row.now) }
+{
+    for row in rows {
+        if !is_import_row(row) {
+            return Some(row);
+        }
+    }
+    None
+}
+
 /// Whether each row has an import's columns.
 pub(crate) fn are_import_rows(rows: &[Row]) -> bool
     ensures { IsTrue result ↔ AllByRecursion IsImportRow rows.now }
 {
-    for row in rows {
-        if !is_import_row(row) {
-            return false;
-        }
-    }
-    true
+    first_bad_import(rows).is_none()
 }

@@ -11,7 +11,9 @@ ghost use Rattle.store_tables.specs.Members.{AreMembers};
 ghost use Rattle.std.specs.List.{AllByRecursion};
 ghost use Rattle.sqlite_trees.specs.Tree.{IsAscending};
 ghost use Rattle.std.specs.Ordering.{int_eq};
-ghost use Rattle.std.specs.Prelude.{◌≡◌, ◌↔◌, ◌&&◌, IfOk, IsTrue, bytes_eq, false, map};
+ghost use Rattle.sqlite_rules.specs.Lists.{Has};
+ghost use Rattle.std.specs.Prelude.{◌≡◌, ◌↔◌, ◌&&◌, IfOk, IfSome, IsTrue, None, bytes_eq, false};
+ghost use Rattle.std.specs.Prelude.{map};
 
 use crate::books::book_with_id;
 use crate::cells::{number_at, text_at};
@@ -152,15 +154,25 @@ fn is_keep_listed(keep: &Row, books: &[Row]) -> bool
     book_with_id(books, number_at(keep, 0)).is_some()
 }
 
+/// The first keep whose book isn't one of these.
+pub(crate) fn first_unlisted_keep<'a>(keeps: &'a [Row], books: &[Row]) -> Option<&'a Row>
+    ensures good { result ≡ None → AllByRecursion
+        (λ k. HasBookId (map decode_book books.now) k.book) (map decode_keep keeps.now) }
+    ensures bad { IfSome result (λ row. Has keeps.now row.now
+        × ¬ HasBookId (map decode_book books.now) (decode_keep row.now).book) }
+{
+    for keep in keeps {
+        if !is_keep_listed(keep, books) {
+            return Some(keep);
+        }
+    }
+    None
+}
+
 /// Whether each keep is of one of the books.
 pub(crate) fn are_keeps_listed(keeps: &[Row], books: &[Row]) -> bool
     ensures { IsTrue result ↔ AllByRecursion
         (λ k. HasBookId (map decode_book books.now) k.book) (map decode_keep keeps.now) }
 {
-    for keep in keeps {
-        if !is_keep_listed(keep, books) {
-            return false;
-        }
-    }
-    true
+    first_unlisted_keep(keeps, books).is_none()
 }

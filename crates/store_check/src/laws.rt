@@ -1,5 +1,6 @@
 //! Laws: what the tests of single rows prove about the books.
 ghost use Rattle.store_check.specs.BookChecks.{CheckedAreWellFormed};
+ghost use Rattle.store_check.specs.FaultSearches.{FaultyAreNotStored};
 ghost use Rattle.store_check.specs.ListedRows.{WellStoredAreHeld};
 
 /// Sound, readable rows represent well-formed books exactly if they pass the tests made row by row
@@ -12,4 +13,9 @@ pub fn checked_rows_are_well_formed()
 /// hold well-formed books (`specs/ListedRows.antt`).
 pub fn well_stored_rows_are_held()
     ensures { WellStoredAreHeld }
+{}
+
+/// Rows of which one has a fault are not well stored (`specs/RowFaults.antt`).
+pub fn faulty_rows_are_not_well_stored()
+    ensures { FaultyAreNotStored }
 {}

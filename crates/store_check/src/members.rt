@@ -1,49 +1,76 @@
 //! Checks a row of `member`.
-ghost use Rattle.store_check.specs.RowChecks.{IsMemberRow, IsOwnCard, IsValidMember};
-ghost use Rattle.store_rows.specs.TableRows.{load_member};
-ghost use Rattle.store_rows.specs.Values.{natural};
+ghost use Rattle.store_check.specs.RowChecks.{IsMemberRow};
+ghost use Rattle.store_check.specs.RowFaults.{JudgesCard, JudgesMemberOf};
+ghost use Rattle.store_rows.specs.Values.{IsCanonical, natural, text_card};
 ghost use Rattle.store_tables.specs.Books.{BookRow};
-ghost use Rattle.std.specs.Prelude.{◌≡◌, ◌↔◌, IfOk, IsTrue};
+ghost use Rattle.std.specs.Prelude.{◌≡◌, ◌↔◌, IfOk, IfSome, IsTrue, is_some};
 
 use crate::cells::{
     has_natural, has_number, has_text, has_text_if_any, natural_at, natural_of, text_at,
     text_if_any_at,
 };
+use crate::faults::MemberFault;
 use sqlite::Row;
 use std::alloc::Global;
-use vcard_text::{CardFault, NoMemory, read_card, write_card};
+use store_rows::canonical::is_canonical_text;
+use vcard_text::{Card, CardFault, NoMemory, read_card};
 
-/// Whether the text is the canonical text of a card that has the UID.
-fn is_own_card(alloc: Global, text: &[u8], uid: &[u8]) -> Result<bool, NoMemory>
-    ensures { IfOk result (λ yes. IsTrue yes ↔ IsOwnCard text.now uid.now) }
+/// The card whose canonical text this is. `None` if there is none.
+fn canonical_card(alloc: Global, text: &[u8]) -> Result<Option<Card>, NoMemory>
+    ensures canonical { IfOk result (λ card. IsTrue (is_some card) ↔ IsCanonical text.now) }
+    ensures card { IfOk result (λ card. IfSome card (λ card. card ≡ text_card text.now)) }
 {
-    let card = match read_card(alloc, text) {
+    let Ok(text) = str::from_utf8(text) else {
+        return Ok(None);
+    };
+    let card = match read_card(alloc, text.as_bytes()) {
         Ok(card) => card,
         Err(CardFault::Memory) => return Err(NoMemory),
-        Err(_) => return Ok(false),
+        Err(_) => return Ok(None),
     };
-    let canonical = write_card(alloc, &card)?;
-    Ok(canonical.as_slice() == text && card.uid().as_bytes() == uid)
+    if is_canonical_text(alloc, text, &card)? {
+        Ok(Some(card))
+    } else {
+        Ok(None)
+    }
 }
 
-/// Whether the member is readable and valid in a book with this number and this horizon.
-pub(crate) fn is_valid_member(
+/// What is wrong with the text of a card that is to have the UID, if anything is.
+fn card_fault(alloc: Global, text: &[u8], uid: &[u8]) -> Result<Option<MemberFault>, NoMemory>
+    ensures { IfOk result (JudgesCard text.now uid.now) }
+{
+    let Some(card) = canonical_card(alloc, text)? else {
+        return Ok(Some(MemberFault::Card));
+    };
+    if card.uid().as_bytes() == uid {
+        Ok(None)
+    } else {
+        Ok(Some(MemberFault::Uid))
+    }
+}
+
+/// What is wrong with the member in a book with this number and this horizon, if anything is.
+pub(crate) fn fault_in_book(
     alloc: Global,
     member: &Row,
     number: u64,
     horizon: i64,
-) -> Result<bool, NoMemory>
-    ensures { IfOk result (λ yes. (b : BookRow)
+) -> Result<Option<MemberFault>, NoMemory>
+    ensures { IfOk result (λ fault. (b : BookRow)
         → natural b.numbers.number ≡ number → b.numbers.horizon ≡ horizon
-        → IsTrue yes ↔ IsValidMember (load_member member.now) b) }
+        → JudgesMemberOf member.now b fault) }
 {
     let changed = natural_at(member, 3);
     if changed < 1 || changed > number {
-        return Ok(false);
+        return Ok(Some(MemberFault::Number));
     }
     match text_if_any_at(member, 4) {
-        Some(text) => is_own_card(alloc, text, text_at(member, 2)),
-        None => Ok(natural_of(horizon) < changed),
+        Some(text) => card_fault(alloc, text, text_at(member, 2)),
+        None => if natural_of(horizon) < changed {
+            Ok(None)
+        } else {
+            Ok(Some(MemberFault::Tombstone))
+        },
     }
 }
 

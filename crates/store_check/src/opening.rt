@@ -1,18 +1,22 @@
 //! Tests whether the tables of a connection are a store's and hold well-formed books.
-ghost use Rattle.store_check.specs.OnConnections.{AreBookRows, IsCountedResult, IsOpenResult};
-ghost use Rattle.store_check.specs.OnConnections.{ObeySchema, TestsMembers};
-ghost use Rattle.store_check.specs.StoredTests.{PassBookTests};
+ghost use Rattle.store_check.specs.FaultSearches.{TestsBooks, TestsListed};
+ghost use Rattle.store_check.specs.OnConnections.{AreBookRows, IsCountedResult, IsFaultSearch};
+ghost use Rattle.store_check.specs.OnConnections.{IsOpenResult, IsTestResult, ObeySchema};
+ghost use Rattle.store_check.specs.OnConnections.{TestsMembers};
+ghost use Rattle.store_check.specs.RowFaults.{IsLabelled};
 ghost use Rattle.store_schema.specs.OpenFaults.{IsErrorFault};
 ghost use Rattle.store_schema.specs.OnConnections.{ChangesNothing, IsCurrentSchema};
 ghost use Rattle.store_tables.specs.OnConnections.{GivenTables, HasCleanDisk, IsConnectionOpen};
 ghost use Rattle.store_tables.specs.OnConnections.{OnlyReads, UnchangedOnOk};
-ghost use Rattle.std.specs.Option.{option_map};
-ghost use Rattle.std.specs.Prelude.{◌↔◌, IfErr, IfOk, IsTrue};
+ghost use Rattle.std.specs.Prelude.{IfErr, IfOk};
 
-use crate::books::are_valid_books;
+use crate::books::first_faulty_book;
 use crate::counts::{TombstoneCount, list_counts};
+use crate::faults::{FaultyRow, RowFault};
+use crate::labels::label_row;
+use crate::listed::first_faulty_listed;
 use crate::scanning::scan_members;
-use crate::tables::pass_book_tests;
+use crate::tables::have_unique_keys;
 use crate::tallies::{BookTally, start_tallies};
 use book_model::Limits;
 use sqlite::{Alter, Connection, Error, Row};
@@ -57,17 +61,46 @@ fn assert_rows_obey<S: Alter>(conn: &Connection<S>)
     let _schema = conn.schema();
 }
 
+/// The row with this fault, labelled.
+fn label(alloc: Global, books: &[Row], row: &Row, fault: RowFault) -> Result<FaultyRow, OpenFault>
+    ensures label { IfOk result (IsLabelled books.now row.now fault) }
+    ensures fault { IfErr result IsErrorFault }
+{
+    match label_row(alloc, books, row, fault) {
+        Ok(faulty) => Ok(faulty),
+        Err(NoMemory) => Err(OpenFault::Memory),
+    }
+}
+
+/// Tests whether each book agrees with its members. Returns the tallies, or the first faulty book.
+fn test_books(
+    alloc: Global,
+    limits: Limits,
+    listed: &BookRows,
+    tallies: Vec<BookTally>,
+) -> Result<Result<Vec<BookTally>, FaultyRow>, OpenFault>
+    ensures tests { IfOk result (TestsBooks limits listed.now.books.items
+        listed.now.keeps.items tallies.items) }
+    ensures fault { IfErr result IsErrorFault }
+{
+    let books = listed.books.as_slice();
+    let keeps = listed.keeps.as_slice();
+    match first_faulty_book(limits, books.len(), books, tallies.as_slice(), keeps) {
+        Some((book, fault)) => Ok(Err(label(alloc, books, book, RowFault::Book(fault))?)),
+        None => Ok(Ok(tallies)),
+    }
+}
+
 /// Tests the members one at a time, and then whether each book agrees with its members. Returns the
-/// tally of each book if all are good.
+/// tally of each book if all are good, or the first faulty row.
 fn test_members<S: Alter>(
     alloc: Global,
     conn: &mut Connection<S>,
     limits: Limits,
     listed: &BookRows,
-) -> Result<Option<Vec<BookTally>>, OpenFault>
+) -> Result<Result<Vec<BookTally>, FaultyRow>, OpenFault>
     ensures tests { GivenTables S.Store conn.old conn.new (IfOk result
-        (λ found. TestsMembers S.Store conn.old limits listed.now.books.items
-        listed.now.keeps.items (option_map (λ tallies. tallies.items) found))) }
+        (TestsMembers S.Store conn.old limits listed.now.books.items listed.now.keeps.items)) }
     ensures fault { IfErr result IsErrorFault }
     ensures reads_only { OnlyReads S.Store conn.old conn.new }
 {
@@ -75,55 +108,59 @@ fn test_members<S: Alter>(
     let Ok(mut tallies) = start_tallies(alloc, books) else {
         return Err(OpenFault::Memory);
     };
-    match scan_members(alloc, conn, tallies.as_mut_slice()) {
-        Ok(true) => {}
-        Ok(false) => return Ok(None),
-        Err(error) => return Err(open_fault_of(error)),
-    }
-    let keeps = listed.keeps.as_slice();
-    if are_valid_books(limits, books.len(), books, tallies.as_slice(), keeps) {
-        Ok(Some(tallies))
-    } else {
-        Ok(None)
+    match scan_members(alloc, conn, books, tallies.as_mut_slice()) {
+        Ok(None) => test_books(alloc, limits, listed, tallies),
+        Ok(Some(faulty)) => Ok(Err(faulty)),
+        Err(error) => Err(open_fault_of(error)),
     }
 }
 
-/// Tests the rows of books, imports and keeps.
-fn test_book_rows(alloc: Global, limits: Limits, listed: &BookRows) -> Result<bool, NoMemory>
-    ensures { IfOk result (λ yes. IsTrue yes ↔ PassBookTests limits listed.now.books.items
+/// Tests the rows of books, imports and keeps, as far as no member need be read. Returns the first
+/// faulty row.
+fn test_listed(
+    alloc: Global,
+    limits: Limits,
+    listed: &BookRows,
+) -> Result<Option<FaultyRow>, OpenFault>
+    ensures tests { IfOk result (TestsListed limits listed.now.books.items
         listed.now.imports.items listed.now.keeps.items) }
+    ensures fault { IfErr result IsErrorFault }
 {
-    pass_book_tests(
-        alloc,
-        limits,
-        listed.books.as_slice(),
-        listed.imports.as_slice(),
-        listed.keeps.as_slice(),
-    )
+    let books = listed.books.as_slice();
+    let imports = listed.imports.as_slice();
+    let keeps = listed.keeps.as_slice();
+    if let Some((row, fault)) = first_faulty_listed(limits, books, imports, keeps) {
+        return Ok(Some(label(alloc, books, row, fault)?));
+    }
+    match have_unique_keys(alloc, books, imports, keeps) {
+        Ok(true) => Ok(None),
+        // SQLite keeps the keys of rows unique that have the columns of their tables.
+        Ok(false) => Err(OpenFault::Store),
+        Err(NoMemory) => Err(OpenFault::Memory),
+    }
 }
 
-/// Tests the listed rows, and then the members. Returns how many tombstones each book has.
+/// Tests the listed rows, and then the members. Returns how many tombstones each book has, or the
+/// first faulty row.
 fn test_all_rows<S: Alter>(
     alloc: Global,
     conn: &mut Connection<S>,
     limits: Limits,
     listed: &BookRows,
-) -> Result<Vec<TombstoneCount>, OpenFault>
+) -> Result<Result<Vec<TombstoneCount>, FaultyRow>, OpenFault>
     ensures answers { HasCleanDisk S.Store conn.new → IsCurrentSchema S.Store conn.old
         → IsConnectionOpen S.Store conn.old → AreBookRows S.Store conn.old
         listed.now.books.items listed.now.imports.items listed.now.keeps.items
-        → IsCountedResult S.Store conn.old limits result }
+        → IsTestResult S.Store conn.old limits result }
     ensures reads_only { OnlyReads S.Store conn.old conn.new }
 {
     assert_rows_obey(conn);
-    match test_book_rows(alloc, limits, listed) {
-        Ok(true) => {}
-        Ok(false) => return Err(OpenFault::Damaged),
-        Err(NoMemory) => return Err(OpenFault::Memory),
+    if let Some(faulty) = test_listed(alloc, limits, listed)? {
+        return Ok(Err(faulty));
     }
     match test_members(alloc, conn, limits, listed)? {
-        Some(tallies) => list_counts(alloc, listed.books.as_slice(), tallies.as_slice()),
-        None => Err(OpenFault::Damaged),
+        Ok(tallies) => Ok(Ok(list_counts(alloc, listed.books.as_slice(), tallies.as_slice())?)),
+        Err(faulty) => Ok(Err(faulty)),
     }
 }
 
@@ -132,14 +169,51 @@ fn check_rows<S: Alter>(
     alloc: Global,
     conn: &mut Connection<S>,
     limits: Limits,
-) -> Result<Vec<TombstoneCount>, OpenFault>
+) -> Result<Result<Vec<TombstoneCount>, FaultyRow>, OpenFault>
     ensures answers { HasCleanDisk S.Store conn.new → IsCurrentSchema S.Store conn.old
-        → IsCountedResult S.Store conn.old limits result }
+        → IsTestResult S.Store conn.old limits result }
     ensures reads_only { OnlyReads S.Store conn.old conn.new }
 {
     match list_book_rows(conn) {
         Ok(listed) => test_all_rows(alloc, conn, limits, &listed),
         Err(error) => Err(open_fault_of(error)),
+    }
+}
+
+/// Tests the schema, and then all rows.
+fn test_rows<S: Alter>(
+    alloc: Global,
+    conn: &mut Connection<S>,
+    limits: Limits,
+) -> Result<Result<Vec<TombstoneCount>, FaultyRow>, OpenFault>
+    ensures answers { HasCleanDisk S.Store conn.new → IsTestResult S.Store conn.old limits result }
+    ensures changes_nothing { ChangesNothing S.Store conn.old conn.new }
+{
+    test_schema(conn)?;
+    check_rows(alloc, conn, limits)
+}
+
+/// Tests whether the tables of the connection are a store's and hold well-formed books within the
+/// limits. Reads all rows and parses each card. Returns the first row found that is not good, or
+/// `None` if the tables hold well-formed books.
+///
+/// The rows of books, imports and keeps are tested first, then the members in the order of their
+/// row ids, and then whether each book agrees with its members. Fails with `NotOurs` or
+/// `OtherSchema` if the schema test does, before any book is read; with `Memory` if memory runs
+/// out; and with `Store` for any other error of the database. It never fails with `Damaged`.
+pub fn find_faulty_row<S: Alter>(
+    alloc: Global,
+    conn: &mut Connection<S>,
+    limits: Limits,
+) -> Result<Option<FaultyRow>, OpenFault>
+    ensures answers { HasCleanDisk S.Store conn.new → IsFaultSearch S.Store conn.old limits result }
+
+    // Nothing is changed or committed, also on an error.
+    ensures changes_nothing { ChangesNothing S.Store conn.old conn.new }
+{
+    match test_rows(alloc, conn, limits)? {
+        Ok(_) => Ok(None),
+        Err(faulty) => Ok(Some(faulty)),
     }
 }
 
@@ -156,8 +230,10 @@ pub fn count_tombstones<S: Alter>(
     // Nothing is changed or committed, also on an error.
     ensures changes_nothing { ChangesNothing S.Store conn.old conn.new }
 {
-    test_schema(conn)?;
-    check_rows(alloc, conn, limits)
+    match test_rows(alloc, conn, limits)? {
+        Ok(counts) => Ok(counts),
+        Err(_) => Err(OpenFault::Damaged),
+    }
 }
 
 /// Tests whether the tables of the connection are a store's and hold well-formed books within the

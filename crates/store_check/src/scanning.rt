@@ -5,6 +5,8 @@ ghost use Rattle.store_tables.specs.OnConnections.{GivenTables, OnlyReads, table
 ghost use Rattle.std.specs.Prelude.{◌≡◌, IfOk};
 
 use crate::cells::number_at;
+use crate::faults::{FaultyRow, RowFault};
+use crate::labels::label_row;
 use crate::tallies::{BookTally, tally_member};
 use sqlite::{Alter, Connection, Error, ErrorCode, Row};
 use std::alloc::Global;
@@ -20,54 +22,60 @@ fn is_above(last: Option<i64>, id: i64) -> bool
     }
 }
 
-/// Tests the member, and counts it in its book. Returns whether it is good.
+/// Tests the member, and counts it in its book. Returns it with its fault if it isn't good.
 ///
 /// Fails with `DatabaseCorrupt` if its row id is not above `last`, that of the member before:
 /// SQLite keeps the rows of a table in the order of their ids.
 fn take_member(
     alloc: Global,
+    books: &[Row],
     tallies: &mut [BookTally],
     last: &mut Option<i64>,
     member: &Row,
-) -> Result<bool, Error>
-    ensures { IfOk result (DoesTake tallies.old tallies.new last.old last.new member.now) }
+) -> Result<Option<FaultyRow>, Error>
+    ensures { IfOk result
+        (DoesTake books.now tallies.old tallies.new last.old last.new member.now) }
 {
-    let Ok(is_good) = tally_member(alloc, tallies, member) else {
+    let Ok(fault) = tally_member(alloc, tallies, member) else {
         return Err(Error::SqliteFailure(ErrorCode::OutOfMemory));
     };
-    if !is_good {
-        return Ok(false);
+    if let Some(fault) = fault {
+        return match label_row(alloc, books, member, RowFault::Member(fault)) {
+            Ok(faulty) => Ok(Some(faulty)),
+            Err(NoMemory) => Err(Error::SqliteFailure(ErrorCode::OutOfMemory)),
+        };
     }
     let id = number_at(member, 0);
     if !is_above(*last, id) {
         return Err(Error::SqliteFailure(ErrorCode::DatabaseCorrupt));
     }
     *last = Some(id);
-    Ok(true)
+    Ok(None)
 }
 
-/// Reads the members one at a time. Tests each against its book, and counts it there. Returns
-/// whether all are good; if not, it has read up to the first that is not.
+/// Reads the members one at a time. Tests each against its book, and counts it there. Returns the
+/// first that isn't good, and reads no more of them.
 ///
 /// SQLite gives the rows of a table in the order of their ids. So nothing is kept of a row that was
 /// read but its id, and no id comes twice.
 pub(crate) fn scan_members<S: Alter>(
     alloc: Global,
     conn: &mut Connection<S>,
+    books: &[Row],
     tallies: &mut [BookTally],
-) -> Result<bool, Error>
+) -> Result<Option<FaultyRow>, Error>
     ensures scans { GivenTables S.Store conn.old conn.new (IfOk result
-        (Scans (table_rows S.Store conn.old 4) tallies.old tallies.new)) }
+        (Scans (table_rows S.Store conn.old 4) books.now tallies.old tallies.new)) }
     ensures reads_only { OnlyReads S.Store conn.old conn.new }
 {
     let mut last = None;
     let mut rows = conn.query("SELECT rowid, book, uid, changed, card FROM member", &[])?;
     'rows: for _ in 0..u64::MAX {
         let Some(row) = rows.next()? else {
-            return Ok(true);
+            return Ok(None);
         };
-        if !take_member(alloc, tallies, &mut last, row)? {
-            return Ok(false);
+        if let Some(faulty) = take_member(alloc, books, tallies, &mut last, row)? {
+            return Ok(Some(faulty));
         }
     }
     // No table has as many rows.

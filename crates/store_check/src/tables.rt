@@ -31,7 +31,7 @@ fn are_table_rows(books: &[Row], imports: &[Row], keeps: &[Row]) -> bool
 }
 
 /// Whether the keys of each table are unique.
-fn have_unique_keys(
+pub(crate) fn have_unique_keys(
     alloc: Global,
     books: &[Row],
     imports: &[Row],

@@ -1,14 +1,16 @@
 //! Tests the members one at a time, and counts those of each book.
 ghost use Rattle.store_check.specs.MemberTallies.{AreCounted, DoesTally, TallyAll, counted};
 ghost use Rattle.store_check.specs.MemberTallies.{has_book, one_more, tally_of};
-ghost use Rattle.store_check.specs.RowChecks.{IsBookAnd, IsValidMember, decode_book, int_cell};
+ghost use Rattle.store_check.specs.RowChecks.{decode_book, int_cell};
+ghost use Rattle.store_check.specs.RowFaults.{JudgesMember};
 ghost use Rattle.store_rows.specs.TableRows.{load_member};
 ghost use Rattle.store_tables.specs.Books.{BookRow};
 ghost use Rattle.store_tables.specs.Members.{MemberRow};
 ghost use Rattle.std.specs.Prelude.{[], ◌≡◌, ◌↔◌, IfOk, IsTrue, List, OnOk, find, map};
 
 use crate::cells::{natural_at, number_at, text_at, text_if_any_at};
-use crate::members::{is_member_row, is_valid_member};
+use crate::faults::MemberFault;
+use crate::members::{fault_in_book, is_member_row};
 use sqlite::Row;
 use std::alloc::Global;
 use vcard_text::NoMemory;
@@ -108,40 +110,38 @@ fn count_member(tallies: &mut [BookTally], member: &Row) -> Result<(), NoMemory>
     Ok(())
 }
 
-/// Whether the member's book is among these, and the member is readable and valid in it.
-fn is_valid_in_its_book(
+/// What is wrong with the member in its book, if anything is.
+fn fault_in_its_book(
     alloc: Global,
     member: &Row,
     tallies: &[BookTally],
-) -> Result<bool, NoMemory>
-    ensures { IfOk result (λ yes. (ms : List MemberRow) (books : List BookRow)
-        → AreCounted ms books tallies.now → IsTrue yes ↔ IsBookAnd books
-        (load_member member.now).book (IsValidMember (load_member member.now))) }
+) -> Result<Option<MemberFault>, NoMemory>
+    ensures { IfOk result (λ fault. (ms : List MemberRow) (books : List BookRow)
+        → AreCounted ms books tallies.now → JudgesMember books member.now fault) }
 {
     match tally_with_id(tallies, number_at(member, 1)) {
-        Some(tally) => is_valid_member(alloc, member, tally.number, tally.horizon),
-        None => Ok(false),
+        Some(tally) => fault_in_book(alloc, member, tally.number, tally.horizon),
+        None => Ok(Some(MemberFault::NoBook)),
     }
 }
 
-/// Tests the member against its book, and counts it there. Returns whether the row has a member's
-/// columns, its book is among these, and the member is readable and valid in it; if not, it may be
-/// counted or not.
+/// Tests the member against its book, and counts it there. Returns what is wrong with it, if
+/// anything is; then it may be counted or not.
 pub(crate) fn tally_member(
     alloc: Global,
     tallies: &mut [BookTally],
     member: &Row,
-) -> Result<bool, NoMemory>
+) -> Result<Option<MemberFault>, NoMemory>
     ensures { IfOk result (DoesTally tallies.old tallies.new member.now) }
 {
     if !is_member_row(member) {
-        return Ok(false);
+        return Ok(Some(MemberFault::Columns));
     }
-    if !is_valid_in_its_book(alloc, member, tallies)? {
-        return Ok(false);
+    if let Some(fault) = fault_in_its_book(alloc, member, tallies)? {
+        return Ok(Some(fault));
     }
     count_member(tallies, member)?;
-    Ok(true)
+    Ok(None)
 }
 
 /// Tests each of the members against its book, and counts it there. Each card is parsed once.
@@ -153,7 +153,7 @@ pub(crate) fn tally_members(
     ensures { IfOk result (TallyAll tallies.old tallies.new members.now) }
 {
     for member in members {
-        if !tally_member(alloc, tallies, member)? {
+        if tally_member(alloc, tallies, member)?.is_some() {
             return Ok(false);
         }
     }

@@ -1,4 +1,4 @@
-use Rattle.std.proofs.Common.{rules, inl, inr, arith, refl, ap, subst, ◌∙◌, ◌≡◌, [], ◌∷◌, ◌++◌, true, false, map, IsPermutation}
+use Rattle.std.proofs.Common.{rules, inl, inr, arith, refl, ap, subst, ◌∙◌, ◌≡◌, [], ◌∷◌, ◌++◌, None, map, IsPermutation}
 use Rattle.sqlite.specs.Effect.{Database}
 use Rattle.sqlite.specs.Held.{state}
 use Rattle.sqlite.specs.State.{HasCleanDisk, IsUnchanged}
@@ -44,22 +44,22 @@ returns-in_default-clause-reads_only g c =
     (λ clean. moved_leaves _ _ c.next.result (c.next.follows.holds-at-none.same clean) (c.next.follows.holds-at-none.kept clean)) c.next.follows.holds-at-none.mode c.next.follows.holds-at-none.survives in
     search rules
 
-pub returns-in_err-take_member-clause-reads_only : goal.returns-in_err-take_member-clause-reads_only
-returns-in_err-take_member-clause-reads_only g c =
+pub returns-in_err-faulty-clause-reads_only : goal.returns-in_err-faulty-clause-reads_only
+returns-in_err-faulty-clause-reads_only g c =
     let looked : OnlyReads (state g.S.Store c.args.conn.now) (state g.S.Store c.next.follows.lender-at-none.conn.now) =
     reads_on (state g.S.Store c.args.conn.now) (state g.S.Store c.rows.rows.conn.now) (state g.S.Store c.next.follows.lender-at-none.conn.now) c.rows.invariant.1
     (λ clean. moved_leaves _ _ c.next.result (c.next.follows.holds-at-none.same clean) (c.next.follows.holds-at-none.kept clean)) c.next.follows.holds-at-none.mode c.next.follows.holds-at-none.survives in
     search rules
 
-pub returns-then-not-branch-clause-reads_only : goal.returns-then-not-branch-clause-reads_only
-returns-then-not-branch-clause-reads_only g c =
+pub returns-in-Some-2-clause-reads_only : goal.returns-in-Some-2-clause-reads_only
+returns-in-Some-2-clause-reads_only g c =
     let looked : OnlyReads (state g.S.Store c.args.conn.now) (state g.S.Store c.next.follows.lender-at-none.conn.now) =
     reads_on (state g.S.Store c.args.conn.now) (state g.S.Store c.rows.rows.conn.now) (state g.S.Store c.next.follows.lender-at-none.conn.now) c.rows.invariant.1
     (λ clean. moved_leaves _ _ c.next.result (c.next.follows.holds-at-none.same clean) (c.next.follows.holds-at-none.kept clean)) c.next.follows.holds-at-none.mode c.next.follows.holds-at-none.survives in
     search rules
 
 pub returns-in_default-clause-scans : goal.returns-in_default-clause-scans
-returns-in_default-clause-scans g c clean has books start =
+returns-in_default-clause-scans g c clean has start =
     let moved = c.next.follows.holds-at-none in
     let mid = state g.S.Store c.rows.rows.conn.now in
     let new = state g.S.Store c.next.follows.lender-at-none.conn.now in
@@ -67,11 +67,11 @@ returns-in_default-clause-scans g c clean has books start =
     let was = c.rows.invariant.2 (omega (arith, moved.survives.clean)) has in
     let shown = (rw (c.in_ok-row.was, c.in_default.is) at (moved.ok late)) all_members_text [] was.0 was.1 in
     let listed = all_listed mid new was.0 (ap (λ (d : Database). d.schema) was.2.0.now_is ∙ has) shown in
-    scanned_all ((state g.S.Store c.args.conn.now).now.trees 4) c.args.tallies.now c.rows.tallies c.rows.last was.0 was.3
-    (subst (λ (d : Database). IsPermutation (map member_cells (d.trees 4)) was.0) was.2.0.now_is listed) books start
+    scanned_all ((state g.S.Store c.args.conn.now).now.trees 4) c.args.books.now c.args.tallies.now c.rows.tallies c.rows.last was.0 was.3
+    (subst (λ (d : Database). IsPermutation (map member_cells (d.trees 4)) was.0) was.2.0.now_is listed) start
 
-pub returns-then-not-branch-clause-scans : goal.returns-then-not-branch-clause-scans
-returns-then-not-branch-clause-scans g c clean has books start =
+pub returns-in-Some-2-clause-scans : goal.returns-in-Some-2-clause-scans
+returns-in-Some-2-clause-scans g c clean has start =
     let moved = c.next.follows.holds-at-none in
     let old = state g.S.Store c.args.conn.now in
     let mid = state g.S.Store c.rows.rows.conn.now in
@@ -84,10 +84,9 @@ returns-then-not-branch-clause-scans g c clean has books start =
     let same : IsUnchanged mid new = rw c.in_ok-row.was at (moved.same late) in
     let now_is : new.now ≡ old.now = same.0.now_is ∙ was.2.0.now_is in
     let got = first_listed new rows (ap (λ (d : Database). d.schema) now_is ∙ has) begins in
-    let no : c.in_ok-take_member.field-0 ≡ false = search rules in
-    let step = subst (DoesTake c.rows.tallies c.take_member.new.tallies c.rows.last c.take_member.new.last c.in-Some.row.now) no c.in_ok-take_member.ensures in
-    scanned_part (old.now.trees 4) c.args.tallies.now c.rows.tallies c.take_member.new.tallies c.rows.last c.take_member.new.last was.0 c.in-Some.row.now got.0 was.3 step
-    (subst (λ (d : Database). IsPermutation (map member_cells (d.trees 4)) (rows ++ got.0)) now_is got.1) books start
+    let step = subst (DoesTake c.args.books.now c.rows.tallies c.take_member.new.tallies c.rows.last c.take_member.new.last c.in-Some.row.now) c.in-Some-2.is c.in_ok-faulty.ensures in
+    scanned_part (old.now.trees 4) c.args.books.now c.args.tallies.now c.rows.tallies c.take_member.new.tallies c.rows.last c.take_member.new.last was.0 c.in-Some.row.now c.in-Some-2.faulty got.0 was.3 step
+    (subst (λ (d : Database). IsPermutation (map member_cells (d.trees 4)) (rows ++ got.0)) now_is got.1) start
 
 pub rows-preserved : goal.rows-preserved
 rows-preserved g c =
@@ -97,13 +96,13 @@ rows-preserved g c =
     let new = state g.S.Store c.next.follows.lender-at-none.conn.now in
     let looked : OnlyReads old new = reads_on (state g.S.Store c.args.conn.now) (state g.S.Store c.rows.rows.conn.now) (state g.S.Store c.next.follows.lender-at-none.conn.now) c.rows.invariant.1
     (λ clean. moved_leaves _ _ c.next.result (c.next.follows.holds-at-none.same clean) (c.next.follows.holds-at-none.kept clean)) c.next.follows.holds-at-none.mode c.next.follows.holds-at-none.survives in
-    let good : c.in_ok-take_member.field-0 ≡ true = search rules in
-    let step = subst (DoesTake c.rows.tallies c.take_member.new.tallies c.rows.last c.take_member.new.last c.in-Some.row.now) good c.in_ok-take_member.ensures in (
+    let good : c.in_ok-faulty.field-0 ≡ None = search rules in
+    let step = subst (DoesTake c.args.books.now c.rows.tallies c.take_member.new.tallies c.rows.last c.take_member.new.last c.in-Some.row.now) good c.in_ok-faulty.ensures in (
       moved.same_reference ∙ c.rows.invariant.0,
       looked,
       λ clean has.
           let was = c.rows.invariant.2 (omega (arith, moved.survives.clean)) has in
           let same : IsUnchanged mid new = rw c.in_ok-row.was at (moved.same clean) in
           let given = (rw (c.in_ok-row.was, c.in-Some.is) at (moved.ok clean)) all_members_text [] was.0 was.1 in
-          (was.0 ++ c.in-Some.row.now ∷ [], given, unchanged_then old mid new was.2 same, one_more_taken c.args.tallies.now c.rows.tallies c.take_member.new.tallies c.rows.last c.take_member.new.last was.0 c.in-Some.row.now was.3 step),
+          (was.0 ++ c.in-Some.row.now ∷ [], given, unchanged_then old mid new was.2 same, one_more_taken c.args.books.now c.args.tallies.now c.rows.tallies c.take_member.new.tallies c.rows.last c.take_member.new.last was.0 c.in-Some.row.now was.3 step),
     )
