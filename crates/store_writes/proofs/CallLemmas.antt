@@ -12,17 +12,18 @@ use Rattle.book_model.specs.declared.refusal.Refusal.{Refusal}
 use Rattle.book_model.specs.declared.refusal.Refusal.TheVariants.{NoSuchBook}
 use Rattle.book_model.specs.Books.{Book, Books, book_named}
 use Rattle.book_model.specs.CallOutcomes.{MatchesStep, ◌>>=◌}
-use Rattle.store_tables.specs.StatementEffects.{OnlyReads, GivenTables}
+use Rattle.book_counts.specs.Counts.{AreCountsOf, CountsByName}
+use Rattle.store_tables.specs.StatementEffects.{HasNoPendingWrites, OnlyReads, GivenTables}
 use Rattle.store_tables.proofs.SchemaCreationLemmas.{clean_before}
 use Rattle.store_rows.specs.LookupLaws.{IsBookNamed}
 use Rattle.store_rows.specs.SoundTables.{AreSoundRows, HoldsSoundRows}
 use Rattle.store_rows.specs.TableBooks.{HeaderRow, line_row, row_book, books_of, books_in}
 use Rattle.store_rows.specs.TableRows.{TableRows, HoldsRows}
 use Rattle.store_rows.proofs.HeldRows.{books_held}
-use Rattle.store_lookups.specs.CallResults.{FollowsStep, FindsHeader, IsExactly, GivenSoundRows}
+use Rattle.store_lookups.specs.CallResults.{FollowsStep, FindsHeader, IsExactly, GivenCounts, GivenSoundRows}
 use Rattle.store_lookups.specs.Faults.{IsDeniedFault}
 use Rattle.store_writes.specs.TableChanges.{AppliesStep, CommitsOnce, HasBookRow, HoldBooksAfter, IsAtomic}
-use Rattle.store_lookups.specs.StoredBooks.{IsOpenOnHonestDisk, IsCommittedAndSound, stored_books}
+use Rattle.store_lookups.specs.StoredBooks.{HoldCounts, IsOpenOnHonestDisk, IsCommittedAndSound, KeepsCounts, stored_books}
 
 -- ---- the step of a book
 
@@ -90,6 +91,28 @@ pub done_is_sound : {A E : Type 0} (H : A → Database → Type 0) (old new : St
 done_is_sound H old new (Ok answer) sound was order done = record { committed = done.1; sound = sound answer done.0 }
 done_is_sound H old new (Err e) sound was order done = record { committed = (done order.1).1; sound = subst HoldsSoundRows (sym (done order.1).0) was.sound }
 
+-- ---- the numbers of tombstones that are kept
+
+-- nothing was written, and a book may have been counted
+pub read_counted : (old new : State) (before after : CountsByName) → OnlyReads old new → GivenCounts old new before (λ rows. AreCountsOf after (books_of rows)) → KeepsCounts old new before after
+read_counted old new before after left right order was had =
+    let rows = was.sound in
+    let books : stored_books old ≡ books_of rows.rows = books_held old.now rows.rows rows.holds rows.sound in
+    let kept = read_keeps_sound old new left order was in
+    let now = right rows.rows order.0 rows.holds rows.sound (subst (λ (b : Books). AreCountsOf before b) books had) in
+    subst (λ (b : Books). AreCountsOf after b) (sym books ∙ ap (λ (d : Database). books_in d.trees) (sym kept.0)) now
+
+-- nothing was written or counted
+pub read_counts : (old new : State) (counts : CountsByName) → OnlyReads old new → KeepsCounts old new counts counts
+read_counts old new counts left = read_counted old new counts counts left (λ rows clean holds sound right. right)
+
+-- what a call finds over right numbers
+pub found_over_counts : (old mid : State) (counts : CountsByName) (Q : TableRows → Type 0) → HoldCounts old counts → HasNoPendingWrites old → OnlyReads old mid → (HasCleanDisk mid → IsTrue old.is_open) → GivenCounts old mid counts Q → GivenSoundRows old mid Q
+found_over_counts old mid counts Q held settled left opened found rows clean holds sound =
+    let up = opened clean in
+    let had = held (clean_before _ old mid left.survives clean, up) (record { committed = settled up; sound = record { rows = rows; holds = holds; sound = sound } }) in
+    found rows clean holds sound (subst (λ (b : Books). AreCountsOf counts b) (books_held old.now rows holds sound) had)
+
 -- ---- whole calls
 
 -- a call that wrote nothing
@@ -126,6 +149,16 @@ module _ {A : Type 0} (H : TableRows → A → Database → Type 0) (step : Book
             (matches_step was.sound.rows (returned order was) (whole order was) order.1);
       }
 
+  -- the numbers of tombstones afterwards
+  pub wrote_counts : ((rows : TableRows) → HasCleanDisk new → HoldsRows mid.now rows → AreSoundRows rows → Q rows → IsAtomic mid new r (H rows)) → (before after : CountsByName)
+      → ((rows : TableRows) → Q rows → IsAtomic old new r (H rows) → IsTrue new.is_open → AreCountsOf before (stored_books old) → stored_books old ≡ books_of rows → AreCountsOf after (stored_books new)) → KeepsCounts old new before after
+  wrote_counts done before after right order was had =
+      let early = clean_before _ mid new survives order.0 in
+      let rows = was.sound in
+      let returned = found rows.rows early rows.holds rows.sound in
+      let whole = outcome_then (H rows.rows) old mid new r (same early rows.holds.schema).0.now_is (done rows.rows order.0 (holds_still old mid new same survives order.0 was) rows.sound returned) in
+      right rows.rows returned whole order.1 had (books_held old.now rows.rows rows.holds rows.sound)
+
   -- the same after a crash
   pub wrote_commits : (P : TableRows → Trees → Type 0) → ((rows : TableRows) → HoldsRows mid.now rows → AreSoundRows rows → Q rows → Survives mid new (P rows))
       → ((rows : TableRows) → Q rows → (db : Trees) → P rows db → HoldBooksAfter (step (books_of rows)) db) → CommitsOnce old new step
@@ -150,11 +183,20 @@ module _ {A : Type 0} (H : TableRows → A → Database → Type 0) (step : Book
   written_changes settled opened done sound matches_step =
       wrote_changes H step old mid new r same left Q found survives settled opened (λ rows clean holds kept returned. done rows clean (line_found rows holds kept returned)) sound matches_step
 
+  pub written_counts : ((rows : TableRows) → HasCleanDisk new → HasBookRow mid.now rows name header → IsAtomic mid new r (H rows)) → (before after : CountsByName)
+      → ((rows : TableRows) → Q rows → IsAtomic old new r (H rows) → IsTrue new.is_open → AreCountsOf before (stored_books old) → stored_books old ≡ books_of rows → AreCountsOf after (stored_books new)) → KeepsCounts old new before after
+  written_counts done before after right =
+      wrote_counts H step old mid new r same left Q found survives (λ rows clean holds kept returned. done rows clean (line_found rows holds kept returned)) before after right
+
   -- the same after a crash
   pub written_commits : (P : TableRows → Trees → Type 0) → ((rows : TableRows) → HasBookRow mid.now rows name header → Survives mid new (P rows))
       → ((rows : TableRows) → Q rows → (db : Trees) → P rows db → HoldBooksAfter (step (books_of rows)) db) → CommitsOnce old new step
   written_commits P crash holds =
       wrote_commits H step old mid new r same left Q found survives P (λ rows kept sound returned. crash rows (line_found rows kept sound returned)) holds
+
+-- a failed write leaves the books, and so the numbers are right as they were
+pub failed_counts : {A E : Type 0} (H : A → Database → Type 0) (old new : State) (e : E) (counts : CountsByName) → IsAtomic old new (Err e) H → IsTrue new.is_open → AreCountsOf counts (stored_books old) → AreCountsOf counts (stored_books new)
+failed_counts H old new e counts done up right = subst (λ (d : Database). AreCountsOf counts (books_in d.trees)) (sym (done up).0) right
 
 pub named_row_held : {A : Type 0} (rows : TableRows) (name : List ℕ) (header : HeaderRow) (f : Book → Result (A × Books) Refusal) (db : Trees) → IsBookNamed rows name header
     → HoldBooksAfter (f (row_book rows (line_row name header))) db → HoldBooksAfter (book_named (books_of rows) name >>= f) db

@@ -2,6 +2,7 @@ pub mod ChangeLemmas
 pub mod NumberLemmas
 pub mod TransactionFaults
 pub mod OpenFaults
+pub mod ReadFaults
 pub mod AcceptLemmas
 pub mod HeldLemmas
 pub mod CallLemmas

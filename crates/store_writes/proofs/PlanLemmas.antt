@@ -41,6 +41,20 @@ refusal_is_exact {T = T} due refusal is = subst (λ d. FollowsStep {T = T} {A = 
 pub ok_is_exact : {T : Type 0} (due : Result T Refusal) (answer : T) → due ≡ Ok answer → FollowsStep {T = T} {A = T} IsExactly (Ok answer) due
 ok_is_exact {T = T} due answer is = subst (λ d. FollowsStep {T = T} {A = T} IsExactly (Ok answer) d) (sym is) refl
 
+-- the answer that was decided, beside another value
+pub ok_is_first : {T B : Type 0} (due : Result T Refusal) (decided : T × B) → due ≡ Ok decided.0 → FollowsStep {T = T} {A = T × B} (λ answer made. made.0 ≡ answer) (Ok decided) due
+ok_is_first {T = T} {B = B} due decided is = subst (λ d. FollowsStep {T = T} {A = T × B} (λ answer made. made.0 ≡ answer) (Ok decided) d) (sym is) refl
+
+pub first_is_ok : {T B : Type 0} (due : Result T Refusal) (decided : T × B) → FollowsStep {T = T} {A = T × B} (λ answer made. made.0 ≡ answer) (Ok decided) due → due ≡ Ok decided.0
+first_is_ok (Ok asked) decided returned = ap Ok (sym returned)
+first_is_ok (Err refusal) decided returned = absurd returned
+
+-- a refusal or a fault says nothing of an answer
+pub denied_follows : {T A B : Type 0} (f : T → A → Type 0) (h : T → B → Type 0) (due : Result T Refusal) (denied : Denied) → FollowsStep f (Err denied) due → FollowsStep h (Err denied) due
+denied_follows f h (Ok asked) (Refused refusal) returned = absurd returned
+denied_follows f h (Err wanted) (Refused refusal) returned = returned
+denied_follows f h due (Fault fault) returned = tt
+
 pub answer_is_exact : {T : Type 0} (due : Result T Refusal) (answer : T) → FollowsStep {T = T} {A = T} IsExactly (Ok answer) due → due ≡ Ok answer
 answer_is_exact (Ok asked) answer returned = ap Ok (sym returned)
 answer_is_exact (Err refusal) answer returned = absurd returned

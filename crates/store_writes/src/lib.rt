@@ -4,6 +4,7 @@
 #![tactic(auto)]
 
 pub mod columns;
+pub mod counting;
 pub mod forgetting;
 pub mod lookups;
 pub mod put_call;

@@ -1,10 +1,11 @@
 -- The outcome of a put, computed from the tables before anything is written. This project's own.
-use Rattle.std.specs.Prelude.{◌≡◌, ℕ, List, Option, Result, Ok, Err}
+use Rattle.std.specs.Prelude.{◌≡◌, ℕ, Bool, List, Option, Result, Ok, Err}
 use Rattle.vcard_lines.specs.declared.line.Line.{Line}
 use Rattle.vcard_text.specs.Cards.{uid_of}
 use Rattle.book_model.specs.declared.answers.PutAnswer.{PutAnswer}
 use Rattle.book_model.specs.declared.denied.Denied.{Denied}
 use Rattle.book_model.specs.declared.refusal.Refusal.{Refusal}
+use Rattle.book_counts.specs.Counts.{is_tombstone_at}
 use Rattle.book_model.specs.Bounds.{Bounds}
 use Rattle.book_model.specs.Books.{Book, book_named}
 use Rattle.book_model.specs.CallOutcomes.{◌>>=◌}
@@ -19,11 +20,13 @@ abbrev pub put_answer_in : Bounds → List Line → Option ℕ → Book → Resu
 put_answer_in limits card expect book =
     put_answer limits (found_in_book book (uid_of card)) card expect
 
--- the answer is the model's for the named book, which has this header; or the model's refusal
+-- The answer is the model's for the named book, which has this header, and the book has a tombstone
+-- under the UID or not; or the model's refusal.
 abbrev pub IsPutPlanned : Bounds → TableRows → List ℕ → List Line → Option ℕ
-    → Result (HeaderRow × PutAnswer) Denied → Type 0
+    → Result (HeaderRow × PutAnswer × Bool) Denied → Type 0
 IsPutPlanned limits rows name card expect (Ok plan) = IsBookNamed rows name plan.0
     × (put_answer_in limits card expect (row_book rows (line_row name plan.0)) ≡ Ok plan.1)
+    × (is_tombstone_at (row_book rows (line_row name plan.0)) (uid_of card) ≡ plan.2)
 IsPutPlanned limits rows name card expect (Err denied) =
     FollowsStep {T = PutAnswer} {A = PutAnswer} IsExactly (Err denied)
     (book_named (books_of rows) name >>= put_answer_in limits card expect)

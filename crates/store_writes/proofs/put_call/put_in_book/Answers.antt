@@ -1,4 +1,4 @@
-use Rattle.std.proofs.Common.{rules, ◌≡◌, IsTrue, Some, None, Result, Ok, Err, sym, ap, subst, ◌∙◌, IsSome, refl}
+use Rattle.std.proofs.Common.{rules, ◌≡◌, ◌+◌, IsTrue, Some, None, Result, Ok, Err, sym, ap, subst, ◌∙◌, IsSome, refl}
 use Rattle.store_lookups.proofs.ChangeFaultLemmas.{then_change_faults}
 use Rattle.store_lookups.proofs.StoreFaultLemmas.{passed_cause}
 use Rattle.std.specs.FinMap as finite
@@ -12,15 +12,20 @@ use Rattle.book_model.specs.declared.denied.Denied.{Denied}
 use Rattle.book_model.specs.declared.refusal.Refusal.{Refusal}
 use Rattle.book_model.specs.Books.{Books, book_named}
 use Rattle.book_model.specs.BookChanges.{book_with_row}
+use Rattle.book_model.specs.declared.change.StoreReason.{StoreReason}
+use Rattle.book_model.specs.BookQueries.{tombstone_count}
 use Rattle.book_model.specs.CallOutcomes.{MatchesStep}
+use Rattle.book_model.specs.Counting.{one_if}
+use Rattle.book_counts.specs.Counts.{AreCountsOf, CountsByName}
+use Rattle.book_counts.proofs.StoreLemmas.{stored_replace}
 use Rattle.book_model.specs.Putting.{put_step, put_store_reason}
 use Rattle.store_rows.specs.TableBooks.{row_book, books_of, books_in, line_row}
 use Rattle.store_rows.specs.TableRows.{TableRows}
 use Rattle.store_rows.proofs.HeldRows.{books_held}
 use Rattle.store_writes.specs.TableChanges.{AppliesStep, CommitsOnce, HasBookRow, HoldsBooks, IsAtomic, TreesHold}
 use Rattle.store_writes.specs.internal.PutPlans.{IsPutPlanned}
-use Rattle.store_lookups.specs.StoredBooks.{stored_books}
-use Rattle.store_writes.proofs.CallLemmas.{fault_does, named_does, named_row_held, reads_changes, written_changes, written_commits}
+use Rattle.store_lookups.specs.StoredBooks.{KeepsCounts, stored_books}
+use Rattle.store_writes.proofs.CallLemmas.{failed_counts, fault_does, named_does, named_row_held, read_counts, reads_changes, written_changes, written_commits, written_counts}
 use Rattle.store_writes.proofs.PlanLemmas.{denied_put, put_holds, put_of, same_put, stored_put}
 use Rattle.store_writes.proofs.put_call.put_in_book.Given as given
 use Rattle.store_writes.proofs.put_call.put_in_book.Goals as goal
@@ -54,7 +59,7 @@ module _ (g : given.Over) (c : After-write_put g) where
   made rows returned db = HoldsBooks db (put rows)
 
   abbrev planned : TableRows → Type 0
-  planned rows = IsPutPlanned c.args.limits rows c.args.name.now c.args.card.now c.args.expect (Ok (c.in_ok-header.header, c.in_ok-header.answer))
+  planned rows = IsPutPlanned c.args.limits rows c.args.name.now c.args.card.now c.args.expect (Ok (c.in_ok-header.header, c.in_ok-header.answer, c.in_ok-header.is_tombstone))
 
   stores : put_store_reason c.in_ok-header.answer ≡ Some c.in-Some.reason
   stores = search rules
@@ -65,6 +70,14 @@ module _ (g : given.Over) (c : After-write_put g) where
       written_changes made (step g plan) (old g plan) (mid g plan) new c.args.name.now c.in_ok-header.header r
       c.in_ok-header.ensures.unchanged c.plan_put.ensures.reads_only planned c.in_ok-header.ensures.planned (λ rows h. h.0) c.write_put.ensures.survives
       c.write_put.ensures.settled c.in_ok-header.ensures.was_open atomic (λ rows a h. h.sound) matches_step
+
+  counts : (r : Result PutAnswer Denied) (after : CountsByName) → ((rows : TableRows) → HasCleanDisk new → HasBookRow (mid g plan).now rows c.args.name.now c.in_ok-header.header → IsAtomic (mid g plan) new r (made rows))
+      → ((rows : TableRows) → planned rows → IsAtomic (old g plan) new r (made rows) → IsTrue new.is_open → AreCountsOf c.args.counts.now (stored_books (old g plan)) → stored_books (old g plan) ≡ books_of rows → AreCountsOf after (stored_books new))
+      → KeepsCounts (old g plan) new c.args.counts.now after
+  counts r after atomic right =
+      written_counts made (step g plan) (old g plan) (mid g plan) new c.args.name.now c.in_ok-header.header r
+      c.in_ok-header.ensures.unchanged c.plan_put.ensures.reads_only planned c.in_ok-header.ensures.planned (λ rows h. h.0) c.write_put.ensures.survives
+      atomic c.args.counts.now after right
 
   crash : CommitsOnce (old g plan) new (step g plan)
   crash =
@@ -133,3 +146,33 @@ returns-in_err-write_put-clause-store_fault g c rows clean holds accept free =
     passed_cause c.from_residual-in_err-write_put.result c.in_err-write_put.field-0.0 _ c.from_residual-in_err-write_put.ensures.1
     (then_change_faults (old g (plan g p)) (mid g (plan g p)) (new g p) _ _ c.args.name.now c.in_ok-header.header failed c.plan_put.ensures.reads_only.survives c.in_ok-header.ensures.unchanged
     (λ rows clean holds sound. (c.in_ok-header.ensures.planned rows clean holds sound).0.there) c.write_put.ensures.survives (c.in_err-write_put.ensures.store_fault (c.in_ok-header.ensures.number_fits some)) rows clean holds accept free)
+
+-- ---- the numbers of tombstones
+
+pub returns-in_err-header-clause-counts : goal.returns-in_err-header-clause-counts
+returns-in_err-header-clause-counts g c =
+    let p = (goal.at.returns-in_err-header-clause-counts g c).After-plan_put in
+    read_counts (old g p) (mid g p) c.args.counts.now c.plan_put.ensures.reads_only
+
+pub returns-in_default-clause-counts : goal.returns-in_default-clause-counts
+returns-in_default-clause-counts g c =
+    let p = (goal.at.returns-in_default-clause-counts g c).After-plan_put in
+    read_counts (old g p) (mid g p) c.args.counts.now c.plan_put.ensures.reads_only
+
+pub returns-in_err-write_put-clause-counts : goal.returns-in_err-write_put-clause-counts
+returns-in_err-write_put-clause-counts g c =
+    let p = (goal.at.returns-in_err-write_put-clause-counts g c).After-write_put in
+    counts g p (Err c.in_err-write_put.field-0.0) c.args.counts.now (λ rows clean line. c.in_err-write_put.ensures.atomic rows c.args.name.now clean line)
+    (λ rows h done up right same. failed_counts {A = PutAnswer} (made g p rows) (old g (plan g p)) (new g p) c.in_err-write_put.field-0.0 c.args.counts.now done up right)
+
+pub returns-clause-counts : goal.returns-clause-counts
+returns-clause-counts g c =
+    let p = (goal.at.returns-clause-counts g c).After-write_put in
+    let after = c.count_stored.new.counts in
+    counts g p (Ok c.in_ok-header.answer) after (λ rows clean line. c.in_ok-write_put.ensures.atomic rows c.args.name.now clean line)
+    (λ rows h done up right same.
+    let book = row_book rows (line_row c.args.name.now c.in_ok-header.header) in
+    let why : StoreReason = c.in-Some.reason in
+    let stored = book_with_row book (uid_of c.args.card.now) (Stores c.args.card.now why) in
+    let number : tombstone_count stored + one_if c.in_ok-header.is_tombstone ≡ tombstone_count book = subst (λ b. tombstone_count stored + one_if b ≡ tombstone_count book) h.2 (stored_replace book (uid_of c.args.card.now) c.args.card.now why) in
+    subst (λ (b : Books). AreCountsOf after b) (sym done.0.books_are) (c.count_stored.ensures (books_of rows) book stored (subst (λ (b : Books). AreCountsOf c.args.counts.now b) same right) h.0.book number))
