@@ -105,6 +105,7 @@ Options:
       --together <M>     Maximum number of connections open at once, 1 to 1000 [default: 256]
       --patience <S>     Seconds after which an idle connection is closed, or one whose request \
 headers are incomplete, 1 to 3600 [default: 60]
+      --log              Print a line for each request on standard error when it is answered
   -h, --help             Print help
 
 Example:

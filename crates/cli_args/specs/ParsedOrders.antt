@@ -22,7 +22,7 @@ use Rattle.cli_args.specs.declared.order.Order.{Order}
 use Rattle.cli_args.specs.declared.order.Order.TheVariants.{Try, Init, Book, Serve, ServeWithLimits}
 use Rattle.cli_args.specs.declared.order.Order.TheVariants.{Import, Export, Tally, Forget, Mirror}
 use Rattle.cli_args.specs.declared.order.Order.TheVariants.{Expand, Migrate, Check, Books, Verify}
-use Rattle.cli_args.specs.declared.order.Order.TheVariants.{Version}
+use Rattle.cli_args.specs.declared.order.Order.TheVariants.{ServeLogged, Version}
 
 -- ---- the values of arguments and options
 
@@ -85,10 +85,21 @@ limited_serve_order rows = with_file (λ file. option_and_then (λ port.
     option_map (ServeWithLimits file port connections together) (u64_arg (codes "S") rows))
     (u64_arg (codes "M") rows)) (u64_arg (codes "N") rows)) (port_arg rows)) rows
 
+abbrev pub logged_serve_order : List Row → Option Order
+logged_serve_order rows = with_file (λ file. option_and_then (λ port.
+    option_and_then (λ connections. option_and_then (λ together.
+    option_map (ServeLogged file port connections together) (u64_arg (codes "S") rows))
+    (u64_arg (codes "M") rows)) (u64_arg (codes "N") rows)) (port_arg rows)) rows
+
 -- with the limits if one of them was given
-abbrev pub serve_order : List Row → Option Order
-serve_order rows = if is_given (codes "M") rows || is_given (codes "S") rows
+abbrev pub unlogged_serve_order : List Row → Option Order
+unlogged_serve_order rows = if is_given (codes "M") rows || is_given (codes "S") rows
     then limited_serve_order rows else default_serve_order rows
+
+-- with a line for each request if that was asked for
+abbrev pub serve_order : List Row → Option Order
+serve_order rows = if is_given (codes "log") rows
+    then logged_serve_order rows else unlogged_serve_order rows
 
 abbrev pub import_order : List Row → Option Order
 import_order rows = with_book (λ file book. option_and_then (λ key.

@@ -35,6 +35,10 @@ flag id name letter = record (new_rule id) {
   action = Some SetTrue;
 }
 
+-- an option without a value, which has no letter
+abbrev pub switch : Text → Text → Rule
+switch id name = record (new_rule id) { long = Some name; action = Some SetTrue }
+
 abbrev pub file_arg : Rule
 file_arg = argument (codes "FILE")
 
@@ -66,11 +70,15 @@ together_option = number_option (codes "M") (codes "together") 1 1000 (codes "25
 abbrev pub patience_option : Rule
 patience_option = number_option (codes "S") (codes "patience") 1 3600 (codes "60")
 
+-- whether a line is printed for each request
+abbrev pub log_switch : Rule
+log_switch = switch (codes "log") (codes "log")
+
 abbrev pub serve_command : Shape
 serve_command = order_command (codes "serve")
     (file_arg ∷ number_option (codes "P") (codes "port") 0 65535 (codes "0")
     ∷ number_option (codes "N") (codes "connections") 1 1000000 (codes "1")
-    ∷ together_option ∷ patience_option ∷ [])
+    ∷ together_option ∷ patience_option ∷ log_switch ∷ [])
 
 abbrev pub import_command : Shape
 import_command =

@@ -85,6 +85,17 @@ WorkedLimits =
     (codes "--patience=3600" ∷ codes "--together=1000" ∷ codes "--connections=9" ∷ []))
     ≡ Some (order.ServeWithLimits db 0 9 1000 3600))
 
+abbrev pub WorkedLogs : Type 0
+WorkedLogs =
+    (order_from (over_file (codes "serve") (codes "--log" ∷ []))
+    ≡ Some (order.ServeLogged db 0 1 256 60))
+    × (order_from (over_file (codes "serve")
+    (codes "--log" ∷ codes "--port=8" ∷ codes "--together=9" ∷ codes "--patience=3600" ∷ []))
+    ≡ Some (order.ServeLogged db 8 1 9 3600))
+    × (order_from (over_file (codes "serve") (codes "--log=yes" ∷ [])) ≡ None)
+    × (order_from (over_file (codes "serve") (codes "--log" ∷ codes "--log" ∷ [])) ≡ None)
+    × (order_from (over_book (codes "tally") (codes "--log" ∷ [])) ≡ None)
+
 abbrev pub WorkedForms : Type 0
 WorkedForms =
     (order_from (over_book (codes "export") (codes "--form=columns" ∷ []))

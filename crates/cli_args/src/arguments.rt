@@ -75,6 +75,16 @@ pub(crate) fn flag<'a>(
         .help(help)
 }
 
+/// An option without a value, which has no letter.
+pub(crate) fn switch<'a>(alloc: Global, id: &'a str, name: &'a str, help: &'a str) -> Arg<'a>
+    ensures { IsArgument (lines.switch id.entry.now name.entry.now) result }
+{
+    Arg::new(alloc, id)
+        .long(name)
+        .action(ArgAction::SetTrue)
+        .help(help)
+}
+
 pub(crate) fn file_arg<'a>(alloc: Global) -> Arg<'a>
     ensures { IsArgument lines.file_arg result }
 {

@@ -54,14 +54,42 @@ fn limited_serve_order(alloc: Global, matches: &ArgMatches<'_>) -> Result<Order,
     })
 }
 
-/// The order `serve`, with the limits if one of them was given.
-fn serve_order(alloc: Global, matches: &ArgMatches<'_>) -> Result<Order, LineFault>
-    ensures { ParsesTo (parsed.serve_order (rows_of (found_of matches.now))) result }
+fn logged_serve_order(alloc: Global, matches: &ArgMatches<'_>) -> Result<Order, LineFault>
+    ensures { ParsesTo (parsed.logged_serve_order (rows_of (found_of matches.now))) result }
+{
+    let file = text_arg(alloc, matches, "FILE")?;
+    let port = port_arg(alloc, matches)?;
+    let connections = u64_arg(alloc, matches, "N")?;
+    let together = u64_arg(alloc, matches, "M")?;
+    let patience = u64_arg(alloc, matches, "S")?;
+    Ok(Order::ServeLogged {
+        file,
+        port,
+        connections,
+        together,
+        patience,
+    })
+}
+
+/// The order `serve` without `--log`, with the limits if one of them was given.
+fn unlogged_serve_order(alloc: Global, matches: &ArgMatches<'_>) -> Result<Order, LineFault>
+    ensures { ParsesTo (parsed.unlogged_serve_order (rows_of (found_of matches.now))) result }
 {
     if is_given(matches, "M") || is_given(matches, "S") {
         limited_serve_order(alloc, matches)
     } else {
         default_serve_order(alloc, matches)
+    }
+}
+
+/// The order `serve`.
+fn serve_order(alloc: Global, matches: &ArgMatches<'_>) -> Result<Order, LineFault>
+    ensures { ParsesTo (parsed.serve_order (rows_of (found_of matches.now))) result }
+{
+    if is_given(matches, "log") {
+        logged_serve_order(alloc, matches)
+    } else {
+        unlogged_serve_order(alloc, matches)
     }
 }
 

@@ -43,6 +43,20 @@ pub enum Order {
         /// 3,600; 60 if it wasn't given.
         patience: u64,
     },
+    /// Serve the books over HTTP, and print a line for each request on standard error.
+    ServeLogged {
+        /// The path of a store file.
+        file: Text,
+        /// The port to listen on; 0 for any free port.
+        port: u16,
+        /// The number of connections to serve, 1 to 1,000,000.
+        connections: u64,
+        /// The maximum number of connections open at once, 1 to 1,000; 256 if it wasn't given.
+        together: u64,
+        /// The seconds that a connection may be idle, and that the head of a request may take, 1 to
+        /// 3,600; 60 if it wasn't given.
+        patience: u64,
+    },
     /// Import cards from a CSV file.
     Import {
         /// The path of a store file.

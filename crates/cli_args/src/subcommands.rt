@@ -6,7 +6,9 @@ ghost use Rattle.cli_args.specs.Subcommands as lines;
 ghost use Rattle.cli_args.specs.Subcommands.{AreOrderCommands, AreArguments, IsArgument};
 ghost use Rattle.cli_args.specs.Subcommands.{IsOrderCommand};
 
-use crate::arguments::{argument, book_arg, file_arg, flag, number_arg, number_option, option_arg};
+use crate::arguments::{
+    argument, book_arg, file_arg, flag, number_arg, number_option, option_arg, switch,
+};
 use clap::{Arg, Command};
 use std::alloc::{AllocError, Global};
 
@@ -98,6 +100,17 @@ fn patience_option<'a>(alloc: Global) -> Arg<'a>
     )
 }
 
+fn log_switch<'a>(alloc: Global) -> Arg<'a>
+    ensures { IsArgument lines.log_switch result }
+{
+    switch(
+        alloc,
+        "log",
+        "log",
+        "Print a line for each request on standard error when it is answered",
+    )
+}
+
 fn serve_command<'a>(alloc: Global) -> Result<Command<'a>, AllocError>
     ensures { IfOk result (IsOrderCommand lines.serve_command) }
 {
@@ -134,6 +147,7 @@ fn serve_command<'a>(alloc: Global) -> Result<Command<'a>, AllocError>
                 connections,
                 together_option(alloc),
                 patience_option(alloc),
+                log_switch(alloc),
             ],
         )?,
     )

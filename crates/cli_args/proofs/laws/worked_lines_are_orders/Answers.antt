@@ -30,6 +30,10 @@ pub returns-clause-limits : goal.returns-clause-limits
 unfolding clap_on_literals
 returns-clause-limits c = (refl, refl, refl, refl, refl, refl, refl, refl)
 
+pub returns-clause-logs : goal.returns-clause-logs
+unfolding clap_on_literals
+returns-clause-logs c = (refl, refl, refl, refl, refl)
+
 pub returns-clause-forms : goal.returns-clause-forms
 unfolding clap_on_literals
 returns-clause-forms c = (refl, refl)
