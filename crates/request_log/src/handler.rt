@@ -1,0 +1,58 @@
+//! A handler whose requests are printed.
+ghost use Rattle.std.specs.Prelude.{◌≡◌};
+
+use crate::log::RequestLog;
+use crate::notes::{note_handled, note_refused};
+use base_types::NoMemory;
+use http_requests::{Handler, Head, HeadFault};
+use std::alloc::Global;
+use std::marker::Model;
+
+/// A handler that prints a line for each request when it is answered, if it has a log. In contracts
+/// it is the handler that it is made of: it replies what that one replies.
+#[derive(Drop)]
+pub struct LoggedHandler<'a, H, L> {
+    handler: H,
+    log: Option<&'a L>,
+}
+
+impl<'a, H, L> Model for LoggedHandler<'a, H, L> {
+    ghost Value = { H };
+
+    ghost coded = { H.code };
+
+    ghost view = { λ logged. logged.handler };
+}
+
+impl<'a, H, L> LoggedHandler<'a, H, L> {
+    /// The handler with this log, or without one.
+    pub fn new(handler: H, log: Option<&'a L>) -> LoggedHandler<'a, H, L>
+        ensures { result ≡ handler }
+    {
+        LoggedHandler { handler, log }
+    }
+}
+
+impl<'a, H: Handler, L: RequestLog> Handler for LoggedHandler<'a, H, L> {
+    ghost does = { H.does };
+
+    ghost fault_reply = { H.fault_reply };
+
+    fn handle(&mut self, alloc: Global, head: &Head, body: &[u8]) -> Result<Vec<u8>, NoMemory> {
+        let Some(log) = self.log else {
+            return self.handler.handle(alloc, head, body);
+        };
+        let start = log.now();
+        let handled = self.handler.handle(alloc, head, body);
+        note_handled(alloc, log, start, head, &handled);
+        handled
+    }
+
+    fn refuse(&self, alloc: Global, fault: HeadFault) -> Result<Vec<u8>, NoMemory> {
+        let reply = self.handler.refuse(alloc, fault)?;
+        if let Some(log) = self.log {
+            note_refused(alloc, log, fault, reply.as_slice());
+        }
+        Ok(reply)
+    }
+}

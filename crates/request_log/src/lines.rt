@@ -1,0 +1,198 @@
+//! The lines of requests.
+ghost use Rattle.std.specs.Prelude.{◌≡◌, ◌++◌, ◌<◌, IfOk, OnOk};
+ghost use Rattle.request_log.specs.LogLines as lines;
+ghost use Rattle.request_log.specs.LogLines.{IsLogLine};
+
+use base_types::NoMemory;
+use http_requests::{Head, HeadFault};
+use std::alloc::Global;
+
+/// The most octets of a method that are printed.
+const METHOD_OCTETS_MAX: usize = 20;
+
+/// The most octets of a target that are printed.
+const TARGET_OCTETS_MAX: usize = 200;
+
+/// Whether the octet is a visible ASCII character other than the backslash.
+fn is_plain(octet: u8) -> bool
+    ensures { result ≡ lines.is_plain octet }
+{
+    b' ' < octet && octet < 127 && octet != b'\\'
+}
+
+/// The hexadecimal digit of a number.
+fn hex_digit(value: u8) -> u8
+    requires { value < 16 }
+    ensures { result ≡ lines.hex_digit value }
+{
+    if value < 10 {
+        b'0' + value
+    } else {
+        b'a' - 10 + value
+    }
+}
+
+/// Appends the octet, escaped if it isn't plain.
+fn write_octet(out: &mut Vec<u8>, octet: u8) -> Result<(), NoMemory>
+    ensures { OnOk result (out.new.items ≡ out.old.items ++ lines.escaped_octet octet) }
+{
+    if is_plain(octet) {
+        out.push(octet)?;
+    } else {
+        let digits = [
+            b'\\',
+            b'x',
+            hex_digit(octet / 16 % 16),
+            hex_digit(octet % 16),
+        ];
+        out.extend_from_slice(&digits)?;
+    }
+    Ok(())
+}
+
+/// Appends the octets, each escaped if it isn't plain.
+fn write_escaped(out: &mut Vec<u8>, octets: &[u8]) -> Result<(), NoMemory>
+    ensures { OnOk result (out.new.items ≡ out.old.items ++ lines.escaped octets.now) }
+{
+    for octet in octets {
+        write_octet(out, *octet)?;
+    }
+    Ok(())
+}
+
+/// Appends the first octets of a text, escaped, and two dots if there are more than `most`.
+fn write_shown(out: &mut Vec<u8>, octets: &[u8], most: usize) -> Result<(), NoMemory>
+    ensures { OnOk result (out.new.items ≡ out.old.items ++ lines.shown most octets.now) }
+{
+    if most < octets.len() {
+        write_escaped(out, &octets[..most])?;
+        out.extend_from_slice(b"..")?;
+    } else {
+        write_escaped(out, octets)?;
+    }
+    Ok(())
+}
+
+/// Appends the method and the target of a request.
+fn write_request(out: &mut Vec<u8>, head: &Head) -> Result<(), NoMemory>
+    ensures { OnOk result (out.new.items ≡ out.old.items
+        ++ lines.request_words head.now.method head.now.target) }
+{
+    out.extend_from_slice(b"request ")?;
+    write_shown(out, head.method.as_str().as_bytes(), METHOD_OCTETS_MAX)?;
+    out.extend_from_slice(b" ")?;
+    write_shown(out, head.target.as_str().as_bytes(), TARGET_OCTETS_MAX)
+}
+
+/// The octets of a reply that have its status code.
+fn status_code(reply: &[u8]) -> &[u8]
+    ensures { result.now ≡ lines.status_code reply.now }
+{
+    if reply.len() < 12 {
+        &reply[reply.len().min(9)..]
+    } else {
+        &reply[9..12]
+    }
+}
+
+/// Appends the status of a reply and its length.
+fn write_reply(out: &mut Vec<u8>, reply: &[u8]) -> Result<(), NoMemory>
+    ensures { OnOk result (out.new.items ≡ out.old.items ++ lines.reply_words reply.now) }
+{
+    let alloc = *out.allocator();
+    let len = reply.len();
+    out.extend_from_slice(b" status ")?;
+    write_escaped(out, status_code(reply))?;
+    let words = format!(in alloc; " octets {len}")?;
+    out.extend_from_slice(words.as_bytes())?;
+    Ok(())
+}
+
+/// Appends the time that a request took.
+fn write_time(out: &mut Vec<u8>, micros: u64) -> Result<(), NoMemory>
+    ensures { OnOk result (out.new.items ≡ out.old.items ++ lines.time_words micros) }
+{
+    let alloc = *out.allocator();
+    let words = format!(in alloc; " microseconds {micros}")?;
+    out.extend_from_slice(words.as_bytes())?;
+    Ok(())
+}
+
+/// Appends the line of a request that was answered.
+fn write_answered(out: &mut Vec<u8>, head: &Head, reply: &[u8], micros: u64) -> Result<(), NoMemory>
+    ensures { OnOk result (out.new.items ≡ out.old.items
+        ++ lines.answered_line head.now.method head.now.target reply.now micros) }
+{
+    write_request(out, head)?;
+    write_reply(out, reply)?;
+    write_time(out, micros)?;
+    out.push(b'\n')?;
+    Ok(())
+}
+
+/// Appends the line of a request for whose reply memory ran out.
+fn write_lost(out: &mut Vec<u8>, head: &Head) -> Result<(), NoMemory>
+    ensures { OnOk result (out.new.items ≡ out.old.items
+        ++ lines.lost_line head.now.method head.now.target) }
+{
+    write_request(out, head)?;
+    out.extend_from_slice(b" fault no-memory\n")?;
+    Ok(())
+}
+
+/// Appends the line of a request that is refused for the fault of its head.
+fn write_refused(out: &mut Vec<u8>, fault: HeadFault, reply: &[u8]) -> Result<(), NoMemory>
+    ensures { OnOk result (out.new.items ≡ out.old.items ++ lines.refused_line fault reply.now) }
+{
+    let alloc = *out.allocator();
+    let text = fault.text();
+    let number = fault.number();
+    let words = format!(in alloc; "refused {text} {number}")?;
+    out.extend_from_slice(words.as_bytes())?;
+    write_reply(out, reply)?;
+    out.push(b'\n')?;
+    Ok(())
+}
+
+/// The line of a request that was answered, for example
+/// `request GET /books status 200 octets 151 microseconds 87`.
+///
+/// The method is cut after 20 octets, and the target after 200. Octets that aren't visible ASCII
+/// characters are escaped, and so is the backslash: whatever a client sends, it is one line.
+pub fn answered_text(
+    alloc: Global,
+    head: &Head,
+    reply: &[u8],
+    micros: u64,
+) -> Result<Vec<u8>, NoMemory>
+    ensures one_line { IfOk result (λ text. IsLogLine text.items) }
+    ensures line { IfOk result (λ text. text.items
+        ≡ lines.answered_line head.now.method head.now.target reply.now micros) }
+{
+    let mut out = Vec::new(alloc);
+    write_answered(&mut out, head, reply, micros)?;
+    Ok(out)
+}
+
+/// The line of a request for whose reply memory ran out, for example
+/// `request GET /books fault no-memory`.
+pub fn lost_text(alloc: Global, head: &Head) -> Result<Vec<u8>, NoMemory>
+    ensures one_line { IfOk result (λ text. IsLogLine text.items) }
+    ensures line { IfOk result (λ text. text.items
+        ≡ lines.lost_line head.now.method head.now.target) }
+{
+    let mut out = Vec::new(alloc);
+    write_lost(&mut out, head)?;
+    Ok(out)
+}
+
+/// The line of a request that is refused for the fault of its head, for example
+/// `refused bad-host 23 status 400 octets 133`.
+pub fn refused_text(alloc: Global, fault: HeadFault, reply: &[u8]) -> Result<Vec<u8>, NoMemory>
+    ensures one_line { IfOk result (λ text. IsLogLine text.items) }
+    ensures line { IfOk result (λ text. text.items ≡ lines.refused_line fault reply.now) }
+{
+    let mut out = Vec::new(alloc);
+    write_refused(&mut out, fault, reply)?;
+    Ok(out)
+}
