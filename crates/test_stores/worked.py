@@ -694,6 +694,37 @@ tally desk => cards 3 created 4 deleted 1 edited 0 horizon 0 import_edited 0 imp
 remove desk b => gone 6
 tally desk => cards 2 created 4 deleted 2 edited 0 horizon 0 import_edited 0 imported 0 moved_in 0 moved_out 0 number 6 remembered 1
 """),
+    ("After each change a store knows how many tombstones there are, and an opening counts as many", 2, DESK, r"""
+tally desk => cards 3 created 3 deleted 0 edited 0 horizon 0 import_edited 0 imported 0 moved_in 0 moved_out 0 number 3 remembered 0
+remove desk a => gone 4
+remove desk b => gone 5
+tally desk => cards 1 created 3 deleted 2 edited 0 horizon 0 import_edited 0 imported 0 moved_in 0 moved_out 0 number 5 remembered 2
+card desk a FN:Ann => created 6
+card desk d FN:Dee => created 7
+tally desk => cards 3 created 5 deleted 2 edited 0 horizon 0 import_edited 0 imported 0 moved_in 0 moved_out 0 number 7 remembered 1
+card desk d FN:Dean => edited 8
+remove desk d => gone 9
+remove desk a 4 => refused 7 has 6
+remove desk a => gone 10
+tally desk => cards 1 created 5 deleted 4 edited 1 horizon 5 import_edited 0 imported 0 moved_in 0 moved_out 0 number 10 remembered 2
+""", r"""
+tally desk => cards 1 created 5 deleted 4 edited 1 horizon 5 import_edited 0 imported 0 moved_in 0 moved_out 0 number 10 remembered 2
+import desk k COLUMNS\na,Ann,,,,,,\ne,Eve,,,,,,\n => added 2 edited 0 same 0 number 12
+tally desk => cards 3 created 5 deleted 4 edited 1 horizon 5 import_edited 0 imported 2 moved_in 0 moved_out 0 number 12 remembered 1
+move desk c shelf => moved 13 1
+tally desk => cards 2 created 5 deleted 4 edited 1 horizon 5 import_edited 0 imported 2 moved_in 0 moved_out 1 number 13 remembered 2
+move shelf c desk => moved 2 14
+tally desk => cards 3 created 5 deleted 4 edited 1 horizon 5 import_edited 0 imported 2 moved_in 1 moved_out 1 number 14 remembered 1
+tally shelf => cards 0 created 0 deleted 0 edited 0 horizon 0 import_edited 0 imported 0 moved_in 1 moved_out 1 number 2 remembered 1
+forget desk 9 => forgot 1 horizon 9
+tally desk => cards 3 created 5 deleted 4 edited 1 horizon 9 import_edited 0 imported 2 moved_in 1 moved_out 1 number 14 remembered 0
+remove desk c => gone 15
+remove desk e => gone 16
+remove desk a => gone 17
+tally desk => cards 0 created 5 deleted 7 edited 1 horizon 15 import_edited 0 imported 2 moved_in 1 moved_out 1 number 17 remembered 2
+""", """
+tally desk => cards 0 created 5 deleted 7 edited 1 horizon 15 import_edited 0 imported 2 moved_in 1 moved_out 1 number 17 remembered 2
+"""),
 ]
 
 # A book of 250 cards, as a mirror by pages of 100 has it.
