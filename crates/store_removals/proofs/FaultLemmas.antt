@@ -2,10 +2,7 @@
 use Rattle.std.proofs.Common.{◌≡◌, ◌<◌, ◌≤◌, ◌+◌, ◌^◌, ℕ, ℤ, pos, Bool, true, false, not, is_some, List, [], ◌∷◌, filter, map, take, min, inl, Option, Some, None, Result, Ok, IfSome, refl, sym, ap, subst, ◌∙◌, arith}
 use Rattle.std.specs.Option.{option_map_or}
 use Rattle.std.specs.List.{AllByRecursion}
-use Rattle.sqlite.specs.Effect.{Database}
 use Rattle.sqlite.specs.Order.{Row, column}
-use Rattle.sqlite.specs.State.{State, IsUnchanged, Survives}
-use Rattle.sqlite.specs.Tree.{Trees}
 use Rattle.sqlite.specs.declared.types.Value.TheVariants.{Int}
 use Rattle.sqlite_rules.specs.Lists.{Has}
 use Rattle.sqlite_trees.proofs.ListLemmas.{all-permutation}
@@ -13,7 +10,6 @@ use Rattle.book_model.specs.declared.answers.Stored.{Stored}
 use Rattle.book_model.specs.Bounds.{Bounds}
 use Rattle.book_model.specs.Books.{live_at}
 use Rattle.book_model.specs.declared.answers.Moved.{Moved}
-use Rattle.book_model.specs.declared.denied.Denied.{Denied}
 use Rattle.book_model.specs.declared.refusal.Refusal.{Refusal}
 use Rattle.book_model.specs.declared.refusal.Refusal.TheVariants.{BookFull, UidTaken, VersionMismatch}
 use Rattle.book_model.specs.CallOutcomes.{◌>>=◌, refuse_unless}
@@ -25,17 +21,15 @@ use Rattle.store_tables.specs.Acceptance.{IsShort}
 use Rattle.store_tables.specs.Books.{BookRow}
 use Rattle.store_tables.specs.Members.{MemberRow, by_changed, has_uid, is_removed_above, number_shown}
 use Rattle.store_tables.specs.QueryResults.{FindsFirstRow}
-use Rattle.store_tables.specs.StatementEffects.{GivenTables}
 use Rattle.store_tables.proofs.KeyedRows.{all_has}
-use Rattle.store_tables.proofs.SchemaCreationLemmas.{clean_before}
 use Rattle.store_tables.proofs.RowLemmas.{at_parts}
 use Rattle.store_rows.specs.TableBooks.{row_book}
-use Rattle.store_rows.specs.TableRows.{TableRows, HoldsRows}
+use Rattle.store_rows.specs.TableRows.{TableRows}
 use Rattle.store_rows.specs.Values.{natural}
 use Rattle.store_rows.proofs.KeyedEntries.{has_filtered}
 use Rattle.store_rows.proofs.LookupLemmas.{member_missing}
-use Rattle.store_lookups.specs.StoreFaults.{FaultsFromOutside, IsFaultlessMember}
-use Rattle.store_lookups.proofs.StoreFaultLemmas.{cell, later_cause}
+use Rattle.store_lookups.specs.StoreFaults.{IsFaultlessMember}
+use Rattle.store_lookups.proofs.StoreFaultLemmas.{cell}
 use Rattle.store_writes.proofs.NumberLemmas.{next_room, passed, through}
 
 -- the UID of a live card is short
@@ -88,13 +82,6 @@ least_within (Some first) number drop is = omega (arith, is)
 pub drop_below : (drop : Option ℕ) (number : ℕ) → IfSome drop (λ upto. upto ≤ number + 1) → number + 1 < 2 ^ 63 → IfSome drop (λ upto. upto < 2 ^ 63)
 drop_below None number low fits = tt
 drop_below (Some upto) number low fits = omega (arith, low, fits)
-
--- one look-up after another
-pub then_reads : {A : Type 0} (old mid new : State) (P Q : Trees → Type 0) (r : Result A Denied) → Survives old mid P → GivenTables old mid (IsUnchanged old mid) → Survives mid new Q → FaultsFromOutside mid new r → FaultsFromOutside old new r
-then_reads old mid new P Q r before same after fails rows clean holds faultless =
-    let early = clean_before Q mid new after clean in
-    let kept = same early holds.schema in
-    later_cause old mid new P Q r before early after (fails rows clean (subst (λ (d : Database). HoldsRows d rows) (sym kept.0.now_is) holds) faultless)
 
 -- the number of a change is below the limit
 pub moves_live : (limits : Bounds) (source target : FoundMember) (expect : Option ℕ) (moving : Moving) → move_answer limits source target expect ≡ Ok moving → (stored : Stored) × (source.live ≡ Some stored)

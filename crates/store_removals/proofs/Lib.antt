@@ -1,3 +1,4 @@
+pub mod CountLemmas
 pub mod RemoveLemmas
 pub mod MoveLemmas
 pub mod FaultLemmas

@@ -134,20 +134,20 @@ lines_of db rows from to uid limits expect plan holds sound is = record {
 }
 
 -- the card and the numbers are those of the model's answer
-abbrev pub IsMoving : Moving → List Line × Moved → Type 0
+abbrev pub IsMoving : Moving → List Line × Moved × Bool → Type 0
 IsMoving asked moving = moving_of moving.0 moving.1 ≡ asked
 
 pub refused_moving : (due : Result Moving Refusal) (refusal : Refusal) → due ≡ Err refusal → FollowsStep IsMoving (Err (Refused refusal)) due
 refused_moving due refusal is = subst (λ d. FollowsStep IsMoving (Err (Refused refusal)) d) (sym is) refl
 
-pub moving_is_exact : (due : Result Moving Refusal) (moving : List Line × Moved) → due ≡ Ok (moving_of moving.0 moving.1) → FollowsStep IsMoving (Ok moving) due
+pub moving_is_exact : (due : Result Moving Refusal) (moving : List Line × Moved × Bool) → due ≡ Ok (moving_of moving.0 moving.1) → FollowsStep IsMoving (Ok moving) due
 moving_is_exact due moving is = subst (λ d. FollowsStep IsMoving (Ok moving) d) (sym is) refl
 
-pub moving_back : (due : Result Moving Refusal) (moving : List Line × Moved) → FollowsStep IsMoving (Ok moving) due → due ≡ Ok (moving_of moving.0 moving.1)
+pub moving_back : (due : Result Moving Refusal) (moving : List Line × Moved × Bool) → FollowsStep IsMoving (Ok moving) due → due ≡ Ok (moving_of moving.0 moving.1)
 moving_back (Ok asked) moving returned = ap Ok (sym returned)
 moving_back (Err refusal) moving returned = absurd returned
 
-pub denied_among : (due wanted : Result Moving Refusal) (denied : Denied) → wanted ≡ due → FollowsStep {T = Moving} {A = List Line × Moved} IsMoving (Err denied) due → FollowsStep {T = Moving} {A = Moving} IsExactly (Err denied) wanted
+pub denied_among : (due wanted : Result Moving Refusal) (denied : Denied) → wanted ≡ due → FollowsStep {T = Moving} {A = List Line × Moved × Bool} IsMoving (Err denied) due → FollowsStep {T = Moving} {A = Moving} IsExactly (Err denied) wanted
 denied_among due wanted (Fault fault) is returned = tt
 denied_among (Ok asked) wanted (Refused refusal) is returned = absurd returned
 denied_among (Err due) wanted (Refused refusal) is returned = subst (λ w. FollowsStep {T = Moving} {A = Moving} IsExactly (Err (Refused refusal)) w) (sym is) returned

@@ -1,11 +1,11 @@
 -- The rows after a removal, and the removal against the model.
-use Rattle.std.proofs.Common.{◌≡◌, ◌+◌, ◌≤◌, ℕ, pos, true, false, min, nat_le, nat_lt, List, Option, Some, None, Result, Ok, Err, filter, add-one, refl, sym, ap, subst, ◌∙◌}
+use Rattle.std.proofs.Common.{◌≡◌, ◌+◌, ◌≤◌, ℕ, pos, true, false, min, nat_le, nat_lt, List, Option, Some, None, IfSome, Result, Ok, Err, filter, add-one, refl, sym, ap, subst, ◌∙◌}
 use Rattle.std.specs.Option.{option_map_or}
 use Rattle.std.specs.FinMap as finite
 use Rattle.sqlite.specs.declared.error.Error.TheVariants.{QueryReturnedNoRows}
 use Rattle.sqlite.specs.Effect.{Database}
 use Rattle.sqlite.specs.Order.{Row}
-use Rattle.sqlite.specs.State.{State, IsUnchanged, Survives}
+use Rattle.sqlite.specs.State.{State, HasCleanDisk, IsUnchanged, Survives}
 use Rattle.sqlite.specs.Tree.{Trees}
 use Rattle.sqlite.proofs.Callers.{unchanged_then}
 use Rattle.book_model.specs.declared.answers.Stored.{Stored}
@@ -23,28 +23,30 @@ use Rattle.book_model.specs.Counting.{counts_after_change, live_count}
 use Rattle.book_model.specs.Forgetting.{book_after_forget}
 use Rattle.book_model.specs.CallOutcomes.{MatchesStep, ◌>>=◌}
 use Rattle.book_model.specs.BookQueries.{tombstone_count}
+use Rattle.book_counts.specs.Counts.{AreCountsOf, CountsByName}
 use Rattle.book_model.specs.Removing.{remove_number}
 use Rattle.store_tables.specs.QueryResults.{FindsFirstRow}
 use Rattle.store_tables.specs.Books.{HasBooks, with_book_numbers}
 use Rattle.store_tables.specs.SchemaCreation.{HoldsInTx}
 use Rattle.store_tables.specs.Members.{HasMembers, by_changed, number_shown, is_removed_above, upsert_member, without_removed}
-use Rattle.store_tables.specs.StatementEffects.{GivenTables, WritesOnly}
+use Rattle.store_tables.specs.StatementEffects.{GivenTables, OnlyReads, WritesOnly}
 use Rattle.store_tables.proofs.SchemaCreationLemmas.{clean_before}
 use Rattle.store_rows.specs.ChangeLaws.{HoldsPut, header_after}
 use Rattle.store_rows.specs.ShownRows.{ShowsNumber}
 use Rattle.store_rows.specs.SoundTables.{AreSoundRows}
-use Rattle.store_rows.specs.TableBooks.{HeaderRow, line_row, numbers_row, row_book, books_of}
-use Rattle.store_rows.specs.TableRows.{TableRows, forgotten_rows, put_rows, renumbered_rows}
+use Rattle.store_rows.specs.TableBooks.{HeaderRow, line_row, numbers_row, row_book, books_in, books_of}
+use Rattle.store_rows.specs.TableRows.{TableRows, HoldsRows, forgotten_rows, put_rows, renumbered_rows}
+use Rattle.store_rows.proofs.HeldRows.{books_held}
 use Rattle.store_rows.proofs.BookLemmas.{changes_one, renumbering_held}
 use Rattle.store_rows.proofs.FirstLemmas.{first_is_first, none_is_none, removals_remembered}
 use Rattle.store_rows.proofs.RemovedLemmas.{forgetting_forgets, forgetting_held}
 use Rattle.store_rows.proofs.WriteLemmas.{go_on, put_is_row}
 use Rattle.store_lookups.specs.CallResults.{FollowsStep, IsExactly}
 use Rattle.store_lookups.specs.Faults.{IsDeniedFault}
-use Rattle.store_writes.specs.TableChanges.{HasBookRow, HoldBooksAfter, HoldsBooks, HoldsChange, TreesHold}
+use Rattle.store_writes.specs.TableChanges.{AppliesStep, HasBookRow, HoldBooksAfter, HoldsBooks, HoldsChange, TreesHold}
 use Rattle.store_removals.specs.internal.Removals.{IsRemovalPlanned, drop_by_next_removal, removal_number_in}
-use Rattle.store_lookups.specs.StoredBooks.{stored_books}
-use Rattle.store_writes.proofs.CallLemmas.{denied_does}
+use Rattle.store_lookups.specs.StoredBooks.{HoldCounts, stored_books}
+use Rattle.store_writes.proofs.CallLemmas.{denied_does, read_before, read_keeps_sound}
 use Rattle.store_writes.proofs.ForgetLemmas.{writes_table}
 use Rattle.store_writes.proofs.HeldLemmas.{row_remains}
 use Rattle.store_writes.proofs.PlanLemmas.{lookup_of}
@@ -117,6 +119,27 @@ drop_is rows name header uid limits expect n drop sound low number returned =
     let book = row_book rows (line_row name header) in
     let live = removal_live limits (live_at book uid) (live_count book.counts) book.number n expect number in
     (removals_remembered rows name header uid live.0 Deletion sound live.1 low).drop ∙ returned
+
+-- a number that is known
+pub if_known : (X : ℕ → Type 0) (number planned : Option ℕ) → planned ≡ number → ((n : ℕ) → planned ≡ Some n → X n) → IfSome number X
+if_known X None planned is each = tt
+if_known X (Some n) planned is each = each n is
+
+-- ---- a call that wrote nothing, over right numbers
+
+pub reads_over_counts : {A : Type 0} (step : Books → Result (A × Books) Refusal) (old new : State) (counts : CountsByName) (r : Result A Denied) → old.in_transaction ≡ false → OnlyReads old new → HoldCounts old counts
+    → ((rows : TableRows) → HasCleanDisk new → HoldsRows old.now rows → AreSoundRows rows → AreCountsOf counts (books_of rows) → stored_books new ≡ stored_books old → MatchesStep r (step (books_of rows)) (stored_books old) (stored_books new)) → AppliesStep old new r step
+reads_over_counts step old new counts r settled left held matches_step = record {
+  settled = left.mode settled;
+  was_open_on_honest_disk = read_before old new left;
+  stays_sound = λ order was. (read_keeps_sound old new left order was).1;
+  matches_step = λ order was.
+      let rows = was.sound in
+      let books : stored_books old ≡ books_of rows.rows = books_held old.now rows.rows rows.holds rows.sound in
+      let right = subst (λ (b : Books). AreCountsOf counts b) books (held (read_before old new left order) was) in
+      subst (λ (b : Books). MatchesStep r (step b) (stored_books old) (stored_books new)) (sym books)
+      (matches_step rows.rows order.0 rows.holds rows.sound right (ap (λ (d : Database). books_in d.trees) (read_keeps_sound old new left order was).0));
+}
 
 -- ---- the step of the book
 

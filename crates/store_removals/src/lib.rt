@@ -2,6 +2,8 @@
 //! looks up what it changes, decides by the model, and writes in one transaction.
 #![tactic(auto)]
 
+mod counting;
+mod drop_plans;
 pub mod move_call;
 mod moving;
 pub mod remove_call;

@@ -1,5 +1,5 @@
 -- The plan of a move, computed from the tables, and the books after it. This project's own.
-use Rattle.std.specs.Prelude.{◌≡◌, false, not, ℕ, pos, List, Option, Result, Ok, Err}
+use Rattle.std.specs.Prelude.{◌≡◌, ◌≤◌, false, not, ℕ, pos, List, Option, Result, Ok, Err}
 use Rattle.std.specs.FinMap as finite
 use Rattle.std.specs.Ordering.{int_eq}
 use Rattle.sqlite.specs.Effect.{Database}
@@ -11,7 +11,9 @@ use Rattle.book_model.specs.declared.change.StoreReason.TheVariants.{MoveIn}
 use Rattle.book_model.specs.declared.denied.Denied.{Denied}
 use Rattle.book_model.specs.declared.refusal.Refusal.{Refusal}
 use Rattle.book_model.specs.declared.refusal.Refusal.TheVariants.{SameBook}
+use Rattle.book_counts.specs.Counts.{is_tombstone_at}
 use Rattle.book_model.specs.Bounds.{Bounds}
+use Rattle.book_model.specs.BookQueries.{tombstone_count}
 use Rattle.book_model.specs.Books.{Book, Books, book_named, same_name}
 use Rattle.book_model.specs.BookChanges.{book_after_drop, forced_horizon, book_with_row}
 use Rattle.book_model.specs.Moving.{Moving, move_answer, moving_of}
@@ -23,6 +25,7 @@ use Rattle.store_rows.specs.TableBooks.{HeaderRow, line_row, row_book, books_of}
 use Rattle.store_rows.specs.TableRows.{TableRows, HoldsRows}
 use Rattle.store_lookups.specs.CallResults.{FollowsStep, IsExactly}
 use Rattle.store_removals.specs.declared.move_call.Transfer.{Transfer}
+use Rattle.store_removals.specs.internal.Removals.{tombstones_after_removal}
 
 -- ---- the two books
 
@@ -75,17 +78,24 @@ moving_between_named limits books from to uid expect = do
   apart ← refuse_unless (not (same_name from to)) SameBook
   moving_between_books limits uid expect both.0 both.1
 
--- a valid plan for the named books: their headers, what moves, and how far the source forgets
+-- a valid plan for the named books: their headers, what moves, how far the source forgets and how
+-- many tombstones it has afterwards, and whether the target has one under the UID
 pub record IsMoveOf (limits : Bounds) (rows : TableRows) (from to uid : List ℕ)
     (expect : Option ℕ) (plan : Transfer) : Type 0 where
   pub source : IsBookNamed rows from plan.source
   pub target : IsBookNamed rows to plan.target
   pub apart : same_name from to ≡ false
+  pub horizon : plan.source.horizon ≤ plan.source.number
   pub moving : moving_between_books limits uid expect (row_book rows (line_row from plan.source))
       (row_book rows (line_row to plan.target)) ≡ Ok (moving_of plan.card plan.moved)
   pub drop : forced_horizon (TakesAway MoveOut)
       (book_with_row (row_book rows (line_row from plan.source)) uid (TakesAway MoveOut))
       ≡ plan.drop
+  pub tombstones : tombstones_after_removal
+      (tombstone_count (row_book rows (line_row from plan.source))) plan.source.number plan.drop
+      ≡ plan.tombstones
+  pub was_tombstone : is_tombstone_at (row_book rows (line_row to plan.target)) uid
+      ≡ plan.was_tombstone
 
 -- the plan is valid for the named books, or the error is the model's refusal or a fault
 abbrev pub IsMovePlanned : Bounds → TableRows → List ℕ → List ℕ → List ℕ → Option ℕ

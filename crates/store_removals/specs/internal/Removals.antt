@@ -1,6 +1,6 @@
 -- The plan of a removal, computed from the tables before anything is written. This project's own.
-use Rattle.std.specs.Prelude.{◌≡◌, ◌+◌, ℕ, nat_le, if◌then◌else◌, List, Option, Some, None, Result}
-use Rattle.std.specs.Prelude.{Ok, Err}
+use Rattle.std.specs.Prelude.{◌≡◌, ◌≤◌, ◌+◌, ℕ, nat_le, if◌then◌else◌, List, Option, Some, None}
+use Rattle.std.specs.Prelude.{Result, Ok, Err}
 use Rattle.book_model.specs.declared.change.Change.TheVariants.{TakesAway}
 use Rattle.book_model.specs.declared.change.RemovalReason.{RemovalReason}
 use Rattle.book_model.specs.declared.change.RemovalReason.TheVariants.{Deletion}
@@ -30,15 +30,27 @@ abbrev pub drop_by_next_removal : Book → Option ℕ
 drop_by_next_removal book =
     if nat_le (tombstone_count book + 1) book.keep then None else Some (first_with_next book)
 
--- a valid plan for the named book: its header, the removal's number, and how far it forgets
+-- How many tombstones a book with this number has after its next change removed a member and it
+-- dropped tombstones up to a number: one more, or as many as before if it dropped one. Not known if
+-- it dropped the new one too, which no well-formed book does.
+abbrev pub tombstones_after_removal : ℕ → ℕ → Option ℕ → Option ℕ
+tombstones_after_removal count number None = Some (count + 1)
+tombstones_after_removal count number (Some upto) = if nat_le upto number then Some count else None
+
+-- a valid plan for the named book: its header, the removal's number, how far it forgets, and how many
+-- tombstones it has afterwards
 pub record IsRemovalOf (limits : Bounds) (rows : TableRows) (name uid : List ℕ)
     (expect : Option ℕ) (plan : Removal) : Type 0 where
   pub named : IsBookNamed rows name plan.header
+  pub horizon : plan.header.horizon ≤ plan.header.number
   pub number : removal_number_in limits uid expect (row_book rows (line_row name plan.header))
       ≡ Ok plan.number
   pub drop : forced_horizon (TakesAway Deletion)
       (book_with_row (row_book rows (line_row name plan.header)) uid (TakesAway Deletion))
       ≡ plan.drop
+  pub tombstones : tombstones_after_removal
+      (tombstone_count (row_book rows (line_row name plan.header))) plan.header.number plan.drop
+      ≡ plan.tombstones
 
 -- the plan is valid for the named book, or the error is the model's refusal or a fault
 abbrev pub IsRemovalPlanned : Bounds → TableRows → List ℕ → List ℕ → Option ℕ

@@ -2,7 +2,7 @@ use Rattle.std.proofs.Common.{rules, ◌≡◌, Ok, Err, sym, subst, Result}
 use Rattle.book_model.specs.declared.denied.Denied.{Denied}
 use Rattle.store_rows.specs.TableBooks.{HeaderRow}
 use Rattle.store_lookups.proofs.StoreFaultLemmas.{passed_cause}
-use Rattle.store_removals.proofs.FaultLemmas.{then_reads}
+use Rattle.store_writes.proofs.ReadFaults.{then_reads}
 use Rattle.sqlite.specs.Held.{state}
 use Rattle.sqlite.specs.State.{HasCleanDisk}
 use Rattle.book_model.specs.Books.{Book, book_named}

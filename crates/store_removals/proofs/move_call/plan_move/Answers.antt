@@ -1,4 +1,4 @@
-use Rattle.std.proofs.Common.{rules, ◌≡◌, ◌≤◌, ℕ, false, Err, sym, subst, ◌∙◌, Result, Option, List}
+use Rattle.std.proofs.Common.{rules, ◌≡◌, ◌≤◌, ℕ, false, Err, sym, subst, ◌∙◌, Bool, Result, List}
 use Rattle.std.specs.Prelude.{⊤}
 use Rattle.sqlite.proofs.StateLemmas.{survives_then}
 use Rattle.vcard_lines.specs.declared.line.Line.{Line}
@@ -6,7 +6,7 @@ use Rattle.book_model.specs.declared.answers.Moved.{Moved}
 use Rattle.book_model.specs.declared.denied.Denied.{Denied}
 use Rattle.store_lookups.proofs.ChangeFaultLemmas.{header_fits, then_change_faults}
 use Rattle.store_lookups.proofs.StoreFaultLemmas.{passed_cause}
-use Rattle.store_removals.proofs.FaultLemmas.{then_reads}
+use Rattle.store_writes.proofs.ReadFaults.{then_reads}
 use Rattle.std.proofs.lemmas.Map.Text.{is_eq-slice_cmp}
 use Rattle.sqlite.specs.Held.{state}
 use Rattle.sqlite.specs.State.{HasCleanDisk}
@@ -17,18 +17,19 @@ use Rattle.store_tables.proofs.SchemaCreationLemmas.{clean_before}
 use Rattle.store_tables.proofs.Lookups.{reads_then}
 use Rattle.store_lookups.proofs.ReadLemmas.{over_then}
 use Rattle.store_rows.specs.TableBooks.{row_book, line_row}
+use Rattle.store_removals.specs.declared.drop_plans.DropPlan.{DropPlan}
 use Rattle.store_removals.specs.internal.Moves.{IsMovePlanned, moving_between_books}
 use Rattle.store_removals.proofs.MoveLemmas.{apart_among, denied_among, move_drops, moving_back, same_among}
 use Rattle.store_removals.proofs.RemoveLemmas.{same_then}
 use Rattle.store_removals.proofs.move_call.plan_move.Goals as goal
 
 pub returns-then-eq-clause-planned : goal.returns-then-eq-clause-planned
-returns-then-eq-clause-planned g c rows clean holds sound =
+returns-then-eq-clause-planned g c rows clean holds sound right =
     let named = c.in_ok-source.ensures.finds rows clean holds sound in
     same_among c.args.limits rows c.args.from.now c.args.to.now c.args.uid.now c.args.expect c.in_ok-source.source c.in_ok-source.target named.0 named.1 (is_eq-slice_cmp c.args.from.now c.args.to.now ∙ sym c.eq.ensures ∙ c.if-eq.true)
 
 pub returns-in_err-card-clause-planned : goal.returns-in_err-card-clause-planned
-returns-in_err-card-clause-planned g c rows clean holds sound =
+returns-in_err-card-clause-planned g c rows clean holds sound right =
     let old = state g.S.Store c.args.conn.now in
     let mid = state g.S.Store c.find_both_headers.new.conn in
     let new = state g.S.Store c.decide_move.new.conn in
@@ -44,8 +45,8 @@ pub returns-in_err-card-clause-reads_only : goal.returns-in_err-card-clause-read
 returns-in_err-card-clause-reads_only g c =
     reads_then (state g.S.Store c.args.conn.now) (state g.S.Store c.find_both_headers.new.conn) (state g.S.Store c.decide_move.new.conn) c.find_both_headers.ensures.reads_only c.in_ok-source.ensures.unchanged c.decide_move.ensures.reads_only
 
-pub returns-in_err-drop-clause-reads_only : goal.returns-in_err-drop-clause-reads_only
-returns-in_err-drop-clause-reads_only g c =
+pub returns-in_err-plan-clause-reads_only : goal.returns-in_err-plan-clause-reads_only
+returns-in_err-plan-clause-reads_only g c =
     let old = state g.S.Store c.args.conn.now in
     let a = state g.S.Store c.find_both_headers.new.conn in
     let b = state g.S.Store c.decide_move.new.conn in
@@ -54,7 +55,7 @@ returns-in_err-drop-clause-reads_only g c =
     reads_then old b (state g.S.Store c.plan_drop.new.conn) read same c.plan_drop.ensures.reads_only
 
 pub returns-clause-planned : goal.returns-clause-planned
-returns-clause-planned g c rows clean holds sound =
+returns-clause-planned g c rows clean holds sound right =
     let old = state g.S.Store c.args.conn.now in
     let a = state g.S.Store c.find_both_headers.new.conn in
     let b = state g.S.Store c.decide_move.new.conn in
@@ -67,17 +68,43 @@ returns-clause-planned g c rows clean holds sound =
     let target = c.in_ok-source.target in
     let named = c.in_ok-source.ensures.finds rows early holds sound in
     let same = same_then old a b _ c.in_ok-source.ensures.unchanged c.decide_move.ensures.reads_only.survives c.in_ok-card.ensures.unchanged in
-    let moving = moving_back (moving_between_books c.args.limits c.args.uid.now c.args.expect (row_book rows (line_row from source)) (row_book rows (line_row to target))) (c.in_ok-card.card, c.in_ok-card.moved)
+    let moving = moving_back (moving_between_books c.args.limits c.args.uid.now c.args.expect (row_book rows (line_row from source)) (row_book rows (line_row to target))) (c.in_ok-card.card, c.in_ok-card.moved, c.in_ok-card.was_tombstone)
     (over_then old a b _ _ c.in_ok-source.ensures.unchanged c.decide_move.ensures.reads_only.survives c.in_ok-card.ensures.answers rows later holds sound from to) in
-    let drop = over_then old b new _ _ same c.plan_drop.ensures.reads_only.survives c.in_ok-drop.ensures.drop rows clean holds sound from in
+    let drop = over_then old b new _ _ same c.plan_drop.ensures.reads_only.survives c.in_ok-plan.ensures.drop rows clean holds sound right named.0 in
+    let tombstones = over_then old b new _ _ same c.plan_drop.ensures.reads_only.survives c.in_ok-plan.ensures.tombstones rows clean holds sound right named.0 in
+    let low = subst (λ (n : ℕ). n ≤ source.number) c.horizon-low.ensures.value c.horizon-low.ensures.most in
     record {
       source = named.0;
       target = named.1;
       apart = is_eq-slice_cmp c.args.from.now c.args.to.now ∙ sym c.eq.ensures ∙ c.if-eq.false;
+      horizon = low;
       moving = moving;
-      drop = move_drops rows from source c.args.uid.now c.args.limits (found_in_book (row_book rows (line_row to target)) c.args.uid.now) c.args.expect (moving_of c.in_ok-card.card c.in_ok-card.moved) c.in_ok-drop.drop sound
-          (subst (λ (n : ℕ). n ≤ source.number) c.horizon-low.ensures.value c.horizon-low.ensures.most) moving drop;
+      drop = move_drops rows from source c.args.uid.now c.args.limits (found_in_book (row_book rows (line_row to target)) c.args.uid.now) c.args.expect (moving_of c.in_ok-card.card c.in_ok-card.moved) c.in_ok-plan.plan.drop sound low moving drop;
+      tombstones = tombstones;
+      was_tombstone = over_then old a b _ _ c.in_ok-source.ensures.unchanged c.decide_move.ensures.reads_only.survives c.in_ok-card.ensures.tombstone rows later holds sound to;
     }
+
+pub returns-in_err-plan-clause-counts : goal.returns-in_err-plan-clause-counts
+returns-in_err-plan-clause-counts g c rows clean holds sound right =
+    let old = state g.S.Store c.args.conn.now in
+    let a = state g.S.Store c.find_both_headers.new.conn in
+    let b = state g.S.Store c.decide_move.new.conn in
+    let new = state g.S.Store c.plan_drop.new.conn in
+    let later : HasCleanDisk b = clean_before _ b new c.plan_drop.ensures.reads_only.survives clean in
+    let early : HasCleanDisk a = clean_before _ a b c.decide_move.ensures.reads_only.survives later in
+    let same = same_then old a b _ c.in_ok-source.ensures.unchanged c.decide_move.ensures.reads_only.survives c.in_ok-card.ensures.unchanged in
+    over_then old b new _ _ same c.plan_drop.ensures.reads_only.survives c.plan_drop.ensures.counts rows clean holds sound right (c.in_ok-source.ensures.finds rows early holds sound).0
+
+pub returns-clause-counts : goal.returns-clause-counts
+returns-clause-counts g c rows clean holds sound right =
+    let old = state g.S.Store c.args.conn.now in
+    let a = state g.S.Store c.find_both_headers.new.conn in
+    let b = state g.S.Store c.decide_move.new.conn in
+    let new = state g.S.Store c.plan_drop.new.conn in
+    let later : HasCleanDisk b = clean_before _ b new c.plan_drop.ensures.reads_only.survives clean in
+    let early : HasCleanDisk a = clean_before _ a b c.decide_move.ensures.reads_only.survives later in
+    let same = same_then old a b _ c.in_ok-source.ensures.unchanged c.decide_move.ensures.reads_only.survives c.in_ok-card.ensures.unchanged in
+    over_then old b new _ _ same c.plan_drop.ensures.reads_only.survives c.plan_drop.ensures.counts rows clean holds sound right (c.in_ok-source.ensures.finds rows early holds sound).0
 
 pub returns-clause-reads_only : goal.returns-clause-reads_only
 returns-clause-reads_only g c =
@@ -103,20 +130,20 @@ returns-in_err-card-clause-store_fault g c rows clean holds accept free =
     let named = c.in_ok-source.ensures.finds rows early holds accept.faultless.sound in
     let source = header_fits rows c.args.from.now c.in_ok-source.source accept named.0.there in
     let target = header_fits rows c.args.to.now c.in_ok-source.target accept named.1.there in
-    let failed : Result (List Line × Moved) Denied = Err c.in_err-card.field-0.0 in
+    let failed : Result (List Line × Moved × Bool) Denied = Err c.in_err-card.field-0.0 in
     passed_cause c.from_residual-in_err-card.result c.in_err-card.field-0.0 _ c.from_residual-in_err-card.ensures.1
     (then_reads old mid new _ _ failed c.find_both_headers.ensures.reads_only.survives c.in_ok-source.ensures.unchanged c.decide_move.ensures.reads_only.survives (c.in_err-card.ensures.store_fault target source) rows clean holds accept.faultless)
 
-pub returns-in_err-drop-clause-store_fault : goal.returns-in_err-drop-clause-store_fault
-returns-in_err-drop-clause-store_fault g c rows clean holds accept free =
+pub returns-in_err-plan-clause-store_fault : goal.returns-in_err-plan-clause-store_fault
+returns-in_err-plan-clause-store_fault g c rows clean holds accept free =
     let old = state g.S.Store c.args.conn.now in
     let a = state g.S.Store c.find_both_headers.new.conn in
     let b = state g.S.Store c.decide_move.new.conn in
     let new = state g.S.Store c.plan_drop.new.conn in
     let same = same_then old a b _ c.in_ok-source.ensures.unchanged c.decide_move.ensures.reads_only.survives c.in_ok-card.ensures.unchanged in
     let read = survives_then old a b _ _ (λ _. ⊤) (λ _ db none. tt) (λ _ db none. tt) c.find_both_headers.ensures.reads_only.survives c.decide_move.ensures.reads_only.survives in
-    let failed : Result (Option ℕ) Denied = Err c.in_err-drop.field-0.0 in
-    passed_cause c.from_residual-in_err-drop.result c.in_err-drop.field-0.0 _ c.from_residual-in_err-drop.ensures.1
+    let failed : Result DropPlan Denied = Err c.in_err-plan.field-0.0 in
+    passed_cause c.from_residual-in_err-plan.result c.in_err-plan.field-0.0 _ c.from_residual-in_err-plan.ensures.1
     (then_change_faults old b new _ _ c.args.from.now c.in_ok-source.source failed read same
     (λ rows later held sound. (c.in_ok-source.ensures.finds rows (clean_before _ a b c.decide_move.ensures.reads_only.survives later) held sound).0.there)
-    c.plan_drop.ensures.reads_only.survives c.in_err-drop.ensures.store_fault rows clean holds accept free)
+    c.plan_drop.ensures.reads_only.survives c.in_err-plan.ensures.store_fault rows clean holds accept free)

@@ -1,4 +1,4 @@
-use Rattle.std.proofs.Common.{rules, ◌≡◌, ◌≤◌, ℕ, Err, sym, subst, Result, Option}
+use Rattle.std.proofs.Common.{rules, ◌≡◌, ◌≤◌, ℕ, Err, sym, subst, Result}
 use Rattle.std.specs.Prelude.{⊤}
 use Rattle.sqlite.proofs.StateLemmas.{survives_then}
 use Rattle.book_model.specs.declared.denied.Denied.{Denied}
@@ -11,19 +11,20 @@ use Rattle.store_tables.proofs.Lookups.{reads_then}
 use Rattle.store_lookups.specs.CallResults.{IsExactly}
 use Rattle.store_lookups.proofs.ReadLemmas.{none_returned, over_then, returns_then}
 use Rattle.store_rows.specs.TableBooks.{row_book, line_row}
+use Rattle.store_removals.specs.declared.drop_plans.DropPlan.{DropPlan}
 use Rattle.store_removals.specs.internal.Removals.{IsRemovalPlanned, removal_number_in}
 use Rattle.store_writes.proofs.PlanLemmas.{answer_is_exact}
 use Rattle.store_removals.proofs.RemoveLemmas.{drop_is, fault_removes, same_then}
 use Rattle.store_removals.proofs.remove_call.plan_remove.Goals as goal
 
 pub returns-in_err-header-clause-planned : goal.returns-in_err-header-clause-planned
-returns-in_err-header-clause-planned g c rows clean holds sound =
+returns-in_err-header-clause-planned g c rows clean holds sound right =
     let said : c.from_residual.result ≡ Err c.in_err-header.field-0.0 = search rules in
     subst (λ r. IsRemovalPlanned c.args.limits rows c.args.name.now c.args.uid.now c.args.expect r) (sym said)
     (none_returned IsExactly (removal_number_in c.args.limits c.args.uid.now c.args.expect) c.args.name.now (state g.S.Store c.args.conn.now) (state g.S.Store c.open_header.new.conn) c.in_err-header.field-0.0 c.in_err-header.ensures.finds rows clean holds sound)
 
 pub returns-in_err-number-clause-planned : goal.returns-in_err-number-clause-planned
-returns-in_err-number-clause-planned g c rows clean holds sound =
+returns-in_err-number-clause-planned g c rows clean holds sound right =
     let said : c.from_residual-in_err-number.result ≡ Err c.in_err-number.field-0.0 = search rules in
     subst (λ r. IsRemovalPlanned c.args.limits rows c.args.name.now c.args.uid.now c.args.expect r) (sym said)
     (returns_then IsExactly (removal_number_in c.args.limits c.args.uid.now c.args.expect) c.args.name.now (state g.S.Store c.args.conn.now) (state g.S.Store c.open_header.new.conn) (state g.S.Store c.decide_removal.new.conn) _ c.in_ok-header.header (Err c.in_err-number.field-0.0)
@@ -33,14 +34,14 @@ pub returns-in_err-number-clause-reads_only : goal.returns-in_err-number-clause-
 returns-in_err-number-clause-reads_only g c =
     reads_then (state g.S.Store c.args.conn.now) (state g.S.Store c.open_header.new.conn) (state g.S.Store c.decide_removal.new.conn) c.open_header.ensures.reads_only c.in_ok-header.ensures.unchanged c.decide_removal.ensures.reads_only
 
-pub returns-in_err-drop-clause-planned : goal.returns-in_err-drop-clause-planned
-returns-in_err-drop-clause-planned g c rows clean holds sound =
-    let said : c.from_residual-in_err-drop.result ≡ Err c.in_err-drop.field-0.0 = search rules in
+pub returns-in_err-plan-clause-planned : goal.returns-in_err-plan-clause-planned
+returns-in_err-plan-clause-planned g c rows clean holds sound right =
+    let said : c.from_residual-in_err-plan.result ≡ Err c.in_err-plan.field-0.0 = search rules in
     subst (λ r. IsRemovalPlanned c.args.limits rows c.args.name.now c.args.uid.now c.args.expect r) (sym said)
-    (fault_removes c.args.limits rows c.args.name.now c.args.uid.now c.args.expect c.in_err-drop.field-0.0 c.in_err-drop.ensures.fault)
+    (fault_removes c.args.limits rows c.args.name.now c.args.uid.now c.args.expect c.in_err-plan.field-0.0 c.in_err-plan.ensures.fault)
 
-pub returns-in_err-drop-clause-reads_only : goal.returns-in_err-drop-clause-reads_only
-returns-in_err-drop-clause-reads_only g c =
+pub returns-in_err-plan-clause-reads_only : goal.returns-in_err-plan-clause-reads_only
+returns-in_err-plan-clause-reads_only g c =
     let old = state g.S.Store c.args.conn.now in
     let a = state g.S.Store c.open_header.new.conn in
     let b = state g.S.Store c.decide_removal.new.conn in
@@ -49,7 +50,7 @@ returns-in_err-drop-clause-reads_only g c =
     reads_then old b (state g.S.Store c.plan_drop.new.conn) read same c.plan_drop.ensures.reads_only
 
 pub returns-clause-planned : goal.returns-clause-planned
-returns-clause-planned g c rows clean holds sound =
+returns-clause-planned g c rows clean holds sound right =
     let old = state g.S.Store c.args.conn.now in
     let a = state g.S.Store c.open_header.new.conn in
     let b = state g.S.Store c.decide_removal.new.conn in
@@ -61,12 +62,39 @@ returns-clause-planned g c rows clean holds sound =
     let same = same_then old a b _ c.in_ok-header.ensures.unchanged c.decide_removal.ensures.reads_only.survives c.in_ok-number.ensures.unchanged in
     let number = answer_is_exact (removal_number_in c.args.limits c.args.uid.now c.args.expect (row_book rows (line_row name header))) c.in_ok-number.number
     (over_then old a b _ _ c.in_ok-header.ensures.unchanged c.decide_removal.ensures.reads_only.survives c.in_ok-number.ensures.answers rows later holds sound name) in
-    let drop = over_then old b new _ _ same c.plan_drop.ensures.reads_only.survives c.in_ok-drop.ensures.drop rows clean holds sound name in
+    let named = c.in_ok-header.ensures.finds rows early holds sound in
+    let drop = over_then old b new _ _ same c.plan_drop.ensures.reads_only.survives c.in_ok-plan.ensures.drop rows clean holds sound right named in
+    let tombstones = over_then old b new _ _ same c.plan_drop.ensures.reads_only.survives c.in_ok-plan.ensures.tombstones rows clean holds sound right named in
+    let low = subst (λ (n : ℕ). n ≤ header.number) c.horizon-low.ensures.value c.horizon-low.ensures.most in
     record {
-      named = c.in_ok-header.ensures.finds rows early holds sound;
+      named = named;
+      horizon = low;
       number = number;
-      drop = drop_is rows name header c.args.uid.now c.args.limits c.args.expect c.in_ok-number.number c.in_ok-drop.drop sound (subst (λ (n : ℕ). n ≤ header.number) c.horizon-low.ensures.value c.horizon-low.ensures.most) number drop;
+      drop = drop_is rows name header c.args.uid.now c.args.limits c.args.expect c.in_ok-number.number c.in_ok-plan.plan.drop sound low number drop;
+      tombstones = tombstones;
     }
+
+pub returns-in_err-plan-clause-counts : goal.returns-in_err-plan-clause-counts
+returns-in_err-plan-clause-counts g c rows clean holds sound right =
+    let old = state g.S.Store c.args.conn.now in
+    let a = state g.S.Store c.open_header.new.conn in
+    let b = state g.S.Store c.decide_removal.new.conn in
+    let new = state g.S.Store c.plan_drop.new.conn in
+    let later : HasCleanDisk b = clean_before _ b new c.plan_drop.ensures.reads_only.survives clean in
+    let early : HasCleanDisk a = clean_before _ a b c.decide_removal.ensures.reads_only.survives later in
+    let same = same_then old a b _ c.in_ok-header.ensures.unchanged c.decide_removal.ensures.reads_only.survives c.in_ok-number.ensures.unchanged in
+    over_then old b new _ _ same c.plan_drop.ensures.reads_only.survives c.plan_drop.ensures.counts rows clean holds sound right (c.in_ok-header.ensures.finds rows early holds sound)
+
+pub returns-clause-counts : goal.returns-clause-counts
+returns-clause-counts g c rows clean holds sound right =
+    let old = state g.S.Store c.args.conn.now in
+    let a = state g.S.Store c.open_header.new.conn in
+    let b = state g.S.Store c.decide_removal.new.conn in
+    let new = state g.S.Store c.plan_drop.new.conn in
+    let later : HasCleanDisk b = clean_before _ b new c.plan_drop.ensures.reads_only.survives clean in
+    let early : HasCleanDisk a = clean_before _ a b c.decide_removal.ensures.reads_only.survives later in
+    let same = same_then old a b _ c.in_ok-header.ensures.unchanged c.decide_removal.ensures.reads_only.survives c.in_ok-number.ensures.unchanged in
+    over_then old b new _ _ same c.plan_drop.ensures.reads_only.survives c.plan_drop.ensures.counts rows clean holds sound right (c.in_ok-header.ensures.finds rows early holds sound)
 
 pub returns-clause-unchanged : goal.returns-clause-unchanged
 returns-clause-unchanged g c =
@@ -74,7 +102,7 @@ returns-clause-unchanged g c =
     let a = state g.S.Store c.open_header.new.conn in
     let b = state g.S.Store c.decide_removal.new.conn in
     let same = same_then old a b _ c.in_ok-header.ensures.unchanged c.decide_removal.ensures.reads_only.survives c.in_ok-number.ensures.unchanged in
-    same_then old b (state g.S.Store c.plan_drop.new.conn) _ same c.plan_drop.ensures.reads_only.survives c.in_ok-drop.ensures.unchanged
+    same_then old b (state g.S.Store c.plan_drop.new.conn) _ same c.plan_drop.ensures.reads_only.survives c.in_ok-plan.ensures.unchanged
 
 pub returns-clause-reads_only : goal.returns-clause-reads_only
 returns-clause-reads_only g c =
@@ -108,16 +136,16 @@ returns-in_err-number-clause-store_fault g c rows clean holds accept free =
     (then_faults old mid new _ _ c.args.name.now c.in_ok-header.header failed c.open_header.ensures.reads_only.survives c.in_ok-header.ensures.unchanged c.in_ok-header.ensures.finds
     c.decide_removal.ensures.reads_only.survives c.in_err-number.ensures.store_fault rows clean holds accept.faultless)
 
-pub returns-in_err-drop-clause-store_fault : goal.returns-in_err-drop-clause-store_fault
-returns-in_err-drop-clause-store_fault g c rows clean holds accept free =
+pub returns-in_err-plan-clause-store_fault : goal.returns-in_err-plan-clause-store_fault
+returns-in_err-plan-clause-store_fault g c rows clean holds accept free =
     let old = state g.S.Store c.args.conn.now in
     let a = state g.S.Store c.open_header.new.conn in
     let b = state g.S.Store c.decide_removal.new.conn in
     let new = state g.S.Store c.plan_drop.new.conn in
     let same = same_then old a b _ c.in_ok-header.ensures.unchanged c.decide_removal.ensures.reads_only.survives c.in_ok-number.ensures.unchanged in
     let read = survives_then old a b _ _ (λ _. ⊤) (λ _ db none. tt) (λ _ db none. tt) c.open_header.ensures.reads_only.survives c.decide_removal.ensures.reads_only.survives in
-    let failed : Result (Option ℕ) Denied = Err c.in_err-drop.field-0.0 in
-    passed_cause c.from_residual-in_err-drop.result c.in_err-drop.field-0.0 _ c.from_residual-in_err-drop.ensures.1
+    let failed : Result DropPlan Denied = Err c.in_err-plan.field-0.0 in
+    passed_cause c.from_residual-in_err-plan.result c.in_err-plan.field-0.0 _ c.from_residual-in_err-plan.ensures.1
     (then_change_faults old b new _ _ c.args.name.now c.in_ok-header.header failed read same
     (λ rows later held sound. (c.in_ok-header.ensures.finds rows (clean_before _ a b c.decide_removal.ensures.reads_only.survives later) held sound).there)
-    c.plan_drop.ensures.reads_only.survives c.in_err-drop.ensures.store_fault rows clean holds accept free)
+    c.plan_drop.ensures.reads_only.survives c.in_err-plan.ensures.store_fault rows clean holds accept free)

@@ -4,7 +4,7 @@ use Rattle.store_writes.proofs.TransactionFaults.{memory_cause}
 use Rattle.store_removals.proofs.FaultLemmas.{first_readable}
 use Rattle.store_lookups.proofs.FindLemmas.{back_of}
 use Rattle.store_removals.proofs.RemoveLemmas.{first_found, first_missing}
-use Rattle.store_removals.proofs.remove_call.oldest_removal_of.Goals as goal
+use Rattle.store_removals.proofs.drop_plans.oldest_removal_of.Goals as goal
 
 pub returns-clause-first : goal.returns-clause-first
 returns-clause-first g c rows clean holds sound name =
