@@ -1,0 +1,7 @@
+mod FillLemmas
+mod LineLemmas
+mod PieceLemmas
+mod ProgressLemmas
+mod ReadBackLemmas
+mod RowLemmas
+mod UidLemmas

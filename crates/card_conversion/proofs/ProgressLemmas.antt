@@ -1,0 +1,151 @@
+-- The pieces so far, and one more.
+use Rattle.std.proofs.Common.{◌≡◌, ◌≢◌, ◌∷◌, ◌++◌, [], ℕ, List, Option, Some, None, refl, sym, ap, subst, ◌∙◌, map, IfSome, append_assoc, append-nil, arith, ◌<◌, length, get_or, zero, suc}
+use Rattle.std.specs.List.{All, AllByRecursion, AllPairs, Contains}
+use Rattle.std.specs.FinMap as finite
+use Rattle.std.specs.Option.{IsSome}
+use Rattle.std.specs.Io.KnownBytes.{Consumes, IsAtEnd}
+use Rattle.std.proofs.lemmas.List.{flat_map_more}
+use Rattle.std.proofs.lemmas.List.Elements.{Contains-append_left, Contains-append_right}
+use Rattle.std.proofs.lemmas.List.Kept.{AllPairs-cons}
+use Rattle.base_types.specs.TextMaps.{text_cmp}
+use Rattle.vcard_lines.specs.declared.line.Line.{Line}
+use Rattle.vcard_text.specs.Cards.{IsCard, uid_of}
+use Rattle.card_conversion.specs.declared.fate.Fate.{Fate}
+use Rattle.card_conversion.specs.declared.piece_reader.PieceReader.{PieceReader}
+use Rattle.card_conversion.specs.declared.fate.Fate.TheVariants.{Blank, Other, Long, Refused, Repeated, Declined, Written}
+use Rattle.card_conversion.specs.Accounts.{ConvertsAll}
+use Rattle.card_conversion.specs.Deliveries.{WritesInTurn}
+use Rattle.card_conversion.specs.Fates.{Entry, HaveFates, IsFate, cards_of, cards_of_fate, octets_of, uids_of, uids_of_fate}
+use Rattle.card_conversion.specs.internal.PieceReaders.{HasEnded, left_of}
+use Rattle.card_conversion.specs.internal.States.{HasUids, Progress, Takes}
+use Rattle.card_conversion.proofs.FillLemmas.{consumes_more}
+
+abbrev entry_of : List ℕ → Fate → Entry
+entry_of octets fate = record { octets = octets; fate = fate }
+
+-- a flat map of one more entry
+more_octets : (entries : List Entry) (octets : List ℕ) (fate : Fate) → octets_of (entries ++ entry_of octets fate ∷ []) ≡ octets_of entries ++ octets
+more_octets entries octets fate = sym (flat_map_more (λ (e : Entry). e.octets) [] entries (entry_of octets fate))
+
+more_uids : (entries : List Entry) (octets : List ℕ) (fate : Fate) → uids_of (entries ++ entry_of octets fate ∷ []) ≡ uids_of entries ++ uids_of_fate fate
+more_uids entries octets fate = sym (flat_map_more (λ (e : Entry). uids_of_fate e.fate) [] entries (entry_of octets fate))
+
+more_cards : (entries : List Entry) (octets : List ℕ) (fate : Fate) → cards_of (entries ++ entry_of octets fate ∷ []) ≡ cards_of entries ++ cards_of_fate fate
+more_cards entries octets fate = sym (flat_map_more (λ (e : Entry). cards_of_fate e.fate) [] entries (entry_of octets fate))
+
+-- one more piece has its fate after the others
+more_fates : (uids : List (List ℕ)) (entries : List Entry) (octets : List ℕ) (fate : Fate) → HaveFates uids entries → IsFate (uids ++ uids_of entries) octets fate → HaveFates uids (entries ++ entry_of octets fate ∷ [])
+more_fates uids [] octets fate have is = (subst (λ all. IsFate all octets fate) (append-nil uids) is, tt)
+more_fates uids (e ∷ es) octets fate have is =
+    (have.0, more_fates (uids ++ uids_of_fate e.fate) es octets fate have.1 (subst (λ all. IsFate all octets fate) (sym (append_assoc uids (uids_of_fate e.fate) (uids_of es))) is))
+
+-- what was read up to the end is the whole
+whole_read : (a b c : Option (List ℕ)) (octets : List ℕ) → Consumes a b octets → Consumes b c [] → IsAtEnd c → IfSome a (λ input. input ≡ octets)
+whole_read None b c octets p q e = tt
+whole_read (Some x) None c octets p q e = absurd p
+whole_read (Some x) (Some y) None octets p q e = absurd q
+whole_read (Some x) (Some y) (Some z) octets p q e = p ∙ ap (λ rest. octets ++ rest) (q ∙ e) ∙ append-nil octets
+
+-- ---- the UIDs of the cards that were written
+
+module _ (P : List ℕ → Type 0) (rest : List (List Line)) where
+  with_card : (uids : List (List ℕ)) (octets : List ℕ) (fate : Fate) → IsFate uids octets fate → ((uid : List ℕ) → (Contains uids uid → ⊥) → P uid) → All P (map uid_of rest) → All P (map uid_of (cards_of_fate fate ++ rest))
+  with_card uids octets Blank is new all = all
+  with_card uids octets Other is new all = all
+  with_card uids octets Long is new all = all
+  with_card uids octets (Refused fault) is new all = all
+  with_card uids octets (Repeated made) is new all = all
+  with_card uids octets (Declined made words) is new all = all
+  with_card uids octets (Written made) is new all = λ k d small. at k d small
+    where
+      at : (k : ℕ) (d : List ℕ) → k < length (uid_of made.card ∷ map uid_of rest) → P (get_or (uid_of made.card ∷ map uid_of rest) k d)
+      at zero d small = new (uid_of made.card) is.1
+      at (suc k) d small = all k d (omega (arith, small))
+
+-- none of them is among the UIDs of earlier cards
+apart : (uids : List (List ℕ)) (entries : List Entry) → HaveFates uids entries → All (λ uid. Contains uids uid → ⊥) (map uid_of (cards_of entries))
+apart uids [] have = λ k d small. absurd (omega (arith, small))
+apart uids (e ∷ es) have =
+    with_card (λ uid. Contains uids uid → ⊥) (cards_of es) uids e.octets e.fate have.0 (λ uid new. new)
+    (λ k d small had. apart (uids ++ uids_of_fate e.fate) es have.1 k d small (Contains-append_left uids (uids_of_fate e.fate) (get_or (map uid_of (cards_of es)) k d) had))
+
+one_has : (x : List ℕ) → Contains (x ∷ []) x
+one_has x = (0, omega arith, refl)
+
+with_pairs : (uids : List (List ℕ)) (octets : List ℕ) (fate : Fate) (rest : List (List Line)) → All (λ uid. Contains (uids ++ uids_of_fate fate) uid → ⊥) (map uid_of rest) → AllPairs (λ a b. a ≢ b) (map uid_of rest) → AllPairs (λ a b. a ≢ b) (map uid_of (cards_of_fate fate ++ rest))
+with_pairs uids octets Blank rest all pairs = pairs
+with_pairs uids octets Other rest all pairs = pairs
+with_pairs uids octets Long rest all pairs = pairs
+with_pairs uids octets (Refused fault) rest all pairs = pairs
+with_pairs uids octets (Repeated made) rest all pairs = pairs
+with_pairs uids octets (Declined made words) rest all pairs = pairs
+with_pairs uids octets (Written made) rest all pairs =
+    AllPairs-cons (λ a b. a ≢ b) (uid_of made.card) (map uid_of rest)
+    (λ k d small same. all k d small (subst (Contains (uids ++ uid_of made.card ∷ [])) same (Contains-append_right uids (uid_of made.card ∷ []) (uid_of made.card) (one_has (uid_of made.card)))))
+    pairs
+
+apart_each : (uids : List (List ℕ)) (entries : List Entry) → HaveFates uids entries → AllPairs (λ a b. a ≢ b) (map uid_of (cards_of entries))
+apart_each uids [] have = λ i j d below small. absurd (omega (arith, small))
+apart_each uids (e ∷ es) have =
+    with_pairs uids e.octets e.fate (cards_of es) (apart (uids ++ uids_of_fate e.fate) es have.1) (apart_each (uids ++ uids_of_fate e.fate) es have.1)
+
+with_rules : (uids : List (List ℕ)) (octets : List ℕ) (fate : Fate) (rest : List (List Line)) → IsFate uids octets fate → AllByRecursion IsCard rest → AllByRecursion IsCard (cards_of_fate fate ++ rest)
+with_rules uids octets Blank rest is all = all
+with_rules uids octets Other rest is all = all
+with_rules uids octets Long rest is all = all
+with_rules uids octets (Refused fault) rest is all = all
+with_rules uids octets (Repeated made) rest is all = all
+with_rules uids octets (Declined made words) rest is all = all
+with_rules uids octets (Written made) rest is all = (is.0.card, all)
+
+each_card : (uids : List (List ℕ)) (entries : List Entry) → HaveFates uids entries → AllByRecursion IsCard (cards_of entries)
+each_card uids [] have = tt
+each_card uids (e ∷ es) have = with_rules uids e.octets e.fate (cards_of es) have.0 (each_card (uids ++ uids_of_fate e.fate) es have.1)
+
+-- no UID is known yet
+pub none_known : HasUids finite.empty []
+none_known uid = (λ some. cc (subst IsSome (finite.get-empty text_cmp uid) some), λ had. absurd (nothing uid had))
+  where
+    nothing : (q : List ℕ) → Contains {X = List ℕ} [] q → ⊥
+    nothing q (i, small, e) = omega (arith, small)
+
+module _ {A : Type 0} (writes : List Line → A → A → Type 0) where
+  -- more cards are written after the others
+  pub more_written : (cards more : List (List Line)) (a b c : A) → WritesInTurn writes cards a b → WritesInTurn writes more b c → WritesInTurn writes (cards ++ more) a c
+  more_written [] more a b c first then = subst (λ x. WritesInTurn writes more x c) first then
+  more_written (card ∷ cards) more a b c first then = (first.0, first.1, more_written cards more first.0 b c first.2 then)
+
+  module _ {R : Type 0} (remaining : R → Option (List ℕ)) (input : Option (List ℕ)) (before : A) where
+    pub begun : (pieces : PieceReader R) (map : finite.FinMap text_cmp (Unit {0})) → Consumes input (left_of remaining pieces) [] → HasEnded remaining pieces → HasUids map [] → Progress writes remaining input before before pieces map
+    begun pieces map left ended known = record { entries = []; passed = left; ended = ended; fates = tt; known = known; written = refl }
+
+    pub all_done : (now : A) (old found : PieceReader R) (map : finite.FinMap text_cmp (Unit {0})) → Progress writes remaining input before now old map → Consumes (left_of remaining old) (left_of remaining found) [] → IsAtEnd (left_of remaining found) → ConvertsAll writes input before now
+    all_done now old found map p nothing at_end = record {
+      entries = p.entries;
+      whole = whole_read input (left_of remaining old) (left_of remaining found) (octets_of p.entries) p.passed nothing at_end;
+      fates = p.fates;
+      written = p.written;
+      distinct = apart_each [] p.entries p.fates;
+      cards = each_card [] p.entries p.fates;
+    }
+
+    pub one_piece : (now then : A) (old found new : PieceReader R) (map after : finite.FinMap text_cmp (Unit {0})) (octets : List ℕ) (fate : Fate)
+        → Progress writes remaining input before now old map
+        → Consumes (left_of remaining old) (left_of remaining found) []
+        → Consumes (left_of remaining found) (left_of remaining new) octets
+        → HasEnded remaining new
+        → Takes writes octets map after now then fate
+        → Progress writes remaining input before then new after
+    one_piece now then old found new map after octets fate p nothing passes ended takes =
+        let taken = takes (uids_of p.entries) p.known in
+        record {
+          entries = p.entries ++ entry_of octets fate ∷ [];
+          passed = subst (Consumes input (left_of remaining new)) (sym (more_octets p.entries octets fate))
+              (consumes_more input (left_of remaining old) (left_of remaining new) (octets_of p.entries) octets p.passed
+              (consumes_more (left_of remaining old) (left_of remaining found) (left_of remaining new) [] octets nothing passes));
+          ended = ended;
+          fates = more_fates [] p.entries octets fate p.fates taken.0;
+          known = subst (HasUids after) (sym (more_uids p.entries octets fate)) taken.1;
+          written = subst (λ cards. WritesInTurn writes cards before then) (sym (more_cards p.entries octets fate))
+              (more_written (cards_of p.entries) (cards_of_fate fate) before now then p.written taken.2);
+        }

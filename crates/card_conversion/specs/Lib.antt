@@ -1,0 +1,5 @@
+pub mod Accounts
+pub mod Deliveries
+pub mod Fates
+pub mod RowTexts
+pub mod internal

@@ -1,0 +1,2 @@
+pub mod PieceReaders
+pub mod States

@@ -1,0 +1,42 @@
+-- The state of a conversion between two pieces. This project's own.
+use Rattle.std.specs.Prelude.{ℕ, ◌↔◌, ◌++◌, [], ◌∷◌, Bool, true, false, List, Option}
+use Rattle.std.specs.FinMap as finite
+use Rattle.std.specs.Option.{IsSome}
+use Rattle.std.specs.List.{Contains}
+use Rattle.std.specs.Io.KnownBytes.{Consumes}
+use Rattle.base_types.specs.TextMaps.{text_cmp}
+use Rattle.vcard_lines.specs.declared.line.Line.{Line}
+use Rattle.card_conversion.specs.declared.fate.Fate.{Fate}
+use Rattle.card_conversion.specs.Fates.{Entry, HaveFates, IsFate, cards_of, cards_of_fate}
+use Rattle.card_conversion.specs.Fates.{octets_of, uids_of, uids_of_fate}
+use Rattle.card_conversion.specs.Deliveries.{WritesInTurn}
+use Rattle.card_conversion.specs.internal.PieceReaders.{HasEnded, left_of}
+use Rattle.card_conversion.specs.declared.piece_reader.PieceReader.{PieceReader}
+
+-- the keys of the map are these UIDs
+abbrev pub HasUids : finite.FinMap text_cmp (Unit {0}) → List (List ℕ) → Type 0
+HasUids map uids = (uid : List ℕ) → IsSome (finite.get map uid) ↔ Contains uids uid
+
+-- The UID isn't one of the known ones, and the map has it now; or it is one of them.
+abbrev pub IsAdmitted : List (List ℕ) → List ℕ → finite.FinMap text_cmp (Unit {0}) → Bool → Type 0
+IsAdmitted known uid after true = (Contains known uid → ⊥) × HasUids after (known ++ uid ∷ [])
+IsAdmitted known uid after false = Contains known uid × HasUids after known
+
+-- The piece has the fate after pieces whose cards have the UIDs of the map.
+abbrev pub Takes : {A : Type 0} → (List Line → A → A → Type 0) → List ℕ
+    → finite.FinMap text_cmp (Unit {0}) → finite.FinMap text_cmp (Unit {0}) → A → A → Fate → Type 0
+Takes writes octets map_before map_after before after fate =
+    (uids : List (List ℕ)) → HasUids map_before uids
+    → IsFate uids octets fate × HasUids map_after (uids ++ uids_of_fate fate)
+    × WritesInTurn writes (cards_of_fate fate) before after
+
+-- Pieces are passed; each has its fate, and the cards among them are written in order.
+pub record Progress {A R : Type 0} (writes : List Line → A → A → Type 0)
+    (remaining : R → Option (List ℕ)) (input : Option (List ℕ)) (before now : A)
+    (pieces : PieceReader R) (map : finite.FinMap text_cmp (Unit {0})) : Type 0 where
+  pub entries : List Entry
+  pub passed : Consumes input (left_of remaining pieces) (octets_of entries)
+  pub ended : HasEnded remaining pieces
+  pub fates : HaveFates [] entries
+  pub known : HasUids map (uids_of entries)
+  pub written : WritesInTurn writes (cards_of entries) before now

@@ -1,0 +1,39 @@
+//! Why a conversion stopped.
+
+use crate::outlet::OutletFault;
+use base_types::{NoMemory, Text};
+use std::alloc::AllocError;
+
+/// Why a conversion stopped before the end of its file.
+#[derive(Debug, Drop)]
+pub enum ConversionFault {
+    /// An allocation failed.
+    Memory,
+    /// The file couldn't be read to its end.
+    Input,
+    /// A card couldn't be written, in words.
+    Output(Text),
+    /// The report couldn't be written.
+    Report,
+}
+
+impl From<NoMemory> for ConversionFault {
+    fn from(_error: NoMemory) -> ConversionFault {
+        ConversionFault::Memory
+    }
+}
+
+impl From<AllocError> for ConversionFault {
+    fn from(_error: AllocError) -> ConversionFault {
+        ConversionFault::Memory
+    }
+}
+
+impl From<OutletFault> for ConversionFault {
+    fn from(fault: OutletFault) -> ConversionFault {
+        match fault {
+            OutletFault::Memory => ConversionFault::Memory,
+            OutletFault::Failed(words) => ConversionFault::Output(words),
+        }
+    }
+}

@@ -1,0 +1,56 @@
+//! How many pieces there were, of each kind, and where the next one is.
+
+use crate::fate::Fate;
+use crate::report::Place;
+use import_text::count_lines;
+
+/// What became of the cards of a file.
+#[derive(Clone, Copy, Debug, PartialEq, Eq)]
+pub struct Summary {
+    /// The number of cards that were written.
+    pub written: u64,
+    /// The number of those whose lines weren't all kept as they were.
+    pub changed: u64,
+    /// The number of cards that weren't written, and of texts that are no card.
+    pub refused: u64,
+}
+
+/// The numbers so far, and the place of the next piece.
+#[derive(Clone, Copy, Debug)]
+pub(crate) struct Ledger {
+    pub(crate) place: Place,
+    pub(crate) summary: Summary,
+}
+
+impl Ledger {
+    pub(crate) fn new() -> Ledger {
+        Ledger {
+            place: Place { card: 1, line: 1 },
+            summary: Summary {
+                written: 0,
+                changed: 0,
+                refused: 0,
+            },
+        }
+    }
+
+    /// Counts a piece.
+    pub(crate) fn count(&mut self, piece: &[u8], fate: &Fate) {
+        let summary = &mut self.summary;
+        match fate {
+            Fate::Blank => {}
+            Fate::Written(conversion) => {
+                summary.written = summary.written.saturating_add(1);
+                if !conversion.changes.is_empty() {
+                    summary.changed = summary.changed.saturating_add(1);
+                }
+            }
+            _ => summary.refused = summary.refused.saturating_add(1),
+        }
+        if !matches!(fate, Fate::Blank | Fate::Other) {
+            self.place.card = self.place.card.saturating_add(1);
+        }
+        let lines = count_lines(piece) as u64;
+        self.place.line = self.place.line.saturating_add(lines);
+    }
+}

@@ -1,0 +1,28 @@
+//! Converts a file of cards of any version of vCard, one card at a time, and reports each change.
+#![tactic(auto)]
+
+mod fate;
+mod fault;
+mod file;
+mod fill;
+pub mod laws;
+mod ledger;
+mod line_cursor;
+mod outlet;
+mod piece_reader;
+mod pieces;
+mod report;
+mod rows;
+mod rows_order;
+mod rows_outlet;
+mod run;
+mod utf16_reader;
+
+pub use fault::ConversionFault;
+pub use file::convert_file;
+pub use ledger::Summary;
+pub use outlet::{Delivery, Outlet, OutletFault};
+pub use rows::{header_text, row_text};
+pub use rows_order::convert_to_rows;
+pub use rows_outlet::RowsOutlet;
+pub use run::convert_cards;

@@ -1,0 +1,120 @@
+//! Reads a file piece by piece: cards, and what is between them.
+ghost use Rattle.std.specs.Prelude.{◌≡◌, ◌≤◌, [], None, IfOk, IfSome, OnOk, length, take};
+ghost use Rattle.std.specs.Io.KnownBytes.{Consumes, IsAtEnd};
+ghost use Rattle.card_conversion.specs.internal.PieceReaders.{HasEnded, left_of, unread_of};
+
+use crate::fault::ConversionFault;
+use crate::fill::{joined, read_chunk};
+use import_text::split_piece;
+use std::alloc::Global;
+use std::io::Read;
+
+/// The number of octets that are read at once, at least.
+const CHUNK_OCTETS: usize = 65_536;
+
+/// The most octets of a piece. A longer one is cut, and its front can't be converted.
+pub(crate) const PIECE_OCTETS_MAX: usize = 8_388_608;
+
+/// The most reads for one piece. Each but the last doubles the octets that are kept.
+const READS_MAX: u32 = 64;
+
+/// A reader and the octets that were read from it but not passed yet. It keeps one piece and at
+/// most as much again.
+#[derive(Drop)]
+pub(crate) struct PieceReader<R> {
+    reader: R,
+    buffer: Vec<u8>,
+    /// Where the first piece begins in the buffer.
+    start: usize,
+    is_at_end: bool,
+}
+
+impl<R: Read + Drop> PieceReader<R> {
+    pub(crate) fn new(alloc: Global, reader: R) -> PieceReader<R>
+        ensures left { Consumes (R.remaining reader) (left_of R.remaining result) [] }
+        ensures ended { HasEnded R.remaining result }
+    {
+        PieceReader {
+            reader,
+            buffer: Vec::new(alloc),
+            start: 0,
+            is_at_end: false,
+        }
+    }
+
+    /// The octets that were read but not passed yet.
+    fn unread(&self) -> &[u8]
+        ensures { result.now ≡ unread_of self.now }
+    {
+        self.buffer.get(self.start..).unwrap_or(&[])
+    }
+
+    /// Reads at least as many octets as are unread, or to the end of the input. So the octets of a
+    /// long piece are looked at a few times each, and not once for each read.
+    #[tactic(auto, using(crate::proofs::PieceLemmas::read_on))]
+    fn read_more(&mut self, alloc: Global) -> Result<(), ConversionFault>
+        ensures left { OnOk result
+            (Consumes (left_of R.remaining self.old) (left_of R.remaining self.new) []) }
+        ensures ended { OnOk result (HasEnded R.remaining self.new) }
+    {
+        let len = self.unread().len();
+        let size = if len < CHUNK_OCTETS {
+            CHUNK_OCTETS
+        } else {
+            len
+        };
+        let chunk = read_chunk(alloc, &mut self.reader, size)?;
+        let buffer = joined(alloc, self.unread(), chunk.as_slice())?;
+        self.is_at_end = chunk.len() < size;
+        self.buffer = buffer;
+        self.start = 0;
+        Ok(())
+    }
+
+    /// Reads until the first piece is whole, and returns its length; `None` at the end of the
+    /// input. Whether a line begins a card is known when the line has ended, so a piece is whole if
+    /// a line after it has ended.
+    #[tactic(auto, using(crate::proofs::PieceLemmas::nothing_read, crate::proofs::PieceLemmas::no_more, crate::proofs::PieceLemmas::ends))]
+    pub(crate) fn find_piece(&mut self, alloc: Global) -> Result<Option<usize>, ConversionFault>
+        requires { HasEnded R.remaining self.old }
+        ensures left { OnOk result
+            (Consumes (left_of R.remaining self.old) (left_of R.remaining self.new) []) }
+        ensures ended { OnOk result (HasEnded R.remaining self.new) }
+        ensures within { IfOk result (λ found.
+            IfSome found (λ len. len ≤ length (unread_of self.new))) }
+        ensures none { IfOk result (λ found. found ≡ None
+            → IsAtEnd (left_of R.remaining self.new)) }
+    {
+        for _more in 0..READS_MAX {
+            if self.is_at_end && self.unread().is_empty() {
+                return Ok(None);
+            }
+            let (piece, rest) = split_piece(self.unread());
+            let is_whole = self.is_at_end || rest.contains(&b'\n');
+            if is_whole || self.unread().len() >= PIECE_OCTETS_MAX {
+                return Ok(Some(piece.len()));
+            }
+            self.read_more(alloc)?;
+        }
+        Err(ConversionFault::Input)
+    }
+
+    /// The first octets that weren't passed yet.
+    pub(crate) fn piece(&self, len: usize) -> &[u8]
+        requires { len ≤ length (unread_of self.now) }
+        ensures { result.now ≡ take len (unread_of self.now) }
+    {
+        &self.unread()[..len]
+    }
+
+    /// Passes the first octets.
+    #[tactic(auto, using(crate::proofs::PieceLemmas::passes))]
+    pub(crate) fn pass(&mut self, len: usize)
+        requires { len ≤ length (unread_of self.old) }
+        ensures left { Consumes (left_of R.remaining self.old) (left_of R.remaining self.new)
+            (take len (unread_of self.old)) }
+        ensures ended { HasEnded R.remaining self.old → HasEnded R.remaining self.new }
+    {
+        self.start += len;
+    }
+}
