@@ -1,0 +1,119 @@
+-- What the loop over the cells keeps, and the UID of the card.
+use Rattle.std.proofs.Common.{◌≡◌, ◌≤◌, ◌+◌, ℕ, List, [], ◌∷◌, ◌++◌, codes, get_or, length, true, inl, inr, map, ap, refl, sym, subst, ◌∙◌, arith}
+use Rattle.std.specs.Char.{to_ascii_uppercase}
+use Rattle.std.specs.Str.{str_to_ascii_uppercase}
+use Rattle.std.specs.List.{Contains, list_any}
+use Rattle.std.proofs.Math.Nat.{eq-or-lt_of_le}
+use Rattle.std.proofs.lemmas.Bool.Decides.{nat_tests}
+use Rattle.std.proofs.lemmas.List.{map-append, append-nil, get_or-map}
+use Rattle.contact_csv.specs.Cells.{cell_text}
+use Rattle.contact_csv.specs.Contacts.{IsContact}
+use Rattle.contact_csv.specs.RowUids.{row_uid}
+use Rattle.std.proofs.lemmas.List.Elements.{Contains-append_right}
+use Rattle.vcard_lines.specs.declared.line.Line.{Line}
+use Rattle.vcard_text.specs.Cards.{uid_of}
+use Rattle.vcard_text.specs.Making.{upper_line, upper_lines}
+use Rattle.vcard_import.specs.Conversions.{plain_line}
+use Rattle.vcard_import.specs.declared.change.ChangeKind.TheVariants.{Rewritten, KeptAside}
+use Rattle.contact_csv.specs.Carrying.{IsCarried, IsAsideName, property_at, change, is_date_column, is_date_name, as_date, kept_aside}
+use Rattle.contact_csv.specs.internal.Keeping.{BeginsWithUid, KeepsAside, KeepsCell, Keeps}
+use Rattle.contact_csv.specs.declared.columns.Column.{Column}
+use Rattle.contact_csv.specs.declared.keeping.Kept.{Kept}
+use Rattle.contact_csv.proofs.CarryLemmas.{carried_stays}
+
+upper_stays : (b : ℕ) → to_ascii_uppercase (to_ascii_uppercase b) ≡ to_ascii_uppercase b
+upper_stays b = grind (arith, nat_tests)
+
+uppers_stay : (w : List ℕ) → str_to_ascii_uppercase (str_to_ascii_uppercase w) ≡ str_to_ascii_uppercase w
+uppers_stay [] = λ _. []
+uppers_stay (b ∷ w) = ap (λ c. c ∷ str_to_ascii_uppercase (str_to_ascii_uppercase w)) (upper_stays b) ∙ ap (λ t. to_ascii_uppercase b ∷ t) (uppers_stay w)
+
+pub line_stays : (line : Line) → upper_line (upper_line line) ≡ upper_line line
+line_stays line = ap (λ name. record { group = line.group; name = name; params = line.params; value = line.value }) (uppers_stay line.name)
+
+-- the name of a line that is kept aside, in upper case
+pub aside_stays : (name : List ℕ) → IsAsideName name → IsAsideName (str_to_ascii_uppercase name)
+aside_stays name is = (str_to_ascii_uppercase is.0, ap str_to_ascii_uppercase is.1)
+
+-- ---- lines after the UID
+
+pub begins_alone : (uid : List ℕ) → BeginsWithUid uid (plain_line (codes "UID") uid ∷ [])
+begins_alone uid = record { others = []; lines_are = refl; upper = refl }
+
+pub begins_stays : (uid : List ℕ) (lines more : List Line) → upper_lines more ≡ more → BeginsWithUid uid lines → BeginsWithUid uid (lines ++ more)
+begins_stays uid lines more up begins = record {
+  others = begins.others ++ more;
+  lines_are = ap (λ l. l ++ more) begins.lines_are;
+  upper = map-append upper_line lines more ∙ ap (λ l. l ++ upper_lines more) begins.upper ∙ ap (λ l. lines ++ l) up;
+}
+
+pub begins_more : (uid : List ℕ) (lines : List Line) (line : Line) → BeginsWithUid uid lines → BeginsWithUid uid (lines ++ upper_line line ∷ [])
+begins_more uid lines line begins = begins_stays uid lines (upper_line line ∷ []) (ap (λ l. l ∷ []) (line_stays line)) begins
+
+-- ---- cells
+
+-- one more cell
+pub keeps_more : (uid : List ℕ) (columns : List Column) (texts : List (List ℕ)) (place : ℕ) (old new : Kept) → Keeps uid columns texts place old → KeepsCell (property_at columns place) place (get_or texts place []) old new → Keeps uid columns texts (place + 1) new
+keeps_more uid columns texts place old new keeps cell = record {
+  begins = subst (BeginsWithUid uid) (sym cell.lines_are) (begins_stays uid old.lines cell.lines cell.upper keeps.begins);
+  cells = λ other small. elim (eq-or-lt_of_le {n = other} {m = place} (omega (arith, small))) [
+    | inr earlier ↦ subst (λ l. IsCarried (property_at columns other) other (get_or texts other []) l new.changes) (sym cell.lines_are)
+        (subst (λ l. IsCarried (property_at columns other) other (get_or texts other []) (old.lines ++ cell.lines) l) (sym cell.changes_are)
+        (carried_stays (property_at columns other) other (get_or texts other []) old.lines cell.lines old.changes cell.changes (keeps.cells other earlier)))
+    | inl same ↦ subst (λ p. IsCarried (property_at columns p) p (get_or texts p []) new.lines new.changes) (sym same) cell.carried
+  ];
+}
+
+last_is : {X : Type 0} (xs : List X) (x : X) → Contains (xs ++ x ∷ []) x
+last_is xs x = Contains-append_right xs (x ∷ []) x (0, omega arith, refl)
+
+-- ---- what is kept of a cell
+
+-- nothing, where the lines carry it
+pub whole_keeps : (property : List ℕ) (place : ℕ) (text : List ℕ) (old : Kept) → IsCarried property place text old.lines old.changes → KeepsCell property place text old old
+whole_keeps property place text old carried = record {
+  lines = [];
+  upper = refl;
+  lines_are = sym (append-nil old.lines);
+  changes = [];
+  changes_are = sym (append-nil old.changes);
+  carried = carried;
+}
+
+-- a report, where it is a date
+pub date_keeps : (property : List ℕ) (place : ℕ) (text : List ℕ) (old new : Kept) → is_date_column property ≡ true → list_any (λ line. is_date_name line.name) old.lines ≡ true → new.lines ≡ old.lines → new.changes ≡ old.changes ++ change place Rewritten ∷ [] → KeepsCell property place text old new
+date_keeps property place text old new column line lines changes = record {
+  lines = [];
+  upper = refl;
+  lines_are = lines ∙ sym (append-nil old.lines);
+  changes = change place Rewritten ∷ [];
+  changes_are = changes;
+  carried = as_date column (subst (λ (ls : List Line). list_any (λ l. is_date_name l.name) ls ≡ true) (sym lines) line)
+      (subst (λ cs. Contains cs (change place Rewritten)) (sym changes) (last_is old.changes (change place Rewritten)));
+}
+
+-- a line and a report
+pub aside_keeps : (property : List ℕ) (place : ℕ) (text : List ℕ) (old new : Kept) → KeepsAside place text old new → KeepsCell property place text old new
+aside_keeps property place text old new kept = record {
+  lines = kept.line ∷ [];
+  upper = ap (λ l. l ∷ []) kept.upper;
+  lines_are = kept.lines_are;
+  changes = change place KeptAside ∷ [];
+  changes_are = kept.changes_are;
+  carried = kept_aside kept.line (subst (λ ls. Contains ls kept.line) (sym kept.lines_are) (last_is old.lines kept.line)) kept.name kept.value
+      (subst (λ cs. Contains cs (change place KeptAside)) (sym kept.changes_are) (last_is old.changes (change place KeptAside)));
+}
+
+-- the contact of a row
+pub row_kept : (uid : List ℕ) (columns : List Column) (row : List (List ℕ)) (made : Kept) → uid ≡ row_uid row → Keeps uid columns (map cell_text row) (length row) made → IsContact columns row made.lines made.changes
+row_kept uid columns row made is keeps = record {
+  cells = λ place small. subst (λ text. IsCarried (property_at columns place) place text made.lines made.changes) (get_or-map cell_text row place [] [] small) (keeps.cells place small);
+  uid = ap uid_of keeps.begins.lines_are ∙ is;
+}
+
+-- fewer cells
+pub keeps_fewer : (uid : List ℕ) (columns : List Column) (texts : List (List ℕ)) (count place : ℕ) (made : Kept) → count ≤ place → Keeps uid columns texts place made → Keeps uid columns texts count made
+keeps_fewer uid columns texts count place made fewer keeps = record {
+  begins = keeps.begins;
+  cells = λ other small. keeps.cells other (omega (arith, small, fewer));
+}

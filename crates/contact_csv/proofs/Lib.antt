@@ -1,0 +1,5 @@
+mod CarryLemmas
+mod KeepLemmas
+mod ResultLemmas
+mod RowLemmas
+mod TextLemmas

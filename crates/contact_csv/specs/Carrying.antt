@@ -1,0 +1,122 @@
+-- How a card carries a cell: which line has its text, or which change reports it (RFC 6350,
+-- sections 3.3 and 5; RFC 6868). This project's own.
+use Rattle.std.specs.Prelude.{ℕ, ◌≡◌, ◌⊎◌, Bool, true, ◌||◌, ◌&&◌, ◌==◌, List, [], ◌∷◌, ◌++◌}
+use Rattle.std.specs.Prelude.{codes, bytes_eq, flat_map, map, get_or, if◌then◌else◌}
+use Rattle.std.specs.List.{list_any, Contains}
+use Rattle.std.specs.Str.{chars, encode_utf8_all, str_to_ascii_lowercase}
+use Rattle.base_types.specs.Octets.{line_feed, quote}
+use Rattle.vcard_lines.specs.declared.line.Line.{Line}
+use Rattle.vcard_lines.specs.declared.line.Param.{Param}
+use Rattle.vcard_values.specs.TextValues.{escaped_value, components}
+use Rattle.vcard_import.specs.declared.change.Change.{Change}
+use Rattle.vcard_import.specs.declared.change.ChangeKind.{ChangeKind}
+use Rattle.vcard_import.specs.declared.change.ChangeKind.TheVariants.{Rewritten, KeptAside}
+use Rattle.contact_csv.specs.Cells.{is_void}
+use Rattle.contact_csv.specs.Labels.{label_types}
+use Rattle.contact_csv.specs.declared.columns.Column.{Column}
+
+-- ---- the text of a line
+
+abbrev pub caret : ℕ
+caret = 94
+
+-- how RFC 6868 writes a character in a parameter's value
+abbrev pub caret_char : ℕ → List ℕ
+caret_char c =
+    if c == caret then codes "^^"
+    else (if c == line_feed then codes "^n" else (if c == quote then codes "^'" else c ∷ []))
+
+abbrev pub caret_text : List ℕ → List ℕ
+caret_text text = encode_utf8_all (flat_map caret_char (chars text))
+
+abbrev pub param_has : List ℕ → Param → Bool
+param_has text param = list_any (λ value. bytes_eq value.text text) param.values
+
+-- the text is the line's value, as it is or escaped, or a component of it, or a parameter's value
+abbrev pub has_text : List ℕ → Line → Bool
+has_text text line =
+    bytes_eq line.value text || bytes_eq line.value (escaped_value text)
+    || list_any (λ part. bytes_eq part text) (components line.value)
+    || list_any (param_has (caret_text text)) line.params
+
+-- a line of the property has the text
+abbrev pub is_held : List ℕ → List ℕ → List Line → Bool
+is_held property text lines =
+    list_any (λ line. bytes_eq line.name property && has_text text line) lines
+
+-- ---- several values in a cell
+
+-- The part has no value, or a line of the property has it, maybe without Google's `* `.
+pub data IsPartHeld (property part : List ℕ) (lines : List Line) : Type 0 where
+  void_part : is_void part ≡ true → IsPartHeld property part lines
+  whole_part : is_held property part lines ≡ true → IsPartHeld property part lines
+  starred_part : (text : List ℕ) → part ≡ codes "* " ++ text → is_held property text lines ≡ true
+      → IsPartHeld property part lines
+
+-- The text is parts with the separator between them, each of which is held.
+pub data ArePartsHeld (separator property : List ℕ) (lines : List Line) : List ℕ → Type 0 where
+  last_part : (part : List ℕ) → IsPartHeld property part lines
+      → ArePartsHeld separator property lines part
+  next_part : (text part rest : List ℕ) → text ≡ part ++ separator ++ rest
+      → IsPartHeld property part lines → ArePartsHeld separator property lines rest
+      → ArePartsHeld separator property lines text
+
+-- ---- labels
+
+-- the values of the parameter TYPE are these
+abbrev pub has_types : List (List ℕ) → Line → Type 0
+has_types types line = (param : Param) × Contains line.params param × (param.name ≡ codes "TYPE")
+    × (map (λ value. value.text) param.values ≡ types)
+
+-- The label, maybe without Google's `* `.
+pub data IsLabel (cell label : List ℕ) : Type 0 where
+  plain_label : cell ≡ label → IsLabel cell label
+  starred_label : cell ≡ codes "* " ++ label → IsLabel cell label
+
+-- A line has the types that the label is, or the label is the name of a line, in any case.
+pub data IsLabelHeld (cell : List ℕ) (lines : List Line) : Type 0 where
+  as_types : (label : List ℕ) (line : Line) → IsLabel cell label → Contains lines line
+      → has_types (label_types label) line → IsLabelHeld cell lines
+  as_name : (label : List ℕ) (line : Line) → IsLabel cell label → Contains lines line
+      → str_to_ascii_lowercase line.name ≡ str_to_ascii_lowercase label → IsLabelHeld cell lines
+
+-- ---- cells
+
+abbrev pub change : ℕ → ChangeKind → Change
+change place kind = record { place = place; kind = kind }
+
+abbrev pub is_date_name : List ℕ → Bool
+is_date_name name = bytes_eq name (codes "BDAY") || bytes_eq name (codes "ANNIVERSARY")
+
+abbrev pub is_date_column : List ℕ → Bool
+is_date_column property = is_date_name property || bytes_eq property (codes "X-ABDATE")
+
+-- The name begins with X-.
+abbrev pub IsAsideName : List ℕ → Type 0
+IsAsideName name = (rest : List ℕ) × (name ≡ codes "X-" ++ rest)
+
+-- The card carries the text of the cell at the index of the row, in a column of the property.
+pub data IsCarried (property : List ℕ) (place : ℕ) (text : List ℕ) (lines : List Line)
+    (changes : List Change) : Type 0 where
+  -- it has no value
+  no_value : is_void text ≡ true → IsCarried property place text lines changes
+  -- a line of the property has the text
+  whole : is_held property text lines ≡ true → IsCarried property place text lines changes
+  -- lines of the property have the values between the separators
+  in_parts : (separator : List ℕ) → ArePartsHeld separator property lines text
+      → (separator ≡ codes " ::: ") ⊎ ((separator ≡ codes ";") × (property ≡ codes "CATEGORIES"))
+      → IsCarried property place text lines changes
+  -- it is the label of a line
+  as_label : property ≡ codes "X-ABLABEL" → IsLabelHeld text lines
+      → IsCarried property place text lines changes
+  -- it is in a column of dates, a line is a date, and the cell is reported
+  as_date : is_date_column property ≡ true → list_any (λ line. is_date_name line.name) lines ≡ true
+      → Contains changes (change place Rewritten) → IsCarried property place text lines changes
+  -- a line whose name begins with X- has the text, and the cell is reported
+  kept_aside : (line : Line) → Contains lines line → IsAsideName line.name
+      → line.value ≡ escaped_value text → Contains changes (change place KeptAside)
+      → IsCarried property place text lines changes
+
+-- the property of the column at the index; empty if there is none
+abbrev pub property_at : List Column → ℕ → List ℕ
+property_at columns place = get_or (map (λ column. column.property) columns) place []

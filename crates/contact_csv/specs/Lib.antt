@@ -1,0 +1,6 @@
+pub mod Carrying
+pub mod Cells
+pub mod Contacts
+pub mod Labels
+pub mod RowUids
+pub mod internal

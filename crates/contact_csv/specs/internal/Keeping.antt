@@ -1,0 +1,43 @@
+-- The lines and the changes while cells are kept aside. Public contracts don't cite it.
+use Rattle.std.specs.Prelude.{ℕ, ◌≡◌, ◌<◌, List, [], ◌∷◌, ◌++◌, codes, get_or}
+use Rattle.vcard_lines.specs.declared.line.Line.{Line}
+use Rattle.vcard_values.specs.TextValues.{escaped_value}
+use Rattle.vcard_text.specs.Making.{upper_line, upper_lines}
+use Rattle.vcard_import.specs.Conversions.{plain_line}
+use Rattle.vcard_import.specs.declared.change.Change.{Change}
+use Rattle.vcard_import.specs.declared.change.ChangeKind.TheVariants.{KeptAside}
+use Rattle.contact_csv.specs.Carrying.{IsCarried, IsAsideName, change, property_at}
+use Rattle.contact_csv.specs.declared.columns.Column.{Column}
+use Rattle.contact_csv.specs.declared.keeping.Kept.{Kept}
+
+-- the lines begin with that of the UID, and their names are in upper case
+pub record BeginsWithUid (uid : List ℕ) (lines : List Line) : Type 0 where
+  pub others : List Line
+  pub lines_are : lines ≡ plain_line (codes "UID") uid ∷ others
+  pub upper : upper_lines lines ≡ lines
+
+-- a line that keeps a text is appended, and the change that reports it
+pub record KeepsAside (place : ℕ) (text : List ℕ) (old new : Kept) : Type 0 where
+  pub line : Line
+  pub name : IsAsideName line.name
+  pub value : line.value ≡ escaped_value text
+  pub upper : upper_line line ≡ line
+  pub lines_are : new.lines ≡ old.lines ++ line ∷ []
+  pub changes_are : new.changes ≡ old.changes ++ change place KeptAside ∷ []
+
+-- lines and changes are appended so that the cell is carried
+pub record KeepsCell (property : List ℕ) (place : ℕ) (text : List ℕ) (old new : Kept) : Type 0
+  where
+    pub lines : List Line
+    pub upper : upper_lines lines ≡ lines
+    pub lines_are : new.lines ≡ old.lines ++ lines
+    pub changes : List Change
+    pub changes_are : new.changes ≡ old.changes ++ changes
+    pub carried : IsCarried property place text new.lines new.changes
+
+-- the lines begin with that of the UID, and the first cells are carried
+pub record Keeps (uid : List ℕ) (columns : List Column) (texts : List (List ℕ)) (count : ℕ)
+    (made : Kept) : Type 0 where
+  pub begins : BeginsWithUid uid made.lines
+  pub cells : (place : ℕ) → place < count
+      → IsCarried (property_at columns place) place (get_or texts place []) made.lines made.changes

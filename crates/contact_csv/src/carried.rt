@@ -1,0 +1,243 @@
+//! Whether a line of a card holds a cell.
+ghost use Rattle.std.specs.Prelude.{◌≡◌, ◌<◌, ◌++◌, true, IfOk, IfSome, IsTrue, map, codes, length};
+ghost use Rattle.std.specs.Prelude.{bytes_eq, string_bytes};
+ghost use Rattle.std.specs.List.{list_any};
+ghost use Rattle.vcard_values.specs.TextValues.{components};
+ghost use Rattle.contact_csv.specs.Carrying.{caret_text, param_has, has_text, is_held, IsPartHeld};
+ghost use Rattle.contact_csv.specs.Carrying.{ArePartsHeld, has_types, IsLabel, IsLabelHeld};
+ghost use Rattle.contact_csv.specs.Carrying.{is_date_name, is_date_column};
+
+use crate::cell::is_void;
+use crate::labels::label_types;
+use crate::lines::caret_text;
+use std::alloc::Global;
+use vcard_text::{Line, NoMemory, Param, ParamValue, components, escape};
+
+/// Whether a part is the text.
+fn has_part(parts: &[String], text: &str) -> bool
+    ensures { result ≡ list_any (λ part. bytes_eq (string_bytes part) text.now) parts.now }
+{
+    parts.iter().any(|part| part.as_str() == text)
+}
+
+/// Whether a component of the value is the text (RFC 6350, section 3.3).
+fn has_component(alloc: Global, value: &str, text: &str) -> Result<bool, NoMemory>
+    ensures { IfOk result (λ has. has
+        ≡ list_any (λ part. bytes_eq part text.now) (components value.now)) }
+{
+    let parts = components(alloc, value)?;
+    Ok(has_part(parts.as_slice(), text))
+}
+
+/// Whether a value of the parameter is the text, which is written as a parameter's.
+fn param_has(param: &Param, text: &str) -> bool
+    ensures { result ≡ param_has text.now param.now }
+{
+    param
+        .values
+        .as_slice()
+        .iter()
+        .any(|value| value.text.as_str() == text)
+}
+
+/// Whether a value of a parameter is the text.
+fn has_param(alloc: Global, params: &[Param], text: &str) -> Result<bool, NoMemory>
+    ensures { IfOk result (λ has. has ≡ list_any (param_has (caret_text text.now)) params.now) }
+{
+    let text = caret_text(alloc, text)?;
+    Ok(params.iter().any(|param| param_has(param, text.as_str())))
+}
+
+/// Whether the line has the text: as its value, as a component of it, or as a parameter.
+fn has_text(alloc: Global, line: &Line, text: &str) -> Result<bool, NoMemory>
+    ensures { IfOk result (λ has. has ≡ has_text text.now line.now) }
+{
+    let value = line.value.as_str();
+    if value == text {
+        return Ok(true);
+    }
+    let escaped = escape(alloc, text)?;
+    if value == escaped.as_str() {
+        return Ok(true);
+    }
+    if has_component(alloc, value, text)? {
+        return Ok(true);
+    }
+    has_param(alloc, line.params.as_slice(), text)
+}
+
+/// Whether the line at the index has the name and the text.
+pub(crate) fn holds_text(
+    alloc: Global,
+    lines: &[Line],
+    home: usize,
+    property: &str,
+    text: &str,
+) -> Result<bool, NoMemory>
+    ensures { IfOk result (λ holds. holds ≡ true
+        → is_held property.now text.now lines.now ≡ true) }
+{
+    if home >= lines.len() {
+        return Ok(false);
+    }
+    let line = &lines[home];
+    if line.name.as_str() != property {
+        return Ok(false);
+    }
+    has_text(alloc, line, text)
+}
+
+/// The text before the first separator, and the text after it. `None` without a separator.
+fn split_at<'a>(text: &'a str, separator: &str) -> Option<(&'a str, &'a str)>
+    ensures { IfSome result (λ split. text.now
+        ≡ split.0.now ++ separator.now ++ split.1.now) }
+{
+    text.split_once(separator)
+}
+
+/// The text after Google's mark of a preferred value, if it begins with the mark.
+fn without_star(text: &str) -> Option<&str>
+    ensures { IfSome result (λ rest. text.now ≡ codes "* " ++ rest.now) }
+{
+    match split_at(text, "* ") {
+        Some((front, rest)) if front.is_empty() => Some(rest),
+        _ => None,
+    }
+}
+
+/// Whether the part has no value, or the line at the index has the name and the part. Google puts
+/// `* ` before a category.
+fn holds_part(
+    alloc: Global,
+    lines: &[Line],
+    home: usize,
+    property: &str,
+    part: &str,
+) -> Result<bool, NoMemory>
+    ensures { IfOk result (λ holds. holds ≡ true → IsPartHeld property.now part.now lines.now) }
+{
+    if is_void(part) {
+        return Ok(true);
+    }
+    if holds_text(alloc, lines, home, property, part)? {
+        return Ok(true);
+    }
+    match without_star(part) {
+        Some(text) => holds_text(alloc, lines, home, property, text),
+        None => Ok(false),
+    }
+}
+
+/// Whether the lines from the index on hold the parts of the text that the separator separates.
+pub(crate) fn holds_parts(
+    alloc: Global,
+    lines: &[Line],
+    home: usize,
+    property: &str,
+    text: &str,
+    separator: &str,
+) -> Result<bool, NoMemory>
+    requires { 0 < length separator.now }
+    ensures { IfOk result (λ holds. holds ≡ true
+        → ArePartsHeld separator.now property.now lines.now text.now) }
+{
+    let mut rest = text;
+    let mut place = home;
+    while let Some((part, tail)) = split_at(rest, separator) {
+        if !holds_part(alloc, lines, place, property, part)? {
+            return Ok(false);
+        }
+        if !is_void(part) {
+            place = place.saturating_add(1);
+        }
+        rest = tail;
+    }
+    holds_part(alloc, lines, place, property, rest)
+}
+
+/// Whether the value is this text.
+fn is_text(value: &ParamValue, text: &str) -> bool
+    ensures { IsTrue result → value.now.text ≡ text.now }
+{
+    value.text.as_str() == text
+}
+
+/// Whether the values are these texts.
+fn are_texts(values: &[ParamValue], texts: &[&str]) -> bool
+    ensures { IsTrue result → (map (λ value. value.text) values.now
+        ≡ map (λ text. text.now) texts.now) }
+{
+    if values.len() != texts.len() {
+        return false;
+    }
+    for place in 0..texts.len() {
+        if !is_text(&values[place], texts[place]) {
+            return false;
+        }
+    }
+    true
+}
+
+/// Whether the parameter is a TYPE with these values.
+fn is_type_param(param: &Param, types: &[&str]) -> bool
+    ensures { IsTrue result → (param.now.name ≡ codes "TYPE")
+        × (map (λ value. value.text) param.now.values ≡ map (λ text. text.now) types.now) }
+{
+    param.name.as_str() == "TYPE" && are_texts(param.values.as_slice(), types)
+}
+
+/// Whether the line has a parameter TYPE with these values.
+fn has_types(line: &Line, types: &[&str]) -> bool
+    ensures { IsTrue result → has_types (map (λ text. text.now) types.now) line.now }
+{
+    for place in 0..line.params.len() {
+        if is_type_param(&line.params.as_slice()[place], types) {
+            return true;
+        }
+    }
+    false
+}
+
+/// The label without Google's mark of a preferred value.
+fn plain_label(text: &str) -> &str
+    ensures { IsLabel text.now result.now }
+{
+    match without_star(text) {
+        Some(label) => label,
+        None => text,
+    }
+}
+
+/// Whether the line at the index has the types that the label is, or is named as the label.
+pub(crate) fn holds_label(lines: &[Line], home: usize, text: &str) -> bool
+    ensures { IsTrue result → IsLabelHeld text.now lines.now }
+{
+    if home >= lines.len() {
+        return false;
+    }
+    let label = plain_label(text);
+    let line = &lines[home];
+    let types = label_types(label);
+    if !types.is_empty() && has_types(line, types) {
+        return true;
+    }
+    line.name.as_str().eq_ignore_ascii_case(label)
+}
+
+/// Whether the name is that of a property with a date.
+fn is_date_name(name: &str) -> bool
+    ensures { result ≡ is_date_name name.now }
+{
+    name == "BDAY" || name == "ANNIVERSARY"
+}
+
+/// Whether the column has dates, and the line at the index is a date.
+pub(crate) fn is_dated(lines: &[Line], home: usize, property: &str) -> bool
+    ensures column { IsTrue result → is_date_column property.now ≡ true }
+    ensures line { IsTrue result → list_any (λ line. is_date_name line.name) lines.now ≡ true }
+{
+    if !is_date_name(property) && property != "X-ABDATE" {
+        return false;
+    }
+    home < lines.len() && is_date_name(lines[home].name.as_str())
+}

@@ -1,0 +1,73 @@
+//! The text of a cell, and cells without a value.
+ghost use Rattle.std.specs.Prelude.{◌≡◌, ◌++◌, IfOk, OnOk, string_bytes};
+ghost use Rattle.std.specs.List.{list_all};
+ghost use Rattle.std.specs.Str.{encode_utf8_all};
+ghost use Rattle.contact_csv.specs.Cells.{has_line_feed, clean_char, clean_text, cell_text};
+ghost use Rattle.contact_csv.specs.Cells.{is_blank, is_void};
+
+use import_text::read_text;
+use std::alloc::Global;
+use vcard_text::{NoMemory, Text};
+
+fn has_line_feed(text: &str) -> bool
+    ensures { result ≡ has_line_feed text.now }
+{
+    text.as_bytes().iter().any(|octet| *octet == b'\n')
+}
+
+/// Appends what a character of a cell becomes. `has_feeds` says whether the cell has line feeds, so
+/// that a carriage return ends no line.
+fn push_clean(text: &mut String, has_feeds: bool, c: char) -> Result<(), NoMemory>
+    ensures { OnOk result (string_bytes text.new
+        ≡ string_bytes text.old ++ encode_utf8_all (clean_char has_feeds c)) }
+{
+    if c == '\r' {
+        if !has_feeds {
+            text.push('\n')?;
+        }
+    } else if c == '\n' || c == '\t' {
+        text.push(c)?;
+    } else if c.is_ascii_control() {
+        text.push(' ')?;
+    } else {
+        text.push(c)?;
+    }
+    Ok(())
+}
+
+/// The text with what its characters become.
+fn clean_text(alloc: Global, text: &str, has_feeds: bool) -> Result<String, NoMemory>
+    ensures { IfOk result (λ clean. string_bytes clean ≡ clean_text has_feeds text.now) }
+{
+    let mut clean = String::new(alloc);
+    for c in text.chars() {
+        push_clean(&mut clean, has_feeds, c)?;
+    }
+    Ok(clean)
+}
+
+/// The text of a cell: UTF-8 if it is, and otherwise Latin-1; with line feeds as its only line
+/// ends, and a space for each other control character but the tab. The only `Err` is out of memory.
+#[tactic(auto, unfolding(crate::specs::Cells::cell_text))]
+pub(crate) fn cell_text(alloc: Global, octets: &[u8]) -> Result<Text, NoMemory>
+    ensures { IfOk result (λ text. text ≡ cell_text octets.now) }
+{
+    let text = read_text(alloc, octets)?;
+    let has_feeds = has_line_feed(text.as_str());
+    Ok(Text::new(clean_text(alloc, text.as_str(), has_feeds)?))
+}
+
+/// Whether the text is white space.
+fn is_blank(text: &str) -> bool
+    ensures { result ≡ list_all is_blank text.now }
+{
+    text.as_bytes().iter().all(|octet| *octet == b' ' || *octet == b'\t' || *octet == b'\n')
+}
+
+/// Whether the text is what the programs write where there is no value: white space, Google's `* `
+/// for a preferred value without a label, or Outlook's `0/0/00` for no date.
+pub(crate) fn is_void(text: &str) -> bool
+    ensures { result ≡ is_void text.now }
+{
+    is_blank(text) || text == "* " || text == "0/0/00"
+}

@@ -1,0 +1,98 @@
+//! Converts one row.
+ghost use Rattle.std.specs.Prelude.{◌≡◌, ◌≢◌, IfOk, IfErr, map};
+ghost use Rattle.csv.specs.Records.{fields_of};
+ghost use Rattle.vcard_lines.specs.declared.fault.CardFault.TheVariants.{Memory};
+ghost use Rattle.vcard_text.specs.Making.{upper_lines};
+ghost use Rattle.contact_csv.specs.Cells.{cell_text};
+ghost use Rattle.contact_csv.specs.Contacts.{IsContact, IsRefused};
+
+use crate::cell::{cell_text, is_void};
+use crate::columns::ContactColumns;
+use crate::entries::push_lines;
+use crate::keeping::{Kept, keep_cells};
+use crate::names::push_missing_name;
+use crate::row_lines::RowLines;
+use crate::uid::{row_field, row_uid};
+use csv::ByteRecord;
+use std::alloc::Global;
+use vcard_import::Conversion;
+use vcard_text::{CardFault, Items, NoMemory, Text, card_of_lines};
+
+/// The texts of the row's cells.
+fn row_cells(alloc: Global, row: &ByteRecord) -> Result<Items<Text>, NoMemory>
+    ensures { IfOk result (λ cells. cells ≡ map cell_text (fields_of row.now)) }
+{
+    let mut cells = Items::new(alloc);
+    for place in 0..row.len() {
+        cells.push(cell_text(alloc, row_field(row, place))?)?;
+    }
+    Ok(cells)
+}
+
+/// The lines that the cells become, and which of them should hold which cell. None if no cell has a
+/// value.
+fn draft_lines(
+    alloc: Global,
+    columns: &ContactColumns,
+    cells: &[Text],
+) -> Result<RowLines, NoMemory> {
+    let mut made = RowLines::new(alloc, cells.len())?;
+    if cells.iter().all(|cell| is_void(cell.as_str())) {
+        return Ok(made);
+    }
+    for slot in &columns.slots {
+        push_lines(alloc, &mut made, slot, cells)?;
+    }
+    push_missing_name(alloc, &mut made)?;
+    Ok(made)
+}
+
+/// The lines of the row's contact, and the changes.
+fn contact_lines(
+    alloc: Global,
+    columns: &ContactColumns,
+    row: &ByteRecord,
+) -> Result<Kept, NoMemory>
+    ensures contact { IfOk result (λ made. IsContact columns.now.columns (fields_of row.now)
+        made.lines made.changes) }
+    ensures upper { IfOk result (λ made. upper_lines made.lines ≡ made.lines) }
+{
+    let cells = row_cells(alloc, row)?;
+    let draft = draft_lines(alloc, columns, cells.as_slice())?;
+    let uid = row_uid(alloc, row)?;
+    keep_cells(
+        alloc,
+        columns.columns.as_slice(),
+        uid,
+        cells.as_slice(),
+        draft,
+    )
+}
+
+/// Converts a row of a file of contacts to a card of vCard 4.0.
+///
+/// The changes are those of cells that no property of the card holds as they are, in order; `place`
+/// is the index of the cell, from 0. `Rewritten` is a date in another form, and `KeptAside` a cell
+/// that is kept under a name that begins with `X-`.
+///
+/// An `Err` is the first fault of the card's lines: `NoName` if no cell of the row has a value,
+/// mostly `TooLong` if the card has more than 262,144 octets. `Memory` replaces any result if an
+/// allocation fails.
+pub fn convert_row(
+    alloc: Global,
+    columns: &ContactColumns,
+    row: &ByteRecord,
+) -> Result<Conversion, CardFault>
+    // The card carries the text of each cell, or a change reports the cell; the card's UID is that
+    // of the row's octets.
+    ensures contact { IfOk result (λ made. IsContact columns.now.columns (fields_of row.now)
+        made.card made.changes) }
+
+    // An `Err` is the first fault of such lines, unless memory ran out.
+    ensures refused { IfErr result (λ fault. fault ≢ Memory
+        → IsRefused columns.now.columns (fields_of row.now) fault) }
+{
+    let Kept { lines, changes } = contact_lines(alloc, columns, row)?;
+    let card = card_of_lines(alloc, lines.into_vec())?;
+    Ok(Conversion { card, changes })
+}

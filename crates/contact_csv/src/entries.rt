@@ -1,0 +1,313 @@
+//! The lines of one property of a row.
+
+use crate::cell::is_void;
+use crate::dates::basic_date;
+use crate::labels::label_types;
+use crate::lines::{label_param, make_param, type_param};
+use crate::meaning::{Part, component_count};
+use crate::row_lines::RowLines;
+use crate::slots::Slot;
+use std::alloc::Global;
+use vcard_text::{Items, Line, NoMemory, Param, Part as Copied, Text, escape};
+
+/// The text of the cell at the index, or an empty one.
+pub(crate) fn cell_at(cells: &[Text], place: Option<usize>) -> &str {
+    let Some(place) = place else {
+        return "";
+    };
+    match cells.get(place) {
+        Some(cell) => cell.as_str(),
+        None => "",
+    }
+}
+
+/// What a label says of a value.
+#[derive(Clone, Copy, Debug)]
+struct Label<'a> {
+    /// The label, without the mark of a preferred value.
+    text: &'a str,
+    /// Whether Google marks the value as preferred.
+    is_preferred: bool,
+}
+
+/// The label in a cell: Google puts `* ` before that of a preferred value.
+fn label_of(cell: &str) -> Label<'_> {
+    match cell.strip_prefix("* ") {
+        Some(text) => Label {
+            text,
+            is_preferred: true,
+        },
+        None => Label {
+            text: cell,
+            is_preferred: false,
+        },
+    }
+}
+
+impl Label<'_> {
+    /// Whether the label needs a line of its own.
+    fn is_custom(self) -> bool {
+        !is_void(self.text) && label_types(self.text).is_empty()
+    }
+}
+
+/// The parameters that the column's name and the label give.
+fn label_params(alloc: Global, slot: &Slot, label: Label<'_>) -> Result<Items<Param>, NoMemory> {
+    let mut params = Items::new(alloc);
+    if !slot.types.is_empty() {
+        params.push(type_param(alloc, slot.types.as_str())?)?;
+    }
+    let types = label_types(label.text);
+    if !types.is_empty() {
+        params.push(label_param(alloc, types)?)?;
+    }
+    if label.is_preferred {
+        params.push(make_param(alloc, "PREF", "1")?)?;
+    }
+    Ok(params)
+}
+
+/// What separates several values in a cell of the property; empty if a cell has one value.
+fn separator_of(property: &str, cell: &str) -> &'static str {
+    match property {
+        "EMAIL" | "TEL" | "URL" | "RELATED" => " ::: ",
+        "CATEGORIES" if cell.contains(" ::: ") => " ::: ",
+        "CATEGORIES" => ";",
+        _ => "",
+    }
+}
+
+/// Whether the property's value is a URI, in which nothing is escaped.
+fn is_uri_property(property: &str) -> bool {
+    matches!(property, "URL" | "PHOTO" | "FBURL")
+}
+
+fn is_date_property(property: &str) -> bool {
+    matches!(property, "BDAY" | "ANNIVERSARY")
+}
+
+/// A line with a date: in the form of vCard 4.0, or as a text if it is no date.
+fn set_date(alloc: Global, line: &mut Line, text: &str) -> Result<(), NoMemory> {
+    match basic_date(alloc, text)? {
+        Some(date) => line.value = Text::new(date),
+        None => {
+            line.params.push(make_param(alloc, "VALUE", "text")?)?;
+            line.value = Text::new(escape(alloc, text)?);
+        }
+    }
+    Ok(())
+}
+
+/// Gives the line its value.
+fn set_value(alloc: Global, line: &mut Line, text: &str) -> Result<(), NoMemory> {
+    if is_date_property(line.name.as_str()) {
+        return set_date(alloc, line, text);
+    }
+    if is_uri_property(line.name.as_str()) {
+        line.value = Text::copy_of(alloc, text)?;
+        return Ok(());
+    }
+    if line.name.as_str() == "RELATED" {
+        line.params.push(make_param(alloc, "VALUE", "text")?)?;
+    }
+    line.value = Text::new(escape(alloc, text)?);
+    Ok(())
+}
+
+/// Appends the line, with this value, unless it is void.
+fn push_part(alloc: Global, made: &mut RowLines, model: &Line, part: &str) -> Result<(), NoMemory> {
+    if is_void(part) {
+        return Ok(());
+    }
+    let mut line = model.try_copy()?;
+    set_value(alloc, &mut line, part.strip_prefix("* ").unwrap_or(part))?;
+    made.push(alloc, line)
+}
+
+/// Appends a line for each value of the cell.
+fn push_parts(
+    alloc: Global,
+    made: &mut RowLines,
+    model: &Line,
+    cell: &str,
+) -> Result<(), NoMemory> {
+    let separator = separator_of(model.name.as_str(), cell);
+    if separator.is_empty() {
+        let mut line = model.try_copy()?;
+        set_value(alloc, &mut line, cell)?;
+        return made.push(alloc, line);
+    }
+    for part in cell.split(separator) {
+        push_part(alloc, made, model, part)?;
+    }
+    Ok(())
+}
+
+/// The name of the property: Google has the anniversary among its events.
+fn property_name<'a>(slot: &'a Slot, label: Label<'_>) -> &'a str {
+    if slot.property.as_str() == "X-ABDATE" && label.text.eq_ignore_ascii_case("anniversary") {
+        "ANNIVERSARY"
+    } else {
+        slot.property.as_str()
+    }
+}
+
+/// Appends the label of a group.
+fn push_label(
+    alloc: Global,
+    made: &mut RowLines,
+    group: Text,
+    label: &str,
+) -> Result<(), NoMemory> {
+    let line = Line {
+        group: Some(group),
+        name: Text::copy_of(alloc, "X-ABLABEL")?,
+        params: Items::new(alloc),
+        value: Text::new(escape(alloc, label)?),
+    };
+    made.push(alloc, line)
+}
+
+/// A line of the slot without a value.
+fn line_of(
+    alloc: Global,
+    slot: &Slot,
+    label: Label<'_>,
+    group: Option<Text>,
+) -> Result<Line, NoMemory> {
+    Ok(Line {
+        group,
+        name: Text::copy_of(alloc, property_name(slot, label))?,
+        params: label_params(alloc, slot, label)?,
+        value: Text::copy_of(alloc, "")?,
+    })
+}
+
+/// Appends the lines of a value with a label that vCard 4.0 has no type for.
+fn push_labelled(
+    alloc: Global,
+    made: &mut RowLines,
+    slot: &Slot,
+    label: Label<'_>,
+    cell: &str,
+) -> Result<(), NoMemory> {
+    let group = made.new_group(alloc)?;
+    let model = line_of(alloc, slot, label, Some(group.try_copy()?))?;
+    push_value(alloc, made, slot, &model, cell)?;
+    made.set_home(slot.place_of(Part::Label));
+    push_label(alloc, made, group, label.text)
+}
+
+/// Appends the lines of a value, or the line of components.
+fn push_value(
+    alloc: Global,
+    made: &mut RowLines,
+    slot: &Slot,
+    model: &Line,
+    cell: &str,
+) -> Result<(), NoMemory> {
+    if component_count(slot.property.as_str()) == 0 {
+        return push_parts(alloc, made, model, cell);
+    }
+    let mut line = model.try_copy()?;
+    line.value = Text::copy_of(alloc, cell)?;
+    made.push(alloc, line)
+}
+
+/// Appends the lines of the slot, whose value is this.
+fn push_slot(
+    alloc: Global,
+    made: &mut RowLines,
+    slot: &Slot,
+    cells: &[Text],
+    value: &str,
+) -> Result<(), NoMemory> {
+    let label = label_of(cell_at(cells, slot.place_of(Part::Label)));
+    let name = property_name(slot, label);
+    if label.is_custom() && name == slot.property.as_str() {
+        return push_labelled(alloc, made, slot, label, value);
+    }
+    made.set_home(slot.place_of(Part::Label));
+    let mut model = line_of(alloc, slot, label, None)?;
+    push_formatted(alloc, &mut model, slot, cells)?;
+    push_value(alloc, made, slot, &model, value)
+}
+
+/// Gives an address its parameter LABEL (RFC 6350, section 6.3.1), if the row has it.
+fn push_formatted(
+    alloc: Global,
+    model: &mut Line,
+    slot: &Slot,
+    cells: &[Text],
+) -> Result<(), NoMemory> {
+    let formatted = cell_at(cells, slot.place_of(Part::Formatted));
+    if !is_void(formatted) {
+        model.params.push(make_param(alloc, "LABEL", formatted)?)?;
+    }
+    Ok(())
+}
+
+/// The number of components that are written: those of ORG may be fewer.
+fn written_count(slot: &Slot, cells: &[Text]) -> usize {
+    let count = component_count(slot.property.as_str());
+    if count == 2 && is_void(cell_at(cells, slot.place_of(Part::Component(1)))) {
+        return 1;
+    }
+    count
+}
+
+/// The components with semicolons between them, and whether one isn't void.
+fn structured_value(
+    alloc: Global,
+    slot: &Slot,
+    cells: &[Text],
+) -> Result<(String, bool), NoMemory> {
+    let mut value = String::new(alloc);
+    let mut has_value = false;
+    for place in 0..written_count(slot, cells) {
+        if place > 0 {
+            value.push(';')?;
+        }
+        let cell = cell_at(cells, slot.place_of(Part::Component(place)));
+        has_value = has_value || !is_void(cell);
+        value.push_str(escape(alloc, cell)?.as_str())?;
+    }
+    Ok((value, has_value))
+}
+
+/// Appends the line of components, if the row has one.
+fn push_structured(
+    alloc: Global,
+    made: &mut RowLines,
+    slot: &Slot,
+    cells: &[Text],
+) -> Result<(), NoMemory> {
+    let (value, has_value) = structured_value(alloc, slot, cells)?;
+    let has_label = !is_void(cell_at(cells, slot.place_of(Part::Formatted)));
+    if !has_value && !has_label {
+        return Ok(());
+    }
+    for column in &slot.columns {
+        made.set_home(Some(column.place));
+    }
+    push_slot(alloc, made, slot, cells, value.as_str())
+}
+
+/// Appends the lines of the slot, if the row has its value.
+pub(crate) fn push_lines(
+    alloc: Global,
+    made: &mut RowLines,
+    slot: &Slot,
+    cells: &[Text],
+) -> Result<(), NoMemory> {
+    if component_count(slot.property.as_str()) > 0 {
+        return push_structured(alloc, made, slot, cells);
+    }
+    let place = slot.place_of(Part::Value);
+    let value = cell_at(cells, place);
+    if is_void(value) {
+        return Ok(());
+    }
+    made.set_home(place);
+    push_slot(alloc, made, slot, cells, value)
+}

@@ -1,0 +1,254 @@
+//! Keeps aside what the lines of a row don't hold, and reports it.
+ghost use Rattle.std.specs.Prelude.{◌≡◌, ◌≢◌, ◌∷◌, ◌++◌, [], ℕ, List, IfOk, OnOk, string_bytes};
+ghost use Rattle.std.specs.Prelude.{length, map, codes, get_or, IsTrue};
+ghost use Rattle.vcard_lines.specs.declared.line.Line.{Line};
+ghost use Rattle.vcard_values.specs.TextValues.{escaped_value};
+ghost use Rattle.vcard_text.specs.Making.{upper_line, upper_lines};
+ghost use Rattle.vcard_import.specs.declared.change.Change.{Change};
+ghost use Rattle.contact_csv.specs.Carrying.{IsCarried, IsAsideName, change, property_at};
+ghost use Rattle.contact_csv.specs.internal.Keeping.{BeginsWithUid, KeepsAside, KeepsCell, Keeps};
+
+use crate::carried::{holds_label, holds_parts, holds_text, is_dated};
+use crate::cell::is_void;
+use crate::columns::Column;
+use crate::lines::plain_line;
+use crate::row_lines::RowLines;
+use std::alloc::Global;
+use vcard_import::{Change, ChangeKind};
+use vcard_text::{Items, Line, NoMemory, Text, escape};
+
+/// The lines of a card and the changes so far.
+#[derive(Debug, Drop)]
+pub(crate) struct Kept {
+    pub(crate) lines: Items<Line>,
+    pub(crate) changes: Items<Change>,
+}
+
+/// The line with its name in upper case. Allocates nothing.
+fn with_upper_name(line: Line) -> Line
+    ensures { result ≡ upper_line line }
+{
+    let Line {
+        group,
+        name,
+        params,
+        value,
+    } = line;
+    let mut name = name.into_string();
+    name.make_ascii_uppercase();
+    Line {
+        group,
+        name: Text::new(name),
+        params,
+        value,
+    }
+}
+
+/// The line of the UID, and then the lines with their names in upper case.
+fn lines_with_uid(alloc: Global, uid: String, lines: Items<Line>) -> Result<Items<Line>, NoMemory>
+    ensures { IfOk result (λ made. BeginsWithUid (string_bytes uid) made) }
+{
+    let mut made = Items::new(alloc);
+    made.push(plain_line(alloc, "UID", uid)?)?;
+    for line in lines.into_vec() {
+        made.push(with_upper_name(line))?;
+    }
+    Ok(made)
+}
+
+/// A character of a name of a property.
+fn name_char(c: char) -> char {
+    if c.is_ascii_alphanumeric() { c } else { '-' }
+}
+
+/// The name of the property that keeps a cell of the column: `X-` and the column's name.
+fn aside_name(alloc: Global, column: &str) -> Result<String, NoMemory>
+    ensures { IfOk result (λ name. IsAsideName (string_bytes name)) }
+{
+    let mut rest = String::new(alloc);
+    for c in column.chars() {
+        rest.push(name_char(c))?;
+    }
+    let mut name = String::from_str(alloc, "X-")?;
+    name.push_str(rest.as_str())?;
+    Ok(name)
+}
+
+/// The line that keeps a cell.
+fn aside_line(alloc: Global, column: &str, text: &str) -> Result<Line, NoMemory>
+    ensures name { IfOk result (λ line. IsAsideName line.name) }
+    ensures value { IfOk result (λ line. line.value ≡ escaped_value text.now) }
+    ensures upper { IfOk result (λ line. upper_line line ≡ line) }
+{
+    let name = aside_name(alloc, column)?;
+    let value = escape(alloc, text)?;
+    Ok(with_upper_name(plain_line(alloc, name.as_str(), value)?))
+}
+
+/// Whether the lines carry the text as it is.
+fn is_carried_whole(
+    alloc: Global,
+    lines: &[Line],
+    home: usize,
+    property: &str,
+    text: &str,
+) -> Result<bool, NoMemory>
+    ensures { IfOk result (λ carried. IsTrue carried → (place : ℕ) (changes : List Change)
+        → IsCarried property.now place text.now lines.now changes) }
+{
+    if is_void(text) {
+        return Ok(true);
+    }
+    if holds_text(alloc, lines, home, property, text)? {
+        return Ok(true);
+    }
+    if property == "X-ABLABEL" {
+        return Ok(holds_label(lines, home, text));
+    }
+    is_carried_in_parts(alloc, lines, home, property, text)
+}
+
+/// Whether the lines carry the values of the text.
+fn is_carried_in_parts(
+    alloc: Global,
+    lines: &[Line],
+    home: usize,
+    property: &str,
+    text: &str,
+) -> Result<bool, NoMemory>
+    ensures { IfOk result (λ carried. IsTrue carried → (place : ℕ) (changes : List Change)
+        → IsCarried property.now place text.now lines.now changes) }
+{
+    if holds_parts(alloc, lines, home, property, text, " ::: ")? {
+        return Ok(true);
+    }
+    if property != "CATEGORIES" {
+        return Ok(false);
+    }
+    holds_parts(alloc, lines, home, property, text, ";")
+}
+
+impl Kept {
+    /// Reports the cell at the index of the row.
+    fn report(&mut self, place: usize, kind: ChangeKind) -> Result<(), NoMemory>
+        ensures lines { OnOk result (self.new.lines ≡ self.old.lines) }
+        ensures changes { OnOk result (self.new.changes
+            ≡ self.old.changes ++ change place kind ∷ []) }
+    {
+        self.changes.push(Change { place, kind })?;
+        Ok(())
+    }
+
+    /// Appends a line that keeps the cell, and reports it.
+    fn keep_aside(
+        &mut self,
+        alloc: Global,
+        column: &str,
+        place: usize,
+        text: &str,
+    ) -> Result<(), NoMemory>
+        ensures { OnOk result (KeepsAside place text.now self.old self.new) }
+    {
+        let line = aside_line(alloc, column, text)?;
+        self.lines.push(line)?;
+        self.report(place, ChangeKind::KeptAside)
+    }
+
+    /// Keeps the cell aside or reports it, unless the lines carry it as it is.
+    fn keep_cell(
+        &mut self,
+        alloc: Global,
+        column: &Column,
+        place: usize,
+        text: &str,
+        home: usize,
+    ) -> Result<(), NoMemory>
+        ensures { OnOk result
+            (KeepsCell column.now.property place text.now self.old self.new) }
+    {
+        let lines = self.lines.as_slice();
+        let property = column.property.as_str();
+        if is_carried_whole(alloc, lines, home, property, text)? {
+            return Ok(());
+        }
+        if is_dated(lines, home, property) {
+            return self.report(place, ChangeKind::Rewritten);
+        }
+        self.keep_aside(alloc, column.name.as_str(), place, text)
+    }
+}
+
+/// The column of cells to which the header gives none.
+fn extra_column(alloc: Global) -> Result<Column, NoMemory>
+    ensures { IfOk result (λ column. column.property ≡ []) }
+{
+    Ok(Column {
+        name: Text::copy_of(alloc, "COLUMN")?,
+        property: Text::copy_of(alloc, "")?,
+    })
+}
+
+/// The index of the line that should hold the cell, after the UID.
+fn home_of(homes: &[usize], place: usize) -> usize {
+    match homes.get(place) {
+        Some(home) => home.saturating_add(1),
+        None => 0,
+    }
+}
+
+/// The column at the index, or the extra one.
+fn column_at<'a>(columns: &'a [Column], place: usize, extra: &'a Column) -> &'a Column
+    requires { extra.now.property ≡ [] }
+    ensures { result.now.property ≡ property_at columns.now place }
+{
+    if place < columns.len() {
+        return &columns[place];
+    }
+    extra
+}
+
+/// Keeps each cell. `extra` is the column of those to which the header gives none.
+fn keep_all(
+    alloc: Global,
+    columns: &[Column],
+    extra: &Column,
+    uid: String,
+    cells: &[Text],
+    draft: RowLines,
+) -> Result<Kept, NoMemory>
+    requires { extra.now.property ≡ [] }
+    ensures { IfOk result (λ made. Keeps (string_bytes uid) columns.now cells.now
+        (length cells.now) made) }
+{
+    let RowLines {
+        lines,
+        homes,
+        groups: _,
+    } = draft;
+    let mut made = Kept {
+        lines: lines_with_uid(alloc, uid, lines)?,
+        changes: Items::new(alloc),
+    };
+    for place in 0..cells.len() {
+        let column = column_at(columns, place, extra);
+        let home = home_of(homes.as_slice(), place);
+        made.keep_cell(alloc, column, place, cells[place].as_str(), home)?;
+    }
+    Ok(made)
+}
+
+/// The lines of the card with this UID, and the changes: those of the draft, and a line for each
+/// cell that they don't hold.
+pub(crate) fn keep_cells(
+    alloc: Global,
+    columns: &[Column],
+    uid: String,
+    cells: &[Text],
+    draft: RowLines,
+) -> Result<Kept, NoMemory>
+    ensures { IfOk result (λ made. Keeps (string_bytes uid) columns.now cells.now
+        (length cells.now) made) }
+{
+    let extra = extra_column(alloc)?;
+    keep_all(alloc, columns, &extra, uid, cells, draft)
+}

@@ -1,0 +1,88 @@
+//! Makes lines and their parameters.
+ghost use Rattle.std.specs.Prelude.{◌≡◌, ◌++◌, IfOk, OnOk, string_bytes};
+ghost use Rattle.std.specs.Str.{encode_utf8_all};
+ghost use Rattle.vcard_import.specs.Conversions.{plain_line};
+ghost use Rattle.contact_csv.specs.Carrying.{caret_char, caret_text};
+
+use std::alloc::Global;
+use vcard_text::{Items, Line, NoMemory, Param, ParamValue, Text};
+
+/// Whether a parameter's value with the character must be in double quotes.
+fn needs_quotes(c: char) -> bool {
+    matches!(c, ';' | ':' | ',')
+}
+
+/// Appends a character as RFC 6868 writes it in a parameter.
+fn push_caret(value: &mut String, c: char) -> Result<(), NoMemory>
+    ensures { OnOk result (string_bytes value.new
+        ≡ string_bytes value.old ++ encode_utf8_all (caret_char c)) }
+{
+    if c == '^' {
+        value.push_str("^^")?;
+    } else if c == '\n' {
+        value.push_str("^n")?;
+    } else if c == '"' {
+        value.push_str("^'")?;
+    } else {
+        value.push(c)?;
+    }
+    Ok(())
+}
+
+/// The text as RFC 6868 writes it in a parameter.
+pub(crate) fn caret_text(alloc: Global, text: &str) -> Result<String, NoMemory>
+    ensures { IfOk result (λ value. string_bytes value ≡ caret_text text.now) }
+{
+    let mut value = String::new(alloc);
+    for c in text.chars() {
+        push_caret(&mut value, c)?;
+    }
+    Ok(value)
+}
+
+/// A value of a parameter that is this text.
+fn param_value(alloc: Global, text: &str) -> Result<ParamValue, NoMemory> {
+    let quoted = text.chars().any(needs_quotes);
+    let text = Text::new(caret_text(alloc, text)?);
+    Ok(ParamValue { quoted, text })
+}
+
+/// A parameter with one value.
+pub(crate) fn make_param(alloc: Global, name: &str, text: &str) -> Result<Param, NoMemory> {
+    let mut values = Items::new(alloc);
+    values.push(param_value(alloc, text)?)?;
+    let name = Text::copy_of(alloc, name)?;
+    Ok(Param { name, values })
+}
+
+/// A TYPE parameter with values that have commas between them.
+pub(crate) fn type_param(alloc: Global, types: &str) -> Result<Param, NoMemory> {
+    let mut values = Items::new(alloc);
+    for kind in types.split(',') {
+        values.push(param_value(alloc, kind)?)?;
+    }
+    let name = Text::copy_of(alloc, "TYPE")?;
+    Ok(Param { name, values })
+}
+
+/// A TYPE parameter with these values.
+pub(crate) fn label_param(alloc: Global, types: &[&str]) -> Result<Param, NoMemory> {
+    let mut values = Items::new(alloc);
+    for kind in types {
+        values.push(param_value(alloc, kind)?)?;
+    }
+    let name = Text::copy_of(alloc, "TYPE")?;
+    Ok(Param { name, values })
+}
+
+/// A line without group and parameters.
+pub(crate) fn plain_line(alloc: Global, name: &str, value: String) -> Result<Line, NoMemory>
+    ensures { IfOk result (λ line. line ≡ plain_line name.now (string_bytes value)) }
+{
+    Ok(Line {
+        group: None,
+        name: Text::copy_of(alloc, name)?,
+        params: Items::new(alloc),
+        value: Text::new(value),
+    })
+}

@@ -1,0 +1,65 @@
+//! What the cells of a column mean.
+
+/// What a cell is of its property.
+#[derive(Clone, Copy, Debug, PartialEq, Eq)]
+pub(crate) enum Part {
+    /// A component of a structured value, counted from 0 (RFC 6350, section 3.3).
+    Component(usize),
+    /// The value.
+    Value,
+    /// What the value is for, as `Home`: a TYPE, or the label of a group.
+    Label,
+    /// An address as it is printed: the parameter LABEL.
+    Formatted,
+}
+
+/// The property that holds a cell, and what the cell is of it.
+#[derive(Clone, Copy, Debug)]
+pub(crate) struct Meaning<'a> {
+    /// The name of the property.
+    pub(crate) property: &'a str,
+    /// Columns with the same property and the same key give one property.
+    pub(crate) key: &'a str,
+    /// What the cell is of it.
+    pub(crate) part: Part,
+    /// The types that the column's name gives, with commas between them; empty if it gives none.
+    pub(crate) types: &'a str,
+}
+
+impl<'a> Meaning<'a> {
+    /// A column whose cells are values.
+    pub(crate) fn value(property: &'a str, key: &'a str, types: &'a str) -> Meaning<'a> {
+        Meaning {
+            property,
+            key,
+            part: Part::Value,
+            types,
+        }
+    }
+
+    /// A column whose cells are components of a value.
+    pub(crate) fn component(
+        property: &'a str,
+        key: &'a str,
+        place: usize,
+        types: &'a str,
+    ) -> Meaning<'a> {
+        Meaning {
+            property,
+            key,
+            part: Part::Component(place),
+            types,
+        }
+    }
+}
+
+/// The number of components of the property's value (RFC 6350, sections 6.2.2, 6.3.1 and 6.6.4), or
+/// 0 if it has none.
+pub(crate) fn component_count(property: &str) -> usize {
+    match property {
+        "N" => 5,
+        "ADR" => 7,
+        "ORG" => 2,
+        _ => 0,
+    }
+}
