@@ -43,19 +43,26 @@ GOOD_ROWS = [
     ("2000 rows", numbered(0, 2000), 2000),
 ]
 
-# A name, the text, the number of the fault, and the words.
+# A name, the text, the number of the fault, its line if it is one of a line, and the words.
 BAD_CARDS = [
-    ("too long", ANN + " " * 262_144, 1, "the text is too long"),
-    ("a control character", ANN.replace("Ann", "A\x01n"), 3, "a line has a control character"),
-    ("two cards", ANN + ANN, 4, "a line isn't a property line"),
-    ("no octet", "", 5, "BEGIN:VCARD is missing"),
-    ("vCard 3.0", ANN.replace("4.0", "3.0"), 6, "the version isn't 4.0"),
-    ("cut off", ANN[:-len("END:VCARD\r\n")], 7, "END:VCARD is missing"),
-    ("no name", ANN.replace("FN:Ann\r\n", ""), 8, "FN is missing"),
-    ("no UID", ANN.replace("UID:a\r\n", ""), 9, "UID is missing"),
-    ("an empty UID", ANN.replace("UID:a", "UID:"), 10, "the UID is empty, too long or has a tab"),
-    ("two UIDs", ANN.replace("UID:a", "UID:a\r\nUID:a"), 11, "UID or KIND occurs twice"),
-    ("a member of no group", ANN.replace("FN:Ann", "FN:Ann\r\nMEMBER:b"), 12,
+    ("too long", ANN + " " * 262_144, 1, None, "the text is too long"),
+    ("a control character", ANN.replace("Ann", "A\x01n"), 3, 4, "a line has a control character"),
+    ("two cards", ANN + ANN, 4, 6, "a line isn't a property line"),
+    ("a line without a colon", ANN.replace("UID:a", "NOTE\n one\nUID:a"), 4, 3,
+     "a line isn't a property line"),
+    ("a line after a folded one", ANN.replace("UID:a", "NOTE:\n one\n two\nUID\n a"), 4, 6,
+     "a line isn't a property line"),
+    ("no octet", "", 5, None, "BEGIN:VCARD is missing"),
+    ("a line before the first", "FN:Ann\r\n" + ANN, 5, 1, "BEGIN:VCARD is missing"),
+    ("vCard 3.0", ANN.replace("4.0", "3.0"), 6, 2, "the version isn't 4.0"),
+    ("one line", "BEGIN:VCARD\r\n", 6, None, "the version isn't 4.0"),
+    ("cut off", ANN[:-len("END:VCARD\r\n")], 7, None, "END:VCARD is missing"),
+    ("no name", ANN.replace("FN:Ann\r\n", ""), 8, None, "FN is missing"),
+    ("no UID", ANN.replace("UID:a\r\n", ""), 9, None, "UID is missing"),
+    ("an empty UID", ANN.replace("UID:a", "UID:"), 10, 3,
+     "the UID is empty, too long or has a tab"),
+    ("two UIDs", ANN.replace("UID:a", "UID:a\r\n\r\nUID:a"), 11, 5, "UID or KIND occurs twice"),
+    ("a member of no group", ANN.replace("FN:Ann", "FN:Ann\r\nMEMBER:b"), 12, None,
      "MEMBER outside a group"),
 ]
 
@@ -104,24 +111,25 @@ class Check(OrderTest):
                 (self.folder / name).unlink()
 
     def test_bad_cards(self):
-        for title, text, number, words in BAD_CARDS:
+        for title, text, number, line, words in BAD_CARDS:
             with self.subTest(title):
                 with self.assertRaises(BadCard) as caught:
                     read_card(text.encode())
                 self.assertEqual((number,), caught.exception.args)
+                place = "" if line is None else f"line {line}: "
                 self.assertEqual(
-                    Ended(1, f"card: {words}\n".encode(), b"refused bad-card 5\n"),
+                    Ended(1, f"card: {place}{words}\n".encode(), b"refused bad-card 5\n"),
                     self.check("a.vcf", text.encode()))
 
     def test_a_put_has_the_same_refusal(self):
-        for title, text, _, _ in BAD_CARDS:
+        for title, text, _, _, _ in BAD_CARDS:
             with self.subTest(title):
                 self.assertEqual(self.check("a.vcf", text.encode())._replace(out=b""),
                                  run("try", input=text.encode()))
 
     def test_a_card_in_another_encoding(self):
         octets = ANN.replace("Ann", "Änn").encode("latin-1")
-        self.assertEqual(Ended(1, b"card: the text isn't UTF-8\n", b"refused bad-card 5\n"),
+        self.assertEqual(Ended(1, b"card: line 4: the text isn't UTF-8\n", b"refused bad-card 5\n"),
                          self.check("a.vcf", octets))
 
     def test_other_names_are_of_rows(self):

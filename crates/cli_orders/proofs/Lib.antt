@@ -7,3 +7,4 @@ pub mod ReplyLemmas
 pub mod FirstPathLemmas
 pub mod InputLemmas
 pub mod LongTextLemmas
+mod CheckLemmas

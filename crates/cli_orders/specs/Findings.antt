@@ -1,6 +1,6 @@
 -- What `check` finds in a file, and what it prints. This project's own.
 use Rattle.std.specs.Prelude.{ℕ, ◌≡◌, ◌⊎◌, ◌||◌, Bool, List, [], ◌∷◌, ◌++◌, codes, decimal, eqb}
-use Rattle.std.specs.Prelude.{length, Option, Result, Ok, Err, if◌then◌else◌}
+use Rattle.std.specs.Prelude.{length, Option, Some, None, Result, Ok, Err, if◌then◌else◌}
 use Rattle.std.specs.Io.KnownBytes.{Appends, Keeps}
 use Rattle.std.specs.List.{ends_with}
 use Rattle.base_types.specs.Octets.{line_feed}
@@ -9,6 +9,7 @@ use Rattle.book_model.specs.declared.refusal.Refusal.TheVariants.{BadImport}
 use Rattle.book_model.specs.declared.refusal.Refusal.TheVariants.{BadCard as BadCardText}
 use Rattle.csv_cards.specs.Causes.{cause_number}
 use Rattle.csv_cards.specs.Reading.{IsFirstRowFault, TextHasCards}
+use Rattle.vcard_fault_line.specs.FaultLines.{IsLineOfFault}
 use Rattle.vcard_lines.specs.FaultNumbers.{card_fault_text}
 use Rattle.vcard_lines.specs.declared.line.Line.{Line}
 use Rattle.vcard_text.specs.FirstFaults.{IsFirstFaultOfText}
@@ -49,7 +50,8 @@ abbrev pub IsFound : FileKind → List ℕ → Finding → Type 0
 IsFound kind.CsvRows octets (Rows count) = HasRows octets count
 IsFound kind.CsvRows octets (BadRow fault) = IsFirstRowFault octets fault
 IsFound kind.OneCard octets Card = HasCard octets
-IsFound kind.OneCard octets (BadCard fault) = IsFirstFaultOfText octets fault
+IsFound kind.OneCard octets (BadCard fault line) =
+    IsFirstFaultOfText octets fault × IsLineOfFault octets fault line
 IsFound file octets finding = ⊥
 
 -- ---- what is printed
@@ -60,7 +62,10 @@ finding_output (BadRow fault) =
     codes "row " ++ (decimal fault.row ++ (codes ": " ++ (cause_words fault.cause
     ++ line_feed ∷ [])))
 finding_output Card = codes "card" ++ line_feed ∷ []
-finding_output (BadCard fault) = codes "card: " ++ (card_fault_text fault ++ line_feed ∷ [])
+finding_output (BadCard fault None) = codes "card: " ++ (card_fault_text fault ++ line_feed ∷ [])
+finding_output (BadCard fault (Some line)) =
+    codes "card: line " ++ (decimal line ++ (codes ": " ++ (card_fault_text fault
+    ++ line_feed ∷ [])))
 
 -- A file with a fault is refused, as an import or a put of its octets would be.
 abbrev pub verdict_of : Finding → Result (Unit {0}) Stop
@@ -68,7 +73,7 @@ verdict_of (Rows count) = Ok tt
 verdict_of (BadRow fault) =
     Err (Refused (BadImport fault.row (cause_number fault.cause)))
 verdict_of Card = Ok tt
-verdict_of (BadCard fault) = Err (Refused (BadCardText fault))
+verdict_of (BadCard fault line) = Err (Refused (BadCardText fault))
 
 -- ---- how a check ends
 

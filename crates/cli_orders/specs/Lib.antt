@@ -12,5 +12,6 @@ pub mod TryOutputs
 pub mod Listings
 pub mod CauseWords
 pub mod Findings
+pub mod CheckLaws
 pub mod Versions
 pub mod internal

@@ -8,6 +8,7 @@ use crate::stop::Stop;
 use csv_cards::{CsvCause, CsvFault, read_rows};
 use std::alloc::Global;
 use sync_core::Refusal;
+use vcard_fault_line::line_of_fault;
 use vcard_text::{CardFault, NoMemory, read_card};
 
 /// What a file has.
@@ -28,8 +29,8 @@ pub enum Finding {
     BadRow(CsvFault),
     /// One card.
     Card,
-    /// The first fault of a text that isn't a card's.
-    BadCard(CardFault),
+    /// The first fault of a text that isn't a card's, and its line if it is one of a line.
+    BadCard(CardFault, Option<u64>),
 }
 
 /// Whether the name ends in `.vcf` or `.VCF`.
@@ -71,13 +72,17 @@ fn check_card(alloc: Global, octets: &[u8]) -> Result<Finding, NoMemory>
         Ok(_card) => Ok(Finding::Card),
         Err(fault) => match fault {
             CardFault::Memory => Err(NoMemory),
-            _ => Ok(Finding::BadCard(fault)),
+            _ => Ok(Finding::BadCard(fault, line_of_fault(alloc, octets, fault)?)),
         },
     }
 }
 
 /// Looks for the first fault of a file of this kind.
-pub fn check_octets(alloc: Global, file: FileKind, octets: &[u8]) -> Result<Finding, NoMemory>
+pub(crate) fn check_octets(
+    alloc: Global,
+    file: FileKind,
+    octets: &[u8],
+) -> Result<Finding, NoMemory>
     ensures { IfOk result (IsFound file octets.now) }
 {
     match file {
@@ -86,9 +91,9 @@ pub fn check_octets(alloc: Global, file: FileKind, octets: &[u8]) -> Result<Find
     }
 }
 
-/// The words for what was found: for example `rows 2000`, `row 1500: the name is empty`, `card`, or
-/// `card: FN is missing`.
-pub fn finding_text(alloc: Global, finding: Finding) -> Result<Vec<u8>, NoMemory>
+/// The words for what was found: for example `rows 2000`, `row 1500: the name is empty`, `card`,
+/// `card: FN is missing`, or `card: line 2: the version isn't 4.0`.
+pub(crate) fn finding_text(alloc: Global, finding: Finding) -> Result<Vec<u8>, NoMemory>
     ensures { IfOk result (λ text. text.items ≡ finding_output finding) }
 {
     let text = match finding {
@@ -99,14 +104,15 @@ pub fn finding_text(alloc: Global, finding: Finding) -> Result<Vec<u8>, NoMemory
             format!(in alloc; "row {row}: {words}\n")?
         }
         Finding::Card => format!(in alloc; "card\n")?,
-        Finding::BadCard(fault) => format!(in alloc; "card: {fault}\n")?,
+        Finding::BadCard(fault, None) => format!(in alloc; "card: {fault}\n")?,
+        Finding::BadCard(fault, Some(line)) => format!(in alloc; "card: line {line}: {fault}\n")?,
     };
     Ok(text.into_bytes())
 }
 
 /// Whether a file in which this was found is accepted: `BadImport` for a faulty row, and `BadCard`
 /// for a text that isn't a card's.
-pub fn verdict_of(finding: Finding) -> Result<(), Stop>
+pub(crate) fn verdict_of(finding: Finding) -> Result<(), Stop>
     ensures { result ≡ verdict_of finding }
 {
     match finding {
@@ -115,6 +121,6 @@ pub fn verdict_of(finding: Finding) -> Result<(), Stop>
             row: fault.row,
             cause: fault.cause.number(),
         })),
-        Finding::BadCard(fault) => Err(Stop::Refused(Refusal::BadCard(fault))),
+        Finding::BadCard(fault, _) => Err(Stop::Refused(Refusal::BadCard(fault))),
     }
 }

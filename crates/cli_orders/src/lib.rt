@@ -25,7 +25,7 @@ mod writing;
 pub use checking::run_check;
 pub use commands::{run_command, run_mirror};
 pub use expansion_output::expand_text;
-pub use finding::{FileKind, Finding, check_octets, finding_text, kind_of_file, verdict_of};
+pub use finding::{FileKind, Finding, kind_of_file};
 pub use input::read_input;
 pub use listing::{Listing, run_listing};
 pub use mirror_output::mirror_text;
