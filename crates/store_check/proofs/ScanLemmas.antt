@@ -19,7 +19,7 @@ use Rattle.store_tables.proofs.Texts.{all_members_is}
 use Rattle.store_rows.specs.TableRows.{load_member}
 use Rattle.store_check.specs.declared.faults.FaultyRow.{FaultyRow}
 use Rattle.store_check.specs.declared.tallies.BookTally.{BookTally}
-use Rattle.store_check.specs.MemberTallies.{AreCounted, IsGoodMember}
+use Rattle.store_check.specs.MemberTallies.{AreCounted, HaveDistinctIds, IsGoodMember}
 use Rattle.store_check.specs.MemberScans.{AreTaken, DoesTake, Scanned, is_above}
 use Rattle.store_check.specs.RowChecks.{decode_book, int_cell}
 
@@ -32,10 +32,10 @@ RiseTo (Some last) rows = AllByRecursion (λ r. int_lt last (int_cell 0 r) ≡ f
 
 pub record HasTaken (old now : List BookTally) (last : Option ℤ) (given : List Row) : Type 0 where
   pub last_is : RiseTo last given
-  pub taken : (books : List BookRow) → AreCounted [] books old → AreTaken books now given
+  pub taken : (books : List BookRow) → HaveDistinctIds books → AreCounted [] books old → AreTaken books now given
 
 pub none_taken : (old : List BookTally) → HasTaken old old None []
-none_taken old = record { last_is = refl; taken = λ books h. record { good = tt; rising = tt; counted = h } }
+none_taken old = record { last_is = refl; taken = λ books d h. record { good = tt; rising = tt; counted = h } }
 
 below : (a last id : ℤ) → int_lt last a ≡ false → int_lt last id ≡ true → int_lt a id ≡ true
 below a last id h k = grind (arith, ints)
@@ -58,9 +58,9 @@ pub one_more_taken : (books : List Row) (old now next : List BookTally) (last af
 one_more_taken books old now next last after given r h step =
     record {
       last_is = subst (λ o. RiseTo o (given ++ r ∷ [])) (sym step.2) (all-append (λ x. int_lt (int_cell 0 r) (int_cell 0 x) ≡ false) given (r ∷ []) (all_stay last given r h.last_is step.1) (itself (int_cell 0 r), tt));
-      taken = λ books start.
-          let was = h.taken books start in
-          let does = step.0 (map load_member given) books was.counted in
+      taken = λ books distinct start.
+          let was = h.taken books distinct start in
+          let does = step.0 (map load_member given) books distinct was.counted in
           record {
             good = all-append (IsGoodMember books) given (r ∷ []) was.good (does.0, tt);
             rising = ascending-append (λ a b. int_lt (int_cell 0 a) (int_cell 0 b) ≡ true) given (r ∷ []) was.rising (tt, tt)
@@ -85,8 +85,8 @@ first_listed s rows schema h =
 
 -- the table was read to its end
 pub scanned_all : (table books : List Row) (old now : List BookTally) (last : Option ℤ) (given : List Row) → HasTaken old now last given → IsPermutation (map member_cells table) given
-    → AreCounted [] (map decode_book books) old → Scanned table books now None
-scanned_all table books old now last given h all start = record { rows = given; all = all; taken = λ _. h.taken (map decode_book books) start; faulty = tt }
+    → HaveDistinctIds (map decode_book books) → AreCounted [] (map decode_book books) old → Scanned table books now None
+scanned_all table books old now last given h all distinct start = record { rows = given; all = all; taken = λ _. h.taken (map decode_book books) distinct start; faulty = tt }
 
 among : {X : Type 0} (xs : List X) (x : X) (ys : List X) → Has ((xs ++ x ∷ []) ++ ys) x
 among [] x ys = inl refl
@@ -94,10 +94,10 @@ among (z ∷ zs) x ys = inr (among zs x ys)
 
 -- a member is not good
 pub scanned_part : (table books : List Row) (old now next : List BookTally) (last after : Option ℤ) (given : List Row) (r : Row) (f : FaultyRow) (tail : List Row) → HasTaken old now last given
-    → DoesTake books now next last after r (Some f) → IsPermutation (map member_cells table) ((given ++ r ∷ []) ++ tail) → AreCounted [] (map decode_book books) old → Scanned table books next (Some f)
-scanned_part table books old now next last after given r f tail h step all start = record {
+    → DoesTake books now next last after r (Some f) → IsPermutation (map member_cells table) ((given ++ r ∷ []) ++ tail) → HaveDistinctIds (map decode_book books) → AreCounted [] (map decode_book books) old → Scanned table books next (Some f)
+scanned_part table books old now next last after given r f tail h step all distinct start = record {
   rows = (given ++ r ∷ []) ++ tail;
   all = all;
   taken = λ e. absurd (let k = e in cc);
-  faulty = (r, among given r tail, step (map load_member given) (h.taken (map decode_book books) start).counted);
+  faulty = (r, among given r tail, step (map load_member given) distinct (h.taken (map decode_book books) distinct start).counted);
 }

@@ -1,47 +1,83 @@
 -- Members that are counted one at a time.
-use Rattle.std.proofs.Common.{ap₂, cond, filter, ◌≡◌, ◌∙◌, ◌≤◌, ◌+◌, ◌++◌, ℕ, ℤ, zero, suc, Bool, true, false, List, [], ◌∷◌, Some, refl, sym, ap, arith, drop, find, length, map, take, slice_get, slice_set}
+use Rattle.std.proofs.Common.{ap₂, cond, filter, ◌≡◌, ◌∙◌, ◌+◌, ◌++◌, ℕ, ℤ, zero, suc, Bool, true, false, List, [], ◌∷◌, Some, refl, sym, ap, subst, arith, find, length, map, slice_get, slice_set}
 use Rattle.std.proofs.lemmas.List.{length-append}
 use Rattle.std.proofs.lemmas.List.Elements.{filter-append}
 use Rattle.std.specs.Option.{option_map}
-use Rattle.store_tables.specs.Books.{BookRow, has_id}
+use Rattle.std.specs.List.{AllByRecursion}
+use Rattle.std.specs.Ordering.{int_eq}
+use Rattle.sqlite_trees.specs.Tree.{IsAscending}
+use Rattle.sqlite_trees.proofs.ListLemmas.{ascending_weaker}
+use Rattle.store_tables.specs.Books.{AreBooks, BookRow, has_id, has_name}
+use Rattle.store_tables.proofs.KeyedRows.{same_int}
+use Rattle.store_rows.proofs.RowLemmas.{int_turned}
 use Rattle.store_tables.specs.Members.{MemberRow, is_removed_above}
 use Rattle.store_rows.specs.Values.{natural}
 use Rattle.store_check.specs.declared.tallies.BookTally.{BookTally}
 use Rattle.store_check.specs.BookChecks.{is_live_in}
-use Rattle.store_check.specs.MemberTallies.{AreCounted, counted, has_book, one_more, tally_of}
-
--- ---- a list of which a loop replaces one item after another
+use Rattle.store_check.specs.MemberTallies.{AreCounted, HaveDistinctIds, counted, has_book, one_more, tally_of}
 
 same_item : {A : Type 0} (x y : A) → Some x ≡ Some y → x ≡ y
 same_item x y same = cc same
 
-map_more : {A : Type 0} (f : A → A) (xs : List A) (i : ℕ) (x : A) → slice_get xs i ≡ Some x
-    → slice_set (map f (take i xs) ++ drop i xs) i (f x) ≡ map f (take (suc i) xs) ++ drop (suc i) xs
-map_more f [] i x found = absurd (cc found)
-map_more f (y ∷ xs) zero x found = ap (λ t. f t ∷ xs) (sym (same_item y x found))
-map_more f (y ∷ xs) (suc i) x found = ap (λ t. f y ∷ t) (map_more f xs i x found)
+-- ---- books with distinct ids
 
-map_at : {A : Type 0} (f : A → A) (xs : List A) (i : ℕ) → slice_get (map f (take i xs) ++ drop i xs) i ≡ slice_get xs i
-map_at f [] zero = refl
-map_at f [] (suc i) = refl
-map_at f (y ∷ xs) zero = refl
-map_at f (y ∷ xs) (suc i) = map_at f xs i
+pub distinct_ids : (books : List BookRow) → AreBooks books → HaveDistinctIds books
+distinct_ids books h = ascending_weaker (λ (a b : BookRow). (int_eq a.id b.id ≡ false) × (has_name a.name b ≡ false)) (λ (a b : BookRow). int_eq a.id b.id ≡ false) (λ a b k. k.0) books h
 
--- a list whose first items were replaced, after one more was
-pub maps_next : {A : Type 0} (f : A → A) (old now : List A) (i : ℕ) (x next : A) → slice_get now i ≡ Some x → now ≡ map f (take i old) ++ drop i old → next ≡ f x
-    → slice_set now i next ≡ map f (take (i + 1) old) ++ drop (i + 1) old
-maps_next f old now i x next found so_far next_is =
-    let before : slice_get old i ≡ Some x = sym (map_at f old i) ∙ ap (λ t. slice_get t i) (sym so_far) ∙ found in
-    let one_more : suc i ≡ i + 1 = omega arith in
-    ap (λ t. slice_set t i next) so_far ∙ ap (λ v. slice_set (map f (take i old) ++ drop i old) i v) next_is ∙ map_more f old i x before
-    ∙ ap (λ n. map f (take n old) ++ drop n old) one_more
+abbrev pub AreApart : List BookTally → Type 0
+AreApart = IsAscending (λ a b. int_eq a.id b.id ≡ false)
 
--- all items were replaced
-pub maps_all : {A : Type 0} (f : A → A) (xs : List A) (i : ℕ) → length xs ≤ i → map f (take i xs) ++ drop i xs ≡ map f xs
-maps_all f [] zero past = refl
-maps_all f [] (suc i) past = refl
-maps_all f (y ∷ xs) zero past = absurd (omega (arith, past))
-maps_all f (y ∷ xs) (suc i) past = ap (λ t. f y ∷ t) (maps_all f xs i (omega (arith, past)))
+-- tallies of books with distinct ids
+pub distinct_tallies : (ms : List MemberRow) (books : List BookRow) (tallies : List BookTally) → HaveDistinctIds books → AreCounted ms books tallies → AreApart tallies
+distinct_tallies ms books tallies distinct counts = subst AreApart (sym counts) (go books distinct)
+  where
+    each : (b : BookRow) (bs : List BookRow) → AllByRecursion (λ (c : BookRow). int_eq b.id c.id ≡ false) bs → AllByRecursion (λ (t : BookTally). int_eq b.id t.id ≡ false) (map (tally_of ms) bs)
+    each b [] h = tt
+    each b (c ∷ cs) h = (h.0, each b cs h.1)
+
+    go : (bs : List BookRow) → HaveDistinctIds bs → AreApart (map (tally_of ms) bs)
+    go [] h = tt
+    go (b ∷ bs) h = (each b bs h.0, go bs h.1)
+
+-- the tally at a place, and those before it
+apart_there : (x : BookTally) (ts : List BookTally) (place : ℕ) (t : BookTally) → AllByRecursion (λ (u : BookTally). int_eq x.id u.id ≡ false) ts → slice_get ts place ≡ Some t → int_eq x.id t.id ≡ false
+apart_there x [] place t h found = absurd (let e = found in cc)
+apart_there x (y ∷ ys) zero t h found = subst (λ (u : BookTally). int_eq x.id u.id ≡ false) (same_item y t found) h.0
+apart_there x (y ∷ ys) (suc place) t h found = apart_there x ys place t h.1 found
+
+pub found_there : (id : ℤ) (tallies : List BookTally) (place : ℕ) (t : BookTally) → AreApart tallies → slice_get tallies place ≡ Some t → has_book id t ≡ true → find (has_book id) tallies ≡ Some t
+found_there id [] place t apart found is = absurd (let e = found in cc)
+found_there id (x ∷ xs) zero t apart found is =
+    let same : x ≡ t = same_item x t found in
+    rw (ap (has_book id) same ∙ is) (ap (λ u. Some u) same)
+found_there id (x ∷ xs) (suc place) t apart found is =
+    let other : has_book id x ≡ false = ap (int_eq x.id) (sym (same_int t.id id is)) ∙ apart_there x xs place t apart.0 found in
+    rw other (found_there id xs place t apart.1 found is)
+
+-- ---- a member is counted in one tally
+
+-- a member of another book
+other_book : (m : MemberRow) (t : BookTally) → int_eq m.book t.id ≡ false → counted m t ≡ t
+other_book m t h =
+    let live : one_more (is_live_in t.id m) t.live ≡ t.live = rw h refl in
+    let removed : one_more (is_removed_above t.id t.horizon m) t.removed ≡ t.removed = rw h refl in
+    λ i. record t { live = live i; removed = removed i }
+
+other_books : (m : MemberRow) (ts : List BookTally) → AllByRecursion (λ (t : BookTally). int_eq m.book t.id ≡ false) ts → map (counted m) ts ≡ ts
+other_books m [] h = refl
+other_books m (t ∷ ts) h = ap₂ (λ a l. a ∷ l) (other_book m t h.0) (other_books m ts h.1)
+
+pub counted_there : (m : MemberRow) (tallies : List BookTally) (place : ℕ) (t next : BookTally) → AreApart tallies → slice_get tallies place ≡ Some t → t.id ≡ m.book → next ≡ counted m t
+    → slice_set tallies place next ≡ map (counted m) tallies
+counted_there m [] place t next apart found is now = absurd (let e = found in cc)
+counted_there m (x ∷ xs) zero t next apart found is now =
+    let same : x ≡ t = same_item x t found in
+    let rest : AllByRecursion (λ (u : BookTally). int_eq m.book u.id ≡ false) xs = subst (λ id. AllByRecursion (λ (u : BookTally). int_eq id u.id ≡ false) xs) (ap (λ (u : BookTally). u.id) same ∙ is) apart.0 in
+    ap₂ (λ a l. a ∷ l) (now ∙ ap (counted m) (sym same)) (sym (other_books m xs rest))
+counted_there m (x ∷ xs) (suc place) t next apart found is now =
+    let away : int_eq x.id m.book ≡ false = ap (int_eq x.id) (sym is) ∙ apart_there x xs place t apart.0 found in
+    let other : int_eq m.book x.id ≡ false = int_turned m.book x.id ∙ away in
+    ap₂ (λ a l. a ∷ l) (sym (other_book m x other)) (counted_there m xs place t next apart.1 found is now)
 
 -- ---- the tally of a book
 

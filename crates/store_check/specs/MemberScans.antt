@@ -13,7 +13,7 @@ use Rattle.store_tables.specs.Members.{MemberRow, member_cells}
 use Rattle.store_rows.specs.TableRows.{load_member}
 use Rattle.store_check.specs.declared.faults.FaultyRow.{FaultyRow}
 use Rattle.store_check.specs.declared.tallies.BookTally.{BookTally}
-use Rattle.store_check.specs.MemberTallies.{AreCounted, DoesTally, IsGoodMember}
+use Rattle.store_check.specs.MemberTallies.{AreCounted, DoesTally, HaveDistinctIds, IsGoodMember}
 use Rattle.store_check.specs.RowChecks.{decode_book, int_cell}
 use Rattle.store_check.specs.RowFaults.{IsFaultyMember, IsFaultyRow}
 use Rattle.store_check.specs.StoredTests.{PassMemberTests}
@@ -29,7 +29,8 @@ abbrev pub DoesTake : List Row → List BookTally → List BookTally → Option 
 DoesTake books old new before after r None = DoesTally old new r None
     × (is_above before (int_cell 0 r) ≡ true) × (after ≡ Some (int_cell 0 r))
 DoesTake books old new before after r (Some f) = (ms : List MemberRow) →
-    AreCounted ms (map decode_book books) old → IsFaultyMember books r f
+    HaveDistinctIds (map decode_book books) → AreCounted ms (map decode_book books) old →
+    IsFaultyMember books r f
 
 -- the row ids rise
 abbrev pub HaveRisingIds : List Row → Type 0
@@ -53,8 +54,8 @@ pub record Scanned (table books : List Row) (tallies : List BookTally) (found : 
 
 abbrev pub Scans : List Row → List Row → List BookTally → List BookTally → Option FaultyRow
     → Type 0
-Scans table books old new found = AreCounted [] (map decode_book books) old →
-    Scanned table books new found
+Scans table books old new found = HaveDistinctIds (map decode_book books) →
+    AreCounted [] (map decode_book books) old → Scanned table books new found
 
 -- The rows of the table pass the tests of the members, have rising ids and were counted; or one of
 -- them, or one of the books, has the fault.

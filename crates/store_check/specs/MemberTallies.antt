@@ -1,7 +1,9 @@
 -- What is counted of the members of each book, while they are read one at a time. This project's
 -- own.
 use Rattle.std.specs.Prelude.{◌≡◌, ◌+◌, ◌++◌, ◌↔◌, ℕ, ℤ, Bool, List, [], ◌∷◌, IsTrue, filter}
-use Rattle.std.specs.Prelude.{if◌then◌else◌, Option, Some, None, length, map}
+use Rattle.std.specs.Prelude.{◌<◌, if◌then◌else◌, Option, Some, None, false, true, find, length, map}
+use Rattle.std.specs.Prelude.{slice_get}
+use Rattle.sqlite_trees.specs.Tree.{IsAscending}
 use Rattle.std.specs.List.{AllByRecursion}
 use Rattle.std.specs.Ordering.{int_eq}
 use Rattle.sqlite.specs.Order.{Row}
@@ -46,6 +48,22 @@ counted m t = record t {
 abbrev pub AreCounted : List MemberRow → List BookRow → List BookTally → Type 0
 AreCounted ms books tallies = tallies ≡ map (tally_of ms) books
 
+-- no two books have the same id
+abbrev pub HaveDistinctIds : List BookRow → Type 0
+HaveDistinctIds = IsAscending (λ a b. int_eq a.id b.id ≡ false)
+
+-- at this place stands this tally, of the book with the id
+pub record IsTallyAt (tallies : List BookTally) (place : ℕ) (id : ℤ) (tally : BookTally)
+    : Type 0 where
+  pub within : place < length tallies
+  pub there : slice_get tallies place ≡ Some tally
+  pub of_book : has_book id tally ≡ true
+
+-- the place of the book's tally, or none if the book has none
+abbrev pub FindsTally : ℤ → List BookTally → Option (ℕ × BookTally) → Type 0
+FindsTally id tallies None = find (has_book id) tallies ≡ None
+FindsTally id tallies (Some found) = IsTallyAt tallies found.0 id found.1
+
 -- the row is that of a member, whose book is listed, and in which the member is valid
 abbrev pub IsGoodMember : List BookRow → Row → Type 0
 IsGoodMember books r =
@@ -59,11 +77,11 @@ TalliesOne ms books new r None =
 TalliesOne ms books new r (Some fault) = HasMemberFault books r fault
 
 abbrev pub DoesTally : List BookTally → List BookTally → Row → Option MemberFault → Type 0
-DoesTally old new r found = (ms : List MemberRow) (books : List BookRow) → AreCounted ms books old →
-    TalliesOne ms books new r found
+DoesTally old new r found = (ms : List MemberRow) (books : List BookRow) →
+    HaveDistinctIds books → AreCounted ms books old → TalliesOne ms books new r found
 
 -- The same for several members: whether all are good.
 abbrev pub TallyAll : List BookTally → List BookTally → List Row → Bool → Type 0
-TallyAll old new rows good = (books : List BookRow) → AreCounted [] books old →
-    (IsTrue good ↔ AllByRecursion (IsGoodMember books) rows)
+TallyAll old new rows good = (books : List BookRow) → HaveDistinctIds books →
+    AreCounted [] books old → (IsTrue good ↔ AllByRecursion (IsGoodMember books) rows)
     × (IsTrue good → AreCounted (map load_member rows) books new)

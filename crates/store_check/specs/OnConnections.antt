@@ -1,5 +1,5 @@
 -- Definitions over connections, for contracts, as in `store_tables`. This project's own.
-use Rattle.std.specs.Prelude.{◌≡◌, List, Option, Result, Vec, IsTrue}
+use Rattle.std.specs.Prelude.{◌≡◌, List, Option, Result, Vec, IsTrue, map}
 use Rattle.std.specs.declared.alloc.Global.{Global}
 use Rattle.sqlite.specs.Held.{Held, state}
 use Rattle.sqlite.specs.Order.{Row}
@@ -14,6 +14,8 @@ use Rattle.store_check.specs.declared.faults.FaultyRow.{FaultyRow}
 use Rattle.store_check.specs.FaultSearches as searches
 use Rattle.store_check.specs.ListedRows as listed
 use Rattle.store_check.specs.MemberScans as scans
+use Rattle.store_check.specs.MemberTallies.{HaveDistinctIds}
+use Rattle.store_check.specs.RowChecks.{decode_book}
 use Rattle.store_check.specs.OpenResults as results
 use Rattle.store_check.specs.TombstoneCounts as counts
 
@@ -28,7 +30,8 @@ module _ {S : Type 0} (store : Ghosts S) (conn : Held S) where
 
   abbrev pub TestsMembers : Bounds → List Row → List Row
       → Result (Vec BookTally Global) FaultyRow → Type 0
-  TestsMembers = scans.TestedMembers ((state store conn).now.trees 4)
+  TestsMembers limits books keeps found = HaveDistinctIds (map decode_book books) →
+      scans.TestedMembers ((state store conn).now.trees 4) limits books keeps found
 
   abbrev pub IsOpenResult : Bounds → Result (Unit {0}) OpenFault → Type 0
   IsOpenResult limits = results.IsOpenResult limits (state store conn).now

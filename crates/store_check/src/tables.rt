@@ -1,6 +1,7 @@
 //! Checks the rows of all four tables together.
 ghost use Rattle.store_check.specs.RowChecks.{AreWellStored, IsBookRow, IsImportRow, IsKeepRow};
 ghost use Rattle.store_check.specs.RowChecks.{AreValidImports, decode_book, decode_keep};
+ghost use Rattle.store_check.specs.MemberTallies.{HaveDistinctIds};
 ghost use Rattle.store_check.specs.StoredTests.{HaveMemberKeys, PassBookTests, PassMemberTests};
 ghost use Rattle.store_rows.specs.SoundTables.{HasBookId};
 ghost use Rattle.store_rows.specs.TableRows.{load_import};
@@ -95,8 +96,8 @@ fn pass_member_tests(
     members: &[Row],
     keeps: &[Row],
 ) -> Result<bool, NoMemory>
-    ensures { IfOk result
-        (λ yes. IsTrue yes ↔ PassMemberTests limits books.now members.now keeps.now) }
+    ensures { IfOk result (λ yes. HaveDistinctIds (map decode_book books.now)
+        → IsTrue yes ↔ PassMemberTests limits books.now members.now keeps.now) }
 {
     let mut tallies = start_tallies(alloc, books)?;
     if !tally_members(alloc, tallies.as_mut_slice(), members)? {

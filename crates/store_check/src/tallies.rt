@@ -1,14 +1,11 @@
 //! Tests the members one at a time, and counts those of each book.
-ghost use Rattle.store_check.specs.MemberTallies.{AreCounted, DoesTally, TallyAll, counted};
-ghost use Rattle.store_check.specs.MemberTallies.{has_book, one_more, tally_of};
+ghost use Rattle.store_check.specs.MemberTallies.{AreCounted, DoesTally, FindsTally, IsTallyAt};
+ghost use Rattle.store_check.specs.MemberTallies.{TallyAll, counted, one_more, tally_of};
 ghost use Rattle.store_check.specs.RowChecks.{decode_book, int_cell};
-ghost use Rattle.store_check.specs.RowFaults.{JudgesMember};
 ghost use Rattle.store_rows.specs.TableRows.{load_member};
-ghost use Rattle.store_tables.specs.Books.{BookRow};
-ghost use Rattle.store_tables.specs.Members.{MemberRow};
-ghost use Rattle.std.specs.Prelude.{[], ◌≡◌, ◌↔◌, IfOk, IsTrue, List, OnOk, find, map};
+ghost use Rattle.std.specs.Prelude.{[], ◌≡◌, IfOk, IfSome, map};
 
-use crate::cells::{natural_at, number_at, text_at, text_if_any_at};
+use crate::cells::{natural_at, natural_of, number_at, text_if_any_at};
 use crate::faults::MemberFault;
 use crate::members::{fault_in_book, is_member_row};
 use sqlite::Row;
@@ -53,16 +50,41 @@ pub(crate) fn start_tallies(alloc: Global, books: &[Row]) -> Result<Vec<BookTall
     Ok(tallies)
 }
 
-/// The first book with this id.
-fn tally_with_id(tallies: &[BookTally], id: i64) -> Option<BookTally>
-    ensures { result ≡ find (has_book id) tallies.now }
+/// The tally at this place, if it is of the book with this id.
+fn tally_at(tallies: &[BookTally], place: usize, id: i64) -> Option<BookTally>
+    ensures { IfSome result (λ tally. IsTallyAt tallies.now place id tally) }
 {
-    for tally in tallies {
+    match tallies.get(place) {
+        Some(tally) => if tally.id == id { Some(*tally) } else { None },
+        None => None,
+    }
+}
+
+/// The first tally of the book with this id, and its place.
+fn search_tally(tallies: &[BookTally], id: i64) -> Option<(usize, BookTally)>
+    ensures { FindsTally id tallies.now result }
+{
+    for place in 0..tallies.len() {
+        let tally = tallies[place];
         if tally.id == id {
-            return Some(*tally);
+            return Some((place, tally));
         }
     }
     None
+}
+
+/// The tally of the book with this id, and its place. Books have the ids 1, 2 and so on, and SQLite
+/// lists them in this order, so it mostly stands at the place before its id.
+fn find_tally(tallies: &[BookTally], id: i64) -> Option<(usize, BookTally)>
+    ensures { FindsTally id tallies.now result }
+{
+    if let Some(before) = natural_of(id).checked_sub(1) {
+        let place = before as usize;
+        if let Some(tally) = tally_at(tallies, place, id) {
+            return Some((place, tally));
+        }
+    }
+    search_tally(tallies, id)
 }
 
 /// The count, with one more if `counts`. No table has as many rows as the greatest count.
@@ -78,14 +100,11 @@ fn count_more(count: u64, counts: bool) -> Result<u64, NoMemory>
     }
 }
 
-/// The tally, with the member counted if it is one of the book.
-fn count_in(tally: BookTally, book: i64, member: &Row) -> Result<BookTally, NoMemory>
-    requires { book ≡ int_cell 1 member.now }
+/// The tally, with one more member of the book counted.
+fn count_in(tally: BookTally, member: &Row) -> Result<BookTally, NoMemory>
+    requires { tally.id ≡ int_cell 1 member.now }
     ensures { IfOk result (λ next. next ≡ counted (load_member member.now) tally) }
 {
-    if book != tally.id {
-        return Ok(tally);
-    }
     let is_live = text_if_any_at(member, 4).is_some();
     let is_kept = !is_live && tally.horizon < number_at(member, 3);
     let live = count_more(tally.live, is_live)?;
@@ -97,32 +116,6 @@ fn count_in(tally: BookTally, book: i64, member: &Row) -> Result<BookTally, NoMe
         live,
         removed,
     })
-}
-
-/// Counts the member in its book.
-fn count_member(tallies: &mut [BookTally], member: &Row) -> Result<(), NoMemory>
-    ensures { OnOk result (tallies.new ≡ map (counted (load_member member.now)) tallies.old) }
-{
-    let book = number_at(member, 1);
-    for place in 0..tallies.len() {
-        tallies[place] = count_in(tallies[place], book, member)?;
-    }
-    Ok(())
-}
-
-/// What is wrong with the member in its book, if anything is.
-fn fault_in_its_book(
-    alloc: Global,
-    member: &Row,
-    tallies: &[BookTally],
-) -> Result<Option<MemberFault>, NoMemory>
-    ensures { IfOk result (λ fault. (ms : List MemberRow) (books : List BookRow)
-        → AreCounted ms books tallies.now → JudgesMember books member.now fault) }
-{
-    match tally_with_id(tallies, number_at(member, 1)) {
-        Some(tally) => fault_in_book(alloc, member, tally.number, tally.horizon),
-        None => Ok(Some(MemberFault::NoBook)),
-    }
 }
 
 /// Tests the member against its book, and counts it there. Returns what is wrong with it, if
@@ -137,10 +130,13 @@ pub(crate) fn tally_member(
     if !is_member_row(member) {
         return Ok(Some(MemberFault::Columns));
     }
-    if let Some(fault) = fault_in_its_book(alloc, member, tallies)? {
+    let Some((place, tally)) = find_tally(tallies, number_at(member, 1)) else {
+        return Ok(Some(MemberFault::NoBook));
+    };
+    if let Some(fault) = fault_in_book(alloc, member, tally.number, tally.horizon)? {
         return Ok(Some(fault));
     }
-    count_member(tallies, member)?;
+    tallies[place] = count_in(tally, member)?;
     Ok(None)
 }
 

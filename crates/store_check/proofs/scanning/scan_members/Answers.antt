@@ -59,7 +59,7 @@ returns-in-Some-2-clause-reads_only g c =
     search rules
 
 pub returns-in_default-clause-scans : goal.returns-in_default-clause-scans
-returns-in_default-clause-scans g c clean has start =
+returns-in_default-clause-scans g c clean has distinct start =
     let moved = c.next.follows.holds-at-none in
     let mid = state g.S.Store c.rows.rows.conn.now in
     let new = state g.S.Store c.next.follows.lender-at-none.conn.now in
@@ -68,10 +68,10 @@ returns-in_default-clause-scans g c clean has start =
     let shown = (rw (c.in_ok-row.was, c.in_default.is) at (moved.ok late)) all_members_text [] was.0 was.1 in
     let listed = all_listed mid new was.0 (ap (λ (d : Database). d.schema) was.2.0.now_is ∙ has) shown in
     scanned_all ((state g.S.Store c.args.conn.now).now.trees 4) c.args.books.now c.args.tallies.now c.rows.tallies c.rows.last was.0 was.3
-    (subst (λ (d : Database). IsPermutation (map member_cells (d.trees 4)) was.0) was.2.0.now_is listed) start
+    (subst (λ (d : Database). IsPermutation (map member_cells (d.trees 4)) was.0) was.2.0.now_is listed) distinct start
 
 pub returns-in-Some-2-clause-scans : goal.returns-in-Some-2-clause-scans
-returns-in-Some-2-clause-scans g c clean has start =
+returns-in-Some-2-clause-scans g c clean has distinct start =
     let moved = c.next.follows.holds-at-none in
     let old = state g.S.Store c.args.conn.now in
     let mid = state g.S.Store c.rows.rows.conn.now in
@@ -86,7 +86,7 @@ returns-in-Some-2-clause-scans g c clean has start =
     let got = first_listed new rows (ap (λ (d : Database). d.schema) now_is ∙ has) begins in
     let step = subst (DoesTake c.args.books.now c.rows.tallies c.take_member.new.tallies c.rows.last c.take_member.new.last c.in-Some.row.now) c.in-Some-2.is c.in_ok-faulty.ensures in
     scanned_part (old.now.trees 4) c.args.books.now c.args.tallies.now c.rows.tallies c.take_member.new.tallies c.rows.last c.take_member.new.last was.0 c.in-Some.row.now c.in-Some-2.faulty got.0 was.3 step
-    (subst (λ (d : Database). IsPermutation (map member_cells (d.trees 4)) (rows ++ got.0)) now_is got.1) start
+    (subst (λ (d : Database). IsPermutation (map member_cells (d.trees 4)) (rows ++ got.0)) now_is got.1) distinct start
 
 pub rows-preserved : goal.rows-preserved
 rows-preserved g c =

@@ -1,6 +1,8 @@
-use Rattle.std.proofs.Common.{rules, ◌≡◌, true, false}
+use Rattle.std.proofs.Common.{rules, ◌≡◌, true, false, map}
 use Rattle.std.proofs.lemmas.Result.{IfOk-weaker}
+use Rattle.store_check.specs.RowChecks.{decode_book}
 use Rattle.store_check.specs.StoredTests.{HaveMemberKeys, PassBookTests}
+use Rattle.store_check.proofs.TallyLemmas.{distinct_ids}
 use Rattle.store_check.proofs.TestedLemmas.{fails_one, last_decides}
 use Rattle.store_check.proofs.tables.are_well_stored.Goals as goal
 
@@ -20,4 +22,5 @@ pub returns : goal.returns
 returns c =
     let own : c.in_ok-pass_book_tests.field-0 ≡ true = search rules in
     let keys : c.in_ok-have_all_member_keys.field-0 ≡ true = search rules in
-    IfOk-weaker c.pass_member_tests.result _ _ (λ yes h. last_decides c.args.limits c.args.books.now c.args.members.now c.args.imports.now c.args.keeps.now yes (c.in_ok-pass_book_tests.ensures.0 own) (c.in_ok-have_all_member_keys.ensures.0 keys) h) c.pass_member_tests.ensures
+    let passed = c.in_ok-pass_book_tests.ensures.0 own in
+    IfOk-weaker c.pass_member_tests.result _ _ (λ yes h. last_decides c.args.limits c.args.books.now c.args.members.now c.args.imports.now c.args.keeps.now yes passed (c.in_ok-have_all_member_keys.ensures.0 keys) (h (distinct_ids (map decode_book c.args.books.now) passed.book_keys))) c.pass_member_tests.ensures
