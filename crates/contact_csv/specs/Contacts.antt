@@ -1,6 +1,8 @@
 -- The contact of a row, and a reader of the rows of a file. This project's own.
-use Rattle.std.specs.Prelude.{ℕ, ◌≡◌, ◌<◌, List, [], length, get_or}
-use Rattle.csv.specs.Reading.{Ready, reader_trim}
+use Rattle.std.specs.Prelude.{ℕ, ◌≡◌, ◌<◌, Bool, List, [], Option, length, get_or, option_map}
+use Rattle.csv.specs.Reading.{Ready, ReadRecord, reader_config, reader_state, reader_trim}
+use Rattle.csv.specs.Reading.{source_of, strip_bom}
+use Rattle.csv.specs.declared.parser.State.TheVariants as st
 use Rattle.csv.specs.declared.reader.Reader.{Reader}
 use Rattle.csv.specs.declared.reader.Trim.TheVariants as trim
 use Rattle.vcard_lines.specs.declared.fault.CardFault.{CardFault}
@@ -38,6 +40,20 @@ rows_of reader = reader.rows
 -- the columns that the header names
 abbrev pub columns_of : {R : Type 0} → ContactReader R → List Column
 columns_of reader = reader.columns.columns
+
+-- the octet between fields
+abbrev pub delimiter_of : {R : Type 0} → ContactReader R → ℕ
+delimiter_of reader = (reader_config (rows_of reader)).delimiter
+
+-- The reader has read one record of the source, after a byte order mark, and goes on after it.
+pub record HasReadHeader {R : Type 0} (remaining : R → Option (List ℕ)) (source : R)
+    (reader : ContactReader R) : Type 0 where
+  pub start : Reader R
+  pub source_is : source_of remaining start ≡ option_map strip_bom (remaining source)
+  pub state : reader_state start ≡ st.StartRecord
+  pub found : Bool
+  pub fields : List (List ℕ)
+  pub took : ReadRecord remaining start (rows_of reader) found fields
 
 -- The reader takes the fields of the next record as they are.
 pub record IsReady {R : Type 0} (reader : ContactReader R) : Type 0 where

@@ -1,7 +1,7 @@
 //! Makes lines and their parameters.
 ghost use Rattle.std.specs.Prelude.{◌≡◌, ◌++◌, IfOk, OnOk, string_bytes};
 ghost use Rattle.std.specs.Str.{encode_utf8_all};
-ghost use Rattle.vcard_import.specs.Conversions.{plain_line};
+ghost use Rattle.contact_csv.specs.Lines.{plain_line};
 ghost use Rattle.contact_csv.specs.Carrying.{caret_char, caret_text};
 
 use std::alloc::Global;

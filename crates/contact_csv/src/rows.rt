@@ -1,8 +1,9 @@
 //! `ContactReader`: reads the contacts of a file one by one.
-ghost use Rattle.std.specs.Prelude.{◌≡◌, ℕ, List, IfOk, IfSome, IfNone, false};
-ghost use Rattle.csv.specs.Reading.{ReadRecord, TookRecord};
+ghost use Rattle.std.specs.Prelude.{◌≡◌, ℕ, List, IfOk, IfSome, IfNone, true, false};
+ghost use Rattle.csv.specs.Reading.{ReadRecord};
 ghost use Rattle.csv.specs.Records.{fields_of};
-ghost use Rattle.contact_csv.specs.Contacts.{IsContact, IsReady, rows_of, columns_of};
+ghost use Rattle.contact_csv.specs.Contacts.{IsContact, IsReady, HasReadHeader};
+ghost use Rattle.contact_csv.specs.Contacts.{rows_of, columns_of, delimiter_of};
 
 use crate::columns::{ContactColumns, read_columns};
 use crate::conversion::convert_row;
@@ -32,8 +33,16 @@ fn fault_of(error: Error) -> ContactFault {
 impl<R: Read + Drop> ContactReader<R> {
     /// Reads the header of a file whose fields have the delimiter between them (see
     /// `delimiter_of`).
+    ///
+    /// An `Err` is `UnknownHeader` if `read_columns` knows no columns in the first row,
+    /// `Unreadable` if the source fails, or `Memory`.
     pub fn new(alloc: Global, source: R, delimiter: u8) -> Result<ContactReader<R>, ContactFault>
-        ensures { IfOk result (λ reader. IsReady reader) }
+        // The reader has read the first record, and goes on after it.
+        ensures header { IfOk result (λ reader. HasReadHeader R.remaining source reader) }
+
+        // It takes the fields of each record as they are, with the delimiter between them.
+        ensures ready { IfOk result (λ reader. IsReady reader) }
+        ensures delimiter { IfOk result (λ reader. delimiter_of reader ≡ delimiter) }
     {
         let mut rows = ReaderBuilder::new()
             .has_headers(false)
@@ -91,8 +100,8 @@ impl<R: Read + Drop> ContactReader<R> {
 
     /// The card of the next row, or its fault; `None` after the last row.
     ///
-    /// An `Err` is `Unreadable` if the source fails, or `Memory`. After an `Err` there are no more
-    /// rows.
+    /// An `Err` is `Unreadable` if the source fails, or `Memory`. After `Unreadable` there are no
+    /// more rows.
     pub fn read_contact(
         &mut self,
         alloc: Global,
@@ -100,14 +109,15 @@ impl<R: Read + Drop> ContactReader<R> {
         // The contact is that of the next record of the source.
         ensures contact { IfOk result (λ read. IfSome read (λ row. IfOk row (λ made.
             IsReady self.old → (fields : List (List ℕ))
-            × TookRecord R.remaining (rows_of self.old) (rows_of self.new) fields
+            × ReadRecord R.remaining (rows_of self.old) (rows_of self.new) true fields
             × IsContact (columns_of self.old) fields made.card made.changes))) }
 
         // `None` comes only after the last record.
         ensures end { IfOk result (λ read. IfNone read (IsReady self.old → (fields : List (List ℕ))
             × ReadRecord R.remaining (rows_of self.old) (rows_of self.new) false fields)) }
 
-        // The reader goes on with the record after it.
+        // The columns stay. The reader goes on with the record after it.
+        ensures columns { columns_of self.new ≡ columns_of self.old }
         ensures ready { IfOk result (λ _. IsReady self.old → IsReady self.new) }
     {
         if !self.read_row()? {

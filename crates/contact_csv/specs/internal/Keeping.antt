@@ -3,7 +3,7 @@ use Rattle.std.specs.Prelude.{ℕ, ◌≡◌, ◌<◌, List, [], ◌∷◌, ◌+
 use Rattle.vcard_lines.specs.declared.line.Line.{Line}
 use Rattle.vcard_values.specs.TextValues.{escaped_value}
 use Rattle.vcard_text.specs.Making.{upper_line, upper_lines}
-use Rattle.vcard_import.specs.Conversions.{plain_line}
+use Rattle.contact_csv.specs.Lines.{plain_line}
 use Rattle.vcard_import.specs.declared.change.Change.{Change}
 use Rattle.vcard_import.specs.declared.change.ChangeKind.TheVariants.{KeptAside}
 use Rattle.contact_csv.specs.Carrying.{IsCarried, IsAsideName, change, property_at}
