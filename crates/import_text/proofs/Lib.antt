@@ -1,6 +1,6 @@
 pub mod EscapeLemmas
 pub mod HeadLemmas
-pub mod LatinLemmas
+pub mod WindowsLemmas
 pub mod RawLineLemmas
 pub mod SplitLemmas
 pub mod UnitLemmas

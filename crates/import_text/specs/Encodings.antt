@@ -1,7 +1,23 @@
--- The text of octets whose encoding isn't known. This project's own.
-use Rattle.std.specs.Prelude.{ℕ, List, if◌then◌else◌}
+-- The text of octets whose encoding isn't known. This project's own, but for the characters of
+-- Windows-1252 (the registry of character sets of IANA).
+use Rattle.std.specs.Prelude.{ℕ, ◌-◌, List, [], ◌∷◌, map, get_or, nat_lt, if◌then◌else◌}
 use Rattle.std.specs.Str.{is_utf8, encode_utf8_all}
 
--- octets that are UTF-8 are the text; any others are Latin-1, in which each octet is a character
+-- the characters of the octets 128 to 159; an octet without one is the character of its number
+abbrev pub windows_chars : List ℕ
+windows_chars =
+    8364 ∷ 129 ∷ 8218 ∷ 402 ∷ 8222 ∷ 8230 ∷ 8224 ∷ 8225
+    ∷ 710 ∷ 8240 ∷ 352 ∷ 8249 ∷ 338 ∷ 141 ∷ 381 ∷ 143
+    ∷ 144 ∷ 8216 ∷ 8217 ∷ 8220 ∷ 8221 ∷ 8226 ∷ 8211 ∷ 8212
+    ∷ 732 ∷ 8482 ∷ 353 ∷ 8250 ∷ 339 ∷ 157 ∷ 382 ∷ 376 ∷ []
+
+-- The character of an octet in Windows-1252. But for those above it is the character of its number,
+-- as in Latin-1.
+abbrev pub windows_char : ℕ → ℕ
+windows_char octet =
+    if nat_lt octet 128 then octet else get_or windows_chars (octet - 128) octet
+
+-- octets that are UTF-8 are the text; any others are Windows-1252
 abbrev pub text_of : List ℕ → List ℕ
-text_of octets = if is_utf8 octets then octets else encode_utf8_all octets
+text_of octets =
+    if is_utf8 octets then octets else encode_utf8_all (map windows_char octets)

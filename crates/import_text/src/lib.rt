@@ -11,7 +11,7 @@ mod raw_line;
 mod utf16;
 mod words;
 
-pub use encodings::{read_latin1, read_text};
+pub use encodings::{read_text, read_windows1252};
 pub use lines::{Folding, read_raw_lines};
 pub use pieces::{count_lines, is_card, is_line, split_piece};
 pub use quoted_printable::read_quoted_printable;

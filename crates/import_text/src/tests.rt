@@ -1,8 +1,8 @@
 //! Texts and lines from outside this program: the examples of RFC 2045, RFC 2781 and RFC 6350, and
 //! cards as telephones write them, joined by hand.
 use crate::{
-    Folding, begins_with_word, count_lines, is_card, is_line, read_latin1, read_quoted_printable,
-    read_raw_lines, read_text, read_utf16, split_piece,
+    Folding, begins_with_word, count_lines, is_card, is_line, read_quoted_printable,
+    read_raw_lines, read_text, read_utf16, read_windows1252, split_piece,
 };
 use base_types::NoMemory;
 use std::alloc::Global;
@@ -11,7 +11,10 @@ use std::test::Fail;
 #[test]
 fn octets_become_text(rt: HostRuntime) -> Result<(), Fail> {
     let alloc = rt.alloc();
-    assert_eq!(rt; read_latin1(alloc, b"J\xFCrgen")?.as_str(), "J\u{FC}rgen");
+    assert_eq!(rt;
+        read_windows1252(alloc, b"J\xFCrgen \x80")?.as_str(),
+        "J\u{FC}rgen \u{20AC}"
+    );
     assert_eq!(rt; read_text(alloc, b"J\xC3\xBCrgen")?.as_str(), "J\u{FC}rgen");
     assert_eq!(rt; read_text(alloc, b"J\xFCrgen")?.as_str(), "J\u{FC}rgen");
     Ok(())

@@ -9,7 +9,7 @@ use crate::names::aside_name;
 use crate::params::all_params;
 use crate::property::{Encoding, Property};
 use crate::version::Version;
-use import_text::{read_latin1, read_quoted_printable, read_text};
+use import_text::{read_quoted_printable, read_text, read_windows1252};
 use std::alloc::Global;
 use std::mem;
 use vcard_text::{Items, Line, NoMemory, Param, ParamValue, Part, Text, unescape};
@@ -17,7 +17,7 @@ use vcard_text::{Items, Line, NoMemory, Param, ParamValue, Part, Text, unescape}
 /// The text of a value's octets.
 fn text_in(alloc: Global, octets: &[u8], is_latin1: bool) -> Result<String, NoMemory> {
     if is_latin1 {
-        read_latin1(alloc, octets)
+        read_windows1252(alloc, octets)
     } else {
         read_text(alloc, octets)
     }
