@@ -1,0 +1,3 @@
+pub mod ProperLemmas
+pub mod SameLemmas
+pub mod ControlLemmas

@@ -1,0 +1,82 @@
+//! Converts one logical line.
+ghost use Rattle.std.specs.Prelude.{◌≡◌, true, IfOk, IfSome};
+ghost use Rattle.vcard_lines.specs.declared.line.Line.{Line};
+ghost use Rattle.vcard_text.specs.Cards.{IsProperLine};
+ghost use Rattle.vcard_property.specs.Kinds.{fits_kind};
+ghost use Rattle.vcard_property.specs.SameLines.{AreLine, is_same_in};
+
+use crate::change_kind::ChangeKind;
+use crate::kept_texts::text_line;
+use crate::proper_line::proper_line;
+use crate::property::read_property;
+use crate::property_line::line_of;
+use crate::same_line::read_same_line;
+use crate::version::Version;
+use import_text::read_text;
+use std::alloc::Global;
+use vcard_text::{Line, NoMemory};
+
+/// What became of a line of one name that now has the other.
+fn kind_of(old: &str, new: &str) -> ChangeKind
+    ensures { fits_kind result new.now ≡ true }
+{
+    if old == new {
+        ChangeKind::Rewritten
+    } else if new.starts_with("X-") {
+        ChangeKind::KeptAside
+    } else {
+        ChangeKind::Renamed
+    }
+}
+
+/// The proper line that the text becomes as a property, and what became of it. `None` if the text
+/// is no property, or its line isn't proper.
+fn property_line(
+    alloc: Global,
+    text: &str,
+    version: Version,
+) -> Result<Option<(Line, ChangeKind)>, NoMemory>
+    ensures { IfOk result (λ made. IfSome made (λ line.
+        IsProperLine line.0 × (fits_kind line.1 line.0.name ≡ true))) }
+{
+    let Some(property) = read_property(alloc, text)? else {
+        return Ok(None);
+    };
+    let name = property.name.try_copy()?;
+    let line = line_of(alloc, property, version)?;
+    let Some(line) = proper_line(alloc, line)? else {
+        return Ok(None);
+    };
+    let kind = kind_of(name.as_str(), line.name.as_str());
+    Ok(Some((line, kind)))
+}
+
+/// Converts a logical line of a card of that version to a line of vCard 4.0, and tells what became
+/// of it. A line that is no property is kept as a text in X-UNREADABLE. The only `Err` is out of
+/// memory.
+pub fn convert_line(
+    alloc: Global,
+    octets: &[u8],
+    version: Version,
+) -> Result<(Line, ChangeKind), NoMemory>
+    // The line's name is in upper case, and its parts match the grammar.
+    ensures proper { IfOk result (λ made. IsProperLine made.0) }
+
+    // A line that was kept aside has a name that begins with X-, and one that couldn't be read is
+    // named X-UNREADABLE. No line was added.
+    ensures kind { IfOk result (λ made. fits_kind made.1 made.0.name ≡ true) }
+
+    // A line that the version writes as vCard 4.0 does stays as it is.
+    ensures stays { (line : Line) → AreLine octets.now line → is_same_in version line ≡ true
+        → IfOk result (λ made. made.0 ≡ line) }
+{
+    if let Some(line) = read_same_line(alloc, octets, version)? {
+        return Ok((line, ChangeKind::Rewritten));
+    }
+    let text = read_text(alloc, octets)?;
+    if let Some(made) = property_line(alloc, text.as_str(), version)? {
+        return Ok(made);
+    }
+    let line = text_line(alloc, "X-UNREADABLE", text.as_str())?;
+    Ok((line, ChangeKind::Unreadable))
+}

@@ -1,0 +1,26 @@
+//! Converts one property line of vCard 2.1, 3.0 or 4.0 to a line of vCard 4.0 (RFC 6350): its name,
+//! its parameters, its encoding and its value.
+#![tactic(auto)]
+
+mod binary;
+mod change_kind;
+mod conversion;
+mod dates;
+mod escapes;
+mod head;
+mod kept_texts;
+mod line_parts;
+mod names;
+mod params;
+mod proper_line;
+mod property;
+mod property_line;
+mod same_line;
+mod version;
+
+pub use change_kind::ChangeKind;
+pub use conversion::convert_line;
+pub use kept_texts::{text_line, text_value};
+pub use proper_line::{aside_line, plain_line};
+pub use same_line::{are_line, read_uid_line};
+pub use version::Version;

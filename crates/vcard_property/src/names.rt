@@ -1,0 +1,41 @@
+//! Makes names of groups, properties and parameters legal (RFC 6350, section 3.3).
+ghost use Rattle.std.specs.Prelude.{◌≡◌, ◌++◌, IfOk, codes};
+
+use std::alloc::Global;
+use vcard_text::{NoMemory, Text};
+
+fn legal_char(c: char) -> char {
+    if c.is_ascii_alphanumeric() { c } else { '-' }
+}
+
+/// The name without white space around it, each character that no name may have as a hyphen.
+/// `None` if it is empty.
+pub(crate) fn legal_name(alloc: Global, name: &str) -> Result<Option<Text>, NoMemory> {
+    let mut legal = String::new(alloc);
+    for c in name.trim().chars() {
+        legal.push(legal_char(c))?;
+    }
+    if legal.is_empty() {
+        return Ok(None);
+    }
+    Ok(Some(Text::new(legal)))
+}
+
+/// The same in upper case.
+pub(crate) fn upper_name(alloc: Global, name: &str) -> Result<Option<Text>, NoMemory> {
+    let Some(name) = legal_name(alloc, name)? else {
+        return Ok(None);
+    };
+    let mut name = name.into_string();
+    name.make_ascii_uppercase();
+    Ok(Some(Text::new(name)))
+}
+
+/// The name with X- before it.
+pub(crate) fn aside_name(alloc: Global, name: &str) -> Result<Text, NoMemory>
+    ensures { IfOk result (λ aside. aside ≡ codes "X-" ++ name.now) }
+{
+    let mut aside = String::from_str(alloc, "X-")?;
+    aside.push_str(name)?;
+    Ok(Text::new(aside))
+}

@@ -1,0 +1,205 @@
+//! Reads the parameters of a property of any version.
+
+use crate::head::split_parts;
+use crate::line_parts::make_value;
+use crate::names::legal_name;
+use crate::property::{Encoding, Property};
+use std::alloc::Global;
+use vcard_text::{Items, NoMemory, Param, ParamValue, Text};
+
+fn is_word(text: &str, word: &str) -> bool {
+    text.eq_ignore_ascii_case(word)
+}
+
+/// The encoding that a word names. `None` if it names none; the text is then no encoding.
+fn encoding_of(word: &str) -> Option<Encoding> {
+    if is_word(word, "QUOTED-PRINTABLE") {
+        Some(Encoding::QuotedPrintable)
+    } else if is_word(word, "BASE64") || is_word(word, "B") {
+        Some(Encoding::Base64)
+    } else if is_word(word, "8BIT") || is_word(word, "7BIT") {
+        Some(Encoding::Plain)
+    } else {
+        None
+    }
+}
+
+/// Whether CHARSET names Latin-1 or its extension by Windows.
+fn is_windows1252(charset: &str) -> bool {
+    is_word(charset, "ISO-8859-1")
+        || is_word(charset, "WINDOWS-1252")
+        || is_word(charset, "LATIN1")
+        || is_word(charset, "CP1252")
+}
+
+/// Whether CHARSET names UTF-8 or a part of it.
+fn is_utf8(charset: &str) -> bool {
+    is_word(charset, "UTF-8") || is_word(charset, "UTF8") || is_word(charset, "US-ASCII")
+}
+
+/// Reads CHARSET. One that isn't known is kept as a parameter.
+fn read_charset(alloc: Global, property: &mut Property, charset: &str) -> Result<(), NoMemory> {
+    property.is_windows1252 = is_windows1252(charset);
+    if property.is_windows1252 || is_utf8(charset) {
+        return Ok(());
+    }
+    add_param(alloc, property, "X-CHARSET", charset)
+}
+
+/// Adds a value of TYPE.
+fn add_type(alloc: Global, property: &mut Property, word: &str) -> Result<(), NoMemory> {
+    let word = word.trim();
+    if is_word(word, "PREF") {
+        property.is_preferred = true;
+        return Ok(());
+    }
+    if word.is_empty() {
+        return Ok(());
+    }
+    let word = word.to_ascii_lowercase(alloc)?;
+    property
+        .types
+        .push(make_value(alloc, word.as_str(), false)?)?;
+    Ok(())
+}
+
+/// Adds the values of TYPE, which commas separate, also within quotes.
+fn add_types(alloc: Global, property: &mut Property, words: &str) -> Result<(), NoMemory> {
+    for word in words.split(',') {
+        add_type(alloc, property, word.trim_matches('"'))?;
+    }
+    Ok(())
+}
+
+/// A value without its quotes, if it has them.
+fn read_value(alloc: Global, part: &str) -> Result<ParamValue, NoMemory> {
+    match part.strip_prefix('"') {
+        Some(inside) => make_value(alloc, inside.trim_end_matches('"'), true),
+        None => make_value(alloc, part, false),
+    }
+}
+
+/// The values of a parameter.
+fn read_values(alloc: Global, text: &str) -> Result<Items<ParamValue>, NoMemory> {
+    let mut values = Items::new(alloc);
+    let parts = split_parts(alloc, text, b',')?;
+    for part in &parts {
+        values.push(read_value(alloc, *part)?)?;
+    }
+    Ok(values)
+}
+
+/// Adds a parameter that vCard 4.0 has too, or that it doesn't know.
+fn add_param(
+    alloc: Global,
+    property: &mut Property,
+    name: &str,
+    text: &str,
+) -> Result<(), NoMemory> {
+    let Some(name) = legal_name(alloc, name)? else {
+        return Ok(());
+    };
+    let values = read_values(alloc, text)?;
+    property.params.push(Param { name, values })?;
+    Ok(())
+}
+
+/// Adds VALUE. `URL` is the old word for `uri`, and `binary` says what the encoding says.
+fn add_value_type(alloc: Global, property: &mut Property, word: &str) -> Result<(), NoMemory> {
+    if is_word(word, "URL") || is_word(word, "URI") {
+        property.is_uri = true;
+        return add_param(alloc, property, "VALUE", "uri");
+    }
+    if is_word(word, "BINARY") || is_word(word, "INLINE") {
+        return Ok(());
+    }
+    add_param(alloc, property, "VALUE", word)
+}
+
+/// Reads a parameter without a name, as vCard 2.1 has them.
+fn read_bare(alloc: Global, property: &mut Property, word: &str) -> Result<(), NoMemory> {
+    if let Some(encoding) = encoding_of(word) {
+        property.encoding = encoding;
+        return Ok(());
+    }
+    if is_word(word, "URL") || is_word(word, "INLINE") {
+        return add_value_type(alloc, property, word);
+    }
+    add_types(alloc, property, word)
+}
+
+fn read_named(
+    alloc: Global,
+    property: &mut Property,
+    name: &str,
+    text: &str,
+) -> Result<(), NoMemory> {
+    if is_word(name, "ENCODING") {
+        property.encoding = encoding_of(text.trim_matches('"')).unwrap_or(Encoding::Plain);
+        return Ok(());
+    }
+    if is_word(name, "CHARSET") {
+        return read_charset(alloc, property, text.trim_matches('"'));
+    }
+    if is_word(name, "TYPE") {
+        return add_types(alloc, property, text);
+    }
+    if is_word(name, "VALUE") {
+        return add_value_type(alloc, property, text.trim_matches('"'));
+    }
+    add_param(alloc, property, name, text)
+}
+
+/// Reads one parameter.
+pub(crate) fn read_param(
+    alloc: Global,
+    property: &mut Property,
+    part: &str,
+) -> Result<(), NoMemory> {
+    match part.split_once('=') {
+        Some((name, text)) => read_named(alloc, property, name.trim(), text.trim()),
+        None => read_bare(alloc, property, part),
+    }
+}
+
+/// The parameter PREF of vCard 4.0 if the property is preferred.
+fn push_pref(alloc: Global, params: &mut Items<Param>, is_preferred: bool) -> Result<(), NoMemory> {
+    if !is_preferred {
+        return Ok(());
+    }
+    params.push(crate::line_parts::make_param(alloc, "PREF", "1")?)?;
+    Ok(())
+}
+
+/// The parameter TYPE, if there are values for it.
+fn push_types(
+    alloc: Global,
+    params: &mut Items<Param>,
+    types: Items<ParamValue>,
+) -> Result<(), NoMemory> {
+    if types.is_empty() {
+        return Ok(());
+    }
+    let name = Text::copy_of(alloc, "TYPE")?;
+    params.push(Param {
+        name,
+        values: types,
+    })?;
+    Ok(())
+}
+
+/// All parameters in the form of vCard 4.0: TYPE, PREF and the others in order.
+pub(crate) fn all_params(
+    alloc: Global,
+    types: Items<ParamValue>,
+    is_preferred: bool,
+    others: Items<Param>,
+) -> Result<Items<Param>, NoMemory> {
+    let mut params = Items::new(alloc);
+    push_types(alloc, &mut params, types)?;
+    push_pref(alloc, &mut params, is_preferred)?;
+    for param in others.into_vec() {
+        params.push(param)?;
+    }
+    Ok(params)
+}

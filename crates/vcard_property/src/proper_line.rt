@@ -1,0 +1,85 @@
+//! Lines that are proper by themselves: their names are in upper case, and their parts match the
+//! grammar (RFC 6350, section 3.3).
+ghost use Rattle.std.specs.Prelude.{◌≡◌, IfOk, IfSome, string_bytes};
+ghost use Rattle.std.specs.Str.{str_to_ascii_uppercase};
+ghost use Rattle.vcard_lines.specs.Grammar.{AllInClass, IsName, is_permitted};
+ghost use Rattle.vcard_text.specs.Cards.{IsProperLine};
+ghost use Rattle.vcard_text.specs.Making.{upper_line};
+ghost use Rattle.vcard_property.specs.Lines.{plain_line, aside_line};
+
+use crate::names::aside_name;
+use std::alloc::Global;
+use vcard_lines::{has_legal_parts, is_permitted_text, write_line};
+use vcard_text::{Items, Line, NoMemory, Text};
+
+/// The line with its name in upper case. Allocates nothing.
+fn with_upper_name(line: Line) -> Line
+    ensures { result ≡ upper_line line }
+{
+    let Line {
+        group,
+        name,
+        params,
+        value,
+    } = line;
+    let mut name = name.into_string();
+    name.make_ascii_uppercase();
+    Line {
+        group,
+        name: Text::new(name),
+        params,
+        value,
+    }
+}
+
+/// The line with its name in upper case, if it is then a proper one. The only `Err` is out of
+/// memory.
+pub(crate) fn proper_line(alloc: Global, line: Line) -> Result<Option<Line>, NoMemory>
+    ensures { IfOk result (λ proper. IfSome proper IsProperLine) }
+{
+    let line = with_upper_name(line);
+    let mut text = String::new(alloc);
+    write_line(&mut text, &line)?;
+    if is_permitted_text(text.as_str()) && has_legal_parts(&line) {
+        return Ok(Some(line));
+    }
+    Ok(None)
+}
+
+/// A line without group and parameters. The only `Err` is out of memory.
+pub fn plain_line(alloc: Global, name: &str, value: String) -> Result<Line, NoMemory>
+    ensures line { IfOk result (λ line. line ≡ plain_line name.now (string_bytes value)) }
+
+    // It is proper if the name is a legal one in upper case, and the value has no control character
+    // but the tab.
+    ensures proper { IsName name.now → name.now ≡ str_to_ascii_uppercase name.now
+        → AllInClass is_permitted (string_bytes value) → IfOk result IsProperLine }
+{
+    Ok(Line {
+        group: None,
+        name: Text::copy_of(alloc, name)?,
+        params: Items::new(alloc),
+        value: Text::new(value),
+    })
+}
+
+/// The line with X- before its name, for one that the card can't have. The only `Err` is out of
+/// memory.
+pub fn aside_line(alloc: Global, line: Line) -> Result<Line, NoMemory>
+    ensures line { IfOk result (λ aside. aside ≡ aside_line line) }
+    ensures proper { IsProperLine line → IfOk result IsProperLine }
+{
+    let Line {
+        group,
+        name,
+        params,
+        value,
+    } = line;
+    let name = aside_name(alloc, name.as_str())?;
+    Ok(Line {
+        group,
+        name,
+        params,
+        value,
+    })
+}

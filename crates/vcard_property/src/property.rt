@@ -1,0 +1,84 @@
+//! `Property`: a line of any version, taken apart.
+
+use crate::head::{split_group, split_line, split_parts};
+use crate::names::{legal_name, upper_name};
+use crate::params::read_param;
+use std::alloc::Global;
+use vcard_text::{Items, NoMemory, Param, ParamValue, Text};
+
+/// How a value is encoded.
+#[derive(Clone, Copy, Debug, PartialEq, Eq)]
+pub(crate) enum Encoding {
+    Plain,
+    QuotedPrintable,
+    Base64,
+}
+
+/// A property of any version. What vCard 4.0 says in another way is apart from the parameters.
+#[derive(Debug, Drop)]
+pub(crate) struct Property {
+    pub(crate) group: Option<Text>,
+    pub(crate) name: Text,
+    /// The values of TYPE in lower case, without `pref`.
+    pub(crate) types: Items<ParamValue>,
+    /// Whether `pref` was among them.
+    pub(crate) is_preferred: bool,
+    /// The other parameters.
+    pub(crate) params: Items<Param>,
+    pub(crate) encoding: Encoding,
+    /// Whether CHARSET says Windows-1252, or Latin-1, which is a part of it.
+    pub(crate) is_windows1252: bool,
+    /// Whether VALUE says that the value is a URI.
+    pub(crate) is_uri: bool,
+    /// The value as written.
+    pub(crate) value: Text,
+}
+
+/// The legal form of a group.
+fn read_group(alloc: Global, group: Option<&str>) -> Result<Option<Text>, NoMemory> {
+    match group {
+        Some(group) => legal_name(alloc, group),
+        None => Ok(None),
+    }
+}
+
+/// The property of that name and value, before its parameters are read.
+fn bare_property(alloc: Global, group: Option<Text>, name: Text, value: Text) -> Property {
+    Property {
+        group,
+        name,
+        types: Items::new(alloc),
+        is_preferred: false,
+        params: Items::new(alloc),
+        encoding: Encoding::Plain,
+        is_windows1252: false,
+        is_uri: false,
+        value,
+    }
+}
+
+fn read_params(alloc: Global, property: &mut Property, parts: &[&str]) -> Result<(), NoMemory> {
+    for part in parts {
+        read_param(alloc, property, part.trim())?;
+    }
+    Ok(())
+}
+
+/// Reads a line leniently. `None` if it has no colon or no name.
+pub(crate) fn read_property(alloc: Global, text: &str) -> Result<Option<Property>, NoMemory> {
+    let Some((head, value)) = split_line(text) else {
+        return Ok(None);
+    };
+    let parts = split_parts(alloc, head, b';')?;
+    let Some((first, params)) = parts.as_slice().split_first() else {
+        return Ok(None);
+    };
+    let (group, name) = split_group(first.trim());
+    let Some(name) = upper_name(alloc, name)? else {
+        return Ok(None);
+    };
+    let group = read_group(alloc, group)?;
+    let mut property = bare_property(alloc, group, name, Text::copy_of(alloc, value)?);
+    read_params(alloc, &mut property, params)?;
+    Ok(Some(property))
+}
