@@ -1,4 +1,7 @@
-mod BecomeLemmas
-mod MakesLemmas
-mod ResultLemmas
-mod UpperLemmas
+pub mod BecomeLemmas
+pub mod MissingLemmas
+pub mod RefusedLemmas
+pub mod ResultLemmas
+pub mod RuleLemmas
+pub mod StepLemmas
+pub mod UidLemmas

@@ -1,28 +1,24 @@
 -- Which card the logical lines of another program's card become, and which changes are reported.
 -- What a changed line becomes is not defined. This project's own.
-use Rattle.std.specs.Prelude.{ℕ, ◌≡◌, true, List, [], ◌∷◌, ◌++◌, map, codes, None, Ok, ◌⊎◌}
+use Rattle.std.specs.Prelude.{ℕ, ◌≡◌, true, List, [], ◌∷◌, ◌++◌, map, codes, Some, ◌⊎◌}
 use Rattle.std.specs.Prelude.{if◌then◌else◌}
-use Rattle.std.specs.Str.{IsUtf8}
 use Rattle.import_text.specs.RawLines.{raw_lines}
 use Rattle.import_text.specs.declared.raw_line.RawLine.{RawLine}
-use Rattle.vcard_lines.specs.Parsing.{parse_line}
 use Rattle.vcard_lines.specs.declared.line.Line.{Line}
-use Rattle.vcard_lines.specs.declared.fault.CardFault.{CardFault}
-use Rattle.vcard_text.specs.Cards.{has_line_named}
-use Rattle.vcard_text.specs.Making.{IsFirstFaultOfLines}
+use Rattle.vcard_text.specs.Cards.{has_line_named, uid_of}
+use Rattle.vcard_text.specs.Making.{upper_lines, AreTooLongCardLines}
 use Rattle.vcard_text.specs.Spelling.{without_bom}
+use Rattle.vcard_property.specs.Kinds.{fits_kind}
+use Rattle.vcard_property.specs.Lines.{plain_line}
+use Rattle.vcard_property.specs.SameLines.{AreLine}
+use Rattle.vcard_property.specs.declared.change_kind.ChangeKind.TheVariants.{Added}
 use Rattle.vcard_import.specs.Delimiters.{is_delimiter}
 use Rattle.vcard_import.specs.DerivedUid.{derived_uid}
+use Rattle.vcard_import.specs.FirstUid.{first_uid}
 use Rattle.vcard_import.specs.Versions.{version_of, folding_of}
 use Rattle.vcard_import.specs.declared.change.Change.{Change}
-use Rattle.vcard_import.specs.declared.change.ChangeKind.TheVariants.{Added}
 
 -- ---- the logical lines
-
--- the octets are UTF-8 and spell the line
-pub record AreLine (octets : List ℕ) (line : Line) : Type 0 where
-  pub utf8 : IsUtf8 octets
-  pub spelled : parse_line octets ≡ Ok line
 
 -- The first line of the card is the one that the octets spell. The rest holds for the other lines.
 pub record IsKept (octets : List ℕ) (Rest : List Line → Type 0) (card : List Line) : Type 0 where
@@ -33,7 +29,8 @@ pub record IsKept (octets : List ℕ) (Rest : List Line → Type 0) (card : List
   pub rest : Rest others
 
 -- The first line of the card isn't what the octets of the logical line spell, and the first change
--- is at the place of that logical line. The rest holds for the other lines and changes.
+-- is at the place of that logical line, of a kind that fits the line's name. The rest holds for the
+-- other lines and changes.
 pub record IsChanged (raw : RawLine) (Rest : List Line → List Change → Type 0)
     (card : List Line) (changes : List Change) : Type 0 where
   pub line : Line
@@ -44,6 +41,7 @@ pub record IsChanged (raw : RawLine) (Rest : List Line → List Change → Type 
   pub more : List Change
   pub changes_are : changes ≡ change ∷ more
   pub place : change.place ≡ raw.place
+  pub kind : fits_kind change.kind line.name ≡ true
   pub rest : Rest others more
 
 -- Each logical line becomes one line of the card, in order; only one that begins or ends a card or
@@ -57,10 +55,6 @@ Become (raw ∷ raws) card changes =
     ⊎ IsChanged raw (λ others more. Become raws others more) card changes)
 
 -- ---- the lines that are added
-
--- the line without group and parameters
-abbrev pub plain_line : List ℕ → List ℕ → Line
-plain_line name value = record { group = None; name = name; params = []; value = value }
 
 -- the line that the lines lack, if none of them has the name
 abbrev pub missing_line : List ℕ → List ℕ → List Line → List Line
@@ -79,21 +73,27 @@ addition line = record { place = 0; kind = Added }
 
 -- ---- the card
 
+-- the logical lines of the octets; how they are folded depends on the version, and a byte order
+-- mark is no part of the first
+abbrev pub card_raw_lines : List ℕ → List RawLine
+card_raw_lines octets = raw_lines (folding_of (version_of octets)) (without_bom octets)
+
 -- The lines are those that the logical lines of the octets become, and then the FN and the UID that
--- they lack. The changes are those of these lines, and then one for each line that was added. A
--- byte order mark is no part of the first line. How lines are folded depends on the version.
+-- they lack. The changes are those of these lines, and then one for each line that was added. If a
+-- logical line spells the UID of the card, it is the card's UID.
 pub record IsConverted (octets : List ℕ) (card : List Line) (changes : List Change) : Type 0 where
   pub lines : List Line
   pub reported : List Change
-  pub become :
-      Become (raw_lines (folding_of (version_of octets)) (without_bom octets)) lines reported
+  pub become : Become (card_raw_lines octets) lines reported
   pub name : List ℕ
   pub card_is : card ≡ lines ++ missing_lines octets name lines
   pub changes_are : changes ≡ reported ++ map addition (missing_lines octets name lines)
+  pub uid : (line : Line) → first_uid (version_of octets) (card_raw_lines octets) ≡ Some line
+      → uid_of card ≡ line.value
 
--- the octets are converted to lines that are no card, and the fault is the first of these lines
-pub record IsRefused (octets : List ℕ) (fault : CardFault) : Type 0 where
+-- the octets are converted to lines that would be a card if their canonical text weren't too long
+pub record IsTooLong (octets : List ℕ) : Type 0 where
   pub lines : List Line
   pub changes : List Change
   pub converted : IsConverted octets lines changes
-  pub first : IsFirstFaultOfLines lines fault
+  pub too_long : AreTooLongCardLines (upper_lines lines)

@@ -19,3 +19,8 @@ abbrev pub is_delimiter : List ℕ → Bool
 is_delimiter octets = is_word_line (codes "BEGIN:VCARD") octets
     || is_word_line (codes "END:VCARD") octets
     || begins_with_word (codes "VERSION:") octets
+
+-- the line begins a card, also one that is the value of an AGENT
+abbrev pub begins_card : List ℕ → Bool
+begins_card octets = is_word_line (codes "BEGIN:VCARD") octets
+    || is_word_line (codes "AGENT:BEGIN:VCARD") octets

@@ -1,5 +1,6 @@
 pub mod Conversions
 pub mod Delimiters
 pub mod DerivedUid
+pub mod FirstUid
 pub mod Versions
 pub mod internal

@@ -7,8 +7,8 @@ use Rattle.base_types.specs.Octets.{line_feed}
 use Rattle.import_text.specs.RawLines.{begins_with_word}
 use Rattle.import_text.specs.declared.lines.Folding.{Folding}
 use Rattle.import_text.specs.declared.lines.Folding.TheVariants.{KeepsSpace, DropsSpace}
-use Rattle.vcard_import.specs.declared.version.Version.{Version}
-use Rattle.vcard_import.specs.declared.version.Version.TheVariants.{Old, Third, Fourth}
+use Rattle.vcard_property.specs.declared.version.Version.{Version}
+use Rattle.vcard_property.specs.declared.version.Version.TheVariants.{Old, Third, Fourth}
 
 -- the first physical line that begins with VERSION:, in any case
 abbrev pub version_line : List ℕ → Option (List ℕ)

@@ -1,99 +1,29 @@
-//! The lines of a card, one for each logical line, and the rules that they keep as a whole.
-ghost use Rattle.std.specs.Prelude.{◌≡◌, ◌∷◌, ◌++◌, [], List, IfOk, OnOk};
-ghost use Rattle.import_text.specs.declared.raw_line.RawLine.{RawLine};
-ghost use Rattle.vcard_text.specs.Making.{upper_line, upper_lines};
-ghost use Rattle.vcard_import.specs.internal.Steps.{Makes};
+//! The lines of a card, one for each logical line.
+ghost use Rattle.std.specs.Prelude.{◌≡◌, ◌∷◌, ◌++◌, [], true, false, IfOk, OnOk, Some};
+ghost use Rattle.std.specs.Prelude.{◌<◌, codes, length, None};
+ghost use Rattle.vcard_lines.specs.declared.line.Line.{Line};
+ghost use Rattle.vcard_text.specs.Cards.{IsProperLine, has_line_named};
+ghost use Rattle.vcard_property.specs.Kinds.{fits_kind};
+ghost use Rattle.vcard_property.specs.Lines.{IsUidLine};
+ghost use Rattle.vcard_import.specs.FirstUid.{first_uid};
+ghost use Rattle.vcard_import.specs.internal.Steps.{Makes, Extends, breaks_rule, found_uid};
+ghost use Rattle.vcard_import.specs.internal.Steps.{has_stray_members};
 
-use crate::change::{Change, ChangeKind};
-use crate::converted_line::line_of;
-use crate::line_parts::renamed;
-use crate::missing_lines::has_line_named;
-use crate::names::aside_name;
-use crate::property::read_property;
-use crate::report::{are_line, is_delimiter};
-use crate::text_line::text_line;
-use crate::version::Version;
-use import_text::{RawLine, is_line, read_text};
+use crate::change::Change;
+use crate::delimiters::{begins_card, is_delimiter, is_word_line};
+use crate::first_uid::{UidLine, first_uid};
+use crate::rules::{Reading, Seen, breaks_rule, has_stray_members};
+use import_text::{RawLine, read_text};
 use std::alloc::Global;
-use vcard_lines::read_line;
-use vcard_text::{CardFault, Items, Line, NoMemory, Text, UID_OCTETS_MAX};
+use vcard_property::{ChangeKind, Version, are_line, aside_line, convert_line, text_line};
+use vcard_text::{Items, Line, NoMemory};
 
-/// Which of the names that a card has at most once its lines have so far.
-#[derive(Clone, Copy, Debug)]
-pub(crate) struct Seen {
-    uid: bool,
-    kind: bool,
-}
-
-impl Seen {
-    /// What the lines have with one more line of this name.
-    fn with(self, name: &str) -> Seen {
-        Seen {
-            uid: self.uid || name.eq_ignore_ascii_case("UID"),
-            kind: self.kind || name.eq_ignore_ascii_case("KIND"),
-        }
-    }
-}
-
-/// The lines and the changes so far, and how deep the cards are nested. `seen` spares a search of
-/// all lines for each UID and each KIND.
+/// The lines and the changes so far.
 #[derive(Debug, Drop)]
 pub(crate) struct CardLines {
     pub(crate) lines: Items<Line>,
     pub(crate) changes: Items<Change>,
-    pub(crate) depth: u32,
     pub(crate) seen: Seen,
-}
-
-/// How lines are read.
-#[derive(Clone, Copy, Debug)]
-struct Reading {
-    version: Version,
-    /// Whether the card may have MEMBER lines, since it is a group.
-    keeps_members: bool,
-}
-
-/// Whether the value is a legal UID (RFC 6350, section 6.7.6, and the limit of this profile).
-fn is_uid(value: &str) -> bool {
-    !value.is_empty() && value.len() <= UID_OCTETS_MAX && !value.contains('\t')
-}
-
-/// Whether the card can't have the line after the others: it is an illegal or a second UID, a
-/// second KIND, a MEMBER that isn't in a group, or named as a line that begins or ends a card.
-fn breaks_rule(seen: Seen, line: &Line, reading: Reading) -> bool {
-    match line.name.as_str() {
-        "UID" => seen.uid || !is_uid(line.value.as_str()),
-        "KIND" => seen.kind,
-        "MEMBER" => !reading.keeps_members,
-        "BEGIN" | "END" | "VERSION" => true,
-        _ => false,
-    }
-}
-
-/// The property line that a text of vCard 4.0 is, if it is one.
-fn read_fourth(alloc: Global, text: &str, version: Version) -> Result<Option<Line>, NoMemory> {
-    if version != Version::Fourth {
-        return Ok(None);
-    }
-    match read_line(alloc, text) {
-        Ok(line) => Ok(Some(line)),
-        Err(CardFault::Memory) => Err(NoMemory),
-        Err(_) => Ok(None),
-    }
-}
-
-/// The line for a text, and what became of it.
-fn converted(alloc: Global, text: &str, version: Version) -> Result<(Line, ChangeKind), NoMemory> {
-    if let Some(line) = read_fourth(alloc, text, version)? {
-        return Ok((line, ChangeKind::Rewritten));
-    }
-    match read_property(alloc, text)? {
-        Some(property) => line_of(alloc, property, version),
-        None => Ok((
-            text_line(alloc, "X-UNREADABLE", text)?,
-            ChangeKind::Unreadable,
-        )),
-    }
 }
 
 /// The line for the octets of a logical line after the others, and what became of it.
@@ -102,45 +32,25 @@ fn line_after(
     seen: Seen,
     octets: &[u8],
     reading: Reading,
-) -> Result<(Line, ChangeKind), NoMemory> {
-    let text = read_text(alloc, octets)?;
-    let (line, kind) = converted(alloc, text.as_str(), reading.version)?;
+) -> Result<(Line, ChangeKind), NoMemory>
+    ensures proper { IfOk result (λ made. IsProperLine made.0) }
+    ensures kind { IfOk result (λ made. fits_kind made.1 made.0.name ≡ true) }
+    ensures allowed { IfOk result (λ made. breaks_rule seen reading made.0 ≡ false) }
+{
+    let (line, kind) = convert_line(alloc, octets, reading.version)?;
     if !breaks_rule(seen, &line, reading) {
         return Ok((line, kind));
     }
-    let name = aside_name(alloc, line.name.as_str())?;
-    Ok((renamed(line, name), ChangeKind::KeptAside))
+    Ok((aside_line(alloc, line)?, ChangeKind::KeptAside))
 }
 
 /// The line for a logical line of a card within the card, which is the value of an AGENT.
-fn nested_line(alloc: Global, octets: &[u8]) -> Result<Line, NoMemory> {
+fn nested_line(alloc: Global, octets: &[u8]) -> Result<Line, NoMemory>
+    ensures proper { IfOk result IsProperLine }
+    ensures name { IfOk result (λ line. line.name ≡ codes "X-AGENT") }
+{
     let text = read_text(alloc, octets)?;
     text_line(alloc, "X-AGENT", text.as_str())
-}
-
-/// The line with its name in upper case. Allocates nothing.
-fn with_upper_name(line: Line) -> Line
-    ensures { result ≡ upper_line line }
-{
-    let Line {
-        group,
-        name,
-        params,
-        value,
-    } = line;
-    let mut name = name.into_string();
-    name.make_ascii_uppercase();
-    Line {
-        group,
-        name: Text::new(name),
-        params,
-        value,
-    }
-}
-
-/// Whether a logical line begins a card within the card.
-fn begins_card(octets: &[u8]) -> bool {
-    is_line(octets, b"BEGIN:VCARD") || is_line(octets, b"AGENT:BEGIN:VCARD")
 }
 
 /// How deep the cards are nested at a logical line, and after it.
@@ -149,7 +59,7 @@ fn depths(octets: &[u8], depth: u32) -> (u32, u32) {
         let depth = depth.saturating_add(1);
         return (depth, depth);
     }
-    if is_line(octets, b"END:VCARD") {
+    if is_word_line(octets, b"END:VCARD") {
         return (depth, depth.saturating_sub(1));
     }
     (depth, depth)
@@ -157,12 +67,13 @@ fn depths(octets: &[u8], depth: u32) -> (u32, u32) {
 
 impl CardLines {
     fn new(alloc: Global) -> CardLines
-        ensures { Makes [] result.lines result.changes }
+        ensures makes { Makes [] result }
+        ensures uid { found_uid result.lines ≡ None }
+        ensures members { has_line_named (codes "MEMBER") result.lines ≡ false }
     {
         CardLines {
             lines: Items::new(alloc),
             changes: Items::new(alloc),
-            depth: 0,
             seen: Seen {
                 uid: false,
                 kind: false,
@@ -178,27 +89,32 @@ impl CardLines {
         line: Line,
         kind: ChangeKind,
     ) -> Result<(), NoMemory>
-        ensures { OnOk result ((raws : List RawLine) → Makes raws self.old.lines self.old.changes
-            → Makes (raws ++ raw.now ∷ []) self.new.lines self.new.changes) }
+        ensures extends { OnOk result ((reading : Reading) → IsProperLine line
+            → fits_kind kind line.name ≡ true → breaks_rule self.old.seen reading line ≡ false
+            → Extends reading (raw.now ∷ []) self.old self.new) }
+        ensures lines { OnOk result (self.new.lines ≡ self.old.lines ++ line ∷ []) }
     {
-        let line = with_upper_name(line);
         if !are_line(alloc, raw.octets.as_slice(), &line)? {
             let place = raw.place;
             self.changes.push(Change { place, kind })?;
         }
+        self.seen = self.seen.with(&line);
         self.lines.push(line)?;
         Ok(())
     }
 
-    /// Appends what a logical line becomes. Those of a card within the card are kept as texts.
-    fn push_raw(&mut self, alloc: Global, raw: &RawLine, reading: Reading) -> Result<(), NoMemory>
-        ensures { OnOk result ((raws : List RawLine) → Makes raws self.old.lines self.old.changes
-            → Makes (raws ++ raw.now ∷ []) self.new.lines self.new.changes) }
+    /// Appends what a logical line becomes. One of a card within the card is kept as a text.
+    fn push_raw(
+        &mut self,
+        alloc: Global,
+        raw: &RawLine,
+        is_nested: bool,
+        reading: Reading,
+    ) -> Result<(), NoMemory>
+        ensures { OnOk result (Extends reading (raw.now ∷ []) self.old self.new) }
     {
         let octets = raw.octets.as_slice();
-        let (depth, next) = depths(octets, self.depth);
-        self.depth = next;
-        if depth > 1 {
+        if is_nested {
             let line = nested_line(alloc, octets)?;
             return self.push(alloc, raw, line, ChangeKind::KeptAside);
         }
@@ -206,28 +122,82 @@ impl CardLines {
             return Ok(());
         }
         let (line, kind) = line_after(alloc, self.seen, octets, reading)?;
-        self.seen = self.seen.with(line.name.as_str());
         self.push(alloc, raw, line, kind)
+    }
+
+    /// Appends what the logical lines become. Takes how deep the cards are nested before these
+    /// lines, and returns how deep they are after them.
+    fn push_raws(
+        &mut self,
+        alloc: Global,
+        raws: &[RawLine],
+        depth: u32,
+        reading: Reading,
+    ) -> Result<u32, NoMemory>
+        ensures { OnOk result (Extends reading raws.now self.old self.new) }
+    {
+        let mut depth = depth;
+        for raw in raws {
+            let (at, next) = depths(raw.octets.as_slice(), depth);
+            self.push_raw(alloc, raw, at > 1, reading)?;
+            depth = next;
+        }
+        Ok(depth)
     }
 }
 
-/// The lines that the logical lines become, and the changes.
-fn read_lines(alloc: Global, raws: &[RawLine], reading: Reading) -> Result<CardLines, NoMemory>
-    ensures { IfOk result (λ made. Makes raws.now made.lines made.changes) }
+/// The lines that the logical lines become, and the changes, if one of them is the UID of the card.
+fn lines_with_uid(
+    alloc: Global,
+    raws: &[RawLine],
+    reading: Reading,
+    uid: UidLine,
+) -> Result<CardLines, NoMemory>
+    requires within { uid.index < length raws.now }
+    requires legal { IsUidLine uid.line }
+    ensures makes { IfOk result (λ made. Makes raws.now made) }
+    ensures uid { IfOk result (λ made. found_uid made.lines ≡ Some uid.line) }
+    ensures members { reading.keeps_members ≡ false → IfOk result (λ made.
+        has_line_named (codes "MEMBER") made.lines ≡ false) }
 {
+    let others = Reading {
+        version: reading.version,
+        takes_uid: false,
+        keeps_members: reading.keeps_members,
+    };
+    let UidLine { line, index } = uid;
     let mut made = CardLines::new(alloc);
-    for raw in raws {
-        made.push_raw(alloc, raw, reading)?;
-    }
+    let depth = made.push_raws(alloc, &raws[..index], 0, others)?;
+    made.push(alloc, &raws[index], line, ChangeKind::Rewritten)?;
+    made.push_raws(alloc, &raws[index + 1..], depth, others)?;
     Ok(made)
 }
 
-/// Whether the lines have a MEMBER but aren't those of a group.
-fn has_stray_members(lines: &[Line]) -> bool {
-    let is_group = lines.iter().any(|line| {
-        line.name.as_str() == "KIND" && line.value.as_str().eq_ignore_ascii_case("group")
-    });
-    has_line_named(lines, "MEMBER") && !is_group
+/// The lines that the logical lines become, and the changes. If a line spells a legal UID, the
+/// first such line is the UID of the card; any other UID is kept aside.
+fn read_lines(
+    alloc: Global,
+    raws: &[RawLine],
+    version: Version,
+    keeps_members: bool,
+) -> Result<CardLines, NoMemory>
+    ensures makes { IfOk result (λ made. Makes raws.now made) }
+    ensures uid { (line : Line) → first_uid version raws.now ≡ Some line
+        → IfOk result (λ made. found_uid made.lines ≡ Some line) }
+    ensures members { keeps_members ≡ false → IfOk result (λ made.
+        has_line_named (codes "MEMBER") made.lines ≡ false) }
+{
+    let reading = Reading {
+        version,
+        takes_uid: true,
+        keeps_members,
+    };
+    if let Some(uid) = first_uid(alloc, raws, version)? {
+        return lines_with_uid(alloc, raws, reading, uid);
+    }
+    let mut made = CardLines::new(alloc);
+    made.push_raws(alloc, raws, 0, reading)?;
+    Ok(made)
 }
 
 /// The lines that the logical lines of a card become, and the changes. Whether the card is a group
@@ -237,27 +207,14 @@ pub(crate) fn lines_of_card(
     raws: &[RawLine],
     version: Version,
 ) -> Result<CardLines, NoMemory>
-    ensures { IfOk result (λ made. Makes raws.now made.lines made.changes) }
+    ensures makes { IfOk result (λ made. Makes raws.now made) }
+    ensures uid { (line : Line) → first_uid version raws.now ≡ Some line
+        → IfOk result (λ made. found_uid made.lines ≡ Some line) }
+    ensures members { IfOk result (λ made. has_stray_members made.lines ≡ false) }
 {
-    let keeps_members = true;
-    let made = read_lines(
-        alloc,
-        raws,
-        Reading {
-            version,
-            keeps_members,
-        },
-    )?;
+    let made = read_lines(alloc, raws, version, true)?;
     if !has_stray_members(made.lines.as_slice()) {
         return Ok(made);
     }
-    let keeps_members = false;
-    read_lines(
-        alloc,
-        raws,
-        Reading {
-            version,
-            keeps_members,
-        },
-    )
+    read_lines(alloc, raws, version, false)
 }

@@ -1,35 +1,5 @@
-//! `Change`: what the conversion of a card did to one of its lines.
-
-use std::fmt;
-
-/// What was done to a line.
-#[derive(Clone, Copy, Debug, PartialEq, Eq)]
-pub enum ChangeKind {
-    /// It is the same property in the form of vCard 4.0: its encoding, its escapes, its parameters
-    /// or its value were rewritten.
-    Rewritten,
-    /// vCard 4.0 has the property under another name.
-    Renamed,
-    /// vCard 4.0 has no such property, or the card may not have it here: it is kept under a name
-    /// that begins with X-.
-    KeptAside,
-    /// It isn't a property line. Its text is kept in a property named X-UNREADABLE.
-    Unreadable,
-    /// It wasn't in the card and was added.
-    Added,
-}
-
-impl fmt::Display for ChangeKind {
-    fn fmt<W: fmt::Write>(&self, f: &mut fmt::Formatter<W>) -> fmt::Result {
-        f.write_str(match self {
-            ChangeKind::Rewritten => "rewritten",
-            ChangeKind::Renamed => "renamed",
-            ChangeKind::KeptAside => "kept aside",
-            ChangeKind::Unreadable => "unreadable",
-            ChangeKind::Added => "added",
-        })
-    }
-}
+//! `Change`: what the conversion of a card did to one of its lines, and where.
+use vcard_property::ChangeKind;
 
 /// A change of a line.
 #[derive(Clone, Copy, Debug, PartialEq, Eq)]

@@ -2,27 +2,17 @@
 //! with a report of the lines that were changed.
 #![tactic(auto)]
 
-mod binary;
 mod card_lines;
 mod change;
 mod conversion;
-mod converted_line;
-mod dates;
-mod escapes;
-mod head;
-mod line_parts;
+mod delimiters;
+mod first_uid;
 mod missing_lines;
-mod names;
-mod params;
 mod parsed_name;
-mod property;
-mod report;
-mod text_line;
+mod rules;
 mod uid;
 mod version;
 
-pub use change::{Change, ChangeKind};
+pub use change::Change;
 pub use conversion::{Conversion, convert_card};
-
-#[cfg(test)]
-mod tests;
+pub use vcard_property::ChangeKind;

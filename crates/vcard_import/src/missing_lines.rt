@@ -1,24 +1,22 @@
 //! The FN and the UID that a card must have and the lines of another program may lack.
 ghost use Rattle.std.specs.Prelude.{◌≡◌, ◌++◌, ℕ, List, map, IfOk, OnOk, codes, string_bytes};
-ghost use Rattle.vcard_text.specs.Cards.{has_line_named};
+ghost use Rattle.std.specs.Str.{IsUtf8};
+ghost use Rattle.vcard_lines.specs.Grammar.{AllInClass, is_permitted};
 ghost use Rattle.vcard_import.specs.Conversions.{missing_line, missing_lines, addition};
 ghost use Rattle.vcard_import.specs.DerivedUid.{derived_uid};
 
-use crate::change::{Change, ChangeKind};
-use crate::line_parts::plain_line;
+use crate::change::Change;
 use crate::parsed_name::name_value;
+use crate::rules::has_line_named;
 use crate::uid::derived_uid;
 use std::alloc::Global;
+use vcard_property::{ChangeKind, plain_line};
 use vcard_text::{Items, Line, NoMemory};
 
-pub(crate) fn has_line_named(lines: &[Line], name: &str) -> bool
-    ensures { result ≡ has_line_named name.now lines.now }
-{
-    lines.iter().any(|line| line.name.as_str() == name)
-}
-
 /// The formatted name of lines without FN. Empty if they have one.
-fn missing_name(alloc: Global, lines: &[Line]) -> Result<String, NoMemory> {
+fn missing_name(alloc: Global, lines: &[Line]) -> Result<String, NoMemory>
+    ensures { IfOk result (λ name. AllInClass is_permitted (string_bytes name)) }
+{
     if has_line_named(lines, "FN") {
         return Ok(String::new(alloc));
     }
@@ -66,8 +64,8 @@ pub(crate) fn missing_lines(
     octets: &[u8],
     lines: &[Line],
 ) -> Result<Items<Line>, NoMemory>
-    ensures { IfOk result (λ missing. (name : List ℕ)
-        × (missing ≡ missing_lines octets.now name lines.now)) }
+    ensures { IfOk result (λ missing. (name : List ℕ) × IsUtf8 name
+        × AllInClass is_permitted name × (missing ≡ missing_lines octets.now name lines.now)) }
 {
     let mut missing = Items::new(alloc);
     let name = missing_name(alloc, lines)?;

@@ -1,7 +1,10 @@
 //! The formatted name of a card that has none, from its other properties.
+ghost use Rattle.std.specs.Prelude.{IfOk, string_bytes};
+ghost use Rattle.vcard_lines.specs.Grammar.{AllInClass, is_permitted};
 
 use std::alloc::Global;
-use vcard_text::{Line, NoMemory, components, escape};
+use vcard_property::text_value;
+use vcard_text::{Line, NoMemory, components};
 
 /// Appends a word, after a space if there is one before it.
 fn push_word(name: &mut String, word: &str) -> Result<(), NoMemory> {
@@ -60,10 +63,12 @@ fn name_from(alloc: Global, lines: &[Line], source: &str) -> Result<Option<Strin
 
 /// The formatted name of a card without FN, as a value: from N, or else from NICKNAME, ORG, EMAIL
 /// or TEL. It is empty if none of them gives one.
-pub(crate) fn name_value(alloc: Global, lines: &[Line]) -> Result<String, NoMemory> {
+pub(crate) fn name_value(alloc: Global, lines: &[Line]) -> Result<String, NoMemory>
+    ensures { IfOk result (λ name. AllInClass is_permitted (string_bytes name)) }
+{
     for source in ["N", "NICKNAME", "ORG", "EMAIL", "TEL"] {
         if let Some(name) = name_from(alloc, lines, source)? {
-            return escape(alloc, name.as_str());
+            return text_value(alloc, name.as_str());
         }
     }
     Ok(String::new(alloc))

@@ -4,27 +4,15 @@ ghost use Rattle.vcard_import.specs.Versions.{version_line, version_by, version_
 ghost use Rattle.vcard_import.specs.Versions.{version_of, folding_of};
 
 use import_text::{Folding, begins_with_word};
+use vcard_property::Version;
 
-/// A version of vCard.
-#[derive(Clone, Copy, Debug, PartialEq, Eq)]
-pub(crate) enum Version {
-    /// vCard 2.1.
-    Old,
-    /// vCard 3.0 (RFC 2426), and any card that doesn't say.
-    Third,
-    /// vCard 4.0 (RFC 6350).
-    Fourth,
-}
-
-impl Version {
-    /// How the version's lines are folded.
-    pub(crate) fn folding(&self) -> Folding
-        ensures { result ≡ folding_of self.now }
-    {
-        match self {
-            Version::Old => Folding::KeepsSpace,
-            Version::Third | Version::Fourth => Folding::DropsSpace,
-        }
+/// How the version's lines are folded.
+pub(crate) fn folding_of(version: Version) -> Folding
+    ensures { result ≡ folding_of version }
+{
+    match version {
+        Version::Old => Folding::KeepsSpace,
+        Version::Third | Version::Fourth => Folding::DropsSpace,
     }
 }
 

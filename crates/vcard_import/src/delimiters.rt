@@ -1,14 +1,10 @@
-//! What needs no report: a logical line that spells its line of the card, and one that begins or
-//! ends the card or gives its version.
-ghost use Rattle.std.specs.Prelude.{◌≡◌, ◌↔◌, IfOk, IsTrue};
+//! What needs no report: a logical line that begins or ends the card or gives its version.
+ghost use Rattle.std.specs.Prelude.{◌≡◌};
 ghost use Rattle.std.specs.List.{list_all};
-ghost use Rattle.vcard_import.specs.Conversions.{AreLine};
 ghost use Rattle.vcard_import.specs.Delimiters.{is_blank, is_word_line, is_delimiter};
+ghost use Rattle.vcard_import.specs.Delimiters.{begins_card};
 
 use import_text::begins_with_word;
-use std::alloc::Global;
-use vcard_lines::read_line;
-use vcard_text::{CardFault, Line, NoMemory, Part};
 
 /// Whether all octets are spaces and tabs.
 fn are_blank(octets: &[u8]) -> bool
@@ -18,7 +14,7 @@ fn are_blank(octets: &[u8]) -> bool
 }
 
 /// Whether the octets are the word, in any case, and then only spaces and tabs.
-fn is_word_line(octets: &[u8], word: &[u8]) -> bool
+pub(crate) fn is_word_line(octets: &[u8], word: &[u8]) -> bool
     ensures { result ≡ is_word_line word.now octets.now }
 {
     begins_with_word(octets, word) && are_blank(&octets[word.len()..])
@@ -33,16 +29,9 @@ pub(crate) fn is_delimiter(octets: &[u8]) -> bool
         || begins_with_word(octets, b"VERSION:")
 }
 
-/// Whether the octets spell the line.
-pub(crate) fn are_line(alloc: Global, octets: &[u8], line: &Line) -> Result<bool, NoMemory>
-    ensures { IfOk result (λ are. IsTrue are ↔ AreLine octets.now line.now) }
+/// Whether a logical line begins a card, also one that is the value of an AGENT.
+pub(crate) fn begins_card(octets: &[u8]) -> bool
+    ensures { result ≡ begins_card octets.now }
 {
-    let Ok(text) = str::from_utf8(octets) else {
-        return Ok(false);
-    };
-    match read_line(alloc, text) {
-        Ok(spelled) => Ok(spelled.is_same(line)),
-        Err(CardFault::Memory) => Err(NoMemory),
-        Err(_) => Ok(false),
-    }
+    is_word_line(octets, b"BEGIN:VCARD") || is_word_line(octets, b"AGENT:BEGIN:VCARD")
 }
