@@ -14,7 +14,7 @@ use Rattle.vcard_lines.specs.declared.line.Line.{Line}
 use Rattle.vcard_text.specs.Cards.{uid_of}
 use Rattle.vcard_text.specs.Making.{upper_line, upper_lines}
 use Rattle.contact_csv.specs.Lines.{plain_line}
-use Rattle.vcard_import.specs.declared.change.ChangeKind.TheVariants.{Rewritten, KeptAside}
+use Rattle.vcard_property.specs.declared.change_kind.ChangeKind.TheVariants.{Rewritten, KeptAside}
 use Rattle.contact_csv.specs.Carrying.{IsCarried, IsAsideName, property_at, change, is_date_column, is_date_name, as_date, kept_aside}
 use Rattle.contact_csv.specs.internal.Keeping.{BeginsWithUid, KeepsAside, KeepsCell, Keeps}
 use Rattle.contact_csv.specs.declared.columns.Column.{Column}

@@ -9,8 +9,8 @@ use Rattle.vcard_lines.specs.declared.line.Line.{Line}
 use Rattle.vcard_lines.specs.declared.line.Param.{Param}
 use Rattle.vcard_values.specs.TextValues.{escaped_value, components}
 use Rattle.vcard_import.specs.declared.change.Change.{Change}
-use Rattle.vcard_import.specs.declared.change.ChangeKind.{ChangeKind}
-use Rattle.vcard_import.specs.declared.change.ChangeKind.TheVariants.{Rewritten, KeptAside}
+use Rattle.vcard_property.specs.declared.change_kind.ChangeKind.{ChangeKind}
+use Rattle.vcard_property.specs.declared.change_kind.ChangeKind.TheVariants.{Rewritten, KeptAside}
 use Rattle.contact_csv.specs.Cells.{is_void}
 use Rattle.contact_csv.specs.Labels.{label_types}
 use Rattle.contact_csv.specs.declared.columns.Column.{Column}

@@ -5,7 +5,7 @@ use Rattle.vcard_values.specs.TextValues.{escaped_value}
 use Rattle.vcard_text.specs.Making.{upper_line, upper_lines}
 use Rattle.contact_csv.specs.Lines.{plain_line}
 use Rattle.vcard_import.specs.declared.change.Change.{Change}
-use Rattle.vcard_import.specs.declared.change.ChangeKind.TheVariants.{KeptAside}
+use Rattle.vcard_property.specs.declared.change_kind.ChangeKind.TheVariants.{KeptAside}
 use Rattle.contact_csv.specs.Carrying.{IsCarried, IsAsideName, change, property_at}
 use Rattle.contact_csv.specs.declared.columns.Column.{Column}
 use Rattle.contact_csv.specs.declared.keeping.Kept.{Kept}
