@@ -1,6 +1,7 @@
 //! Runs the calls by name.
 use crate::ann::run_ann;
 use crate::cards::run_read;
+use crate::exports::run_contacts;
 use crate::groups::{run_chain, run_people, run_wide};
 use crate::lines::{run_fold, run_join, run_line, run_part};
 use crate::making::run_make;
@@ -26,6 +27,7 @@ impl TestCalls for CardCalls {
             "rows" => run_csv(alloc, input, None),
             "columns" => run_csv(alloc, input, Some(Form::Columns)),
             "cards" => run_csv(alloc, input, Some(Form::Cards)),
+            "contacts" => run_contacts(alloc, input),
             _ => run_text(alloc, call, str::from_utf8(input).unwrap_or("")),
         };
         Ok(output?.into_bytes())

@@ -1,10 +1,11 @@
 //! Tests of texts and cards by rows: reading and writing cards, cards made of lines, text values,
-//! expansion of groups, and rows of CSV.
+//! expansion of groups, rows of CSV, and contacts that other programs export.
 #![tactic(auto)]
 
 mod ann;
 mod calls;
 mod cards;
+mod exports;
 mod groups;
 mod lines;
 mod making;
