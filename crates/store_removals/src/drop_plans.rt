@@ -15,8 +15,8 @@ ghost use Rattle.store_rows.specs.LookupLaws.{IsBookNamed};
 ghost use Rattle.store_rows.specs.TableBooks.{books_of, line_row, row_book};
 ghost use Rattle.store_tables.specs.OnConnections.{OnlyReads, UnchangedOnOk};
 ghost use Rattle.std.specs.Option.{option_map_or};
-ghost use Rattle.std.specs.Prelude.{◌≡◌, ◌+◌, ◌<◌, ◌≤◌, ◌^◌, IfErr, IfOk, IfSome, None, Some};
-ghost use Rattle.std.specs.Prelude.{if◌then◌else◌, min, nat_le};
+ghost use Rattle.std.specs.Prelude.{◌≡◌, ◌+◌, ◌<◌, ◌≤◌, ◌^◌, IfErr, IfOk, IfSome, None, OnOk};
+ghost use Rattle.std.specs.Prelude.{Some, min, nat_le};
 
 use book_counts::TombstoneCounts;
 use book_model::Denied;
@@ -121,12 +121,15 @@ pub(crate) fn plan_drop<S: Alter>(
         ≡ plan.tombstones)) }
     ensures counts { GivenCounts S.Store conn.old conn.new counts.old (λ rows.
         IsBookNamed rows name.now header → AreCountsOf counts.new (books_of rows)) }
+    ensures horizon { OnOk result (header.horizon ≤ header.number) }
     ensures most { IfOk result (λ plan. IfSome plan.drop (λ upto. upto ≤ header.number + 1)) }
     ensures fault { IfErr result IsDeniedFault }
     ensures store_fault { ChangeFaultsFromOutsideInBook S.Store conn.old conn.new header result }
     ensures unchanged { UnchangedOnOk S.Store conn.old conn.new result }
     ensures reads_only { OnlyReads S.Store conn.old conn.new }
 {
+    // The proof needs the horizon to be at most the number, which this call ensures.
+    let _low = header.horizon();
     let (keep, number) = keep_and_tombstones(conn, counts, header, name)?;
     if number < keep {
         return Ok(DropPlan {

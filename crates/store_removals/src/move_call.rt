@@ -177,8 +177,6 @@ fn plan_move<S: Alter>(
         return Err(Denied::Refused(Refusal::SameBook));
     }
 
-    // The proof needs the horizon to be at most the number, which this call ensures.
-    let _low = source.horizon();
     let (card, moved, was_tombstone) = decide_move(
         alloc, conn, limits, source, target, uid, expect,
     )?;

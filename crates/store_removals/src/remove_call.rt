@@ -91,9 +91,6 @@ fn plan_remove<S: Alter>(
     ensures reads_only { OnlyReads S.Store conn.old conn.new }
 {
     let header = open_header(conn, name)?;
-
-    // The proof needs the horizon to be at most the number, which this call ensures.
-    let _low = header.horizon();
     let number = decide_removal(alloc, conn, limits, header, uid, expect)?;
     let plan = plan_drop(conn, counts, header, name)?;
     Ok(Removal {

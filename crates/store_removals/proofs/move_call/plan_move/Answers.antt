@@ -1,4 +1,4 @@
-use Rattle.std.proofs.Common.{rules, ◌≡◌, ◌≤◌, ℕ, false, Err, sym, subst, ◌∙◌, Bool, Result, List}
+use Rattle.std.proofs.Common.{rules, ◌≡◌, false, Err, sym, subst, ◌∙◌, Bool, Result, List}
 use Rattle.std.specs.Prelude.{⊤}
 use Rattle.sqlite.proofs.StateLemmas.{survives_then}
 use Rattle.vcard_lines.specs.declared.line.Line.{Line}
@@ -72,7 +72,7 @@ returns-clause-planned g c rows clean holds sound right =
     (over_then old a b _ _ c.in_ok-source.ensures.unchanged c.decide_move.ensures.reads_only.survives c.in_ok-card.ensures.answers rows later holds sound from to) in
     let drop = over_then old b new _ _ same c.plan_drop.ensures.reads_only.survives c.in_ok-plan.ensures.drop rows clean holds sound right named.0 in
     let tombstones = over_then old b new _ _ same c.plan_drop.ensures.reads_only.survives c.in_ok-plan.ensures.tombstones rows clean holds sound right named.0 in
-    let low = subst (λ (n : ℕ). n ≤ source.number) c.horizon-low.ensures.value c.horizon-low.ensures.most in
+    let low = c.in_ok-plan.ensures.horizon in
     record {
       source = named.0;
       target = named.1;

@@ -1,4 +1,4 @@
-use Rattle.std.proofs.Common.{rules, ◌≡◌, ◌≤◌, ℕ, Err, sym, subst, Result}
+use Rattle.std.proofs.Common.{rules, ◌≡◌, ℕ, Err, sym, subst, Result}
 use Rattle.std.specs.Prelude.{⊤}
 use Rattle.sqlite.proofs.StateLemmas.{survives_then}
 use Rattle.book_model.specs.declared.denied.Denied.{Denied}
@@ -65,7 +65,7 @@ returns-clause-planned g c rows clean holds sound right =
     let named = c.in_ok-header.ensures.finds rows early holds sound in
     let drop = over_then old b new _ _ same c.plan_drop.ensures.reads_only.survives c.in_ok-plan.ensures.drop rows clean holds sound right named in
     let tombstones = over_then old b new _ _ same c.plan_drop.ensures.reads_only.survives c.in_ok-plan.ensures.tombstones rows clean holds sound right named in
-    let low = subst (λ (n : ℕ). n ≤ header.number) c.horizon-low.ensures.value c.horizon-low.ensures.most in
+    let low = c.in_ok-plan.ensures.horizon in
     record {
       named = named;
       horizon = low;
