@@ -1,8 +1,8 @@
 -- What is counted of the members of each book, while they are read one at a time. This project's
 -- own.
 use Rattle.std.specs.Prelude.{◌≡◌, ◌+◌, ◌++◌, ◌↔◌, ℕ, ℤ, Bool, List, [], ◌∷◌, IsTrue, filter}
-use Rattle.std.specs.Prelude.{◌<◌, if◌then◌else◌, Option, Some, None, false, true, find, length, map}
-use Rattle.std.specs.Prelude.{slice_get}
+use Rattle.std.specs.Prelude.{◌<◌, if◌then◌else◌, Option, Some, None}
+use Rattle.std.specs.Prelude.{false, true, find, length, map, slice_get}
 use Rattle.sqlite_trees.specs.Tree.{IsAscending}
 use Rattle.std.specs.List.{AllByRecursion}
 use Rattle.std.specs.Ordering.{int_eq}

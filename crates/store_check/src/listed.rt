@@ -41,8 +41,8 @@ fn first_bad_columns<'a>(
     }
 }
 
-/// The book past the limit, if there are so many.
-fn book_past_limit(limits: Limits, books: &[Row]) -> Option<&Row>
+/// One of the books, if there are more than the limit.
+fn one_of_too_many(limits: Limits, books: &[Row]) -> Option<&Row>
     ensures good { result ≡ None → length books.now ≤ limits.books_max }
     ensures bad { IfSome result
         (λ row. Has books.now row.now × (limits.books_max < length books.now)) }
@@ -54,8 +54,8 @@ fn book_past_limit(limits: Limits, books: &[Row]) -> Option<&Row>
     }
 }
 
-/// The first row that refers to no listed book, the first import that is not valid in its book, or
-/// a book past the limit.
+/// One of the books if there are too many, the first import that is not valid in its book, or the
+/// first keep without a book.
 fn first_bad_reference<'a>(
     limits: Limits,
     books: &'a [Row],
@@ -69,7 +69,7 @@ fn first_bad_reference<'a>(
     ensures bad { (members : List Row) → IfSome result
         (λ found. IsAmong limits books.now members imports.now keeps.now found.0.now found.1) }
 {
-    if let Some(row) = book_past_limit(limits, books) {
+    if let Some(row) = one_of_too_many(limits, books) {
         return Some((row, RowFault::Book(BookFault::TooMany)));
     }
     if let Some((row, fault)) = first_faulty_import(imports, books) {

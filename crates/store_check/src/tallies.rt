@@ -118,8 +118,8 @@ fn count_in(tally: BookTally, member: &Row) -> Result<BookTally, NoMemory>
     })
 }
 
-/// Tests the member against its book, and counts it there. Returns what is wrong with it, if
-/// anything is; then it may be counted or not.
+/// Tests the member against its book, and counts it there if it is good. Returns what is wrong with
+/// it, if anything is.
 pub(crate) fn tally_member(
     alloc: Global,
     tallies: &mut [BookTally],
