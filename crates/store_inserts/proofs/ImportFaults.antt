@@ -1,40 +1,28 @@
 -- The tables accept a planned import.
-use Rattle.std.proofs.Common.{◌≡◌, ◌+◌, ℕ, pos, true, List, length, None, Some, Result, int_eq, sym, ap, subst, ◌∙◌, arith}
+use Rattle.std.proofs.Common.{◌≡◌, ◌+◌, ℕ, pos, true, List, length, None, Some, int_eq, sym, ap, subst, ◌∙◌, arith}
 use Rattle.std.specs.Prelude.{nat_le}
 use Rattle.std.specs.Option.{option_map}
 use Rattle.std.specs.FinMap as finite
 use Rattle.std.specs.List.{AllByRecursion, list_any, list_all}
 use Rattle.sqlite.specs.Effect.{Database}
-use Rattle.sqlite.specs.State.{State, IsUnchanged, Survives}
 use Rattle.sqlite.specs.Tree.{Trees}
 use Rattle.sqlite_rules.specs.Lists.{Has}
 use Rattle.sqlite_rules.proofs.ListLemmas.{some_from}
-use Rattle.book_model.specs.declared.denied.Denied.{Denied}
 use Rattle.book_model.specs.Books.{Book}
 use Rattle.book_model.specs.Importing.{is_key_octet, is_legal_key}
 use Rattle.store_tables.specs.Acceptance.{AcceptsImport, AcceptsMember, IsShort}
 use Rattle.store_tables.specs.Books.{has_id}
 use Rattle.store_tables.specs.Imports.{has_key}
-use Rattle.store_tables.specs.StatementEffects.{GivenTables, KeepsOtherTables}
+use Rattle.store_tables.specs.StatementEffects.{KeepsOtherTables}
 use Rattle.store_tables.proofs.KeyedRows.{int_itself}
-use Rattle.store_tables.proofs.SchemaCreationLemmas.{clean_before}
 use Rattle.store_rows.specs.TableBooks.{HeaderRow, line_row, row_tally}
-use Rattle.store_rows.specs.TableRows.{TableRows, HoldsRows}
+use Rattle.store_rows.specs.TableRows.{TableRows}
 use Rattle.store_rows.proofs.RowLemmas.{get-imports_in}
 use Rattle.store_lookups.specs.ChangeFaults.{KnowsMembers}
-use Rattle.store_lookups.specs.StoreFaults.{FaultsFromOutside}
-use Rattle.store_lookups.proofs.StoreFaultLemmas.{later_cause}
 use Rattle.store_writes.proofs.AcceptLemmas.{accepts_next, at_most, middle_true}
 use Rattle.store_inserts.specs.internal.Importing.{IsImportKeyFree, WritesBook}
 use Rattle.store_inserts.proofs.CreateFaults.{none_passes}
 use Rattle.store_inserts.proofs.WroteLemmas.{found_none, row_remains}
-
--- one look-up after another
-pub then_reads : {A : Type 0} (old mid new : State) (P Q : Trees → Type 0) (r : Result A Denied) → Survives old mid P → GivenTables old mid (IsUnchanged old mid) → Survives mid new Q → FaultsFromOutside mid new r → FaultsFromOutside old new r
-then_reads old mid new P Q r before same after fails rows clean holds faultless =
-    let early = clean_before Q mid new after clean in
-    let kept = same early holds.schema in
-    later_cause old mid new P Q r before early after (fails rows clean (subst (λ (d : Database). HoldsRows d rows) (sym kept.0.now_is) holds) faultless)
 
 pub key_short : (key : List ℕ) → is_legal_key key ≡ true → IsShort key
 key_short key legal = let low = at_most (length key) 64 (middle_true (nat_le 1 (length key)) (nat_le (length key) 64) (list_all is_key_octet key) legal) in omega (arith, low)

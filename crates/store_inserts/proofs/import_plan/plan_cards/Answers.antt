@@ -2,7 +2,7 @@ use Rattle.std.proofs.Common.{rules, ◌≡◌, ◌+◌, [], take, length, sym, 
 use Rattle.book_model.specs.declared.change.StoreReason.{StoreReason}
 use Rattle.book_model.specs.declared.denied.Denied.{Denied}
 use Rattle.store_lookups.proofs.StoreFaultLemmas.{passed_cause}
-use Rattle.store_inserts.proofs.ImportFaults.{then_reads}
+use Rattle.store_writes.proofs.ReadFaults.{then_reads}
 use Rattle.std.proofs.lemmas.List.Sums.{fold_more}
 use Rattle.std.proofs.Math.Seq.{take-length}
 use Rattle.sqlite.specs.Effect.{Database}

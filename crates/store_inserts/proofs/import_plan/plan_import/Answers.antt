@@ -3,7 +3,7 @@ use Rattle.book_model.specs.declared.answers.ImportTally.{ImportTally}
 use Rattle.book_model.specs.declared.denied.Denied.{Denied}
 use Rattle.store_lookups.proofs.StoreFaultLemmas.{header_faultless, passed_cause}
 use Rattle.store_inserts.specs.declared.import_plan.ImportPlan.{ImportPlan}
-use Rattle.store_inserts.proofs.ImportFaults.{then_reads}
+use Rattle.store_writes.proofs.ReadFaults.{then_reads}
 use Rattle.sqlite.specs.Held.{state}
 use Rattle.sqlite.specs.State.{HasCleanDisk}
 use Rattle.store_tables.proofs.SchemaCreationLemmas.{clean_before}
