@@ -4,6 +4,8 @@ use Rattle.std.specs.Prelude.{ℕ, ◌≡◌, true, List, [], ◌∷◌, ◌++�
 use Rattle.std.specs.Prelude.{if◌then◌else◌}
 use Rattle.import_text.specs.RawLines.{raw_lines}
 use Rattle.import_text.specs.declared.raw_line.RawLine.{RawLine}
+use Rattle.vcard_lines.specs.declared.fault.CardFault.{CardFault}
+use Rattle.vcard_lines.specs.declared.fault.CardFault.TheVariants.{TooLong}
 use Rattle.vcard_lines.specs.declared.line.Line.{Line}
 use Rattle.vcard_text.specs.Cards.{has_line_named, uid_of}
 use Rattle.vcard_text.specs.Making.{upper_lines, AreTooLongCardLines}
@@ -91,8 +93,10 @@ pub record IsConverted (octets : List ℕ) (card : List Line) (changes : List Ch
   pub uid : (line : Line) → first_uid (version_of octets) (card_raw_lines octets) ≡ Some line
       → uid_of card ≡ line.value
 
--- the octets are converted to lines that would be a card if their canonical text weren't too long
-pub record IsTooLong (octets : List ℕ) : Type 0 where
+-- The fault is TooLong: the octets are converted to lines that would be a card if their canonical
+-- text weren't too long.
+pub record IsRefused (octets : List ℕ) (fault : CardFault) : Type 0 where
+  pub fault_is : fault ≡ TooLong
   pub lines : List Line
   pub changes : List Change
   pub converted : IsConverted octets lines changes

@@ -4,7 +4,7 @@ ghost use Rattle.vcard_lines.specs.declared.fault.CardFault.TheVariants.{Memory,
 ghost use Rattle.vcard_lines.specs.declared.line.Line.{Line};
 ghost use Rattle.vcard_text.specs.Making.{upper_lines, AreTooLongCardLines};
 ghost use Rattle.vcard_text.specs.Spelling.{Spells, without_bom};
-ghost use Rattle.vcard_import.specs.Conversions.{IsConverted, IsTooLong};
+ghost use Rattle.vcard_import.specs.Conversions.{IsConverted, IsRefused};
 ghost use Rattle.vcard_import.specs.internal.Steps.{AreFaultless};
 
 use crate::card_lines::{CardLines, lines_of_card};
@@ -60,8 +60,7 @@ fn card_in(alloc: Global, lines: Items<Line>) -> Result<Card, CardFault>
 /// Converts a card that the reader of vCard 4.0 refuses.
 fn convert_refused(alloc: Global, octets: &[u8]) -> Result<Conversion, CardFault>
     ensures converted { IfOk result (λ made. IsConverted octets.now made.card made.changes) }
-    ensures refused { IfErr result (λ fault. fault ≢ Memory
-        → (fault ≡ TooLong) × IsTooLong octets.now) }
+    ensures refused { IfErr result (λ fault. fault ≢ Memory → IsRefused octets.now fault) }
 {
     let (lines, changes) = convert_lines(alloc, octets)?;
     let card = card_in(alloc, lines)?;
@@ -85,8 +84,7 @@ pub fn convert_card(alloc: Global, octets: &[u8]) -> Result<Conversion, CardFaul
         ⊎ IsConverted octets.now made.card made.changes) }
 
     // An `Err` is `Memory`, or `TooLong` for lines that are a card but for their length.
-    ensures refused { IfErr result (λ fault. fault ≢ Memory
-        → (fault ≡ TooLong) × IsTooLong octets.now) }
+    ensures refused { IfErr result (λ fault. fault ≢ Memory → IsRefused octets.now fault) }
 {
     match read_card(alloc, octets) {
         Ok(card) => Ok(Conversion {
