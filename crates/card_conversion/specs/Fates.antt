@@ -5,12 +5,10 @@ use Rattle.std.specs.Prelude.{length, flat_map, codes, drop, not, take_while}
 use Rattle.std.specs.List.{Contains, list_all}
 use Rattle.import_text.specs.RawLines.{begins_with_word}
 use Rattle.base_types.specs.Octets.{carriage_return, line_feed, space, tab}
-use Rattle.vcard_lines.specs.declared.fault.CardFault.{CardFault}
-use Rattle.vcard_lines.specs.declared.fault.CardFault.TheVariants.{TooLong}
 use Rattle.vcard_lines.specs.declared.line.Line.{Line}
 use Rattle.vcard_text.specs.Cards.{IsCard, uid_of}
 use Rattle.vcard_text.specs.Spelling.{Spells, without_bom}
-use Rattle.vcard_import.specs.Conversions.{IsConverted, IsTooLong}
+use Rattle.vcard_import.specs.Conversions.{IsConverted, IsRefused}
 use Rattle.vcard_import.specs.declared.conversion.Conversion.{Conversion}
 use Rattle.card_conversion.specs.declared.fate.Fate.{Fate}
 use Rattle.card_conversion.specs.declared.fate.Fate.TheVariants.{Blank, Other, Long, Refused}
@@ -41,10 +39,6 @@ pub record IsConversion (octets : List ℕ) (made : Conversion) : Type 0 where
   pub card : IsCard made.card
   pub converted : (Spells octets made.card × (made.changes ≡ []))
       ⊎ IsConverted octets made.card made.changes
-
--- The octets are converted to lines that would be a card if their canonical text weren't too long.
-abbrev pub IsRefused : List ℕ → CardFault → Type 0
-IsRefused octets fault = (fault ≡ TooLong) × IsTooLong octets
 
 -- The fate of a piece after pieces whose cards had these UIDs.
 abbrev pub IsFate : List (List ℕ) → List ℕ → Fate → Type 0

@@ -1,7 +1,8 @@
 //! What a piece of a file is, and what becomes of it.
 ghost use Rattle.std.specs.Prelude.{◌≡◌, IfOk, MatchResult, ℕ, List, length};
+ghost use Rattle.vcard_import.specs.Conversions.{IsRefused};
 ghost use Rattle.std.specs.List.{list_all};
-ghost use Rattle.card_conversion.specs.Fates.{IsConversion, IsRefused, first_line, is_blank};
+ghost use Rattle.card_conversion.specs.Fates.{IsConversion, first_line, is_blank};
 ghost use Rattle.card_conversion.specs.Fates.{is_card, is_white};
 ghost use Rattle.card_conversion.specs.internal.States.{HasUids, IsAdmitted, Takes};
 ghost use Rattle.vcard_text.specs.Spelling.{without_bom};
