@@ -51,7 +51,7 @@ pub(crate) struct Transfer {
     pub(crate) moved: Moved,
     pub(crate) drop: Option<u64>,
     pub(crate) tombstones: Option<u64>,
-    pub(crate) was_tombstone: bool,
+    pub(crate) comes_back: bool,
 }
 
 /// Checks the connection and finds the headers of both books. Refused with `NoSuchBook`.
@@ -176,10 +176,7 @@ fn plan_move<S: Alter>(
     if from == to {
         return Err(Denied::Refused(Refusal::SameBook));
     }
-
-    let (card, moved, was_tombstone) = decide_move(
-        alloc, conn, limits, source, target, uid, expect,
-    )?;
+    let (card, moved, comes_back) = decide_move(alloc, conn, limits, source, target, uid, expect)?;
     let plan = plan_drop(conn, counts, source, from)?;
     Ok(Transfer {
         source,
@@ -188,7 +185,7 @@ fn plan_move<S: Alter>(
         moved,
         drop: plan.drop,
         tombstones: plan.tombstones,
-        was_tombstone,
+        comes_back,
     })
 }
 
@@ -233,7 +230,7 @@ pub fn move_in_tables<S: Alter>(
         &plan.card,
         plan.drop,
     )?;
-    count_stored(counts, to, plan.was_tombstone);
+    count_stored(counts, to, plan.comes_back);
     set_count(counts, from, plan.tombstones);
     Ok(plan.moved)
 }

@@ -94,8 +94,8 @@ pub record IsMoveOf (limits : Bounds) (rows : TableRows) (from to uid : List ℕ
   pub tombstones : tombstones_after_removal
       (tombstone_count (row_book rows (line_row from plan.source))) plan.source.number plan.drop
       ≡ plan.tombstones
-  pub was_tombstone : is_tombstone_at (row_book rows (line_row to plan.target)) uid
-      ≡ plan.was_tombstone
+  pub comes_back : is_tombstone_at (row_book rows (line_row to plan.target)) uid
+      ≡ plan.comes_back
 
 -- the plan is valid for the named books, or the error is the model's refusal or a fault
 abbrev pub IsMovePlanned : Bounds → TableRows → List ℕ → List ℕ → List ℕ → Option ℕ

@@ -198,7 +198,7 @@ returns-clause-counts g c =
     let left = book_after_drop (book_with_row source uid (TakesAway MoveOut)) plan.drop in
     let joined = book_with_row target uid (Stores plan.card MoveIn) in
     let live = moves_live c.args.limits (found_in_book source uid) (found_in_book target uid) c.args.expect _ h.0.moving in
-    let number : tombstone_count joined + one_if plan.was_tombstone ≡ tombstone_count target = subst (λ b. tombstone_count joined + one_if b ≡ tombstone_count target) h.0.was_tombstone (stored_replace target uid plan.card MoveIn) in
+    let number : tombstone_count joined + one_if plan.comes_back ≡ tombstone_count target = subst (λ b. tombstone_count joined + one_if b ≡ tombstone_count target) h.0.comes_back (stored_replace target uid plan.card MoveIn) in
     let arrived = c.count_stored.ensures (books_of rows) target joined h.1 h.0.target.book number in
     let known : IfSome plan.tombstones (λ n. tombstone_count left ≡ n) = if_known (λ n. tombstone_count left ≡ n) plan.tombstones _ h.0.tombstones
     (λ n is. tombstones_left rows from plan.source uid live.0 MoveOut h.3 h.2 live.1 h.0.horizon plan.drop n h.0.drop is) in

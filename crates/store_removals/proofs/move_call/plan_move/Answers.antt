@@ -68,7 +68,7 @@ returns-clause-planned g c rows clean holds sound right =
     let target = c.in_ok-source.target in
     let named = c.in_ok-source.ensures.finds rows early holds sound in
     let same = same_then old a b _ c.in_ok-source.ensures.unchanged c.decide_move.ensures.reads_only.survives c.in_ok-card.ensures.unchanged in
-    let moving = moving_back (moving_between_books c.args.limits c.args.uid.now c.args.expect (row_book rows (line_row from source)) (row_book rows (line_row to target))) (c.in_ok-card.card, c.in_ok-card.moved, c.in_ok-card.was_tombstone)
+    let moving = moving_back (moving_between_books c.args.limits c.args.uid.now c.args.expect (row_book rows (line_row from source)) (row_book rows (line_row to target))) (c.in_ok-card.card, c.in_ok-card.moved, c.in_ok-card.comes_back)
     (over_then old a b _ _ c.in_ok-source.ensures.unchanged c.decide_move.ensures.reads_only.survives c.in_ok-card.ensures.answers rows later holds sound from to) in
     let drop = over_then old b new _ _ same c.plan_drop.ensures.reads_only.survives c.in_ok-plan.ensures.drop rows clean holds sound right named.0 in
     let tombstones = over_then old b new _ _ same c.plan_drop.ensures.reads_only.survives c.in_ok-plan.ensures.tombstones rows clean holds sound right named.0 in
@@ -81,7 +81,7 @@ returns-clause-planned g c rows clean holds sound right =
       moving = moving;
       drop = move_drops rows from source c.args.uid.now c.args.limits (found_in_book (row_book rows (line_row to target)) c.args.uid.now) c.args.expect (moving_of c.in_ok-card.card c.in_ok-card.moved) c.in_ok-plan.plan.drop sound low moving drop;
       tombstones = tombstones;
-      was_tombstone = over_then old a b _ _ c.in_ok-source.ensures.unchanged c.decide_move.ensures.reads_only.survives c.in_ok-card.ensures.tombstone rows later holds sound to;
+      comes_back = over_then old a b _ _ c.in_ok-source.ensures.unchanged c.decide_move.ensures.reads_only.survives c.in_ok-card.ensures.tombstone rows later holds sound to;
     }
 
 pub returns-in_err-plan-clause-counts : goal.returns-in_err-plan-clause-counts
