@@ -1,0 +1,222 @@
+"""`contacts convert`: files of cards of other programs.
+
+The expected cards are in converted_cards.py, worked out by hand. Whatever is converted must pass
+`check` and an import, and the same file gives the same octets.
+"""
+
+import csv
+import io
+import random
+import re
+import unittest
+import uuid
+
+from converted_cards import CARDS, card
+from order_trials import OrderTest
+from program import Ended, run
+
+HEAD = b"uid,vcard\n"
+# The namespace of object identifiers (RFC 4122, appendix C).
+NAMESPACE = uuid.UUID("6ba7b812-9dad-11d1-80b4-00c04fd430c8")
+
+
+def text(lines, end="\r\n"):
+    return "".join(line + end for line in lines)
+
+
+def unfolded(octets):
+    """The lines of a card's text."""
+    return octets.decode().replace("\r\n ", "").split("\r\n")[:-1]
+
+
+def rows_of(octets):
+    """The rows of a CSV text, without the header."""
+    return list(csv.reader(io.StringIO(octets.decode(), newline="")))[1:]
+
+
+def summary(written, changed, refused):
+    return b"%d cards written, %d changed, %d not carried\n" % (written, changed, refused)
+
+
+class Convert(OrderTest):
+    def convert(self, octets, *options, name="cards.vcf"):
+        """Converts a file with these octets."""
+        (self.folder / name).write_bytes(octets)
+        return run("convert", name, *options, cwd=self.folder)
+
+    def names(self):
+        return sorted(path.name for path in self.folder.iterdir())
+
+    def imported(self, octets, count):
+        """The rows pass `check`, and can be imported into an empty book."""
+        (self.folder / "rows.csv").write_bytes(octets)
+        self.assertEqual(Ended(0, b"rows %d\n" % count, b""), run("check", self.folder / "rows.csv"))
+        file = self.folder / "office.db"
+        if not file.exists():
+            run("init", file)
+            run("book", file, "staff")
+        ended = run("import", file, "staff", "key-%d" % count, self.folder / "rows.csv")
+        self.assertEqual(0, ended.status, ended)
+
+    def test_cards(self):
+        for title, lines, wanted, report in CARDS:
+            for end in "\r\n", "\n":
+                with self.subTest(title, end=end):
+                    octets = text(lines, end).encode()
+                    ended = self.convert(octets)
+                    rows = rows_of(ended.out)
+                    self.assertEqual(1, len(rows), ended)
+                    self.assertEqual(card("4.0", *wanted), unfolded(rows[0][1].encode()))
+                    lines_of_report = [f"card 1, {line}\n" for line in report]
+                    due = "".join(lines_of_report).encode() + summary(1, bool(report), 0)
+                    self.assertEqual((0, due), (ended.status, ended.err))
+                    self.assertEqual(ended, self.convert(octets), "not the same again")
+                    self.imported(ended.out, 1)
+
+    def test_encodings(self):
+        lines = card("3.0", "UID:a", "FN:Zoë Ångström")
+        for title, octets in [
+            ("UTF-8 with its mark", b"\xef\xbb\xbf" + text(lines).encode()),
+            ("UTF-16, low octet first", b"\xff\xfe" + text(lines).encode("utf-16-le")),
+            ("UTF-16, high octet first", b"\xfe\xff" + text(lines).encode("utf-16-be")),
+            ("Latin-1", text(lines).encode("latin-1")),
+        ]:
+            with self.subTest(title):
+                ended = self.convert(octets)
+                self.assertEqual(0, ended.status, ended)
+                wanted = card("4.0", "UID:a", "FN:Zoë Ångström")
+                self.assertEqual(wanted, unfolded(rows_of(ended.out)[0][1].encode()))
+
+    def test_a_uid_is_that_of_the_octets(self):
+        octets = text(card("3.0", "FN:Ann")).encode()
+        ended = self.convert(octets + text(card("3.0", "FN:Bob")).encode())
+        uids = [row[0] for row in rows_of(ended.out)]
+        self.assertEqual(2, len(set(uids)), uids)
+        for uid in uids:
+            self.assertEqual(5, uuid.UUID(uid).version)
+        self.assertEqual(uids[0], rows_of(self.convert(octets).out)[0][0])
+        report = b"card 1, line 1: UID added\ncard 2, line 5: UID added\n" + summary(2, 2, 0)
+        self.assertEqual(report, ended.err)
+
+    def test_what_is_not_carried(self):
+        ann = text(card("4.0", "UID:a", "FN:Ann"))
+        for title, octets, written, report in [
+            ("no octet", "", 0, ""),
+            ("blank lines between cards", "\n\n" + ann + "\r\n \n", 1, ""),
+            ("words between cards", ann + "words\nmore\n" + ann.replace("UID:a", "UID:b"), 2,
+             "line 6: not carried: no card begins here\n"),
+            ("a UID twice", ann + ann, 1,
+             "card 2, line 6: not carried: an earlier card has the same UID\n"),
+            ("too long", ann.replace("Ann", "x" * 270_000), 0,
+             "card 1, line 1: not carried: the text is too long\n"),
+            ("no card", "x", 0, "line 1: not carried: no card begins here\n"),
+        ]:
+            with self.subTest(title):
+                ended = self.convert(octets.encode())
+                refused = bool(report)
+                self.assertEqual(report.encode() + summary(written, 0, refused), ended.err)
+                self.assertEqual(int(refused), ended.status)
+                self.assertEqual(written, len(rows_of(ended.out)))
+                self.assertTrue(ended.out.startswith(HEAD))
+
+    def test_a_file_for_each_card(self):
+        uids = ["a", "urn:uuid:7f", "é", "../b", ".c", "x" * 201, "d.vcf"]
+        octets = "".join(text(card("4.0", f"UID:{uid}", "FN:A")) for uid in uids).encode()
+        (self.folder / "to").mkdir()
+        ended = self.convert(octets, "--to", "to")
+        self.assertEqual(Ended(0, b"", summary(7, 0, 0)), ended)
+        names = sorted(path.name for path in (self.folder / "to").iterdir())
+        wanted = ["7f.vcf", "a.vcf", "card-3.vcf", "card-4.vcf", "card-5.vcf", "card-6.vcf",
+                  "d.vcf.vcf"]
+        self.assertEqual(wanted, names)
+        self.assertEqual(text(card("4.0", "UID:a", "FN:A")).encode(),
+                         (self.folder / "to/a.vcf").read_bytes())
+        for name in names:
+            self.assertEqual(Ended(0, b"card\n", b""), run("check", self.folder / "to" / name))
+        # No file is overwritten.
+        (self.folder / "to/a.vcf").write_bytes(b"mine")
+        again = self.convert(octets, "--to", "to")
+        self.assertEqual((1, b""), (again.status, again.out))
+        self.assertIn(b"card 1, line 1: not carried: the file to/a.vcf exists\n", again.err)
+        self.assertEqual(b"mine", (self.folder / "to/a.vcf").read_bytes())
+
+    def test_files_of_rows(self):
+        octets = "".join(text(card("4.0", f"UID:{n}", "FN:A")) for n in range(7)).encode()
+        ended = self.convert(octets, "--rows", 3)
+        self.assertEqual(Ended(0, b"", summary(7, 0, 0)), ended)
+        files = ["cards-1.csv", "cards-2.csv", "cards-3.csv"]
+        self.assertEqual([*files, "cards.vcf"], self.names())
+        counts = [len(rows_of((self.folder / name).read_bytes())) for name in files]
+        self.assertEqual([3, 3, 1], counts)
+        uids = [row[0] for name in files for row in rows_of((self.folder / name).read_bytes())]
+        self.assertEqual(list("0123456"), uids)
+        again = self.convert(octets, "--rows", 3)
+        self.assertEqual((3, b"fault device 1: cards-1.csv exists\n"), (again.status, again.err))
+
+    def test_files_of_octets(self):
+        octets = "".join(text(card("4.0", f"UID:{n}", "FN:A")) for n in range(7)).encode()
+        (self.folder / "to").mkdir()
+        row = len(b'0,"' + text(card("4.0", "UID:0", "FN:A")).encode() + b'"\n')
+        for most, counts in [(len(HEAD) + 2 * row, [2, 2, 2, 1]),
+                             (len(HEAD) + 2 * row - 1, [1] * 7)]:
+            with self.subTest(most=most):
+                ended = self.convert(octets, "--octets", most, "--to", "to")
+                self.assertEqual(Ended(0, b"", summary(7, 0, 0)), ended)
+                files = sorted((self.folder / "to").iterdir())
+                self.assertEqual(counts, [len(rows_of(it.read_bytes())) for it in files])
+                for file in files:
+                    self.assertLessEqual(file.stat().st_size, most)
+                    file.unlink()
+        ended = self.convert(octets, "--octets", len(HEAD) + row - 1, "--to", "to")
+        self.assertEqual(1, ended.status)
+        self.assertIn(b"card 7, line 31: not carried: the row is longer than --octets\n",
+                      ended.err)
+        self.assertEqual([], list((self.folder / "to").iterdir()))
+
+    def test_files_that_cannot_be_used(self):
+        (self.folder / "cards.vcf").write_bytes(text(card("4.0", "UID:a", "FN:A")).encode())
+        for arguments, words in [
+            (["missing.vcf"], "missing.vcf can't be read"),
+            (["cards.vcf", "--to", "missing"], "missing is no folder"),
+            (["cards.vcf", "--to", "cards.vcf"], "cards.vcf is no folder"),
+        ]:
+            with self.subTest(arguments):
+                ended = run("convert", *arguments, cwd=self.folder)
+                self.assertEqual(3, ended.status)
+                self.assertTrue(ended.err.endswith(f"fault device 1: {words}\n".encode()), ended)
+
+    def test_an_export_comes_back(self):
+        octets = "".join(text(card("4.0", f"UID:{n}", "FN:A")) for n in range(5)).encode()
+        rows = self.convert(octets).out
+        self.assertEqual(rows, self.convert(rows, name="export.csv").out)
+
+    def test_any_octets(self):
+        """Whatever the file has, the order ends with a summary, and what it writes is imported."""
+        drawn = random.Random(6350)
+        whole = "".join(text(it.text) for it in CARDS).encode()
+        for number in range(60):
+            octets = bytearray(whole)
+            for _ in range(drawn.randrange(1, 40)):
+                place = drawn.randrange(len(octets))
+                kind = drawn.randrange(3)
+                if kind == 0:
+                    octets[place] = drawn.randrange(256)
+                elif kind == 1:
+                    del octets[place:place + drawn.randrange(1, 80)]
+                else:
+                    octets[place:place] = drawn.choice([b"\r\n", b"=", b":", b";", b"\n ", b"\0"])
+            with self.subTest(number=number):
+                ended = self.convert(bytes(octets))
+                end = re.search(rb"(?:^|\n)(\d+) cards written, (\d+) changed, (\d+) not carried\n$",
+                                ended.err)
+                self.assertTrue(end, ended)
+                self.assertEqual(1 if int(end[3]) else 0, ended.status)
+                rows = rows_of(ended.out)
+                self.assertEqual(int(end[1]), len(rows))
+                (self.folder / "rows.csv").write_bytes(ended.out)
+                checked = run("check", self.folder / "rows.csv")
+                self.assertEqual(Ended(0, b"rows %d\n" % len(rows), b""), checked)
+
+
+if __name__ == "__main__":
+    unittest.main()
