@@ -45,6 +45,19 @@ class Office(unittest.TestCase):
         self.assertTrue(printed.endswith("\noffice: all steps went as they should\n"), printed)
 
 
+class MoveIn(unittest.TestCase):
+    def test_the_whole_way(self):
+        done = subprocess.run(
+            [str(EXAMPLES / "move-in.sh"), PROGRAM],
+            stdout=subprocess.PIPE,
+            stderr=subprocess.STDOUT,
+            timeout=PATIENCE,
+        )
+        printed = done.stdout.decode()
+        self.assertEqual(0, done.returncode, printed)
+        self.assertTrue(printed.endswith("\nmove-in: all steps went as they should\n"), printed)
+
+
 class Service:
     """A server that the commands STOP and START stop and start, as systemctl does a service."""
 
