@@ -5,3 +5,4 @@ pub mod FaultlessLemmas
 pub mod ChangeableLemmas
 pub mod CrashLemmas
 pub mod RefusalLemmas
+pub mod CountLemmas

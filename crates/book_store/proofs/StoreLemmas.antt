@@ -17,13 +17,14 @@ use Rattle.store_rows.specs.TableBooks.{books_of, books_in}
 use Rattle.store_rows.specs.TableRows.{no_rows}
 use Rattle.store_rows.proofs.HeldRows.{books_held, nothing_held, no_rows_sound}
 use Rattle.store_rows.proofs.OpenLemmas.{new_tables_empty}
-use Rattle.store_lookups.specs.CallResults.{FollowsStep, GivenSoundRows}
+use Rattle.book_counts.specs.Counts.{AreCountsOf, CountsByName}
+use Rattle.store_lookups.specs.CallResults.{FollowsStep, GivenCounts, GivenSoundRows}
 use Rattle.store_lookups.specs.ChangeFaults.{ChangeFaultsFromOutside}
 use Rattle.store_lookups.specs.StoreFaults.{FaultsFromOutside}
 use Rattle.book_store.specs.OpenOutcomes.{IsNewStoreCommitted}
 use Rattle.book_store.specs.StoreViews.{ChangesStore, IsStore, ReadsStore, StoreView}
 use Rattle.store_writes.specs.TableChanges.{AppliesStep, CommitsOnce}
-use Rattle.store_lookups.specs.StoredBooks.{IsOpenOnHonestDisk, IsCommittedAndSound, stored_books}
+use Rattle.store_lookups.specs.StoredBooks.{HoldCounts, IsOpenOnHonestDisk, IsCommittedAndSound, stored_books}
 use Rattle.store_writes.proofs.CallLemmas.{read_before}
 
 -- the answer of a call that changed nothing
@@ -70,6 +71,30 @@ only_reads_store g allows old new r query store same left returned causes = reco
   store_fault = causes;
 }
 
+-- the same for a call whose answer depends on the numbers that the store keeps
+pub counted_reads_store : {S T A : Type 0} (g : Ghosts S) (allows : T → A → Type 0) (old new : StoreView S) (counts : CountsByName) (r : Result A Denied) (query : Bounds → Books → Result T Refusal) → IsStore (state g old.conn) old.limits → HoldCounts (state g old.conn) counts → new.limits ≡ old.limits
+    → OnlyReads (state g old.conn) (state g new.conn) → GivenCounts (state g old.conn) (state g new.conn) counts (λ rows. FollowsStep allows r (query old.limits (books_of rows))) → FaultsFromOutside (state g old.conn) (state g new.conn) r → ReadsStore g allows old new r query
+counted_reads_store g allows old new counts r query store right same left returned causes =
+    let before = state g old.conn in
+    let after = state g new.conn in
+    record {
+      keeps_terms = record {
+        premise = read_before before after left;
+        limits = same;
+        range = subst IsInRange (sym same) store.range;
+      };
+      matches_query = λ order.
+          let was = store.stays_sound (read_before before after left order) in
+          let here = left.same order.0 was.sound.holds.schema order.1 (λ _. was.committed) in
+          let held : stored_books before ≡ books_of was.sound.rows = books_held before.now was.sound.rows was.sound.holds was.sound.sound in
+          reads_of allows r (query old.limits (stored_books before)) (stored_books before) (stored_books after)
+          (subst (λ (b : Books). FollowsStep allows r (query old.limits b)) (sym held)
+          (returned was.sound.rows order.0 was.sound.holds was.sound.sound (subst (AreCountsOf counts) held (right (read_before before after left order) was))))
+          (ap (λ (d : Database). books_in d.trees) here.now_is);
+      only_reads = left;
+      store_fault = causes;
+    }
+
 -- ---- created tables
 
 pub new_store_is_sound : (s : State) → IsNewStoreCommitted s → IsCommittedAndSound s
@@ -90,4 +115,12 @@ changes_store g old new r step store same changed commits causes = record {
   matches_step = λ order. changed.matches_step order (store.stays_sound (changed.was_open_on_honest_disk order));
   crash = λ order. commits (store.stays_sound order);
   store_fault = causes;
+}
+
+-- a change keeps the invariant of the store
+pub changed_store : {A : Type 0} (old new : State) (limits : Bounds) (r : Result A Denied) (step : Books → Result (A × Books) Refusal) → IsStore old limits → AppliesStep old new r step → IsStore new limits
+changed_store old new limits r step store changed = record {
+  settled = changed.settled;
+  stays_sound = λ order. changed.stays_sound order (store.stays_sound (changed.was_open_on_honest_disk order));
+  range = store.range;
 }

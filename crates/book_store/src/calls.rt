@@ -47,14 +47,30 @@ impl<S: Alter> BookStore for SqlStore<S> {
         ensures changes { ChangesStore S.Store self.old self.new result
             (λ limits books. put_step limits books book.now card.now expect) }
     {
-        put_in_book(self.alloc, &mut self.conn, self.limits, book, card, expect)
+        put_in_book(
+            self.alloc,
+            &mut self.conn,
+            &mut self.counts,
+            self.limits,
+            book,
+            card,
+            expect,
+        )
     }
 
     fn remove(&mut self, book: &str, uid: &str, expect: Option<u64>) -> Result<u64, Denied>
         ensures changes { ChangesStore S.Store self.old self.new result
             (λ limits books. remove_step limits books book.now uid.now expect) }
     {
-        remove_in_book(self.alloc, &mut self.conn, self.limits, book, uid, expect)
+        remove_in_book(
+            self.alloc,
+            &mut self.conn,
+            &mut self.counts,
+            self.limits,
+            book,
+            uid,
+            expect,
+        )
     }
 
     fn move_card(
@@ -70,6 +86,7 @@ impl<S: Alter> BookStore for SqlStore<S> {
         move_in_tables(
             self.alloc,
             &mut self.conn,
+            &mut self.counts,
             self.limits,
             from,
             to,
@@ -82,6 +99,9 @@ impl<S: Alter> BookStore for SqlStore<S> {
         ensures changes { ChangesStore S.Store self.old self.new result
             (λ _ books. forget_step books book.now upto) }
     {
+        // The query may also delete rows at or below the old horizon, so how many tombstones are
+        // left is counted when it is next needed.
+        self.counts.clear(book);
         forget_in_book(&mut self.conn, book, upto)
     }
 
@@ -97,6 +117,9 @@ impl<S: Alter> BookStore for SqlStore<S> {
         ensures changes { ChangesStore S.Store self.old self.new result
             (λ limits books. import_step limits books book.now key.now cards.now) }
     {
+        // An import doesn't look up which of its cards take the place of tombstones, so those that
+        // are left are counted when their number is next needed.
+        self.counts.clear(book);
         import_in_book(self.alloc, &mut self.conn, self.limits, book, key, cards)
     }
 
@@ -132,7 +155,7 @@ impl<S: Alter> BookStore for SqlStore<S> {
         ensures reads { ReadsStore S.Store IsExactly self.old self.new result
             (λ _ books. tally_step books book.now) }
     {
-        tally_of_book(&mut self.conn, book)
+        tally_of_book(&mut self.conn, &mut self.counts, book)
     }
 
     fn report(

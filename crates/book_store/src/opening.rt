@@ -1,19 +1,37 @@
 //! Opens a store over existing tables.
+ghost use Rattle.book_counts.specs.Counts.{AreCountsOf};
+ghost use Rattle.book_model.specs.Books.{Books};
 ghost use Rattle.store_rows.specs.SoundTables.{HoldsWellFormed};
+ghost use Rattle.store_check.specs.TombstoneCounts.{IsCountOf};
 ghost use Rattle.store_check.specs.OpenResults.{max_limits};
 ghost use Rattle.book_store.specs.OpenOutcomes.{DropsRefused, IsOpenRefusal};
 ghost use Rattle.store_schema.specs.OnConnections.{ChangesNothing};
 ghost use Rattle.store_tables.specs.OnConnections.{HoldsNow};
 ghost use Rattle.store_lookups.specs.OnConnections.{IsOpenOnHonestDisk, stored_books};
+ghost use Rattle.std.specs.List.{AllByRecursion};
 ghost use Rattle.std.specs.Prelude.{◌≡◌, IfErr, IfOk, false};
 
 use crate::sql_store::SqlStore;
+use book_counts::TombstoneCounts;
 use book_model::Limits;
 use sqlite::{Alter, Connection};
 use std::alloc::Global;
-use store_check::opening::test_tables;
+use store_check::counts::TombstoneCount;
+use store_check::opening::count_tombstones;
 use store_schema::OpenFault;
 use store_tables::settled::assert_no_pending_writes;
+
+/// The counts that the opening found. Where memory runs out, entries are missing.
+fn counts_of(alloc: Global, found: &[TombstoneCount]) -> TombstoneCounts
+    ensures { (books : Books) → AllByRecursion (IsCountOf books) found.now
+        → AreCountsOf result books }
+{
+    let mut counts = TombstoneCounts::new(alloc);
+    for count in found {
+        counts.set(count.book.as_str(), count.tombstones);
+    }
+    counts
+}
 
 impl<S: Alter> SqlStore<S> {
     /// Opens the store whose books the connection's tables hold. The connection must be outside a
@@ -45,10 +63,11 @@ impl<S: Alter> SqlStore<S> {
     {
         let mut conn = connection;
         assert_no_pending_writes(&conn);
-        match test_tables(alloc, &mut conn, Limits::standard()) {
-            Ok(()) => Ok(SqlStore {
+        match count_tombstones(alloc, &mut conn, Limits::standard()) {
+            Ok(found) => Ok(SqlStore {
                 conn,
                 limits,
+                counts: counts_of(alloc, found.as_slice()),
                 alloc,
             }),
             Err(fault) => Err((fault, conn)),

@@ -11,6 +11,7 @@ ghost use Rattle.std.specs.FinMap as finite;
 ghost use Rattle.std.specs.Prelude.{◌≡◌, Err, IfErr, IfOk, OnOk, false};
 
 use crate::schema_creation::{commit_tables, is_schema_empty};
+use book_counts::TombstoneCounts;
 use book_model::Limits;
 use sqlite::{Alter, Connection, MemStore};
 use std::alloc::Global;
@@ -24,11 +25,14 @@ use store_schema::{OpenFault, open_fault_of};
 pub struct SqlStore<S: Alter> {
     pub(crate) conn: Connection<S>,
     pub(crate) limits: Limits,
+    /// The tombstones of the books by name, so that tallies, removals and moves need not count.
+    pub(crate) counts: TombstoneCounts,
     pub(crate) alloc: Global,
 }
 
 impl<S: Alter> Model for SqlStore<S> {
     ghost use Rattle.book_store.specs.OnConnections.{IsStore};
+    ghost use Rattle.store_lookups.specs.OnConnections.{HoldCounts};
     ghost use Rattle.book_store.specs.StoreViews.{StoreView, store_code};
 
     ghost Value = { StoreView S };
@@ -37,7 +41,8 @@ impl<S: Alter> Model for SqlStore<S> {
 
     ghost view = { λ s. record { conn = s.conn; limits = s.limits } };
 
-    ghost invariant = { λ s. IsStore S.Store s.conn s.limits };
+    ghost invariant = { λ s. IsStore S.Store s.conn s.limits
+        × HoldCounts S.Store s.conn s.counts };
 }
 
 impl<S: Alter + Drop> Drop for SqlStore<S> {
@@ -45,6 +50,7 @@ impl<S: Alter + Drop> Drop for SqlStore<S> {
         let SqlStore {
             conn: _,
             limits: _,
+            counts: _,
             alloc: _,
         } = self;
     }
@@ -59,6 +65,7 @@ impl<S: Alter> SqlStore<S> {
         let SqlStore {
             conn,
             limits: _,
+            counts: _,
             alloc: _,
         } = self;
         conn
@@ -104,6 +111,7 @@ impl<S: Alter> SqlStore<S> {
             Ok(()) => Ok(SqlStore {
                 conn,
                 limits,
+                counts: TombstoneCounts::new(alloc),
                 alloc,
             }),
             Err(error) => Err((open_fault_of(error), conn)),

@@ -4,7 +4,9 @@ use Rattle.book_model.specs.Books.{Books}
 use Rattle.book_model.specs.Bounds.{Bounds}
 use Rattle.store_lookups.specs.CallResults.{IsExactly}
 use Rattle.book_store.specs.StoreViews.{ReadsStore, StoreView}
-use Rattle.book_store.proofs.StoreLemmas.{only_reads_store}
+use Rattle.sqlite.specs.Held.{state}
+use Rattle.book_store.proofs.CountLemmas.{still_counts}
+use Rattle.book_store.proofs.StoreLemmas.{only_reads_store, still_store}
 use Rattle.book_store.proofs.calls.SqlStoreBookStore.get.Goals as goal
 
 pub returns : goal.returns
@@ -14,5 +16,11 @@ returns g c =
     let query = λ (limits : Bounds) (books : Books). get_step books c.args.book.now c.args.uid.now in
     record {
       reads = subst (λ (v : StoreView _). ReadsStore g.S.Store IsExactly v new c.stored_of_book.result query) c.self.view_is
-          (only_reads_store g.S.Store IsExactly old new c.stored_of_book.result query c.self.invariant refl c.stored_of_book.ensures.reads_only c.stored_of_book.ensures.answers c.stored_of_book.ensures.store_fault);
+          (only_reads_store g.S.Store IsExactly old new c.stored_of_book.result query c.self.invariant.0 refl c.stored_of_book.ensures.reads_only c.stored_of_book.ensures.answers c.stored_of_book.ensures.store_fault);
     }
+
+pub invariant_of-self : goal.invariant_of-self
+invariant_of-self g c =
+    let old = state g.S.Store c.self.inside.conn in
+    let new = state g.S.Store c.stored_of_book.new.conn in
+    (still_store old new c.self.inside.limits c.self.invariant.0 c.stored_of_book.ensures.reads_only, still_counts old new c.self.inside.limits c.self.inside.counts c.self.invariant.0 c.stored_of_book.ensures.reads_only c.self.invariant.1)

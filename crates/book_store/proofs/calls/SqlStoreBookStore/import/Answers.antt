@@ -1,9 +1,12 @@
-use Rattle.std.proofs.Common.{refl, subst}
+use Rattle.std.proofs.Common.{refl, subst, sym}
 use Rattle.book_model.specs.Books.{Books}
 use Rattle.book_model.specs.Bounds.{Bounds}
 use Rattle.book_model.specs.Importing.{import_step}
 use Rattle.book_store.specs.StoreViews.{ChangesStore, StoreView}
-use Rattle.book_store.proofs.StoreLemmas.{changes_store}
+use Rattle.sqlite.specs.Held.{state}
+use Rattle.book_counts.specs.Counts.{AreCountsOf}
+use Rattle.book_store.proofs.CountLemmas.{stepped_counts, imported_counts}
+use Rattle.book_store.proofs.StoreLemmas.{changed_store, changes_store}
 use Rattle.book_store.proofs.calls.SqlStoreBookStore.import.Goals as goal
 
 pub returns : goal.returns
@@ -13,5 +16,14 @@ returns g c =
     let step = λ (limits : Bounds) (books : Books). import_step limits books c.args.book.now c.args.key.now c.args.cards.now in
     record {
       changes = subst (λ (v : StoreView _). ChangesStore g.S.Store v new c.import_in_book.result step) c.self.view_is
-          (changes_store g.S.Store old new c.import_in_book.result step c.self.invariant refl c.import_in_book.ensures.changes c.import_in_book.ensures.crash c.import_in_book.ensures.store_fault);
+          (changes_store g.S.Store old new c.import_in_book.result step c.self.invariant.0 refl c.import_in_book.ensures.changes c.import_in_book.ensures.crash c.import_in_book.ensures.store_fault);
     }
+
+pub invariant_of-self : goal.invariant_of-self
+invariant_of-self g c =
+    let old = state g.S.Store c.self.inside.conn in
+    let new = state g.S.Store c.import_in_book.new.conn in (
+      changed_store old new c.self.inside.limits c.import_in_book.result _ c.self.invariant.0 c.import_in_book.ensures.changes,
+      stepped_counts old new c.self.inside.limits c.self.inside.counts c.clear.new.self c.import_in_book.result _ c.self.invariant.0 c.import_in_book.ensures.changes c.self.invariant.1
+          (λ from to matches right. subst (λ counts. AreCountsOf counts to) (sym c.clear.ensures) (imported_counts c.self.inside.counts c.self.inside.limits c.args.book.now c.args.key.now c.args.cards.now c.import_in_book.result from to matches right)),
+    )

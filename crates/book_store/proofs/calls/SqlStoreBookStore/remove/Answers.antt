@@ -3,7 +3,9 @@ use Rattle.book_model.specs.Books.{Books}
 use Rattle.book_model.specs.Bounds.{Bounds}
 use Rattle.book_model.specs.Removing.{remove_step}
 use Rattle.book_store.specs.StoreViews.{ChangesStore, StoreView}
-use Rattle.book_store.proofs.StoreLemmas.{changes_store}
+use Rattle.sqlite.specs.Held.{state}
+use Rattle.book_store.proofs.CountLemmas.{kept_counts}
+use Rattle.book_store.proofs.StoreLemmas.{changed_store, changes_store}
 use Rattle.book_store.proofs.calls.SqlStoreBookStore.remove.Goals as goal
 
 pub returns : goal.returns
@@ -13,5 +15,13 @@ returns g c =
     let step = λ (limits : Bounds) (books : Books). remove_step limits books c.args.book.now c.args.uid.now c.args.expect in
     record {
       changes = subst (λ (v : StoreView _). ChangesStore g.S.Store v new c.remove_in_book.result step) c.self.view_is
-          (changes_store g.S.Store old new c.remove_in_book.result step c.self.invariant refl c.remove_in_book.ensures.changes c.remove_in_book.ensures.crash c.remove_in_book.ensures.store_fault);
+          (changes_store g.S.Store old new c.remove_in_book.result step c.self.invariant.0 refl c.remove_in_book.ensures.changes c.remove_in_book.ensures.crash c.remove_in_book.ensures.store_fault);
     }
+
+pub invariant_of-self : goal.invariant_of-self
+invariant_of-self g c =
+    let old = state g.S.Store c.self.inside.conn in
+    let new = state g.S.Store c.remove_in_book.new.conn in (
+      changed_store old new c.self.inside.limits c.remove_in_book.result _ c.self.invariant.0 c.remove_in_book.ensures.changes,
+      kept_counts old new c.self.inside.limits c.self.inside.counts c.remove_in_book.new.counts c.remove_in_book.result _ c.self.invariant.0 c.remove_in_book.ensures.changes c.self.invariant.1 c.remove_in_book.ensures.counts,
+    )

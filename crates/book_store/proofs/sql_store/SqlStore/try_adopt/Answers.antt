@@ -1,7 +1,11 @@
-use Rattle.std.proofs.Common.{Err, subst}
+use Rattle.std.proofs.Common.{Err, rules, subst, sym}
+use Rattle.std.specs.List.{AllByRecursion}
 use Rattle.sqlite.specs.Held.{state}
+use Rattle.store_lookups.specs.StoredBooks.{stored_books}
 use Rattle.store_check.specs.OpenResults.{IsOpenResult}
+use Rattle.store_check.specs.TombstoneCounts.{IsCountOf}
 use Rattle.store_check.proofs.GreatestLemmas.{are_max_limits}
+use Rattle.book_store.proofs.CountLemmas.{opened_counts, opened_sound}
 use Rattle.book_store.proofs.sql_store.SqlStore.try_adopt.Goals as goal
 
 pub returns-in-Err-clause-refused : goal.returns-in-Err-clause-refused
@@ -9,6 +13,19 @@ returns-in-Err-clause-refused g c =
     let old = state g.S.Store c.args.connection in
     let limits = are_max_limits c.standard.result c.standard.ensures.page c.standard.ensures.cards c.standard.ensures.changes c.standard.ensures.books c.standard.ensures.keep in
     record {
-      left_unchanged = c.test_tables.ensures.changes_nothing;
+      left_unchanged = c.count_tombstones.ensures.changes_nothing;
       right_fault = λ clean. subst (λ b. IsOpenResult b old.now (Err c.in-Err.fault)) limits (c.in-Err.ensures.answers clean);
     }
+
+pub invariant_of-result : goal.invariant_of-result
+invariant_of-result g c =
+    let old = state g.S.Store c.args.connection in
+    let new = state g.S.Store c.count_tombstones.new.conn in (
+      record {
+        settled = c.count_tombstones.ensures.changes_nothing.mode c.requires;
+        stays_sound = opened_sound _ old new c.count_tombstones.ensures.changes_nothing c.assert_no_pending_writes.ensures (λ clean. (c.in-Ok.ensures.answers clean).0);
+        range = search rules;
+      },
+      opened_counts old new c.counts_of.result c.count_tombstones.ensures.changes_nothing c.assert_no_pending_writes.ensures (λ clean.
+          c.counts_of.ensures (stored_books old) (subst (AllByRecursion (IsCountOf (stored_books old))) (sym c.as_slice.ensures.value) (c.in-Ok.ensures.answers clean).1.each_count)),
+    )
