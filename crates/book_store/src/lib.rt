@@ -4,6 +4,7 @@
 
 mod calls;
 mod files;
+mod keeps;
 pub mod laws;
 mod opening;
 mod schema_creation;

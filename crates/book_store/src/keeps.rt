@@ -1,0 +1,27 @@
+//! The most tombstones that a book keeps.
+ghost use Rattle.book_store.specs.StoreViews.{table_model};
+ghost use Rattle.store_lookups.specs.CallResults.{IsExactly};
+ghost use Rattle.store_lookups.specs.OnConnections.{ChangeFaultsFromOutside};
+ghost use Rattle.store_queries.specs.KeepQueries.{keep_step};
+ghost use Rattle.store_tables.specs.OnConnections.{OnlyReads};
+ghost use Rattle.sync_core.specs.StoreModels.{AnswersQuery, KeepsTerms};
+
+use crate::sql_store::SqlStore;
+use book_model::Denied;
+use sqlite::Alter;
+use store_queries::book_queries::keep_of_book;
+
+impl<S: Alter> SqlStore<S> {
+    /// Returns the most tombstones that the book keeps, 1 to 10,000. Reads the book's row and that
+    /// of its keep. Refused with `NoSuchBook`; fails with `Memory` if memory runs out, and with
+    /// `Store` if a row is malformed or on any other error of the database.
+    pub fn keep_of(&mut self, book: &str) -> Result<u64, Denied>
+        ensures terms { KeepsTerms (table_model S.Store) self.old self.new }
+        ensures answers { AnswersQuery (table_model S.Store) IsExactly self.old self.new result
+            (λ _ books. keep_step books book.now) }
+        ensures reads_only { OnlyReads S.Store self.old.conn self.new.conn }
+        ensures store_fault { ChangeFaultsFromOutside S.Store self.old.conn self.new.conn result }
+    {
+        keep_of_book(&mut self.conn, book)
+    }
+}
