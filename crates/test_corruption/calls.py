@@ -105,6 +105,12 @@ class Reader:
         numbers = {**book, "remembered": self.remembered(book)}
         return "tally " + " ".join(str(numbers[name]) for name in names)
 
+    def keep(self):
+        keeps = self.rows("SELECT keep FROM keeping WHERE book = ?", self.find("staff")["id"])
+        if not keeps:
+            raise Denied(STORE)
+        return f"keep {natural(keeps[0][0])}"
+
     def report(self, token=None):
         """The initial report, or one since the token, which is the book's id and two numbers."""
         book = self.find("staff")
@@ -207,8 +213,6 @@ class Writer(Reader):
         found = [self.live(book, "ann"), self.live(book, "zoe")]
         added = found.count(None)
         number = book["number"] + 2
-        if number >= 2**63:
-            raise Denied(STORE)
         if added and book["cards"] + added > CARDS_MAX:
             refuse(12)
         if number > CHANGES_MAX:
@@ -222,7 +226,7 @@ CALLS = [("create_book", Writer.create_book), ("put", Writer.put), ("remove", Wr
          ("move_card", Writer.move_card), ("forget", Writer.forget),
          ("import", Writer.import_cards), ("kept_import", Reader.kept_import), ("get", Reader.get),
          ("books", Reader.books), ("book", Reader.book), ("cards", Reader.cards),
-         ("tally", Reader.tally), ("report", Reader.report),
+         ("tally", Reader.tally), ("keep", Reader.keep), ("report", Reader.report),
          ("report with a token", lambda reader: reader.report((1, 0, 0)))]
 
 

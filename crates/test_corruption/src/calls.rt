@@ -5,7 +5,7 @@ use crate::answers::push_denial;
 use crate::changes::{create_book, forget, import, move_card, put, remove};
 use crate::damage::{Damage, apply_damage};
 use crate::fixture::{Memory, limits};
-use crate::reads::{book, books, cards, get, kept_import, report, report_all, tally};
+use crate::reads::{book, books, cards, get, keep, kept_import, report, report_all, tally};
 use crate::rows::{TABLES, push_if_changed, table_rows};
 use crate::stop::Stop;
 use std::alloc::Global;
@@ -26,12 +26,13 @@ pub(crate) enum Call {
     Book,
     Cards,
     Tally,
+    Keep,
     Report,
     ReportAll,
 }
 
 /// All calls, with their names.
-pub(crate) const CALLS: [(&str, Call); 14] = [
+pub(crate) const CALLS: [(&str, Call); 15] = [
     ("create_book", Call::CreateBook),
     ("put", Call::Put),
     ("remove", Call::Remove),
@@ -44,6 +45,7 @@ pub(crate) const CALLS: [(&str, Call); 14] = [
     ("book", Call::Book),
     ("cards", Call::Cards),
     ("tally", Call::Tally),
+    ("keep", Call::Keep),
     ("report", Call::Report),
     ("report with a token", Call::ReportAll),
 ];
@@ -71,6 +73,7 @@ fn push_answer(
         Call::Book => book(output, alloc, conn),
         Call::Cards => cards(output, alloc, conn),
         Call::Tally => tally(output, alloc, conn),
+        Call::Keep => keep(output, alloc, conn),
         Call::Report => report(output, alloc, conn, limits),
         Call::ReportAll => report_all(output, alloc, conn, limits),
     }

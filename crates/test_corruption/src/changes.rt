@@ -3,6 +3,7 @@ ghost use Rattle.std.specs.Prelude.{◌≡◌, false};
 
 use crate::answers::{push_import, push_numbers, push_put};
 use crate::fixture::Memory;
+use book_counts::TombstoneCounts;
 use csv_cards::read_rows;
 use std::alloc::Global;
 use store_inserts::creating::create_in_tables;
@@ -43,7 +44,8 @@ pub(crate) fn put(
     let Ok(card) = read_card(alloc, ANN.as_bytes()) else {
         return Err(Denied::Fault(Fault::Memory));
     };
-    let answer = put_in_book(alloc, conn, limits, "staff", &card, None);
+    let mut counts = TombstoneCounts::new(alloc);
+    let answer = put_in_book(alloc, conn, &mut counts, limits, "staff", &card, None);
     drop(card);
     Ok(push_put(output, alloc, answer?)?)
 }
@@ -56,7 +58,8 @@ pub(crate) fn remove(
 ) -> Result<(), Denied>
     requires { conn.old.in_transaction ≡ false }
 {
-    let number = remove_in_book(alloc, conn, limits, "staff", "ann", None)?;
+    let mut counts = TombstoneCounts::new(alloc);
+    let number = remove_in_book(alloc, conn, &mut counts, limits, "staff", "ann", None)?;
     Ok(push_numbers(output, alloc, "gone", &[number])?)
 }
 
@@ -68,7 +71,17 @@ pub(crate) fn move_card(
 ) -> Result<(), Denied>
     requires { conn.old.in_transaction ≡ false }
 {
-    let moved = move_in_tables(alloc, conn, limits, "staff", "clients", "ann", None)?;
+    let mut counts = TombstoneCounts::new(alloc);
+    let moved = move_in_tables(
+        alloc,
+        conn,
+        &mut counts,
+        limits,
+        "staff",
+        "clients",
+        "ann",
+        None,
+    )?;
     Ok(push_numbers(output, alloc, "moved", &[moved.from, moved.version])?)
 }
 

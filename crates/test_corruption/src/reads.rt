@@ -1,10 +1,14 @@
 //! The calls that only read, over a connection.
 use crate::answers::{
-    push_book_line, push_book_lines, push_card, push_import, push_page, push_piece, push_tally,
+    push_book_line, push_book_lines, push_card, push_import, push_numbers, push_page, push_piece,
+    push_tally,
 };
 use crate::fixture::Memory;
+use book_counts::TombstoneCounts;
 use std::alloc::Global;
-use store_queries::book_queries::{import_of_book, line_of_book, stored_of_book, tally_of_book};
+use store_queries::book_queries::{
+    import_of_book, keep_of_book, line_of_book, stored_of_book, tally_of_book,
+};
 use store_queries::list_queries::{cards_of_book, lines_of_books};
 use store_queries::report_queries::page_of_book;
 use sync_core::{Denied, Limits, Mark, Token};
@@ -51,8 +55,14 @@ pub(crate) fn cards(output: &mut String, alloc: Global, conn: &mut Memory) -> Re
 }
 
 pub(crate) fn tally(output: &mut String, alloc: Global, conn: &mut Memory) -> Result<(), Denied> {
-    let tally = tally_of_book(conn, "staff")?;
+    let mut counts = TombstoneCounts::new(alloc);
+    let tally = tally_of_book(conn, &mut counts, "staff")?;
     Ok(push_tally(output, alloc, &tally)?)
+}
+
+pub(crate) fn keep(output: &mut String, alloc: Global, conn: &mut Memory) -> Result<(), Denied> {
+    let keep = keep_of_book(conn, "staff")?;
+    Ok(push_numbers(output, alloc, "keep", &[keep])?)
 }
 
 /// A report, since the token if there is one.
