@@ -70,7 +70,7 @@ module _ {S P : Type 0} (model : StoreModel S) (effects : EndpointRelation P) wh
   ]
   work_leaves (CreateFile file) stop before after log s = inl (making_leaves file stop before after log s)
   work_leaves (MigrateFile file) stop before after log s = inl (migrating_leaves file stop before after log s)
-  work_leaves (ServeFile file port limits) stop before after log s = elim (serve_leaves file port limits stop before after log s) [
+  work_leaves (ServeFile file port limits is_logged) stop before after log s = elim (serve_leaves file port limits stop before after log s) [
     | inl kept ↦ inl kept
     | inr announced ↦ inr (inl announced)
   ]

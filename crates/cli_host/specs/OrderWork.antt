@@ -1,6 +1,6 @@
 -- What an order does: the command, the file, the port and the limits that it names. This project's
 -- own.
-use Rattle.std.specs.Prelude.{ℕ, ◌*◌, ◌-◌, ◌^◌, min}
+use Rattle.std.specs.Prelude.{ℕ, ◌*◌, ◌-◌, ◌^◌, min, true, false}
 use Rattle.book_commands.specs.declared.command.Command.TheVariants.{CreateBook, TallyOf, People}
 use Rattle.book_commands.specs.declared.command.Command.TheVariants.{Export as ExportRows}
 use Rattle.book_commands.specs.declared.command.Command.TheVariants.{Forget as ForgetUpto}
@@ -8,7 +8,7 @@ use Rattle.cli_args.specs.declared.order.Order.{Order}
 use Rattle.cli_args.specs.declared.order.Order.TheVariants.{Try, Init, Book, Serve, ServeWithLimits}
 use Rattle.cli_args.specs.declared.order.Order.TheVariants.{Import, Export, Tally, Forget, Mirror}
 use Rattle.cli_args.specs.declared.order.Order.TheVariants.{Expand, Migrate, Check, Books, Verify}
-use Rattle.cli_args.specs.declared.order.Order.TheVariants.{Version}
+use Rattle.cli_args.specs.declared.order.Order.TheVariants.{ServeLogged, Version}
 use Rattle.hub_server.specs.declared.limits.ServeLimits.{ServeLimits}
 use Rattle.cli_host.specs.declared.work.Work.{Work}
 use Rattle.cli_host.specs.declared.work.Work.TheVariants.{Nothing, PrintVersion, CheckFile}
@@ -39,6 +39,19 @@ limits_of connections together patience = record {
   patience = milliseconds_of patience;
 }
 
+-- what an order does that uses the store in a file; for any other order, nothing
+abbrev pub store_work_of : Order → Work
+store_work_of (Book file book) = UseFile file (Perform (CreateBook book))
+store_work_of (Import file book key csv) = UseFile file (ImportFile book key csv)
+store_work_of (Export file book form) = UseFile file (Perform (ExportRows book form))
+store_work_of (Tally file book) = UseFile file (Perform (TallyOf book))
+store_work_of (Forget file book upto) = UseFile file (Perform (ForgetUpto book upto))
+store_work_of (Mirror file book limit pages) = UseFile file (MirrorBook book limit pages)
+store_work_of (Expand file book uid) = UseFile file (Perform (People book uid))
+store_work_of (Books file) = UseFile file (ListBooks listing.Books)
+store_work_of (Verify file) = UseFile file (ListBooks listing.Verified)
+store_work_of order = Nothing
+
 -- each order's arguments in their places
 abbrev pub work_of : Order → Work
 work_of Try = Nothing
@@ -47,15 +60,9 @@ work_of (Check file) = CheckFile file
 work_of (Init file) = CreateFile file
 work_of (Migrate file) = MigrateFile file
 work_of (Serve file port connections) =
-    ServeFile file port (limits_of connections together_default patience_default)
+    ServeFile file port (limits_of connections together_default patience_default) false
 work_of (ServeWithLimits file port connections together patience) =
-    ServeFile file port (limits_of connections together patience)
-work_of (Book file book) = UseFile file (Perform (CreateBook book))
-work_of (Import file book key csv) = UseFile file (ImportFile book key csv)
-work_of (Export file book form) = UseFile file (Perform (ExportRows book form))
-work_of (Tally file book) = UseFile file (Perform (TallyOf book))
-work_of (Forget file book upto) = UseFile file (Perform (ForgetUpto book upto))
-work_of (Mirror file book limit pages) = UseFile file (MirrorBook book limit pages)
-work_of (Expand file book uid) = UseFile file (Perform (People book uid))
-work_of (Books file) = UseFile file (ListBooks listing.Books)
-work_of (Verify file) = UseFile file (ListBooks listing.Verified)
+    ServeFile file port (limits_of connections together patience) false
+work_of (ServeLogged file port connections together patience) =
+    ServeFile file port (limits_of connections together patience) true
+work_of order = store_work_of order

@@ -60,7 +60,7 @@ StopsUnbound stop before after = StopsForMemory stop before after ⊎ StopsAtDev
 
 -- the work is to serve, and the line that announces a port was written
 abbrev pub HasAnnounced : Work → Option (List ℕ) → Option (List ℕ) → Type 0
-HasAnnounced (ServeFile file port limits) before after = WritesListeningLine before after
+HasAnnounced (ServeFile file port limits is_logged) before after = WritesListeningLine before after
 HasAnnounced work before after = ⊥
 
 -- the work is to check a file, this is the refusal of what was found in some octets, and the words
@@ -231,7 +231,7 @@ module _ {S P : Type 0} (model : StoreModel S) (effects : EndpointRelation P) wh
   -- The file's store was opened. An endpoint was bound to the requested port, or to any port if it
   -- is 0, with a place for each connection that may be open at once. The line that announces its
   -- port was written, and then all connections were served over the store. At last the endpoint,
-  -- as serving left it, was closed.
+  -- as serving left it, was closed. What is logged of the requests changes none of this.
   pub record ServesFile (file : List ℕ) (requested : ℕ) (limits : ServeLimits)
       (before after : Option (List ℕ)) (log : List (HostCall S P)) : Type 0 where
     pub store : S
@@ -281,7 +281,7 @@ module _ {S P : Type 0} (model : StoreModel S) (effects : EndpointRelation P) wh
   DoesWork (CheckFile file) before after log = ChecksFile file before after log
   DoesWork (CreateFile file) before after log = MakesStore file before after log
   DoesWork (MigrateFile file) before after log = MigratesFile file before after log
-  DoesWork (ServeFile file port limits) before after log =
+  DoesWork (ServeFile file port limits is_logged) before after log =
       ServesFile file port limits before after log
   DoesWork (UseFile file work) before after log = DoesInFile model file work before after log
 
@@ -295,7 +295,7 @@ module _ {S P : Type 0} (model : StoreModel S) (effects : EndpointRelation P) wh
   StopsWork (CheckFile file) stop before after log = StopsChecking file stop before after log
   StopsWork (CreateFile file) stop before after log = StopsMaking file stop before after log
   StopsWork (MigrateFile file) stop before after log = StopsMigrating file stop before after log
-  StopsWork (ServeFile file port limits) stop before after log =
+  StopsWork (ServeFile file port limits is_logged) stop before after log =
       StopsServe file port limits stop before after log
   StopsWork (UseFile file work) stop before after log =
       StopsInFile model file work stop before after log

@@ -8,9 +8,10 @@ ghost use Rattle.cli_orders.specs.Stops.{out_of_memory};
 use base_types::Items;
 use book_store::{FileBooks, OpenFault, SqlStore};
 use cli_orders::{Stop, read_rows_of};
+use request_log::RequestLog;
 use socket_endpoint::{BindFault, SocketEndpoint};
 use std::alloc::Global;
-use std::io::Read;
+use std::io::{IsTerminal, Read, Write};
 use std::net::{IpAddr, Ipv4Addr, SocketAddr};
 use std::rt::HostRuntime;
 use std::{fs, io};
@@ -22,7 +23,10 @@ use sync_core::Limits;
 ///
 /// The contracts of the real host say neither what a file holds nor who connects to a port. The
 /// contracts over any host say which calls are made of it, and one body runs orders on all hosts.
-pub trait Host<S, P> {
+///
+/// A host also prints the lines of `serve --log`, and says how a long import goes on. These are no
+/// calls, since they change nothing.
+pub trait Host<S, P>: RequestLog {
     /// What is known of a call: its result, and the host before and after it.
     ghost calls: { HostCall S P → Self → Self → Type 0 };
 
@@ -51,6 +55,12 @@ pub trait Host<S, P> {
         ensures called { calls (Binds port together result) self.old self.new }
         ensures port { IfOk result (λ bound. port ≢ 0 → bound.1 ≡ port) }
         ensures stop { IfErr result (λ stop. (stop ≡ out_of_memory) ⊎ (stop ≡ Stop.Device)) };
+
+    /// Whether somebody watches standard error: whether it is a terminal.
+    fn has_watcher(&self) -> bool;
+
+    /// Says a text on standard error. If it can't be written, it is lost.
+    fn say(&self, text: &[u8]);
 
     /// Closes the endpoint, after its connections were served.
     fn finish(&mut self, endpoint: P)
@@ -139,6 +149,14 @@ impl Host<FileBooks, SocketEndpoint> for HostRuntime {
             return Err(Stop::Device);
         };
         Ok((endpoint, address.port()))
+    }
+
+    fn has_watcher(&self) -> bool {
+        self.stderr().is_terminal()
+    }
+
+    fn say(&self, text: &[u8]) {
+        let _said = self.stderr().write(text);
     }
 
     fn finish(&mut self, endpoint: SocketEndpoint) {

@@ -5,6 +5,7 @@ mod args;
 mod exit;
 mod host;
 pub mod laws;
+mod progress;
 mod running;
 mod waiting;
 mod work;

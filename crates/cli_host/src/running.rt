@@ -10,6 +10,7 @@ ghost use Rattle.cli_host.specs.OrdersOnHost.{StopsOnHost, StopsOnImport, StopsR
 ghost use Rattle.cli_host.specs.OrdersOnHost.{StopsServe, StopsStoreWork, StopsWork};
 
 use crate::host::Host;
+use crate::progress::{line_count, run_import};
 use crate::work::{StoreWork, Work, work_of};
 use base_types::Text;
 use book_http::Service;
@@ -21,6 +22,7 @@ use cli_orders::{
     run_listing, run_mirror, version_text, write_out,
 };
 use hub_server::{Endpoint, ServeLimits};
+use request_log::{LoggedEndpoint, LoggedHandler};
 use socket_endpoint::SocketEndpoint;
 use std::alloc::Global;
 use std::io::Write;
@@ -76,14 +78,21 @@ fn run_check_of<S, P, M: Host<S, P>, W: Write>(
     run_check(alloc, kind_of_file(file), octets.as_slice(), writer)
 }
 
+/// The log, if it is on.
+fn log_if<L>(is_on: bool, log: &L) -> Option<&L> {
+    if is_on { Some(log) } else { None }
+}
+
 /// Serves the books in the file at the port. The store is opened first, and the endpoint is closed
-/// last, however serving ended.
+/// last, however serving ended. If it is logged, the host prints a line for each request and for
+/// each fault of a connection.
 fn run_serve<S: BookStore + Drop, P: Endpoint, M: Host<S, P>, W: Write>(
     alloc: Global,
     host: &mut M,
     file: Text,
     port: u16,
     limits: ServeLimits,
+    is_logged: bool,
     writer: &mut W,
 ) -> Result<(), Stop>
     ensures done { OnOk result (LogsCalls M.calls host.old host.new
@@ -94,10 +103,16 @@ fn run_serve<S: BookStore + Drop, P: Endpoint, M: Host<S, P>, W: Write>(
         (W.contents writer.old) (W.contents writer.new))) }
 {
     let store = host.open(file.as_str())?;
-    let mut service = Service::new(alloc, store)?;
-    let (mut endpoint, port) = host.listen(alloc, port, limits.together)?;
-    let served = announce_and_serve(alloc, &mut service, &mut endpoint, port, limits, writer);
-    host.finish(endpoint);
+    let service = Service::new(alloc, store)?;
+    let (endpoint, port) = host.listen(alloc, port, limits.together)?;
+    let log = log_if(is_logged, &*host);
+    let mut handler = LoggedHandler::new(service, log);
+    let mut connections = LoggedEndpoint::new(endpoint, log);
+    let served = announce_and_serve(alloc, &mut handler, &mut connections, port, limits, writer);
+    // Both borrow the host for its log.
+    drop(handler);
+    let left = connections.into_endpoint();
+    host.finish(left);
     served
 }
 
@@ -121,8 +136,9 @@ fn import_rows<S: BookStore, P, M: Host<S, P>, W: Write>(
         (W.contents writer.old) (W.contents writer.new) store.new log)) }
 {
     let body = host.read_rows(alloc, csv)?;
+    let lines = line_count(body.as_slice());
     let command = Command::Import { book, key, body };
-    run_command(alloc, store, &command, writer)
+    run_import(alloc, &*host, store, &command, lines, writer)
 }
 
 /// Does an order's work on a store, and prints the result.
@@ -189,9 +205,12 @@ fn do_work<S: BookStore + Drop, P: Endpoint, M: Host<S, P>, W: Write>(
         Work::CheckFile { file } => run_check_of(alloc, host, file.as_str(), writer),
         Work::CreateFile { file } => run_init(host, file, writer),
         Work::MigrateFile { file } => run_migrate(alloc, host, file, writer),
-        Work::ServeFile { file, port, limits } => {
-            run_serve(alloc, host, file, port, limits, writer)
-        }
+        Work::ServeFile {
+            file,
+            port,
+            limits,
+            is_logged,
+        } => run_serve(alloc, host, file, port, limits, is_logged, writer),
         Work::UseFile { file, work } => use_file(alloc, host, file, work, writer),
     }
 }

@@ -1,8 +1,8 @@
 //! What an order does.
-ghost use Rattle.std.specs.Prelude.{◌≡◌};
-ghost use Rattle.cli_host.specs.OrderWork.{limits_of, work_of};
-ghost use Rattle.cli_host.specs.declared.work.StoreWork.TheVariants.{ListBooks, Perform};
-ghost use Rattle.cli_host.specs.declared.work.Work.TheVariants.{UseFile};
+ghost use Rattle.std.specs.Prelude.{◌≡◌, false, true};
+ghost use Rattle.cli_host.specs.OrderWork.{limits_of, store_work_of, work_of};
+ghost use Rattle.cli_host.specs.declared.work.StoreWork.TheVariants.{Perform};
+ghost use Rattle.cli_host.specs.declared.work.Work.TheVariants.{ServeFile, UseFile};
 
 use base_types::Text;
 use book_service::Command;
@@ -47,6 +47,8 @@ pub enum Work {
         /// The number of connections, the most that are open at once, and the patience with a
         /// silent one in milliseconds.
         limits: ServeLimits,
+        /// Whether a line is printed for each request.
+        is_logged: bool,
     },
     /// Uses the store in the file.
     UseFile {
@@ -106,13 +108,62 @@ fn perform_in(file: Text, command: Command) -> Work
     }
 }
 
-/// Lists the books of the store in the file.
-fn list_in(file: Text, what: Listing) -> Work
-    ensures { result ≡ UseFile file (ListBooks what) }
+/// Serves the store in the file within the limits.
+fn serve_in(file: Text, port: u16, limits: ServeLimits) -> Work
+    ensures { result ≡ ServeFile file port limits false }
 {
-    Work::UseFile {
+    Work::ServeFile {
         file,
-        work: StoreWork::ListBooks(what),
+        port,
+        limits,
+        is_logged: false,
+    }
+}
+
+/// The same, with a line for each request.
+fn serve_logged_in(file: Text, port: u16, limits: ServeLimits) -> Work
+    ensures { result ≡ ServeFile file port limits true }
+{
+    Work::ServeFile {
+        file,
+        port,
+        limits,
+        is_logged: true,
+    }
+}
+
+/// Does work on the store in the file.
+fn use_in(file: Text, work: StoreWork) -> Work
+    ensures { result ≡ UseFile file work }
+{
+    Work::UseFile { file, work }
+}
+
+/// What an order does that uses the store in a file. For any other order: nothing.
+fn store_work_of(order: Order) -> Work
+    ensures { result ≡ store_work_of order }
+{
+    match order {
+        Order::Import {
+            file,
+            book,
+            key,
+            csv,
+        } => use_in(file, StoreWork::ImportFile { book, key, csv }),
+        Order::Mirror {
+            file,
+            book,
+            limit,
+            pages,
+        } => use_in(file, StoreWork::MirrorBook { book, limit, pages }),
+        Order::Book { file, book } => perform_in(file, Command::CreateBook { book }),
+        Order::Export { file, book, form } => perform_in(file, Command::Export { book, form }),
+        Order::Tally { file, book } => perform_in(file, Command::TallyOf { book }),
+        Order::Forget { file, book, upto } => perform_in(file, Command::Forget { book, upto }),
+        Order::Expand { file, book, uid } => perform_in(file, Command::People { book, uid }),
+        Order::Books { file } => use_in(file, StoreWork::ListBooks(Listing::Books)),
+        Order::Verify { file } => use_in(file, StoreWork::ListBooks(Listing::Verified)),
+        _ => Work::Nothing,
     }
 }
 
@@ -130,46 +181,24 @@ pub fn work_of(order: Order) -> Work
             file,
             port,
             connections,
-        } => Work::ServeFile {
-            file,
-            port,
-            limits: limits_of(connections, TOGETHER_DEFAULT, PATIENCE_DEFAULT),
-        },
+        } => {
+            let limits = limits_of(connections, TOGETHER_DEFAULT, PATIENCE_DEFAULT);
+            serve_in(file, port, limits)
+        }
         Order::ServeWithLimits {
             file,
             port,
             connections,
             together,
             patience,
-        } => Work::ServeFile {
+        } => serve_in(file, port, limits_of(connections, together, patience)),
+        Order::ServeLogged {
             file,
             port,
-            limits: limits_of(connections, together, patience),
-        },
-        Order::Import {
-            file,
-            book,
-            key,
-            csv,
-        } => Work::UseFile {
-            file,
-            work: StoreWork::ImportFile { book, key, csv },
-        },
-        Order::Mirror {
-            file,
-            book,
-            limit,
-            pages,
-        } => Work::UseFile {
-            file,
-            work: StoreWork::MirrorBook { book, limit, pages },
-        },
-        Order::Book { file, book } => perform_in(file, Command::CreateBook { book }),
-        Order::Export { file, book, form } => perform_in(file, Command::Export { book, form }),
-        Order::Tally { file, book } => perform_in(file, Command::TallyOf { book }),
-        Order::Forget { file, book, upto } => perform_in(file, Command::Forget { book, upto }),
-        Order::Expand { file, book, uid } => perform_in(file, Command::People { book, uid }),
-        Order::Books { file } => list_in(file, Listing::Books),
-        Order::Verify { file } => list_in(file, Listing::Verified),
+            connections,
+            together,
+            patience,
+        } => serve_logged_in(file, port, limits_of(connections, together, patience)),
+        other => store_work_of(other),
     }
 }

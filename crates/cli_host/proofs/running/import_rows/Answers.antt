@@ -10,8 +10,8 @@ returns-in_err-body-clause-stopped g c =
 
 pub returns-clause-done : goal.returns-clause-done
 returns-clause-done g c =
-    rows_file_imported g.S.BookStore.model g.M.Host.calls c.run_command.result c.args.host.now c.read_rows.new.self c.args.store.now c.run_command.new.store c.args.book c.args.key c.args.csv.now c.in_ok-body.body (g.W.Write.contents c.args.writer.now) (g.W.Write.contents c.run_command.new.writer) c.in_ok-body.ensures.called c.run_command.ensures.printed
+    rows_file_imported g.S.BookStore.model g.M.Host.calls c.run_import.result c.args.host.now c.read_rows.new.self c.args.store.now c.run_import.new.store c.args.book c.args.key c.args.csv.now c.in_ok-body.body (g.W.Write.contents c.args.writer.now) (g.W.Write.contents c.run_import.new.writer) c.in_ok-body.ensures.called c.run_import.ensures.printed
 
 pub returns-clause-stopped : goal.returns-clause-stopped
 returns-clause-stopped g c =
-    rows_file_unimported g.S.BookStore.model g.M.Host.calls c.run_command.result c.args.host.now c.read_rows.new.self c.args.store.now c.run_command.new.store c.args.book c.args.key c.args.csv.now c.in_ok-body.body (g.W.Write.contents c.args.writer.now) (g.W.Write.contents c.run_command.new.writer) c.in_ok-body.ensures.called c.run_command.ensures.stopped
+    rows_file_unimported g.S.BookStore.model g.M.Host.calls c.run_import.result c.args.host.now c.read_rows.new.self c.args.store.now c.run_import.new.store c.args.book c.args.key c.args.csv.now c.in_ok-body.body (g.W.Write.contents c.args.writer.now) (g.W.Write.contents c.run_import.new.writer) c.in_ok-body.ensures.called c.run_import.ensures.stopped

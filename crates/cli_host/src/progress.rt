@@ -1,0 +1,69 @@
+//! Says on a terminal that a long import goes on.
+ghost use Rattle.std.specs.Prelude.{◌≡◌, ◌/◌, IfErr, IfOk, OnOk};
+ghost use Rattle.cli_host.specs.Progress.{begin_line, end_line, line_count};
+ghost use Rattle.cli_orders.specs.CommandRuns.{PrintsCommand, StopsCommand};
+
+use crate::host::Host;
+use base_types::NoMemory;
+use book_service::Command;
+use cli_orders::{Stop, run_command};
+use std::alloc::Global;
+use std::io::Write;
+use sync_core::BookStore;
+
+/// The most lines of a file of rows that is imported without a word.
+const SILENT_LINES_MAX: usize = 1_000;
+
+/// The number of lines of a file of rows.
+pub(crate) fn line_count(rows: &[u8]) -> usize
+    ensures { result ≡ line_count rows.now }
+{
+    rows.iter().filter(|octet| **octet == b'\n').count()
+}
+
+/// What is said before a long import.
+fn begin_text(alloc: Global, lines: usize) -> Result<Vec<u8>, NoMemory>
+    ensures { IfOk result (λ text. text.items ≡ begin_line lines) }
+{
+    Ok(format!(in alloc; "importing {lines} lines ..\n")?.into_bytes())
+}
+
+/// What is said after it.
+fn end_text(alloc: Global, micros: u64) -> Result<Vec<u8>, NoMemory>
+    ensures { IfOk result (λ text. text.items ≡ end_line micros) }
+{
+    let millis = micros / 1_000;
+    Ok(format!(in alloc; "done after {millis} milliseconds\n")?.into_bytes())
+}
+
+/// Says a text, unless there was no memory for it.
+fn say<S, P, M: Host<S, P>>(host: &M, text: Result<Vec<u8>, NoMemory>) {
+    if let Ok(text) = text {
+        host.say(text.as_slice());
+    }
+}
+
+/// `run_command` for an import of rows with this number of lines. If there are more than 1,000, and
+/// standard error is a terminal, it says before how many, and afterwards how long it took.
+pub(crate) fn run_import<S: BookStore, P, M: Host<S, P>, W: Write>(
+    alloc: Global,
+    host: &M,
+    store: &mut S,
+    command: &Command,
+    lines: usize,
+    writer: &mut W,
+) -> Result<(), Stop>
+    ensures printed { OnOk result (PrintsCommand S.model store.old command.now
+        (W.contents writer.old) (W.contents writer.new) store.new) }
+    ensures stopped { IfErr result (λ stop. StopsCommand S.model store.old command.now stop
+        (W.contents writer.old) (W.contents writer.new) store.new) }
+{
+    if lines <= SILENT_LINES_MAX || !host.has_watcher() {
+        return run_command(alloc, store, command, writer);
+    }
+    say(host, begin_text(alloc, lines));
+    let start = host.now();
+    let done = run_command(alloc, store, command, writer);
+    say(host, end_text(alloc, host.micros_since(start)));
+    done
+}
