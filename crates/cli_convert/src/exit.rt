@@ -1,0 +1,78 @@
+//! How the order ends.
+
+use base_types::{NoMemory, Text};
+use card_conversion::{ConversionFault, Summary};
+use std::alloc::Global;
+use std::io::Write;
+
+/// Why the order stopped.
+#[derive(Debug, Drop)]
+pub(crate) enum ConvertStop {
+    /// An allocation failed.
+    Memory,
+    /// A file or a device can't be used, in words.
+    Device(Text),
+    /// Standard error can't be written.
+    Report,
+}
+
+impl From<NoMemory> for ConvertStop {
+    fn from(_error: NoMemory) -> ConvertStop {
+        ConvertStop::Memory
+    }
+}
+
+/// The stop for a fault of a conversion.
+pub(crate) fn stop_of(alloc: Global, fault: ConversionFault, file: &str) -> ConvertStop {
+    match fault {
+        ConversionFault::Memory => ConvertStop::Memory,
+        ConversionFault::Input => unreadable(alloc, file),
+        ConversionFault::Output(words) => ConvertStop::Device(words),
+        ConversionFault::Report => ConvertStop::Report,
+    }
+}
+
+/// The stop for a file that can't be read.
+pub(crate) fn unreadable(alloc: Global, file: &str) -> ConvertStop {
+    match format!(in alloc; "{file} can't be read") {
+        Ok(words) => ConvertStop::Device(Text::new(words)),
+        Err(_) => ConvertStop::Memory,
+    }
+}
+
+/// The line that reports a stop.
+fn stop_line(alloc: Global, stop: &ConvertStop) -> Result<Text, NoMemory> {
+    match stop {
+        ConvertStop::Device(words) => {
+            let words = words.as_str();
+            Ok(Text::new(format!(in alloc; "fault device 1: {words}\n")?))
+        }
+        ConvertStop::Memory | ConvertStop::Report => Err(NoMemory),
+    }
+}
+
+/// Writes the line of a stop. Without memory for the line it writes that of the stop for memory.
+fn report_stop<E: Write>(alloc: Global, stop: &ConvertStop, errors: &mut E) {
+    // The status says that it stopped, also where the line can't be written.
+    let _written = match stop_line(alloc, stop) {
+        Ok(line) => errors.write_all(line.as_str().as_bytes()),
+        Err(NoMemory) => errors.write_all(b"fault no-memory 20\n"),
+    };
+}
+
+/// Reports a stop, and returns the exit status: 0 if all was carried, 1 if something wasn't, and 3
+/// for a stop.
+pub(crate) fn end<E: Write>(
+    alloc: Global,
+    done: Result<Summary, ConvertStop>,
+    errors: &mut E,
+) -> u8 {
+    match done {
+        Ok(summary) if summary.refused == 0 => 0,
+        Ok(_) => 1,
+        Err(stop) => {
+            report_stop(alloc, &stop, errors);
+            3
+        }
+    }
+}

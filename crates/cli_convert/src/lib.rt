@@ -1,0 +1,13 @@
+//! The order `convert`: reads a file of cards or contacts, and writes rows or files.
+#![tactic(auto)]
+
+mod card_files;
+mod create;
+mod exit;
+mod names;
+mod row_files;
+mod run;
+mod wanted;
+
+pub use run::run_convert;
+pub use wanted::Wanted;
