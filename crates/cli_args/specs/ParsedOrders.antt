@@ -22,7 +22,7 @@ use Rattle.cli_args.specs.declared.order.Order.{Order}
 use Rattle.cli_args.specs.declared.order.Order.TheVariants.{Try, Init, Book, Serve, ServeWithLimits}
 use Rattle.cli_args.specs.declared.order.Order.TheVariants.{Import, Export, Tally, Forget, Mirror}
 use Rattle.cli_args.specs.declared.order.Order.TheVariants.{Expand, Migrate, Check, Books, Verify}
-use Rattle.cli_args.specs.declared.order.Order.TheVariants.{ServeLogged, Version}
+use Rattle.cli_args.specs.declared.order.Order.TheVariants.{ServeLogged, Version, Convert}
 
 -- ---- the values of arguments and options
 
@@ -131,6 +131,10 @@ migrate_order = with_file (λ file. Some (Migrate file))
 abbrev pub check_order : List Row → Option Order
 check_order = with_file (λ file. Some (Check file))
 
+abbrev pub convert_order : List Row → Option Order
+convert_order rows = with_file (λ file. Some (Convert file (text_arg (codes "DIR") rows)
+    (u64_arg (codes "ROWS") rows) (u64_arg (codes "OCTETS") rows))) rows
+
 abbrev pub books_order : List Row → Option Order
 books_order = with_file (λ file. Some (Books file))
 
@@ -141,9 +145,10 @@ verify_order = with_file (λ file. Some (Verify file))
 abbrev pub file_order_of : Text → List Row → Option Order
 file_order_of name rows =
     if bytes_eq name (codes "check") then check_order rows
+    else (if bytes_eq name (codes "convert") then convert_order rows
     else (if bytes_eq name (codes "books") then books_order rows
     else (if bytes_eq name (codes "verify") then verify_order rows
-    else None))
+    else None)))
 
 -- the order of this name and these matches, if it is one that only reads a book or a file
 abbrev pub query_order_of : Text → List Row → Option Order

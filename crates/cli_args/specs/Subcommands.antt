@@ -27,6 +27,15 @@ abbrev pub number_option : Text → Text → ℕ → ℕ → Text → Rule
 number_option id name least most default =
     record (option_arg id name default) { parser = Some (Unsigned least most) }
 
+-- an option with one value and no default
+abbrev pub free_option : Text → Text → Rule
+free_option id name = record (new_rule id) { long = Some name }
+
+-- an option without a default, whose value is a number from `least` to `most`
+abbrev pub free_number_option : Text → Text → ℕ → ℕ → Rule
+free_number_option id name least most =
+    record (free_option id name) { parser = Some (Unsigned least most) }
+
 -- an option without a value, also with a name of one letter
 abbrev pub flag : Text → Text → ℕ → Rule
 flag id name letter = record (new_rule id) {
@@ -110,6 +119,12 @@ migrate_command = order_command (codes "migrate") (file_arg ∷ [])
 abbrev pub check_command : Shape
 check_command = order_command (codes "check") (file_arg ∷ [])
 
+abbrev pub convert_command : Shape
+convert_command = order_command (codes "convert")
+    (file_arg ∷ free_option (codes "DIR") (codes "to")
+    ∷ free_number_option (codes "ROWS") (codes "rows") 1 10000
+    ∷ free_number_option (codes "OCTETS") (codes "octets") 1 8388608 ∷ [])
+
 abbrev pub books_command : Shape
 books_command = order_command (codes "books") (file_arg ∷ [])
 
@@ -121,7 +136,7 @@ abbrev pub order_commands : List Shape
 order_commands = try_command ∷ init_command ∷ book_command ∷ serve_command ∷ import_command
     ∷ export_command ∷ tally_command
     ∷ forget_command ∷ mirror_command ∷ expand_command ∷ migrate_command
-    ∷ check_command ∷ books_command ∷ verify_command ∷ []
+    ∷ check_command ∷ convert_command ∷ books_command ∷ verify_command ∷ []
 
 -- `--version` or `-V`; 86 is the letter V
 abbrev pub version_flag : Rule

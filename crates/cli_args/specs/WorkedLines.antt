@@ -40,6 +40,18 @@ WorkedFiles =
     × (order_from (codes "check" ∷ []) ≡ None)
     × (order_from (over_book (codes "books") []) ≡ None)
 
+abbrev pub WorkedConversions : Type 0
+WorkedConversions =
+    (order_from (codes "convert" ∷ codes "a.vcf" ∷ [])
+    ≡ Some (order.Convert (codes "a.vcf") None None None))
+    × (order_from (codes "convert" ∷ codes "a.vcf" ∷ codes "--to=b" ∷ codes "--rows=10000"
+    ∷ codes "--octets" ∷ codes "8388608" ∷ [])
+    ≡ Some (order.Convert (codes "a.vcf") (Some (codes "b")) (Some 10000) (Some 8388608)))
+    × (order_from (codes "convert" ∷ codes "a.vcf" ∷ codes "--rows=10001" ∷ []) ≡ None)
+    × (order_from (codes "convert" ∷ codes "a.vcf" ∷ codes "--octets=0" ∷ []) ≡ None)
+    × (order_from (codes "convert" ∷ codes "a.vcf" ∷ codes "--octets=8388609" ∷ []) ≡ None)
+    × (order_from (codes "convert" ∷ []) ≡ None)
+
 abbrev pub WorkedVersions : Type 0
 WorkedVersions =
     (order_from (codes "--version" ∷ []) ≡ Some order.Version)

@@ -58,6 +58,28 @@ pub(crate) fn number_option<'a>(
     option_arg(alloc, id, name, default, help).value_parser(ValueParser::Unsigned(least, most))
 }
 
+/// An option with one value and no default.
+pub(crate) fn free_option<'a>(alloc: Global, id: &'a str, name: &'a str, help: &'a str) -> Arg<'a>
+    ensures { IsArgument (lines.free_option id.entry.now name.entry.now) result }
+{
+    Arg::new(alloc, id).long(name).help(help)
+}
+
+/// An option without a default, whose value is a number from `least` to `most`.
+pub(crate) fn free_number_option<'a>(
+    alloc: Global,
+    id: &'a str,
+    name: &'a str,
+    least: u64,
+    most: u64,
+    help: &'a str,
+) -> Arg<'a>
+    ensures { IsArgument
+        (lines.free_number_option id.entry.now name.entry.now least most) result }
+{
+    free_option(alloc, id, name, help).value_parser(ValueParser::Unsigned(least, most))
+}
+
 /// An option without a value, also with a name of one letter.
 pub(crate) fn flag<'a>(
     alloc: Global,

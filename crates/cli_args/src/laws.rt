@@ -1,13 +1,16 @@
 //! Worked examples: the orders of some command lines, computed from the definitions. They are
 //! stated in `specs/WorkedLines.antt`.
-ghost use Rattle.cli_args.specs.WorkedLines.{WorkedConnections, WorkedDefaults, WorkedFaults};
-ghost use Rattle.cli_args.specs.WorkedLines.{WorkedFiles, WorkedForms, WorkedLimits, WorkedLogs};
+ghost use Rattle.cli_args.specs.WorkedLines.{WorkedConnections, WorkedConversions, WorkedDefaults};
+ghost use Rattle.cli_args.specs.WorkedLines.{WorkedFaults, WorkedFiles, WorkedForms, WorkedLimits};
+ghost use Rattle.cli_args.specs.WorkedLines.{WorkedLogs};
 ghost use Rattle.cli_args.specs.WorkedLines.{WorkedNumbers, WorkedOrders, WorkedPages};
 ghost use Rattle.cli_args.specs.WorkedLines.{WorkedPorts, WorkedVersions};
 
 /// Some command lines and their orders, or none.
 /// - `orders`: no argument, `try`, `init`, `book`, `import`, `tally`, `expand` and `migrate`.
 /// - `files`: `check`, `books` and `verify`, each with one file and no more.
+/// - `conversions`: `convert` with and without its options; 10,000 rows and 8,388,608 octets are
+///   accepted, and not one more or none.
 /// - `versions`: `--version` and `-V`, also before another order; not after one, nor with a value,
 ///   nor as the name of an order.
 /// - `defaults`: `serve`, `export` and `mirror` without options.
@@ -27,6 +30,7 @@ ghost use Rattle.cli_args.specs.WorkedLines.{WorkedPorts, WorkedVersions};
 pub fn worked_lines_are_orders()
     ensures orders { WorkedOrders }
     ensures files { WorkedFiles }
+    ensures conversions { WorkedConversions }
     ensures versions { WorkedVersions }
     ensures defaults { WorkedDefaults }
     ensures ports { WorkedPorts }

@@ -2,6 +2,7 @@
 #![tactic(auto)]
 
 mod arguments;
+mod convert_command;
 mod fault;
 pub mod laws;
 mod matched_orders;

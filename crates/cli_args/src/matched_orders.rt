@@ -5,7 +5,9 @@ ghost use Rattle.cli_args.specs.ParsedOrders.{ParsesTo};
 
 use crate::fault::LineFault;
 use crate::order::Order;
-use crate::values::{form_arg, is_given, port_arg, refuse, text_arg, u64_arg};
+use crate::values::{
+    form_arg, given_text, given_u64, is_given, port_arg, refuse, text_arg, u64_arg,
+};
 use clap::ArgMatches;
 use std::alloc::Global;
 
@@ -172,6 +174,21 @@ fn check_order(alloc: Global, matches: &ArgMatches<'_>) -> Result<Order, LineFau
     Ok(Order::Check { file })
 }
 
+fn convert_order(alloc: Global, matches: &ArgMatches<'_>) -> Result<Order, LineFault>
+    ensures { ParsesTo (parsed.convert_order (rows_of (found_of matches.now))) result }
+{
+    let file = text_arg(alloc, matches, "FILE")?;
+    let folder = given_text(alloc, matches, "DIR")?;
+    let rows = given_u64(matches, "ROWS");
+    let octets = given_u64(matches, "OCTETS");
+    Ok(Order::Convert {
+        file,
+        folder,
+        rows,
+        octets,
+    })
+}
+
 fn books_order(alloc: Global, matches: &ArgMatches<'_>) -> Result<Order, LineFault>
     ensures { ParsesTo (parsed.books_order (rows_of (found_of matches.now))) result }
 {
@@ -192,6 +209,8 @@ fn file_order_of(alloc: Global, name: &str, matches: &ArgMatches<'_>) -> Result<
 {
     if name == "check" {
         check_order(alloc, matches)
+    } else if name == "convert" {
+        convert_order(alloc, matches)
     } else if name == "books" {
         books_order(alloc, matches)
     } else if name == "verify" {

@@ -123,6 +123,17 @@ pub enum Order {
         /// The path of a file with rows, or with one card if its name ends in `.vcf`.
         file: Text,
     },
+    /// Convert a file of cards to rows or to files, without a store.
+    Convert {
+        /// The path of the file.
+        file: Text,
+        /// The folder for the files that are written, if it was given.
+        folder: Option<Text>,
+        /// The maximum number of rows of a file, 1 to 10,000, if it was given.
+        rows: Option<u64>,
+        /// The maximum number of octets of a file of rows, 1 to 8,388,608, if it was given.
+        octets: Option<u64>,
+    },
     /// List the books.
     Books {
         /// The path of a store file.

@@ -9,6 +9,7 @@ ghost use Rattle.cli_args.specs.Subcommands.{IsOrderCommand};
 use crate::arguments::{
     argument, book_arg, file_arg, flag, number_arg, number_option, option_arg, switch,
 };
+use crate::convert_command::convert_command;
 use clap::{Arg, Command};
 use std::alloc::{AllocError, Global};
 
@@ -16,7 +17,7 @@ use std::alloc::{AllocError, Global};
 const MOST_NUMBER: u64 = 999_999_999_999_999;
 
 /// An order with its arguments, description and example.
-fn order_command<'a>(
+pub(crate) fn order_command<'a>(
     alloc: Global,
     name: &'a str,
     about: &'a str,
@@ -363,6 +364,7 @@ fn order_commands<'a>(alloc: Global) -> Result<Vec<Command<'a>>, AllocError>
     let lines = with_command(lines, expand_command(alloc))?;
     let lines = with_command(lines, migrate_command(alloc))?;
     let lines = with_command(lines, check_command(alloc))?;
+    let lines = with_command(lines, convert_command(alloc))?;
     let lines = with_command(lines, books_command(alloc))?;
     with_command(lines, verify_command(alloc))
 }

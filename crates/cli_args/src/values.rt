@@ -1,5 +1,5 @@
 //! The values of matched arguments and options.
-ghost use Rattle.std.specs.Prelude.{◌≡◌, None};
+ghost use Rattle.std.specs.Prelude.{◌≡◌, None, Some};
 ghost use Rattle.clap.specs.Words.{found_of, rows_of};
 ghost use Rattle.cli_args.specs.ParsedOrders as parsed;
 ghost use Rattle.cli_args.specs.ParsedOrders.{ParsesTo};
@@ -44,6 +44,27 @@ pub(crate) fn u64_arg(alloc: Global, matches: &ArgMatches<'_>, id: &str) -> Resu
         Some(number) => Ok(number),
         None => refuse(alloc, id, ""),
     }
+}
+
+/// The text of an option, if it was given.
+pub(crate) fn given_text(
+    alloc: Global,
+    matches: &ArgMatches<'_>,
+    id: &str,
+) -> Result<Option<Text>, LineFault>
+    ensures { ParsesTo (Some (parsed.text_arg id.now (rows_of (found_of matches.now)))) result }
+{
+    match matches.get_str(id) {
+        Some(text) => Ok(Some(Text::copy_of(alloc, text)?)),
+        None => Ok(None),
+    }
+}
+
+/// The number of an option, if it was given.
+pub(crate) fn given_u64(matches: &ArgMatches<'_>, id: &str) -> Option<u64>
+    ensures { result ≡ parsed.u64_arg id.now (rows_of (found_of matches.now)) }
+{
+    matches.get_one::<u64>(id)
 }
 
 /// Where the value of an argument or option came from.

@@ -10,6 +10,10 @@ pub returns-clause-files : goal.returns-clause-files
 unfolding clap_on_literals
 returns-clause-files c = (refl, refl, refl, refl, refl)
 
+pub returns-clause-conversions : goal.returns-clause-conversions
+unfolding clap_on_literals
+returns-clause-conversions c = (refl, refl, refl, refl, refl, refl)
+
 pub returns-clause-versions : goal.returns-clause-versions
 unfolding clap_on_literals
 returns-clause-versions c = (refl, refl, refl, refl, refl, refl)
