@@ -224,7 +224,7 @@ fn do_work<S: BookStore + Drop, P: Endpoint, M: Host<S, P>, W: Write>(
 /// or accepting fails, or if the writer fails; `Memory` if an allocation fails, while connections
 /// are served only before the first is accepted. Changes that were made remain if the output can't
 /// be written. The stop for a faulty file is its refusal. `Device` for `Try`, which needs standard
-/// input.
+/// input, and for `Convert`, which needs files of another kind (`cli_convert` runs it).
 pub fn run_on_host<S: BookStore + Drop, P: Endpoint, M: Host<S, P>, W: Write>(
     alloc: Global,
     host: &mut M,

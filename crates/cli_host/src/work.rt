@@ -19,7 +19,7 @@ const PATIENCE_DEFAULT: u64 = 60;
 /// What an order does on a host.
 #[derive(Drop)]
 pub enum Work {
-    /// Nothing that needs a file or a port.
+    /// Nothing that needs a store, a file of rows or a port.
     Nothing,
     /// Prints the program's version.
     PrintVersion,
@@ -172,7 +172,13 @@ pub fn work_of(order: Order) -> Work
     ensures { result ≡ work_of order }
 {
     match order {
-        Order::Try => Work::Nothing,
+        Order::Try
+        | Order::Convert {
+            file: _,
+            folder: _,
+            rows: _,
+            octets: _,
+        } => Work::Nothing,
         Order::Version => Work::PrintVersion,
         Order::Check { file } => Work::CheckFile { file },
         Order::Init { file } => Work::CreateFile { file },

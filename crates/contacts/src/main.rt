@@ -3,13 +3,48 @@
 //! prints the book's initial report.
 #![tactic(auto)]
 
+use base_types::Text;
+use cli_args::{LineFault, Order};
+use cli_convert::{Wanted, run_convert};
 use cli_host::{note_waiting, order_of_args, run_and_report};
 use std::env;
 use std::io::IsTerminal;
 use std::process::ExitCode;
 
+/// The text that was given, if any was.
+fn given(text: &Option<Text>) -> Option<&str> {
+    match text {
+        Some(text) => Some(text.as_str()),
+        None => None,
+    }
+}
+
+/// What to convert, if that is the order.
+fn conversion_of(order: &Result<Order, LineFault>) -> Option<Wanted<'_>> {
+    match order {
+        Ok(
+            Order::Convert {
+                file,
+                folder,
+                rows,
+                octets,
+            },
+        ) => Some(Wanted {
+            file: file.as_str(),
+            folder: given(folder),
+            rows: *rows,
+            octets: *octets,
+        }),
+        _ => None,
+    }
+}
+
 fn main(rt: HostRuntime) -> ExitCode {
     let order = order_of_args(rt.alloc(), env::args(&rt));
+    if let Some(wanted) = conversion_of(&order) {
+        let status = run_convert(rt.alloc(), &rt, wanted, rt.stdout(), &mut rt.stderr());
+        return ExitCode::from(status);
+    }
     // Nothing depends on this line, so a standard error that fails changes nothing.
     let _noted = note_waiting(rt.stdin().is_terminal(), &order, &mut rt.stderr());
     let mut host = rt;
