@@ -21,6 +21,7 @@ MIRROR = "mirror [OPTIONS] <FILE> <BOOK>"
 EXPAND = "expand <FILE> <BOOK> <UID>"
 MIGRATE = "migrate <FILE>"
 CHECK = "check <FILE>"
+CONVERT = "convert [OPTIONS] <FILE>"
 BOOKS = "books <FILE>"
 VERIFY = "verify <FILE>"
 
@@ -113,6 +114,7 @@ MISSING = [
     ("expand a.db staff", missing("<UID>", EXPAND)),
     ("migrate", missing("<FILE>", MIGRATE)),
     ("check", missing("<FILE>", CHECK)),
+    ("convert", missing("<FILE>", "convert <FILE>")),
     ("books", missing("<FILE>", BOOKS)),
     ("verify", missing("<FILE>", VERIFY)),
 ]
@@ -134,6 +136,7 @@ TOO_MANY = [
     ("expand a.db staff a b", unexpected("b", EXPAND)),
     ("migrate a.db b.db", unexpected("b.db", MIGRATE)),
     ("check a.csv b.csv", unexpected("b.csv", CHECK)),
+    ("convert a.vcf b.vcf", unexpected("b.vcf", CONVERT)),
     ("books a.db staff", unexpected("staff", BOOKS)),
     ("verify a.db b.db", unexpected("b.db", VERIFY)),
 ]
@@ -197,6 +200,7 @@ NO_VALUES = [
     ("serve a.db --connections", no_value("--connections <N>")),
     ("serve a.db --together", no_value("--together <M>")),
     ("serve --patience --together 1 a.db", no_value("--patience <S>")),
+    ("convert a.vcf --to", no_value("--to <DIR>")),
     ("export a.db staff --form", no_value("--form <F>")),
     ("mirror a.db staff --limit", no_value("--limit <L>")),
     ("mirror a.db staff --pages", no_value("--pages <P>")),
@@ -227,6 +231,9 @@ NO_NUMBERS = [
     ("serve a.db --together 0", out_of_range(0, "--together <M>", 1, 1000)),
     ("serve a.db --together 1001", out_of_range(1001, "--together <M>", 1, 1000)),
     ("serve a.db --together=all", no_digits("all", "--together <M>")),
+    ("convert a.vcf --rows 0", out_of_range(0, "--rows <ROWS>", 1, 10000)),
+    ("convert a.vcf --rows 10001", out_of_range(10001, "--rows <ROWS>", 1, 10000)),
+    ("convert a.vcf --octets 8388609", out_of_range(8388609, "--octets <OCTETS>", 1, 8388608)),
     ("serve a.db --patience 0", out_of_range(0, "--patience <S>", 1, 3600)),
     ("serve a.db --patience 3601", out_of_range(3601, "--patience <S>", 1, 3600)),
     ("serve a.db --patience=", empty("--patience <S>")),

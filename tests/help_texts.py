@@ -26,6 +26,7 @@ book's initial report
   expand   List the people in a group and in its nested groups
   migrate  Convert a store file from schema 1 to schema 2, and print its number of books
   check    Check a CSV file or a vCard, and print its number of rows or the first fault
+  convert  Convert the cards of other programs to vCard 4.0, as CSV for `import`
   books    List the books with their ids, cards, numbers and horizons
   verify   Test the whole store file, and list its books
   help     Print this message or the help of the given subcommand(s)
@@ -262,6 +263,30 @@ Example:
 
 Needs no store file. Row 0 is the header, and row 1 the first row after it. A file with a fault is \
 refused, with status 1.
+"""
+
+HELP["convert"] = """\
+Convert the cards of other programs to vCard 4.0, as CSV for `import`
+
+Usage: contacts convert [OPTIONS] <FILE>
+
+Arguments:
+  <FILE>  File with vCards of version 2.1, 3.0 or 4.0
+
+Options:
+      --to <DIR>         Existing folder to write files to: one `.vcf` file per card, or the CSV \
+files of --rows and --octets
+      --rows <ROWS>      Write several CSV files, each with at most this number of rows, 1 to 10000
+      --octets <OCTETS>  Write several CSV files, each of at most this number of bytes, 1 to 8388608
+  -h, --help             Print help
+
+Example:
+  contacts convert phone.vcf > people.csv
+
+Needs no store file. Standard error gets a line for each line of a card that was changed, a line \
+for each card that can't be carried over, and their numbers. The status is 1 if a card wasn't \
+carried over. With --rows or --octets the files are named after FILE, `phone-1.csv`, `phone-2.csv` \
+and so on, beside FILE or in the folder. No file is overwritten.
 """
 
 HELP["books"] = """\
