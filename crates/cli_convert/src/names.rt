@@ -1,5 +1,6 @@
 //! The names of the files that are written.
 ghost use Rattle.std.specs.Prelude.{◌≡◌};
+ghost use Rattle.std.specs.List.{list_all};
 ghost use Rattle.cli_convert.specs.Names.{is_name_octet, is_safe_name};
 
 use base_types::{NoMemory, Text};
@@ -14,6 +15,12 @@ fn is_name_octet(octet: u8) -> bool
     octet.is_ascii_alphanumeric() || octet == b'-' || octet == b'_' || octet == b'.'
 }
 
+fn are_name_octets(octets: &[u8]) -> bool
+    ensures { result ≡ list_all is_name_octet octets.now }
+{
+    octets.iter().all(|octet| is_name_octet(*octet))
+}
+
 /// Whether the text is the name of a file that each system takes, and stays in its folder: 1 to 200
 /// octets of A-Z, a-z, 0-9, `-`, `_` and `.`, the first of which isn't `.`.
 fn is_safe_name(text: &str) -> bool
@@ -23,7 +30,7 @@ fn is_safe_name(text: &str) -> bool
     octets.len() > 0
         && octets.len() <= NAME_OCTETS_MAX
         && octets[0] != b'.'
-        && octets.iter().all(|octet| is_name_octet(*octet))
+        && are_name_octets(octets)
 }
 
 /// The path of a name in a folder.
