@@ -14,6 +14,9 @@ use Rattle.card_conversion.specs.declared.fate.Fate.{Fate}
 use Rattle.card_conversion.specs.declared.piece_reader.PieceReader.{PieceReader}
 use Rattle.card_conversion.specs.declared.fate.Fate.TheVariants.{Blank, Other, Long, Refused, Repeated, Declined, Written}
 use Rattle.card_conversion.specs.Accounts.{ConvertsAll}
+use Rattle.card_conversion.specs.Counts.{counted, nothing_counted, summary_of}
+use Rattle.card_conversion.specs.declared.ledger.Summary.{Summary}
+use Rattle.std.proofs.lemmas.Grind.{fold-append}
 use Rattle.card_conversion.specs.Deliveries.{WritesInTurn}
 use Rattle.card_conversion.specs.Fates.{Entry, HaveFates, IsFate, cards_of, cards_of_fate, octets_of, uids_of, uids_of_fate}
 use Rattle.card_conversion.specs.internal.PieceReaders.{HasEnded, left_of}
@@ -32,6 +35,9 @@ more_uids entries octets fate = sym (flat_map_more (λ (e : Entry). uids_of_fate
 
 more_cards : (entries : List Entry) (octets : List ℕ) (fate : Fate) → cards_of (entries ++ entry_of octets fate ∷ []) ≡ cards_of entries ++ cards_of_fate fate
 more_cards entries octets fate = sym (flat_map_more (λ (e : Entry). cards_of_fate e.fate) [] entries (entry_of octets fate))
+
+more_counts : (entries : List Entry) (octets : List ℕ) (fate : Fate) → summary_of (entries ++ entry_of octets fate ∷ []) ≡ counted (summary_of entries) fate
+more_counts entries octets fate = fold-append (λ (s : Summary) (e : Entry). counted s e.fate) nothing_counted entries (entry_of octets fate ∷ [])
 
 -- one more piece has its fate after the others
 more_fates : (uids : List (List ℕ)) (entries : List Entry) (octets : List ℕ) (fate : Fate) → HaveFates uids entries → IsFate (uids ++ uids_of entries) octets fate → HaveFates uids (entries ++ entry_of octets fate ∷ [])
@@ -116,27 +122,29 @@ module _ {A : Type 0} (writes : List Line → A → A → Type 0) where
   more_written (card ∷ cards) more a b c first then = (first.0, first.1, more_written cards more first.0 b c first.2 then)
 
   module _ {R : Type 0} (remaining : R → Option (List ℕ)) (input : Option (List ℕ)) (before : A) where
-    pub begun : (pieces : PieceReader R) (map : finite.FinMap text_cmp (Unit {0})) → Consumes input (left_of remaining pieces) [] → HasEnded remaining pieces → HasUids map [] → Progress writes remaining input before before pieces map
-    begun pieces map left ended known = record { entries = []; passed = left; ended = ended; fates = tt; known = known; written = refl }
+    pub begun : (pieces : PieceReader R) (map : finite.FinMap text_cmp (Unit {0})) (summary : Summary) → Consumes input (left_of remaining pieces) [] → HasEnded remaining pieces → HasUids map [] → summary ≡ nothing_counted → Progress writes remaining input before before pieces map summary
+    begun pieces map summary left ended known counts = record { entries = []; passed = left; ended = ended; fates = tt; known = known; written = refl; counts = counts }
 
-    pub all_done : (now : A) (old found : PieceReader R) (map : finite.FinMap text_cmp (Unit {0})) → Progress writes remaining input before now old map → Consumes (left_of remaining old) (left_of remaining found) [] → IsAtEnd (left_of remaining found) → ConvertsAll writes input before now
-    all_done now old found map p nothing at_end = record {
+    pub all_done : (now : A) (old found : PieceReader R) (map : finite.FinMap text_cmp (Unit {0})) (summary : Summary) → Progress writes remaining input before now old map summary → Consumes (left_of remaining old) (left_of remaining found) [] → IsAtEnd (left_of remaining found) → ConvertsAll writes input before now summary
+    all_done now old found map summary p nothing at_end = record {
       entries = p.entries;
       whole = whole_read input (left_of remaining old) (left_of remaining found) (octets_of p.entries) p.passed nothing at_end;
       fates = p.fates;
       written = p.written;
       distinct = apart_each [] p.entries p.fates;
       cards = each_card [] p.entries p.fates;
+      counts = p.counts;
     }
 
-    pub one_piece : (now then : A) (old found new : PieceReader R) (map after : finite.FinMap text_cmp (Unit {0})) (octets : List ℕ) (fate : Fate)
-        → Progress writes remaining input before now old map
+    pub one_piece : (now then : A) (old found new : PieceReader R) (map after : finite.FinMap text_cmp (Unit {0})) (octets : List ℕ) (fate : Fate) (summary more : Summary)
+        → Progress writes remaining input before now old map summary
         → Consumes (left_of remaining old) (left_of remaining found) []
         → Consumes (left_of remaining found) (left_of remaining new) octets
         → HasEnded remaining new
         → Takes writes octets map after now then fate
-        → Progress writes remaining input before then new after
-    one_piece now then old found new map after octets fate p nothing passes ended takes =
+        → more ≡ counted summary fate
+        → Progress writes remaining input before then new after more
+    one_piece now then old found new map after octets fate summary more p nothing passes ended takes counts =
         let taken = takes (uids_of p.entries) p.known in
         record {
           entries = p.entries ++ entry_of octets fate ∷ [];
@@ -148,4 +156,5 @@ module _ {A : Type 0} (writes : List Line → A → A → Type 0) where
           known = subst (HasUids after) (sym (more_uids p.entries octets fate)) taken.1;
           written = subst (λ cards. WritesInTurn writes cards before then) (sym (more_cards p.entries octets fate))
               (more_written (cards_of p.entries) (cards_of_fate fate) before now then p.written taken.2);
+          counts = counts ∙ ap (λ s. counted s fate) p.counts ∙ sym (more_counts p.entries octets fate);
         }

@@ -9,6 +9,7 @@ use Rattle.csv_cards.specs.Reading.{TextHasCards}
 use Rattle.csv_cards.specs.Writing.{csv_text}
 use Rattle.csv_cards.specs.declared.form.Form.TheVariants.{Cards}
 use Rattle.card_conversion.specs.Accounts.{ConvertsAll, WritesRows}
+use Rattle.card_conversion.specs.declared.ledger.Summary.{Summary}
 use Rattle.card_conversion.specs.Deliveries.{WritesInTurn}
 use Rattle.card_conversion.specs.Fates.{cards_of}
 use Rattle.card_conversion.specs.RowTexts.{card_row_text, header_row_text}
@@ -32,11 +33,11 @@ module _ {A : Type 0} (contents : A → Option (List ℕ)) where
   rows_appended (card ∷ cards) a b written =
       appends_all (contents a) (contents written.0) (contents b) (card_row_text card) (flat_map card_row_text cards) written.1 (rows_appended cards written.0 b written.2)
 
-  pub all_rows : (before : Option (List ℕ)) (start now : A) → Appends before (contents start) header_row_text → ConvertsAll row_step None start now
+  pub all_rows : (before : Option (List ℕ)) (start now : A) (summary : Summary) → Appends before (contents start) header_row_text → ConvertsAll row_step None start now summary
       → ((cards : List (List Line)) → csv_text Cards cards ≡ header_row_text ++ flat_map card_row_text cards)
       → ((cards : List (List Line)) → AllByRecursion IsCard cards → AllPairs (λ a b. a ≢ b) (map uid_of cards) → TextHasCards (csv_text Cards cards) cards)
       → WritesRows before (contents now)
-  all_rows before start now header converts text read = record {
+  all_rows before start now summary header converts text read = record {
     cards = cards_of converts.entries;
     written = subst (Appends before (contents now)) (sym (text (cards_of converts.entries)))
         (appends_all before (contents start) (contents now) header_row_text (flat_map card_row_text (cards_of converts.entries)) header

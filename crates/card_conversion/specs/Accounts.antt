@@ -8,17 +8,21 @@ use Rattle.csv_cards.specs.declared.form.Form.TheVariants.{Cards}
 use Rattle.vcard_lines.specs.declared.line.Line.{Line}
 use Rattle.vcard_text.specs.Cards.{IsCard, uid_of}
 use Rattle.card_conversion.specs.Fates.{Entry, HaveFates, cards_of, octets_of}
+use Rattle.card_conversion.specs.Counts.{summary_of}
+use Rattle.card_conversion.specs.declared.ledger.Summary.{Summary}
 use Rattle.card_conversion.specs.Deliveries.{WritesInTurn}
 
--- The pieces are the whole file, each has its fate, and the cards among them were written in order.
+-- The pieces are the whole file, each has its fate, the cards among them were written in order, and
+-- the summary counts them.
 pub record ConvertsAll {A : Type 0} (writes : List Line → A → A → Type 0)
-    (input : Option (List ℕ)) (before after : A) : Type 0 where
+    (input : Option (List ℕ)) (before after : A) (summary : Summary) : Type 0 where
   pub entries : List Entry
   pub whole : IfSome input (λ octets. octets ≡ octets_of entries)
   pub fates : HaveFates [] entries
   pub written : WritesInTurn writes (cards_of entries) before after
   pub distinct : AllPairs (λ a b. a ≢ b) (map uid_of (cards_of entries))
   pub cards : AllByRecursion IsCard (cards_of entries)
+  pub counts : summary ≡ summary_of entries
 
 -- The header and the rows of cards were written, and they are read back as these cards.
 pub record WritesRows (before after : Option (List ℕ)) : Type 0 where

@@ -1,4 +1,5 @@
 pub mod Accounts
+pub mod Counts
 pub mod Deliveries
 pub mod Fates
 pub mod RowTexts

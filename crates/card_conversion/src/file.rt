@@ -19,7 +19,7 @@ pub fn convert_file<R: Read + Drop, O: Outlet, E: Write>(
     outlet: &mut O,
     errors: &mut E,
 ) -> Result<Summary, ConversionFault>
-    ensures { IfOk result (λ summary. ConvertsAll O.writes None outlet.old outlet.new) }
+    ensures { IfOk result (λ summary. ConvertsAll O.writes None outlet.old outlet.new summary) }
 {
     let mut reader = reader;
     let mut head = [0; 2];

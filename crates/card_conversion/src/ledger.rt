@@ -1,4 +1,6 @@
 //! How many pieces there were, of each kind, and where the next one is.
+ghost use Rattle.std.specs.Prelude.{◌≡◌};
+ghost use Rattle.card_conversion.specs.Counts.{counted, nothing_counted};
 
 use crate::fate::Fate;
 use crate::report::Place;
@@ -23,7 +25,9 @@ pub(crate) struct Ledger {
 }
 
 impl Ledger {
-    pub(crate) fn new() -> Ledger {
+    pub(crate) fn new() -> Ledger
+        ensures { result.summary ≡ nothing_counted }
+    {
         Ledger {
             place: Place { card: 1, line: 1 },
             summary: Summary {
@@ -35,7 +39,9 @@ impl Ledger {
     }
 
     /// Counts a piece.
-    pub(crate) fn count(&mut self, piece: &[u8], fate: &Fate) {
+    pub(crate) fn count(&mut self, piece: &[u8], fate: &Fate)
+        ensures { self.new.summary ≡ counted self.old.summary fate.now }
+    {
         let summary = &mut self.summary;
         match fate {
             Fate::Blank => {}

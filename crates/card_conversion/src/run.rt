@@ -46,7 +46,7 @@ pub fn convert_cards<R: Read + Drop, O: Outlet, E: Write>(
     errors: &mut E,
 ) -> Result<Summary, ConversionFault>
     ensures { IfOk result (λ summary.
-        ConvertsAll O.writes (R.remaining reader) outlet.old outlet.new) }
+        ConvertsAll O.writes (R.remaining reader) outlet.old outlet.new summary) }
 {
     let mut pieces = PieceReader::new(alloc, reader);
     let mut uids = TextMap::new(alloc);

@@ -1,5 +1,5 @@
 -- The state of a conversion between two pieces. This project's own.
-use Rattle.std.specs.Prelude.{ℕ, ◌↔◌, ◌++◌, [], ◌∷◌, Bool, true, false, List, Option}
+use Rattle.std.specs.Prelude.{ℕ, ◌≡◌, ◌↔◌, ◌++◌, [], ◌∷◌, Bool, true, false, List, Option}
 use Rattle.std.specs.FinMap as finite
 use Rattle.std.specs.Option.{IsSome}
 use Rattle.std.specs.List.{Contains}
@@ -9,6 +9,8 @@ use Rattle.vcard_lines.specs.declared.line.Line.{Line}
 use Rattle.card_conversion.specs.declared.fate.Fate.{Fate}
 use Rattle.card_conversion.specs.Fates.{Entry, HaveFates, IsFate, cards_of, cards_of_fate}
 use Rattle.card_conversion.specs.Fates.{octets_of, uids_of, uids_of_fate}
+use Rattle.card_conversion.specs.Counts.{summary_of}
+use Rattle.card_conversion.specs.declared.ledger.Summary.{Summary}
 use Rattle.card_conversion.specs.Deliveries.{WritesInTurn}
 use Rattle.card_conversion.specs.internal.PieceReaders.{HasEnded, left_of}
 use Rattle.card_conversion.specs.declared.piece_reader.PieceReader.{PieceReader}
@@ -33,10 +35,12 @@ Takes writes octets map_before map_after before after fate =
 -- Pieces are passed; each has its fate, and the cards among them are written in order.
 pub record Progress {A R : Type 0} (writes : List Line → A → A → Type 0)
     (remaining : R → Option (List ℕ)) (input : Option (List ℕ)) (before now : A)
-    (pieces : PieceReader R) (map : finite.FinMap text_cmp (Unit {0})) : Type 0 where
-  pub entries : List Entry
-  pub passed : Consumes input (left_of remaining pieces) (octets_of entries)
-  pub ended : HasEnded remaining pieces
-  pub fates : HaveFates [] entries
-  pub known : HasUids map (uids_of entries)
-  pub written : WritesInTurn writes (cards_of entries) before now
+    (pieces : PieceReader R) (map : finite.FinMap text_cmp (Unit {0})) (summary : Summary) : Type 0
+  where
+    pub entries : List Entry
+    pub passed : Consumes input (left_of remaining pieces) (octets_of entries)
+    pub ended : HasEnded remaining pieces
+    pub fates : HaveFates [] entries
+    pub known : HasUids map (uids_of entries)
+    pub written : WritesInTurn writes (cards_of entries) before now
+    pub counts : summary ≡ summary_of entries

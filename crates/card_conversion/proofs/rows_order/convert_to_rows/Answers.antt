@@ -6,5 +6,5 @@ use Rattle.card_conversion.proofs.rows_order.convert_to_rows.Goals as goal
 pub returns : goal.returns
 returns g c =
     IfOk-weaker c.convert_file.result _ _ (λ summary converts.
-    all_rows (λ (outlet : RowsOutlet g.row.W.Denot). g.W.Write.contents outlet.writer) (g.W.Write.contents c.args.outlet.now.writer) c.start.new.self c.convert_file.new.outlet
+    all_rows (λ (outlet : RowsOutlet g.row.W.Denot). g.W.Write.contents outlet.writer) (g.W.Write.contents c.args.outlet.now.writer) c.start.new.self c.convert_file.new.outlet summary
     c.in_ok-start.ensures converts c.written_rows_are_read.ensures.text c.written_rows_are_read.ensures.read) c.convert_file.ensures

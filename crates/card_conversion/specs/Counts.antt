@@ -1,0 +1,44 @@
+-- How many cards of a file were written, were changed and weren't carried. This project's own.
+use Rattle.std.specs.Prelude.{ℕ, ◌+◌, ◌-◌, ◌^◌, ◌==◌, List, length, min, fold, if◌then◌else◌}
+use Rattle.vcard_import.specs.declared.conversion.Conversion.{Conversion}
+use Rattle.card_conversion.specs.declared.fate.Fate.{Fate}
+use Rattle.card_conversion.specs.declared.fate.Fate.TheVariants.{Blank, Other, Long, Refused}
+use Rattle.card_conversion.specs.declared.fate.Fate.TheVariants.{Repeated, Declined, Written}
+use Rattle.card_conversion.specs.declared.ledger.Summary.{Summary}
+use Rattle.card_conversion.specs.Fates.{Entry}
+
+abbrev pub nothing_counted : Summary
+nothing_counted = record { written = 0; changed = 0; refused = 0 }
+
+-- one more, up to the largest number of 64 bits
+abbrev pub one_more : ℕ → ℕ
+one_more count = min (count + 1) (2 ^ 64 - 1)
+
+-- a card that was written, which is changed if a change of it is reported
+abbrev pub with_written : Summary → Conversion → Summary
+with_written summary made = record {
+  written = one_more summary.written;
+  changed = if length made.changes == 0 then summary.changed else one_more summary.changed;
+  refused = summary.refused;
+}
+
+abbrev pub with_refused : Summary → Summary
+with_refused summary = record {
+  written = summary.written;
+  changed = summary.changed;
+  refused = one_more summary.refused;
+}
+
+-- the numbers after a piece with this fate
+abbrev pub counted : Summary → Fate → Summary
+counted summary Blank = summary
+counted summary Other = with_refused summary
+counted summary Long = with_refused summary
+counted summary (Refused fault) = with_refused summary
+counted summary (Repeated made) = with_refused summary
+counted summary (Declined made words) = with_refused summary
+counted summary (Written made) = with_written summary made
+
+-- the numbers of all pieces
+abbrev pub summary_of : List Entry → Summary
+summary_of entries = fold (λ summary entry. counted summary entry.fate) nothing_counted entries
