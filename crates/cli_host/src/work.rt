@@ -172,13 +172,7 @@ pub fn work_of(order: Order) -> Work
     ensures { result ≡ work_of order }
 {
     match order {
-        Order::Try
-        | Order::Convert {
-            file: _,
-            folder: _,
-            rows: _,
-            octets: _,
-        } => Work::Nothing,
+        Order::Try => Work::Nothing,
         Order::Version => Work::PrintVersion,
         Order::Check { file } => Work::CheckFile { file },
         Order::Init { file } => Work::CreateFile { file },
