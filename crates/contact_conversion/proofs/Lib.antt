@@ -1,0 +1,3 @@
+mod ProgressLemmas
+mod RowLemmas
+mod UidLemmas

@@ -1,0 +1,3 @@
+pub mod Accounts
+pub mod Fates
+pub mod internal
