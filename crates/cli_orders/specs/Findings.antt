@@ -21,6 +21,7 @@ use Rattle.cli_orders.specs.declared.finding.Finding.{Finding}
 use Rattle.cli_orders.specs.declared.finding.Finding.TheVariants.{Rows, BadRow, Card, BadCard}
 use Rattle.cli_orders.specs.declared.stop.Stop.{Stop}
 use Rattle.cli_orders.specs.declared.stop.Stop.TheVariants.{Refused, Device}
+use Rattle.cli_orders.specs.Hints.{cause_hint, fault_hint}
 use Rattle.cli_orders.specs.Stops.{out_of_memory}
 
 -- ---- the file
@@ -60,12 +61,13 @@ abbrev pub finding_output : Finding → List ℕ
 finding_output (Rows count) = codes "rows " ++ (decimal count ++ line_feed ∷ [])
 finding_output (BadRow fault) =
     codes "row " ++ (decimal fault.row ++ (codes ": " ++ (cause_words fault.cause
-    ++ line_feed ∷ [])))
+    ++ (cause_hint fault.cause ++ line_feed ∷ []))))
 finding_output Card = codes "card" ++ line_feed ∷ []
-finding_output (BadCard fault None) = codes "card: " ++ (card_fault_text fault ++ line_feed ∷ [])
+finding_output (BadCard fault None) =
+    codes "card: " ++ (card_fault_text fault ++ (fault_hint fault ++ line_feed ∷ []))
 finding_output (BadCard fault (Some line)) =
     codes "card: line " ++ (decimal line ++ (codes ": " ++ (card_fault_text fault
-    ++ line_feed ∷ [])))
+    ++ (fault_hint fault ++ line_feed ∷ []))))
 
 -- A file with a fault is refused, as an import or a put of its octets would be.
 abbrev pub verdict_of : Finding → Result (Unit {0}) Stop

@@ -11,6 +11,7 @@ pub mod TryResults
 pub mod TryOutputs
 pub mod Listings
 pub mod CauseWords
+pub mod Hints
 pub mod Findings
 pub mod CheckLaws
 pub mod Versions

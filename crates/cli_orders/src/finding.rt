@@ -1,9 +1,10 @@
 //! What `check` finds in a file.
-ghost use Rattle.std.specs.Prelude.{◌≡◌, IfOk};
+ghost use Rattle.std.specs.Prelude.{◌≡◌, IfOk, string_bytes};
 ghost use Rattle.cli_orders.specs.Findings.{IsFound, finding_output};
 ghost use Rattle.cli_orders.specs.Findings.{kind_of_file, names_card, verdict_of};
 
 use crate::cause_words::CauseWords;
+use crate::hints::{cause_hint, fault_hint};
 use crate::stop::Stop;
 use csv_cards::{CsvCause, CsvFault, read_rows};
 use std::alloc::Global;
@@ -91,8 +92,21 @@ pub(crate) fn check_octets(
     }
 }
 
-/// The words for what was found: for example `rows 2000`, `row 1500: the name is empty`, `card`,
-/// `card: FN is missing`, or `card: line 2: the version isn't 4.0`.
+/// The line for a card's first fault, with the number of its own line if it has one.
+fn bad_card_text(alloc: Global, fault: CardFault, line: Option<u64>) -> Result<String, NoMemory>
+    ensures { IfOk result (λ text.
+        string_bytes text ≡ finding_output (Finding.BadCard fault line)) }
+{
+    let hint = fault_hint(fault);
+    let text = match line {
+        None => format!(in alloc; "card: {fault}{hint}\n")?,
+        Some(line) => format!(in alloc; "card: line {line}: {fault}{hint}\n")?,
+    };
+    Ok(text)
+}
+
+/// The line for what was found: for example `rows 2000`, `row 1500: the name is empty`, `card`,
+/// `card: FN is missing`, or `card: line 2: the version isn't 4.0; try contacts convert`.
 pub(crate) fn finding_text(alloc: Global, finding: Finding) -> Result<Vec<u8>, NoMemory>
     ensures { IfOk result (λ text. text.items ≡ finding_output finding) }
 {
@@ -101,11 +115,11 @@ pub(crate) fn finding_text(alloc: Global, finding: Finding) -> Result<Vec<u8>, N
         Finding::BadRow(fault) => {
             let row = fault.row;
             let words = CauseWords(fault.cause);
-            format!(in alloc; "row {row}: {words}\n")?
+            let hint = cause_hint(fault.cause);
+            format!(in alloc; "row {row}: {words}{hint}\n")?
         }
         Finding::Card => format!(in alloc; "card\n")?,
-        Finding::BadCard(fault, None) => format!(in alloc; "card: {fault}\n")?,
-        Finding::BadCard(fault, Some(line)) => format!(in alloc; "card: line {line}: {fault}\n")?,
+        Finding::BadCard(fault, line) => bad_card_text(alloc, fault, line)?,
     };
     Ok(text.into_bytes())
 }

@@ -7,6 +7,7 @@ mod checking;
 mod commands;
 mod expansion_output;
 mod finding;
+mod hints;
 mod input;
 pub mod laws;
 mod listing;
