@@ -40,6 +40,14 @@ pub(crate) fn unreadable(alloc: Global, file: &str) -> ConvertStop {
     }
 }
 
+/// The stop for a file of CSV whose header isn't known.
+pub(crate) fn no_known_header(alloc: Global, file: &str) -> ConvertStop {
+    match format!(in alloc; "{file} has no header of Google's or Outlook's contacts in English") {
+        Ok(words) => ConvertStop::Device(Text::new(words)),
+        Err(_) => ConvertStop::Memory,
+    }
+}
+
 /// The line that reports a stop.
 fn stop_line(alloc: Global, stop: &ConvertStop) -> Result<Text, NoMemory> {
     match stop {

@@ -2,11 +2,13 @@
 #![tactic(auto)]
 
 mod card_files;
+mod content;
 mod create;
 mod exit;
 mod names;
 mod row_files;
 mod run;
+mod sources;
 mod wanted;
 
 pub use run::run_convert;

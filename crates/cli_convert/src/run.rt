@@ -1,14 +1,14 @@
 //! Runs the order.
 
 use crate::card_files::CardFiles;
-use crate::exit::{ConvertStop, end, stop_of, unreadable};
+use crate::content::{Content, HeadFault, content_of, read_head};
+use crate::exit::{ConvertStop, end, no_known_header, stop_of, unreadable};
 use crate::names::rows_front;
 use crate::row_files::RowFiles;
+use crate::sources::{convert_to, convert_to_writer};
 use crate::wanted::Wanted;
 use base_types::Text;
-use card_conversion::{
-    ConversionFault, Outlet, RowsOutlet, Summary, convert_file, convert_to_rows,
-};
+use card_conversion::{ConversionFault, Summary};
 use std::alloc::Global;
 use std::fs;
 use std::fs::Files;
@@ -45,23 +45,13 @@ fn check_folder<F: Files>(
     }
 }
 
-/// Converts to rows on a writer.
-fn convert_to_writer<R: Read + Drop, W: Write + Drop, E: Write>(
-    alloc: Global,
-    reader: R,
-    writer: W,
-    errors: &mut E,
-) -> Result<Summary, ConversionFault> {
-    let mut outlet = RowsOutlet { writer };
-    convert_to_rows(alloc, reader, &mut outlet, errors)
-}
-
 /// Converts a file that was opened.
-fn convert_opened<F: Files, W: Write + Drop, E: Write>(
+fn convert_opened<F: Files, R: Read + Drop, W: Write + Drop, E: Write>(
     alloc: Global,
     files: &F,
     wanted: Wanted<'_>,
-    reader: F::File,
+    content: Content,
+    reader: R,
     writer: W,
     errors: &mut E,
 ) -> Result<Summary, ConversionFault> {
@@ -70,15 +60,33 @@ fn convert_opened<F: Files, W: Write + Drop, E: Write>(
         let rows_max = wanted.rows.unwrap_or(ROWS_MAX);
         let octets_max = wanted.octets.unwrap_or(OCTETS_MAX);
         let mut outlet = RowFiles::new(files, front, rows_max, octets_max);
-        return convert_file(alloc, reader, &mut outlet, errors);
+        return convert_to(alloc, content, reader, &mut outlet, errors);
     }
     match wanted.folder {
         Some(folder) => {
             let mut outlet = CardFiles { files, folder };
-            convert_file(alloc, reader, &mut outlet, errors)
+            convert_to(alloc, content, reader, &mut outlet, errors)
         }
-        None => convert_to_writer(alloc, reader, writer, errors),
+        None => convert_to_writer(alloc, content, reader, writer, errors),
     }
+}
+
+/// Reads the head of the file, and what the file has.
+fn read_content<R: Read>(
+    alloc: Global,
+    file: &str,
+    reader: &mut R,
+) -> Result<(Vec<u8>, Content), ConvertStop> {
+    let head = match read_head(alloc, reader) {
+        Ok(head) => head,
+        Err(HeadFault::Memory) => return Err(ConvertStop::Memory),
+        Err(HeadFault::Unreadable) => return Err(unreadable(alloc, file)),
+    };
+    let content = content_of(alloc, file, head.as_slice())?;
+    if content == Content::OtherRows {
+        return Err(no_known_header(alloc, file));
+    }
+    Ok((head, content))
 }
 
 /// Opens the file and converts it.
@@ -89,18 +97,20 @@ fn convert<F: Files, W: Write + Drop, E: Write>(
     writer: W,
     errors: &mut E,
 ) -> Result<Summary, ConvertStop> {
-    let Ok(reader) = fs::open(files, wanted.file) else {
+    let Ok(mut reader) = fs::open(files, wanted.file) else {
         return Err(unreadable(alloc, wanted.file));
     };
     check_folder(alloc, files, wanted.folder)?;
-    match convert_opened(alloc, files, wanted, reader, writer, errors) {
+    let (head, content) = read_content(alloc, wanted.file, &mut reader)?;
+    let reader = head.as_slice().chain(reader);
+    match convert_opened(alloc, files, wanted, content, reader, writer, errors) {
         Ok(summary) => Ok(summary),
         Err(fault) => Err(stop_of(alloc, fault, wanted.file)),
     }
 }
 
-/// Converts the cards of a file, and writes them as rows to the writer, as rows to files, or as
-/// one file for each card. Returns the exit status of the program.
+/// Converts the cards or the contacts of a file, and writes their cards as rows to the writer, as
+/// rows to files, or as one file for each card. Returns the exit status of the program.
 pub fn run_convert<F: Files, W: Write + Drop, E: Write>(
     alloc: Global,
     files: &F,

@@ -1,0 +1,93 @@
+//! What a file has: cards, rows of cards, or contacts of Google or Outlook.
+ghost use Rattle.std.specs.Prelude.{◌≡◌, IfOk, IsTrue};
+ghost use Rattle.exported_cards.specs.Exports.{is_export};
+ghost use Rattle.cli_convert.specs.declared.content.Content.TheVariants.{Export};
+
+use base_types::NoMemory;
+use contact_csv::delimiter_of;
+use exported_cards::is_export;
+use import_text::begins_with_word;
+use std::alloc::Global;
+use std::io::{ErrorKind, Read};
+
+/// The number of octets from which a file's content is known.
+pub(crate) const HEAD_OCTETS: usize = 65_536;
+
+/// The most reads of the head. Each returns at least one octet, is interrupted, or is the last.
+const READS_MAX: u32 = 1_000_000;
+
+/// What a file has.
+#[derive(Clone, Copy, Debug, PartialEq, Eq)]
+pub(crate) enum Content {
+    /// Cards, or what is no card.
+    Cards,
+    /// Rows `uid,vcard`.
+    Export,
+    /// Contacts of Google or Outlook, with this octet between the fields.
+    Contacts(u8),
+    /// Rows with another header.
+    OtherRows,
+}
+
+/// Whether the path is that of a file of CSV.
+fn is_csv_path(path: &str) -> bool {
+    match path.rsplit_once('.') {
+        Some((_, extension)) => extension.eq_ignore_ascii_case("csv"),
+        None => false,
+    }
+}
+
+/// What a file at the path has that begins with these octets.
+pub(crate) fn content_of(alloc: Global, path: &str, head: &[u8]) -> Result<Content, NoMemory>
+    ensures { IfOk result (λ content. IsTrue (is_export head.now) → content ≡ Export) }
+{
+    if is_export(head) {
+        return Ok(Content::Export);
+    }
+    if let Some(delimiter) = delimiter_of(alloc, head)? {
+        return Ok(Content::Contacts(delimiter));
+    }
+    let text = head.strip_prefix(b"\xEF\xBB\xBF").unwrap_or(head);
+    if is_csv_path(path) && !begins_with_word(text, b"BEGIN:VCARD") {
+        return Ok(Content::OtherRows);
+    }
+    Ok(Content::Cards)
+}
+
+/// Why the head of a file isn't read.
+#[derive(Clone, Copy, Debug)]
+pub(crate) enum HeadFault {
+    /// An allocation failed.
+    Memory,
+    /// The file can't be read.
+    Unreadable,
+}
+
+impl From<std::alloc::AllocError> for HeadFault {
+    fn from(_error: std::alloc::AllocError) -> HeadFault {
+        HeadFault::Memory
+    }
+}
+
+/// The first octets of a reader, at most 65,536.
+pub(crate) fn read_head<R: Read>(alloc: Global, reader: &mut R) -> Result<Vec<u8>, HeadFault> {
+    let mut head = Vec::new(alloc);
+    head.resize(HEAD_OCTETS, 0)?;
+    let mut count = 0;
+    for _read in 0..READS_MAX {
+        let Some(room) = head.as_mut_slice().get_mut(count..) else {
+            break;
+        };
+        if room.is_empty() {
+            break;
+        }
+        match reader.read(room) {
+            Ok(0) => break,
+            Ok(more) => count = count.saturating_add(more),
+            Err(error) if error.kind() == ErrorKind::Interrupted => {}
+            Err(_) => return Err(HeadFault::Unreadable),
+        }
+    }
+    head.truncate(count);
+    Ok(head)
+}

@@ -1,0 +1,65 @@
+//! Converts what a file has.
+
+use crate::content::Content;
+use card_conversion::{
+    ConversionFault, Outlet, RowsOutlet, Summary, convert_file, convert_to_rows,
+};
+use contact_conversion::{convert_contacts, convert_contacts_to_rows};
+use contact_csv::{ContactFault, ContactReader};
+use exported_cards::ExportText;
+use std::alloc::Global;
+use std::io::{Read, Write};
+
+/// A reader of contacts, after its header.
+fn read_contacts<R: Read + Drop>(
+    alloc: Global,
+    reader: R,
+    delimiter: u8,
+) -> Result<ContactReader<R>, ConversionFault> {
+    match ContactReader::new(alloc, reader, delimiter) {
+        Ok(contacts) => Ok(contacts),
+        Err(ContactFault::Memory) => Err(ConversionFault::Memory),
+        Err(_) => Err(ConversionFault::Input),
+    }
+}
+
+/// Converts what a file has to an outlet.
+pub(crate) fn convert_to<R: Read + Drop, O: Outlet, E: Write>(
+    alloc: Global,
+    content: Content,
+    reader: R,
+    outlet: &mut O,
+    errors: &mut E,
+) -> Result<Summary, ConversionFault> {
+    match content {
+        Content::Export => convert_file(alloc, ExportText::new(alloc, reader), outlet, errors),
+        Content::Contacts(delimiter) => {
+            let contacts = read_contacts(alloc, reader, delimiter)?;
+            convert_contacts(alloc, contacts, outlet, errors)
+        }
+        Content::Cards | Content::OtherRows => convert_file(alloc, reader, outlet, errors),
+    }
+}
+
+/// Converts what a file has to rows on a writer.
+pub(crate) fn convert_to_writer<R: Read + Drop, W: Write + Drop, E: Write>(
+    alloc: Global,
+    content: Content,
+    reader: R,
+    writer: W,
+    errors: &mut E,
+) -> Result<Summary, ConversionFault> {
+    let mut outlet = RowsOutlet { writer };
+    match content {
+        Content::Export => {
+            convert_to_rows(alloc, ExportText::new(alloc, reader), &mut outlet, errors)
+        }
+        Content::Contacts(delimiter) => {
+            let contacts = read_contacts(alloc, reader, delimiter)?;
+            convert_contacts_to_rows(alloc, contacts, &mut outlet, errors)
+        }
+        Content::Cards | Content::OtherRows => {
+            convert_to_rows(alloc, reader, &mut outlet, errors)
+        }
+    }
+}
