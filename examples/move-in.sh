@@ -52,9 +52,13 @@ expect 'book 1' book office.db staff
 expect 'book 2' book office.db clients
 expect 'new 3 edited 0 same 0 number 3' import office.db staff radicale staff.csv
 expect 'new 3 edited 0 same 0 number 3' import office.db clients google clients.csv
+# The members of a group are found by their UIDs.
+expect 'person 0b7f2a44-93d5-4e11-8d3a-7c2f6b1e9d02
+person 6a5c3f1e-2b84-4c7d-9a10-5d0c9e7b4a21' \
+    expand office.db staff d41e0c9a-5f62-47b8-b0c3-1a9e8f7d6c55
 
-echo '$ contacts serve office.db &'
-"$program" serve office.db > listening &
+echo '$ contacts serve office.db --connections 1000000 &'
+"$program" serve office.db --connections 1000000 > listening &
 server=$!
 for _ in $(seq 100); do
     [ -s listening ] && break
