@@ -1,5 +1,5 @@
 -- The results of the ordered queries over members.
-use Rattle.std.proofs.Common.{◌≡◌, ℕ, ℤ, pos, false, true, not, ◌≤◌, List, [], ◌∷◌, filter, length, Option, Some, None, is_some, IfOk, Result, refl, ◌∙◌}
+use Rattle.std.proofs.Common.{◌≡◌, ℕ, ℤ, pos, false, true, not, List, [], ◌∷◌, filter, Option, Some, None, is_some, IfOk, Result, refl, ◌∙◌}
 use Rattle.std.specs.declared.alloc.Global.{Global}
 use Rattle.std.specs.Prelude.{Vec}
 use Rattle.sqlite.specs.declared.error.Error.{Error}

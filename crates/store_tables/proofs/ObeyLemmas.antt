@@ -1,19 +1,16 @@
 -- After a write of rows, the rows obey the constraints of the declared tables.
-use Rattle.std.proofs.Common.{◌≡◌, ℕ, List, [], Option, Some, None, Ok, Err, Result, subst}
-use Rattle.std.specs.Prelude.{IfOk, OnOk, Vec}
-use Rattle.std.specs.declared.alloc.Global.{Global}
+use Rattle.std.proofs.Common.{◌≡◌, ℕ, List, Option, None, Ok, Err, Result, subst}
+use Rattle.std.specs.Prelude.{OnOk}
 use Rattle.sqlite.specs.Command.{Command}
 use Rattle.sqlite.specs.Command.TheVariants.{Insert, InsertOr, Update, Delete}
 use Rattle.sqlite.specs.Listing.{understood}
 use Rattle.sqlite.specs.Order.{Row}
-use Rattle.sqlite.specs.State.{ExecutesInside, Runs, Shown, State}
+use Rattle.sqlite.specs.State.{ExecutesInside, Runs, State}
 use Rattle.sqlite.specs.declared.error.Error.{Error}
 use Rattle.sqlite.proofs.Callers.{IsPlain, command_of, runs_as, statement_of}
 use Rattle.sqlite_schema.specs.declared.command.Returning.{Returning}
 use Rattle.sqlite_schema.specs.Rules.{Obeys}
 use Rattle.store_tables.specs.Tables.{book_schema}
-use Rattle.store_tables.proofs.ReturningLemmas.{writes_as}
-use Rattle.store_tables.proofs.Texts.{formats_of, returning_of}
 use Rattle.store_tables.proofs.WriteFailures.{IsRowWrite}
 
 obeyed : (old new : State) (what : Option Returning) (command : Command) (text : List ℕ) (params : Row) (count : ℕ) → IsRowWrite command → Runs old new what command text params count → Obeys new.now.schema new.now.trees
@@ -28,8 +25,3 @@ module _ (sql : List ℕ) (params : Row) (old new : State) (has : old.now.schema
   executed_obeys plain rows (Ok count) h schema =
       subst (λ s. Obeys s new.now.trees) schema (obeyed old new None command (statement_of sql (understood book_schema sql)) params count rows (runs_as sql params old new book_schema has command is plain count h.0))
   executed_obeys plain rows (Err e) h schema = tt
-
-  pub shown_obeys : (what : Returning) → (returning_of (understood book_schema sql) ≡ Some what) × (formats_of (understood book_schema sql) ≡ []) → (r : Result (Vec Row Global) Error)
-      → IfOk r (λ rows. Shown sql params old new rows.items) → OnOk r (new.now.schema ≡ book_schema) → OnOk r (Obeys book_schema new.now.trees)
-  shown_obeys what returns (Ok rows) h schema = subst (λ s. Obeys s new.now.trees) schema (writes_as sql params old new book_schema has command what is returns rows.items h).1.sound.obeys
-  shown_obeys what returns (Err e) h schema = tt

@@ -1,13 +1,12 @@
 -- The sorted result of a query over one table with ORDER BY, for any SQL text.
-use Rattle.std.proofs.Common.{inl, inr, ◌≡◌, ℕ, Bool, false, List, [], ◌∷◌, ◌++◌, ◌+◌, ◌<◌, ◌≤◌, map, filter, take, length, slice_index_or, IsPermutation, IfOk, Ok, Err, Result, Option, Some, is_lt, refl, sym, ap, ap₂, subst, ◌∙◌, arith}
+use Rattle.std.proofs.Common.{inl, inr, ◌≡◌, ℕ, Bool, false, List, [], ◌∷◌, ◌+◌, ◌<◌, map, filter, take, length, slice_index_or, IsPermutation, IfOk, Ok, Err, Result, Some, is_lt, refl, sym, ap, ap₂, subst, ◌∙◌, arith}
 use Rattle.std.specs.declared.cmp.Ordering.{Ordering}
 use Rattle.std.specs.declared.alloc.Global.{Global}
 use Rattle.std.specs.Prelude.{Vec}
 use Rattle.std.specs.List.Sorted.{IsSorted}
-use Rattle.std.proofs.lemmas.List.{get_or-map, length-map, take_all}
+use Rattle.std.proofs.lemmas.List.{get_or-map, length-map}
 use Rattle.std.proofs.lemmas.List.Sorted.{IsPermutation-map, IsPermutation-trans, length_permutation}
 use Rattle.std.proofs.lemmas.List.{nil_from_length}
-use Rattle.std.proofs.Math.Seq.{take-append_seam}
 use Rattle.sqlite.specs.declared.error.Error.{Error}
 use Rattle.sqlite.specs.declared.types.Value.TheVariants.{Null}
 use Rattle.sqlite.specs.Command.TheVariants.{Select}
@@ -15,10 +14,10 @@ use Rattle.sqlite.specs.Listing.{understood, reads_listing}
 use Rattle.sqlite.specs.Order.{Row}
 use Rattle.sqlite.specs.Program.{overlay}
 use Rattle.sqlite.specs.Query.{Query, Output, IsSureAnswer, IsAnswer, as_count, limited, output, output_cmp}
-use Rattle.sqlite.specs.State.{State, Begins, Shown, QueriesRow, FailsToQuery}
+use Rattle.sqlite.specs.State.{State, Shown, QueriesRow, FailsToQuery}
 use Rattle.sqlite.specs.Term.{Term, eval}
 use Rattle.sqlite.specs.Tree.{Trees}
-use Rattle.sqlite.proofs.Callers.{IsPlain, command_of, begins_as, first_as, reads_as}
+use Rattle.sqlite.proofs.Callers.{IsPlain, command_of, first_as, reads_as}
 use Rattle.sqlite_trees.proofs.ListLemmas.{map-map, filter-map, pull_back, IsPermutation-filter}
 use Rattle.sqlite_value.specs.declared.keys.Key.{Key}
 use Rattle.store_tables.specs.QueryResults.{AreRowsInOrder, AreFirstRowsInOrder, FindsFirstRow}

@@ -1,9 +1,8 @@
 -- The cause of an error of the upsert of a member.
-use Rattle.std.proofs.Common.{◌≡◌, ◌≢◌, ◌⊎◌, inl, inr, ℕ, ℤ, ◌≤◌, ◌^◌, Bool, true, false, not, ◌&&◌, ◌||◌, int_eq, List, [], ◌∷◌, ◌++◌, length, map, filter, Option, Some, None, Ok, Err, Result, IfErr, IsSome, IsTrue, refl, sym, ap, ap₂, subst, subst₂, ◌∙◌, true≢false, arith}
+use Rattle.std.proofs.Common.{◌≡◌, ◌≢◌, inl, inr, ℕ, ℤ, ◌≤◌, ◌^◌, Bool, true, false, not, ◌&&◌, ◌||◌, int_eq, List, [], ◌∷◌, ◌++◌, length, map, filter, Option, Some, None, Ok, Err, Result, IfErr, IsSome, refl, sym, ap, ap₂, subst, subst₂, ◌∙◌, true≢false, arith}
 use Rattle.std.specs.List.{AllByRecursion, list_any}
 use Rattle.std.specs.List.Sorted.{IsPermutation}
-use Rattle.std.specs.Prelude.{IfSome, Vec}
-use Rattle.std.specs.declared.alloc.Global.{Global}
+use Rattle.std.specs.Prelude.{IfSome}
 use Rattle.std.proofs.lemmas.Bool.{and_from, and_parts, both_ways, false_from_ne_true, not-true}
 use Rattle.std.proofs.lemmas.List.Sorted.{IsPermutation-map, IsPermutation-sym, IsPermutation-trans}
 use Rattle.std.proofs.lemmas.Map.Text.{is_eq-slice_cmp}
@@ -13,10 +12,9 @@ use Rattle.sqlite.specs.Listing.{understood}
 use Rattle.sqlite.specs.Order.{Row, column}
 use Rattle.sqlite.specs.Program.{overlay}
 use Rattle.sqlite.specs.Rowids.TheVariants.{Chosen, Given}
-use Rattle.sqlite.specs.Rows.{Clears, Edited, InsertsOr, Judged, Meets, Puts, Resolves, Tries, TriesEach, Updates, Upserts, Written, count_of, joined, nothing, shown}
+use Rattle.sqlite.specs.Rows.{Clears, Edited, InsertsOr, Judged, Meets, Puts, Resolves, Tries, TriesEach, Updates, Upserts, Written, count_of, joined, nothing}
 use Rattle.sqlite.specs.Source.TheVariants.{Values}
-use Rattle.sqlite.specs.State.{State, FailsToQuery, IsTooLate}
-use Rattle.sqlite.specs.Term.{Term, col}
+use Rattle.sqlite.specs.State.{State, ExecutesInside}
 use Rattle.sqlite.specs.Tree.{Trees}
 use Rattle.sqlite.specs.Values.{or_null}
 use Rattle.sqlite.specs.declared.error.Error.{Error}
@@ -65,13 +63,13 @@ use Rattle.store_tables.proofs.FreshLemmas.{fresh_one, has_permuted, item_of, le
 use Rattle.store_tables.proofs.KeyedRows.{has_stored}
 use Rattle.store_tables.proofs.Picks.{passes, picked, shows}
 use Rattle.store_tables.proofs.PutLemmas.{cast_new, cast_same, conflicts_at, given_for, has_back, nobody, only_it, went_on, same_value}
-use Rattle.store_tables.proofs.Queries.{put_clause, put_command, put_query, put_shows, put_terms, put_text}
+use Rattle.store_tables.proofs.Queries.{put_clause, put_command, put_query, put_terms, put_text}
 use Rattle.store_tables.proofs.ReferenceLemmas.{refers_after, refers_there, same_books}
 use Rattle.store_tables.proofs.RowLemmas.{at_parts, member_id}
-use Rattle.store_tables.proofs.StopLemmas.{concludes_showing, outside, query_stops, task, values_stop}
+use Rattle.store_tables.proofs.StopLemmas.{concludes_quietly, outside, query_stops, task, values_stop}
 use Rattle.store_tables.proofs.StorableLemmas.{fits_in, int_is_number, is_storable, null_is_number, text_is_number}
 use Rattle.store_tables.proofs.Texts.{put_is}
-use Rattle.store_tables.proofs.WriteFailures.{query_fails}
+use Rattle.store_tables.proofs.WriteFailures.{execute_fails}
 
 -- ---- a member as a row
 
@@ -91,14 +89,6 @@ member_storable id book uid changed (Some text) short slim =
 typed_at : (db : Trees) (id book : ℤ) (uid : List ℕ) (changed : ℤ) (card : Option (List ℕ)) → rules.passes Datatype book_schema db member (stored id book uid changed card) ≡ true
 typed_at db id book uid changed None = refl
 typed_at db id book uid changed (Some text) = refl
-
-abbrev show_terms : List Term
-show_terms = col 0 8 ∷ col 0 9 ∷ []
-
-shown_at : (params : Row) (book : ℤ) (uid : List ℕ) (changed : ℤ) (given : Option (List ℕ)) (n : MemberRow) (card : Option (List ℕ)) → n.card ≡ card
-    → accepts_terms show_terms ((Int book ∷ Text uid ∷ Int changed ∷ or_null Text given ∷ []) ++ Null ∷ shown member (member_row n)) ≡ true
-shown_at params book uid changed given n None e = rw e refl
-shown_at params book uid changed given n (Some text) e = rw e refl
 
 module _ (n : MemberRow) (short : length n.uid ≤ 2 ^ 20) (slim : IfSome n.card (λ text. length text ≤ 2 ^ 20)) where
   member_fits : (row : Row) → Has (member_row n ∷ []) row → ¬ IsOversized book_schema member row
@@ -344,7 +334,7 @@ module _ (limit : Option ℕ) (book : ℤ) (uid : List ℕ) (changed : ℤ) (car
   -- ---- what it leaves
 
   abbrev Leaves : Written → Type 0
-  Leaves w = (n : MemberRow) × (w.rows ≡ member_row n ∷ []) × Refers All book_schema w.trees
+  Leaves w = Refers All book_schema w.trees
 
   refers_with : (next : Trees) (n : MemberRow) (gone : List ℤ) → n.book ≡ book → Applies book_schema Enforced db (placing gone (member_row n)) next → Refers All book_schema next
   refers_with next n gone at step =
@@ -359,7 +349,7 @@ module _ (limit : Option ℕ) (book : ℤ) (uid : List ℕ) (changed : ℤ) (car
       let went = went_on h in
       let step = one_step book_schema Enforced db went.0 (placing [] (member_row new)) refl (subst (λ e. Edited book_schema Enforced db e (Ok went.0)) (new_is none) went.1) in
       let is = same_value went.2 in
-      (new, ap (λ (it : Written). it.rows) is ∙ ap (λ (e : Edit). e.news) (new_is none), subst (Refers All book_schema) (sym (ap (λ (it : Written). it.trees) is)) (refers_with went.0 new [] refl step))
+      subst (Refers All book_schema) (sym (ap (λ (it : Written). it.trees) is)) (refers_with went.0 new [] refl step)
 
   clears_leave : (w : Written) (found : List Row) → AllByRecursion (λ m. has_uid book uid m ≡ false) ms → Clears (task limit member params) Abort (member_row new) db found (Ok w) → Leaves w
   clears_leave w [] none h = puts_leave w none h
@@ -375,7 +365,7 @@ module _ (limit : Option ℕ) (book : ℤ) (uid : List ℕ) (changed : ℤ) (car
       let n : MemberRow = record m { changed = changed; card = card } in
       let step = one_step book_schema Enforced db wrote.0 (placing (m.id ∷ []) (member_row n)) refl (subst (λ e. Edited book_schema Enforced db e (Ok wrote.0)) same wrote.1) in
       let is = same_value wrote.2 in
-      (n, ap (λ (it : Written). it.rows) is ∙ ap (λ (e : Edit). e.news) same, subst (Refers All book_schema) (sym (ap (λ (it : Written). it.trees) is)) (refers_with wrote.0 n (m.id ∷ []) (at_parts book uid m here).0 step))
+      subst (Refers All book_schema) (sym (ap (λ (it : Written). it.trees) is)) (refers_with wrote.0 n (m.id ∷ []) (at_parts book uid m here).0 step)
 
   meets_leave : (w : Written) (found : List Row) → AreConflicts target book_schema.indexes member (db 4) (member_row new) found
       → Meets (task limit member params) (Upserts (task limit member params) Abort (member_row new) db []) (member_row new) db put_clause found (Ok w) → Leaves w
@@ -400,29 +390,23 @@ module _ (limit : Option ℕ) (book : ℤ) (uid : List ℕ) (changed : ℤ) (car
       let counted = went_on each.2 in
       let last = same_value counted.2 in
       let trees : w.trees ≡ each.0.0.trees = ap (λ (it : Written). it.trees) last ∙ same_value counted.1 in
-      let rows : w.rows ≡ each.0.0.rows = ap (λ (it : Written). it.rows) last in
       let tried = subst (λ rows. TriesEach (task limit member params) Abort (put_clause ∷ []) rows (count_of counter.0) (nothing db) (Ok each.0)) given.1.1 each.1 in
       let one = went_on tried in
       let done : each.0 ≡ (joined (nothing db) one.0, _) = same_value one.2 in
-      let it = tries_leave one.0 (subst (λ row. Tries (task limit member params) Abort (put_clause ∷ []) row db (Ok one.0)) source_is one.1) in (
-        it.0,
-        rows ∙ (ap (λ (p : Written × ℤ). p.0.rows) done ∙ it.1),
-        subst (Refers All book_schema) (sym (trees ∙ ap (λ (p : Written × ℤ). p.0.trees) done)) it.2,
-      )
+      let it = tries_leave one.0 (subst (λ row. Tries (task limit member params) Abort (put_clause ∷ []) row db (Ok one.0)) source_is one.1) in
+      subst (Refers All book_schema) (sym (trees ∙ ap (λ (p : Written × ℤ). p.0.trees) done)) it
 
-  pub put_stops : (stop : Option Error) → OnRows (task limit member params) outside (Some put_shows) put_command db (Err stop) → IsSome limit
-  put_stops stop h = stops h (λ s k. inserts s k) (λ it.
-      let left = inserts_leave it.0 it.1 in
-      concludes_showing limit member params put_shows.names show_terms 2 it.0 (member_row left.0) left.1 (shown_at params book uid changed card left.0 left.0.card refl) left.2 stop it.2)
+  pub put_stops : (stop : Option Error) → OnRows (task limit member params) outside None put_command db (Err stop) → IsSome limit
+  put_stops stop h = stops h (λ s k. inserts s k) (λ it. concludes_quietly limit member params it.0 (inserts_leave it.0 it.1) stop it.2)
 
-pub put_fails : (old new : State) (book : ℤ) (uid : List ℕ) (changed : ℤ) (card : Option (List ℕ)) (bs : List BookRow) (ms : List MemberRow) (r : Result (Vec Row Global) Error) → IsTrue old.in_transaction → old.now.schema ≡ book_schema
+pub put_fails : (old new : State) (book : ℤ) (uid : List ℕ) (changed : ℤ) (card : Option (List ℕ)) (bs : List BookRow) (ms : List MemberRow) (r : Result ℕ Error) → old.now.schema ≡ book_schema
     → AreMembers ms → HoldBooks (old.now.trees 2) bs → HoldMembers (old.now.trees 4) ms → list_any (has_id book) bs ≡ true → AllByRecursion (λ m. has_uid book uid m ≡ false → has_number book changed m ≡ false) ms
     → length uid ≤ 2 ^ 20 → IfSome card (λ text. length text ≤ 2 ^ 20) → fits_i64 (next_rowid (old.now.trees 4)) ≡ true → is_taken (old.now.trees 4) (Int (next_rowid (old.now.trees 4)) ∷ []) ≡ false
     → AllByRecursion (λ m. fits_i64 m.id ≡ true) ms → Obeys book_schema old.now.trees
-    → IfErr r (λ e. FailsToQuery put_text (Int book ∷ Text uid ∷ Int changed ∷ or_null Text card ∷ []) old new e ⊎ IsTooLate put_text (Int book ∷ Text uid ∷ Int changed ∷ or_null Text card ∷ []) old new e)
+    → ExecutesInside 0 put_text (Int book ∷ Text uid ∷ Int changed ∷ or_null Text card ∷ []) old new r
     → IfErr r (λ e. e ≢ SqliteFailure OutOfMemory → HasOutsideCause old new)
 unfolding understood everything
-put_fails old new book uid changed card bs ms (Ok rows) inside schema kept holds has some alone short slim fits free wide obeys h = tt
-put_fails old new book uid changed card bs ms (Err e) inside schema kept holds has some alone short slim fits free wide obeys h =
-    query_fails put_text (Int book ∷ Text uid ∷ Int changed ∷ or_null Text card ∷ []) old new schema put_command (Some put_shows) put_is tt refl refl (refl, refl)
-    (λ stop did. put_stops old.step_limit book uid changed card bs ms kept old.now.trees holds has some alone short slim fits free wide obeys stop did) put_shows refl inside e h
+put_fails old new book uid changed card bs ms (Ok count) schema kept holds has some alone short slim fits free wide obeys h = tt
+put_fails old new book uid changed card bs ms (Err e) schema kept holds has some alone short slim fits free wide obeys h =
+    execute_fails put_text (Int book ∷ Text uid ∷ Int changed ∷ or_null Text card ∷ []) old new schema put_command None put_is.0 tt refl refl (refl, refl)
+    (λ stop did. put_stops old.step_limit book uid changed card bs ms kept old.now.trees holds has some alone short slim fits free wide obeys stop did) refl e h

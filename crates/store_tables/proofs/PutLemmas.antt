@@ -44,18 +44,16 @@ use Rattle.store_tables.specs.Members.{PutsRow}
 use Rattle.std.proofs.lemmas.List.Sorted.{IsPermutation-map, IsPermutation-trans, IsPermutation-sym}
 use Rattle.std.proofs.Common.{subst₂}
 use Rattle.sqlite_value.specs.Keys.{first_key}
-use Rattle.std.specs.Prelude.{Vec, IfOk, OnOk}
-use Rattle.std.specs.declared.alloc.Global.{Global}
+use Rattle.std.specs.Prelude.{OnOk}
 use Rattle.sqlite.specs.declared.error.Error.{Error}
 use Rattle.sqlite.specs.Values.{bound_value}
 use Rattle.sqlite.specs.Effect.{Database}
 use Rattle.sqlite.specs.Listing.{understood}
 use Rattle.sqlite.specs.Does.{Tally, Does}
-use Rattle.sqlite.specs.State.{State, Shown, mode_of}
-use Rattle.sqlite.proofs.Callers.{statement_of}
-use Rattle.store_tables.proofs.Queries.{put_text, put_command, put_shows}
-use Rattle.store_tables.proofs.Texts.{put_is, put_returns}
-use Rattle.store_tables.proofs.ReturningLemmas.{writes_as}
+use Rattle.sqlite.specs.State.{State, Executes, ExecutesInside, Writes, mode_of}
+use Rattle.sqlite.proofs.Callers.{runs_as, statement_of}
+use Rattle.store_tables.proofs.Queries.{put_text, put_command}
+use Rattle.store_tables.proofs.Texts.{put_is}
 use Rattle.base_types.proofs.BoolLemmas.{same_branches}
 
 pub cast_int : (n : ℤ) → cast kind.Integer (Int n) ≡ Int n
@@ -234,14 +232,14 @@ module _ (limit : Option ℕ) (book : ℤ) (uid : List ℕ) (changed : ℤ) (car
       let all = trees ∙ ap (λ (p : Written × ℤ). p.0.trees) done in
       (subst (λ rows. HoldMembers rows (upsert_member (next_rowid (db 4)) book uid changed card ms)) (ap (λ (t : Trees). t 4) (sym all)) ends.0, ends.1, subst (KeepsOtherTables 4 db) (sym all) ends.2, subst (λ (t : Trees). TakesOneId (db 4) (t 4)) (sym all) ends.3)
 
-pub puts_member : (old new : State) (book : ℤ) (uid : List ℕ) (changed : ℤ) (card : Option (List ℕ)) (ms : List MemberRow) (rows : List Row) → old.now.schema ≡ book_schema → AreMembers ms → HoldMembers (old.now.trees 4) ms
-    → Shown put_text (Int book ∷ Text uid ∷ Int changed ∷ or_null Text card ∷ []) old new rows
+pub puts_member : (old new : State) (book : ℤ) (uid : List ℕ) (changed : ℤ) (card : Option (List ℕ)) (ms : List MemberRow) (count : ℕ) → old.now.schema ≡ book_schema → AreMembers ms → HoldMembers (old.now.trees 4) ms
+    → Executes put_text (Int book ∷ Text uid ∷ Int changed ∷ or_null Text card ∷ []) old new (Ok count)
     → (new.now.schema ≡ book_schema) × PutsRow new.now.trees book uid changed card ms × KeepsOtherTables 4 old.now.trees new.now.trees × TakesOneId (old.now.trees 4) (new.now.trees 4)
-puts_member old new book uid changed card ms rows schema kept has h =
+puts_member old new book uid changed card ms count schema kept has h =
     let params = Int book ∷ Text uid ∷ Int changed ∷ or_null Text card ∷ [] in
-    let w = writes_as put_text params old new book_schema schema put_command put_shows put_is put_returns rows h in
     let text = statement_of put_text (understood book_schema put_text) in
-    let done = went_on (subst (λ s. Does old.step_limit (mode_of old) params (record old.now { schema = s }) text (Some put_shows) put_command (Ok (w.1.tally, new.now))) schema w.1.changed) in
+    let w : Writes old new None put_command text params count = runs_as put_text params old new book_schema schema _ put_is.0 put_is.1 count h in
+    let done = went_on (subst (λ s. Does old.step_limit (mode_of old) params (record old.now { schema = s }) text None put_command (Ok (w.tally, new.now))) schema w.changed) in
     let tested = went_on done.2 in
     let returned = went_on tested.2 in
     let now = ap (λ (p : Tally × Database). p.1) (same_value returned.2) in
@@ -256,8 +254,8 @@ pub card_bound : (card : Option (Bor (List ℕ))) → bound_value (or_null (λ s
 card_bound None = refl
 card_bound (Some s) = refl
 
-pub puts_rows : (old new : State) (book : ℤ) (uid : List ℕ) (changed : ℤ) (card : Option (List ℕ)) (ms : List MemberRow) (r : Result (Vec Row Global) Error) → old.now.schema ≡ book_schema → AreMembers ms → HoldMembers (old.now.trees 4) ms
-    → IfOk r (λ rows. Shown put_text (Int book ∷ Text uid ∷ Int changed ∷ or_null Text card ∷ []) old new rows.items)
+pub puts_rows : (old new : State) (book : ℤ) (uid : List ℕ) (changed : ℤ) (card : Option (List ℕ)) (ms : List MemberRow) (r : Result ℕ Error) → old.now.schema ≡ book_schema → AreMembers ms → HoldMembers (old.now.trees 4) ms
+    → ExecutesInside 0 put_text (Int book ∷ Text uid ∷ Int changed ∷ or_null Text card ∷ []) old new r
     → OnOk r ((new.now.schema ≡ book_schema) × PutsRow new.now.trees book uid changed card ms × KeepsOtherTables 4 old.now.trees new.now.trees × TakesOneId (old.now.trees 4) (new.now.trees 4))
-puts_rows old new book uid changed card ms (Ok rows) schema kept has h = puts_member old new book uid changed card ms rows.items schema kept has h
+puts_rows old new book uid changed card ms (Ok count) schema kept has h = puts_member old new book uid changed card ms count schema kept has h.0
 puts_rows old new book uid changed card ms (Err e) schema kept has h = tt

@@ -7,7 +7,6 @@ use Rattle.sqlite.specs.Command.TheVariants.{Insert, InsertOr}
 use Rattle.sqlite.specs.Source.TheVariants.{Values}
 use Rattle.sqlite_schema.specs.declared.command.Conflict.TheVariants.{Abort}
 use Rattle.sqlite_schema.specs.declared.command.Upsert.{Upsert}
-use Rattle.sqlite_schema.specs.declared.command.Returning.{Returning}
 use Rattle.sqlite_sql.specs.declared.ops.CompareOp.TheVariants.{Eq, Gt, Le}
 use Rattle.sqlite_sql.specs.declared.ops.BinaryOp.TheVariants.{Compare, Or, Is}
 use Rattle.sqlite_sql.specs.declared.ops.UnaryOp.TheVariants.{Not}
@@ -17,7 +16,7 @@ use Rattle.sqlite.specs.Query.{Query, inner, end}
 use Rattle.sqlite_sql.specs.declared.aggregate.AggregateOp.TheVariants.{CountRows}
 
 abbrev pub put_text : List ℕ
-put_text = codes "INSERT INTO member (book, uid, changed, card) VALUES (?1, ?2, ?3, ?4) ON CONFLICT (book, uid) DO UPDATE SET changed = excluded.changed, card = excluded.card RETURNING changed, card"
+put_text = codes "INSERT INTO member (book, uid, changed, card) VALUES (?1, ?2, ?3, ?4) ON CONFLICT (book, uid) DO UPDATE SET changed = excluded.changed, card = excluded.card"
 
 abbrev pub put_terms : List Term
 put_terms = lit Null ∷ col 0 0 ∷ col 0 1 ∷ col 0 2 ∷ col 0 3 ∷ []
@@ -44,9 +43,6 @@ put_clause = record { target = Some (1 ∷ 2 ∷ []); update = Some (record { le
 
 abbrev pub put_command : Command
 put_command = InsertOr 2 Abort (Values put_terms 5) (put_clause ∷ [])
-
-abbrev pub put_shows : Returning
-put_shows = record { names = codes "changed" ∷ codes "card" ∷ []; row = Values (col 0 8 ∷ col 0 9 ∷ []) 2 }
 
 abbrev pub find_text : List ℕ
 find_text = codes "SELECT changed, card FROM member WHERE book = ?1 AND uid = ?2"
@@ -102,7 +98,7 @@ abbrev pub count_text : List ℕ
 count_text = codes "SELECT COUNT(*) FROM member WHERE book = ?1 AND card IS NULL AND changed > ?2"
 
 abbrev pub update_text : List ℕ
-update_text = codes "UPDATE book SET number = ?2, horizon = ?3, created = ?4, edited = ?5, imported = ?6, import_edited = ?7, moved_in = ?8, deleted = ?9, moved_out = ?10 WHERE id = ?1 RETURNING number, horizon, created, edited, imported, import_edited, moved_in, deleted, moved_out"
+update_text = codes "UPDATE book SET number = ?2, horizon = ?3, created = ?4, edited = ?5, imported = ?6, import_edited = ?7, moved_in = ?8, deleted = ?9, moved_out = ?10 WHERE id = ?1"
 
 abbrev pub forget_tests : List Term
 forget_tests = op2 (Compare Eq Binary) (col 1 1) (col 0 0) ∷ op2 (Is Binary) (col 1 4) (lit Null) ∷ op2 (Compare Le Binary) (col 1 3) (col 0 1) ∷ []
@@ -146,9 +142,6 @@ keep_query = picks 9 (op2 (Compare Eq Binary) (col 1 0) (col 0 0) ∷ []) (col 1
 
 abbrev pub number_names : List (List ℕ)
 number_names = codes "number" ∷ codes "horizon" ∷ codes "created" ∷ codes "edited" ∷ codes "imported" ∷ codes "import_edited" ∷ codes "moved_in" ∷ codes "deleted" ∷ codes "moved_out" ∷ []
-
-abbrev pub update_shows : Returning
-update_shows = record { names = number_names; row = Values (col 0 14 ∷ col 0 15 ∷ col 0 16 ∷ col 0 17 ∷ col 0 18 ∷ col 0 19 ∷ col 0 20 ∷ col 0 21 ∷ col 0 22 ∷ []) 9 }
 
 -- the import with a key
 abbrev pub add_import_text : List ℕ

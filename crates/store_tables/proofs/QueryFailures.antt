@@ -12,7 +12,7 @@ use Rattle.sqlite.specs.declared.types.Value.TheVariants.{Int, Text}
 use Rattle.sqlite_tied.specs.Compute.{everything}
 use Rattle.store_tables.specs.Failures.{HasOutsideCause}
 use Rattle.store_tables.specs.Tables.{book_schema}
-use Rattle.store_tables.proofs.FailureLemmas.{from_outside, row_fails, rows_fail, count_fails}
+use Rattle.store_tables.proofs.FailureLemmas.{row_fails, rows_fail, count_fails}
 use Rattle.store_tables.proofs.Queries.{picks, book_text, book_query, find_text, find_query, removed_text, removed_query, import_text, import_query, keep_text, keep_query, books_count_text, count_text, count_tests, books_text, books_query, members_text, members_query, all_members_text, all_members_terms, all_imports_text, all_imports_terms, all_keeps_text, all_keeps_terms, due_text, due_query}
 use Rattle.store_tables.proofs.Texts.{book_is, find_is, removed_is, import_is, keep_is, books_count_is, count_is, books_is, members_is, all_members_is, all_imports_is, all_keeps_is, due_is}
 

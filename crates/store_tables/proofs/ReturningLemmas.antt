@@ -1,33 +1,16 @@
--- A write with RETURNING, for any SQL text.
-use Rattle.std.specs.Prelude.{Vec, IfOk, IfErr, IsTrue, OnOk, OnErr}
+-- What a statement leaves of the state of a connection, for any SQL text.
+use Rattle.std.specs.Prelude.{IfErr, IsTrue, OnOk, OnErr}
 use Rattle.sqlite.specs.Steps.{FailsToCommit}
-use Rattle.std.specs.declared.alloc.Global.{Global}
-use Rattle.std.proofs.Common.{true≢false, ◌≡◌, ◌⊎◌, inl, inr, ℕ, List, [], Option, Some, None, Ok, Err, Result, refl, sym, ap, subst₂, ◌∙◌, append-nil}
+use Rattle.std.proofs.Common.{true≢false, ◌≡◌, ◌⊎◌, inl, inr, ℕ, List, Option, Some, None, Ok, Err, Result, sym, ◌∙◌}
 use Rattle.sqlite.specs.Order.{Row}
-use Rattle.sqlite.specs.Command.{Command}
-use Rattle.sqlite.specs.Schema.{Schema}
 use Rattle.sqlite.specs.Clock.{timed}
-use Rattle.sqlite.specs.Listing.{understood}
-use Rattle.sqlite.specs.State.{HasCleanDisk, Survives, ExecutesInside, State, Writes, Shown, ShowsRows, IsUnchanged, IsRolledBack, KeepsCommit, IsTooLate, IsNotRun, FailsToQuery, FailsToShow}
+use Rattle.sqlite.specs.State.{HasCleanDisk, Survives, ExecutesInside, State, Shown, ShowsRows, IsUnchanged, IsRolledBack, KeepsCommit, IsNotRun, FailsToQuery, FailsToShow}
 use Rattle.sqlite.specs.declared.error.Error.{Error}
 use Rattle.sqlite_schema.specs.declared.command.Returning.{Returning}
-use Rattle.sqlite.proofs.Callers.{command_of, statement_of}
 use Rattle.store_tables.specs.Tables.{book_schema}
 use Rattle.store_tables.specs.StatementEffects.{KeepsOtherTables, WritesOnly, NoCommit, IsUndone}
-use Rattle.store_tables.proofs.Texts.{returning_of, formats_of}
 
 module _ (sql : List ℕ) (params : Row) (old new : State) where
-  module _ (schema : Schema) (has : old.now.schema ≡ schema) (command : Command) (what : Returning) (is : command_of (understood schema sql) ≡ command)
-      (returns : (returning_of (understood schema sql) ≡ Some what) × (formats_of (understood schema sql) ≡ [])) where
-    pub writes_as : (rows : List Row) → Shown sql params old new rows → (count : ℕ) × (w : Writes old new (Some what) command (statement_of sql (understood schema sql)) params count) × (rows ≡ w.tally.shown)
-    unfolding Shown
-    writes_as rows h =
-        let known = sym h.1.is ∙ ap (λ s. understood s sql) has in
-        let shows = ap returning_of known ∙ returns.0 in
-        let still = ap formats_of known ∙ returns.1 in
-        let it : ShowsRows old new sql h.0 params rows (Some what) = rw (shows, still, append-nil params) at h.2 in
-        subst₂ (λ k t. (count : ℕ) × (w : Writes old new (Some what) k t params count) × (rows ≡ w.tally.shown)) (ap command_of known ∙ is) (ap (statement_of sql) known) it
-
   -- a failed write changes nothing, or rolls back
   pub fails_as : (e : Error) → FailsToQuery sql params old new e → IsUnchanged old new ⊎ IsRolledBack old new
   unfolding FailsToQuery IsNotRun
@@ -40,27 +23,9 @@ module _ (sql : List ℕ) (params : Row) (old new : State) where
       go (Some it) (inl k) = inl k.1
       go (Some it) (inr k) = inr k.3
 
-  -- in a transaction, nothing is committed
-  pub keeps_shown : IsTrue old.in_transaction → (schema : Schema) (has : old.now.schema ≡ schema) (what : Returning) → (returning_of (understood schema sql) ≡ Some what) × (formats_of (understood schema sql) ≡ [])
-      → (rows : List Row) → Shown sql params old new rows → KeepsCommit old new
-  keeps_shown inside schema has what returns rows h =
-      let w = (writes_as schema has (command_of (understood schema sql)) what refl returns rows h).1 in
-      record { was_open = λ _. w.shown.was_open; committed = λ _. w.shown.committed_is ∙ rw inside }
-
   pub keeps_failed : (e : Error) → IsUnchanged old new ⊎ IsRolledBack old new → KeepsCommit old new
   keeps_failed e (inl same) = record { was_open = λ _. same.0.was_open; committed = λ _. same.0.committed_is }
   keeps_failed e (inr undone) = record { was_open = undone.was_open; committed = λ up. (undone.undone up).1 }
-
-  pub keeps_all : IsTrue old.in_transaction → (schema : Schema) (has : old.now.schema ≡ schema) (what : Returning) → (returning_of (understood schema sql) ≡ Some what) × (formats_of (understood schema sql) ≡ [])
-      → (r : Result (Vec Row Global) Error) → IfOk r (λ rows. Shown sql params old new rows.items) → IfErr r (λ e. FailsToQuery sql params old new e ⊎ IsTooLate sql params old new e) → KeepsCommit old new
-  keeps_all inside schema has what returns (Ok rows) ok err = keeps_shown inside schema has what returns rows.items ok
-  keeps_all inside schema has what returns (Err e) ok (inl failed) = keeps_failed e (fails_as e failed)
-  keeps_all inside schema has what returns (Err e) ok (inr late) = keeps_failed e (inl late.5)
-
-  pub stays_inside : IsTrue old.in_transaction → (schema : Schema) (has : old.now.schema ≡ schema) (what : Returning) → (returning_of (understood schema sql) ≡ Some what) × (formats_of (understood schema sql) ≡ [])
-      → (r : Result (Vec Row Global) Error) → IfOk r (λ rows. Shown sql params old new rows.items) → OnOk r (IsTrue new.in_transaction)
-  stays_inside inside schema has what returns (Ok rows) ok = (writes_as schema has (command_of (understood schema sql)) what refl returns rows.items ok).1.shown.mode ∙ inside
-  stays_inside inside schema has what returns (Err e) ok = tt
 
 pub shown_open : (sql : List ℕ) (params : Row) (old new : State) (rows : List Row) → Shown sql params old new rows → IsTrue old.is_open
 unfolding Shown
@@ -69,16 +34,6 @@ shown_open sql params old new rows h = go h.0.returning h.2
     go : (what : Option Returning) → ShowsRows old new sql h.0 (timed params h.0.formats h.1.now) rows what → IsTrue old.is_open
     go None k = k.3.0.was_open
     go (Some it) k = k.1.shown.was_open
-
-pub all_open : (sql : List ℕ) (params : Row) (old new : State) (r : Result (Vec Row Global) Error) → IfOk r (λ rows. Shown sql params old new rows.items) → IfErr r (λ e. FailsToQuery sql params old new e ⊎ IsTooLate sql params old new e)
-    → IsTrue new.is_open → IsTrue old.is_open
-all_open sql params old new (Ok rows) ok err up = shown_open sql params old new rows.items ok
-all_open sql params old new (Err e) ok (inl failed) up = go (fails_as sql params old new e failed)
-  where
-    go : IsUnchanged old new ⊎ IsRolledBack old new → IsTrue old.is_open
-    go (inl same) = same.0.was_open
-    go (inr undone) = undone.was_open up
-all_open sql params old new (Err e) ok (inr late) up = late.5.0.was_open
 
 -- a failed commit restores the last committed state
 pub failed_commit : {X : Type 0} (first mid last : State) (r : Result X Error) → KeepsCommit first mid → IsTrue mid.in_transaction → (IsTrue first.is_open → first.now ≡ first.committed) → IfErr r (FailsToCommit mid last) → IsTrue last.is_open → OnErr r (last.now ≡ first.now)
@@ -94,7 +49,7 @@ pub written_by : {X E : Type 0} (tree : ℕ) (old new : State) (r : Result X E) 
 written_by tree old new (Ok x) h inside = record { schema = h.0; other_tables = h.1; inside = inside }
 written_by tree old new (Err e) h inside = tt
 
--- ---- a write without RETURNING, within a transaction
+-- ---- a write within a transaction
 
 pub executed_inside : (sql : List ℕ) (params : Row) (old new : State) (r : Result ℕ Error) → ExecutesInside 0 sql params old new r → OnOk r (IsTrue new.in_transaction)
 executed_inside sql params old new (Ok count) h = h.1.mode
@@ -106,20 +61,6 @@ keeps_executed sql params old new (Err e) (inl h) = keeps_failed sql params old 
 keeps_executed sql params old new (Err e) (inr h) = keeps_failed sql params old new e (inl h.2)
 
 -- ---- the effect of a write, on success and on error
-
-pub stays_shown : (sql : List ℕ) (params : Row) (old new : State) (what : Returning) → (returning_of (understood book_schema sql) ≡ Some what) × (formats_of (understood book_schema sql) ≡ [])
-    → (r : Result (Vec Row Global) Error) → (HasCleanDisk new → IfOk r (λ rows. Shown sql params old new rows.items)) → (HasCleanDisk new → IfErr r (λ e. FailsToQuery sql params old new e ⊎ IsTooLate sql params old new e))
-    → Survives old new (λ _. ⊥) → NoCommit old new
-stays_shown sql params old new what returns r ok err survives = record {
-  kept = λ clean inside has. keeps_all sql params old new inside book_schema has what returns r (ok clean) (err clean);
-  was_open = λ clean inside. all_open sql params old new r (ok clean) (err clean);
-  survives = survives;
-}
-
-pub undone_shown : (sql : List ℕ) (params : Row) (old new : State) (r : Result (Vec Row Global) Error) → IfErr r (λ e. FailsToQuery sql params old new e ⊎ IsTooLate sql params old new e) → OnErr r (IsUndone old new)
-undone_shown sql params old new (Ok rows) err = tt
-undone_shown sql params old new (Err e) (inl failed) = fails_as sql params old new e failed
-undone_shown sql params old new (Err e) (inr late) = inl late.5
 
 pub stays_executed : (sql : List ℕ) (params : Row) (old new : State) (r : Result ℕ Error) → (HasCleanDisk new → IsTrue old.in_transaction → ExecutesInside 0 sql params old new r)
     → Survives old new (λ _. ⊥) → NoCommit old new

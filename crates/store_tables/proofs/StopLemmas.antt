@@ -1,17 +1,15 @@
 -- Where a statement stops: at the limit on steps, if there is one.
-use Rattle.std.proofs.Common.{◌≡◌, inl, inr, ℕ, true, false, List, [], ◌∷◌, ◌++◌, Option, Some, None, Err, IsSome, sym, subst, ◌∙◌, true≢false}
-use Rattle.sqlite.specs.Does.{Concludes, Returns, Shows, Tested}
+use Rattle.std.proofs.Common.{◌≡◌, inl, inr, ℕ, true, false, List, [], ◌∷◌, Option, Some, None, Err, IsSome, sym, ◌∙◌, true≢false}
+use Rattle.sqlite.specs.Does.{Concludes, Tested}
 use Rattle.sqlite.specs.Effect.{Database}
 use Rattle.sqlite.specs.Order.{Row}
 use Rattle.sqlite.specs.Query.{Query}
-use Rattle.sqlite.specs.Rows.{Task, Queried, Sourced, Written, shown}
+use Rattle.sqlite.specs.Rows.{Task, Queried, Sourced, Written}
 use Rattle.sqlite.specs.Source.TheVariants.{Values}
 use Rattle.sqlite.specs.Term.{Env, Term}
 use Rattle.sqlite.specs.Tree.{Trees}
 use Rattle.sqlite.specs.declared.error.Error.{Error}
 use Rattle.sqlite.specs.declared.run.Mode.{Mode}
-use Rattle.sqlite.specs.declared.types.Value.TheVariants.{Null}
-use Rattle.sqlite_schema.specs.declared.command.Returning.{Returning}
 use Rattle.sqlite_schema.specs.declared.schema.Among.TheVariants.{All}
 use Rattle.sqlite_schema.specs.declared.schema.Keys.TheVariants.{Enforced}
 use Rattle.sqlite_schema.specs.declared.schema.Table.{Table}
@@ -52,19 +50,3 @@ module _ (limit : Option ℕ) (table : Table) (params : Row) where
   pub concludes_quietly : (w : Written) → Refers All book_schema w.trees → (stop : Option Error) → Concludes task outside None w (Err stop) → IsSome limit
   concludes_quietly w refers stop h =
       stops h (λ s k. tested w.trees refers s k) (λ it. stops it.2 (λ s k. never_stops _ s k) (λ on. never_stops _ stop on.2))
-
-  -- a write that shows one row
-  module _ (names : List (List ℕ)) (terms : List Term) (width : ℕ) (w : Written) (row : Row) (one : w.rows ≡ row ∷ []) (typed : accepts_terms terms (params ++ Null ∷ shown table row) ≡ true) where
-    abbrev what : Returning
-    what = record { names = names; row = Values terms width }
-
-    shows : (s : Option Error) → Shows task what w.trees (row ∷ []) (Err s) → IsSome limit
-    shows s k =
-        stops k (λ t m. values_stop limit (record { schema = book_schema; trees = w.trees }) (params ++ Null ∷ shown table row) terms width typed t m)
-        (λ it. stops it.2 (λ t m. never_stops _ t m) (λ on. never_stops _ s on.2))
-
-    returns : (s : Option Error) → Returns task w (Some what) (Err s) → IsSome limit
-    returns s k = stops k (λ t m. shows t (subst (λ rows. Shows task what w.trees rows (Err t)) one m)) (λ it. stops it.2 (λ t m. m.0) (λ on. never_stops _ s on.2))
-
-    pub concludes_showing : Refers All book_schema w.trees → (stop : Option Error) → Concludes task outside (Some what) w (Err stop) → IsSome limit
-    concludes_showing refers stop h = stops h (λ s k. tested w.trees refers s k) (λ it. stops it.2 (λ s k. returns s k) (λ on. never_stops _ stop on.2))

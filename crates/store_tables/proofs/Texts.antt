@@ -1,5 +1,5 @@
 -- The meaning of the SQL texts.
-use Rattle.std.proofs.Common.{◌≡◌, ℕ, List, [], ◌∷◌, codes, false, Some, None, Ok, Err, Option, Result, refl}
+use Rattle.std.proofs.Common.{◌≡◌, ℕ, List, [], ◌∷◌, codes, false, None, Ok, Err, Option, Result, refl}
 use Rattle.sqlite.specs.Command.TheVariants.{Select, Update, Delete}
 use Rattle.sqlite_tied.specs.Compute.{everything}
 use Rattle.sqlite.specs.Listing.{understood, reads_listing}
@@ -8,7 +8,7 @@ use Rattle.sqlite_resolve.specs.declared.compiled.Compiled.{Compiled}
 use Rattle.sqlite_resolve.specs.declared.error.CompileError.{CompileError}
 use Rattle.sqlite_schema.specs.declared.command.Returning.{Returning}
 use Rattle.store_tables.specs.Tables.{book_schema}
-use Rattle.store_tables.proofs.Queries.{put_text, put_command, put_shows, find_text, find_query, due_text, due_query, book_text, book_query, forget_text, forget_query, count_text, count_query, update_text, update_query, update_shows, number_names, books_count_text, books_count_query, import_text, import_query, keep_text, keep_query, removed_text, removed_query, members_text, members_query, add_import_text, add_import_command, add_book_text, add_book_command, add_keep_text, add_schema_text, add_schema_command, add_keep_command, picks, books_text, books_query, all_members_text, all_members_terms, all_imports_text, all_imports_terms, all_keeps_text, all_keeps_terms, meta_text, meta_terms}
+use Rattle.store_tables.proofs.Queries.{put_text, put_command, find_text, find_query, due_text, due_query, book_text, book_query, forget_text, forget_query, count_text, count_query, update_text, update_query, number_names, books_count_text, books_count_query, import_text, import_query, keep_text, keep_query, removed_text, removed_query, members_text, members_query, add_import_text, add_import_command, add_book_text, add_book_command, add_keep_text, add_schema_text, add_schema_command, add_keep_command, picks, books_text, books_query, all_members_text, all_members_terms, all_imports_text, all_imports_terms, all_keeps_text, all_keeps_terms, meta_text, meta_terms}
 
 abbrev pub returning_of : Result Compiled CompileError → Option Returning
 returning_of (Ok c) = c.returning
@@ -18,13 +18,9 @@ abbrev pub formats_of : Result Compiled CompileError → List (List ℕ)
 formats_of (Ok c) = c.formats
 formats_of (Err e) = []
 
-pub put_is : command_of (understood book_schema put_text) ≡ put_command
+pub put_is : (command_of (understood book_schema put_text) ≡ put_command) × IsPlain (understood book_schema put_text)
 unfolding understood everything
-put_is = refl
-
-pub put_returns : (returning_of (understood book_schema put_text) ≡ Some put_shows) × (formats_of (understood book_schema put_text) ≡ [])
-unfolding understood everything
-put_returns = (refl, refl)
+put_is = (refl, (refl, refl))
 
 pub find_is : (command_of (understood book_schema find_text) ≡ Select (record { lets = []; body = find_query }) (codes "changed" ∷ codes "card" ∷ [])) × (reads_listing book_schema find_text ≡ false) × IsPlain (understood book_schema find_text)
 unfolding understood everything
@@ -46,13 +42,9 @@ pub book_is : (command_of (understood book_schema book_text) ≡ Select (record 
 unfolding understood everything
 book_is = (refl, refl, (refl, refl))
 
-pub update_is : command_of (understood book_schema update_text) ≡ Update 1 (record { lets = []; body = update_query })
+pub update_is : (command_of (understood book_schema update_text) ≡ Update 1 (record { lets = []; body = update_query })) × IsPlain (understood book_schema update_text)
 unfolding understood everything
-update_is = refl
-
-pub update_returns : (returning_of (understood book_schema update_text) ≡ Some update_shows) × (formats_of (understood book_schema update_text) ≡ [])
-unfolding understood everything
-update_returns = (refl, refl)
+update_is = (refl, (refl, refl))
 
 pub books_count_is : (command_of (understood book_schema books_count_text) ≡ Select (record { lets = []; body = books_count_query }) (codes "COUNT(*)" ∷ [])) × (reads_listing book_schema books_count_text ≡ false) × IsPlain (understood book_schema books_count_text)
 unfolding understood everything

@@ -1,9 +1,8 @@
 -- The cause of an error of the update of a book's numbers.
-use Rattle.std.proofs.Common.{◌≡◌, ◌≢◌, ◌⊎◌, inl, inr, ℕ, ◌≤◌, ◌^◌, Bool, true, false, not, ◌&&◌, ◌||◌, int_eq, List, [], ◌∷◌, length, map, filter, Option, Some, Ok, Err, Result, IfErr, IsSome, IsTrue, refl, sym, ap, subst, subst₂, ◌∙◌, true≢false, arith}
+use Rattle.std.proofs.Common.{◌≡◌, ◌≢◌, inl, inr, ℕ, ◌≤◌, ◌^◌, Bool, true, false, not, ◌&&◌, ◌||◌, int_eq, List, [], ◌∷◌, length, map, filter, Option, Ok, Err, Result, IfErr, IsSome, None, refl, sym, ap, subst, subst₂, ◌∙◌, true≢false, arith}
 use Rattle.std.specs.List.Sorted.{IsPermutation}
 use Rattle.std.specs.Int.{w64}
-use Rattle.std.specs.Prelude.{FitsSigned, Vec}
-use Rattle.std.specs.declared.alloc.Global.{Global}
+use Rattle.std.specs.Prelude.{FitsSigned}
 use Rattle.std.proofs.lemmas.Bool.{and_from, both_ways, cases_Bool, false_from_ne_true, not-true}
 use Rattle.std.proofs.lemmas.List.Sorted.{IsPermutation-map, IsPermutation-trans}
 use Rattle.sqlite.specs.Command.TheVariants.{Update}
@@ -14,8 +13,7 @@ use Rattle.sqlite.specs.Order.{Row, column}
 use Rattle.sqlite.specs.Program.{overlay}
 use Rattle.sqlite.specs.Rowids.TheVariants.{Given}
 use Rattle.sqlite.specs.Rows.{Edited, Written, Updates}
-use Rattle.sqlite.specs.State.{State, FailsToQuery, IsTooLate}
-use Rattle.sqlite.specs.Term.{Term, col}
+use Rattle.sqlite.specs.State.{State, ExecutesInside}
 use Rattle.sqlite.specs.Tree.{Trees}
 use Rattle.sqlite.specs.declared.error.Error.{Error}
 use Rattle.sqlite.specs.declared.error.Error.TheVariants.{SqliteFailure}
@@ -50,13 +48,13 @@ use Rattle.store_tables.proofs.FreshLemmas.{fresh_one, item_of, left_free, no_cl
 use Rattle.store_tables.proofs.KeyedRows.{has_stored, only_one, same_int}
 use Rattle.store_tables.proofs.Picks.{passes, picked, shows}
 use Rattle.store_tables.proofs.PutLemmas.{went_on, same_value}
-use Rattle.store_tables.proofs.Queries.{number_names, update_query, update_shows, update_text}
+use Rattle.store_tables.proofs.Queries.{update_query, update_text}
 use Rattle.store_tables.proofs.ReferenceLemmas.{KeepBooks, refers_after}
-use Rattle.store_tables.proofs.StopLemmas.{concludes_showing, outside, query_stops, task}
+use Rattle.store_tables.proofs.StopLemmas.{concludes_quietly, outside, query_stops, task}
 use Rattle.store_tables.proofs.StorableLemmas.{fits_column, fits_in, int_is_number, is_storable, null_is_number, text_is_number}
 use Rattle.store_tables.proofs.Texts.{update_is}
 use Rattle.store_tables.proofs.UpdateLemmas.{apart_books, book_id, cast_book}
-use Rattle.store_tables.proofs.WriteFailures.{query_fails}
+use Rattle.store_tables.proofs.WriteFailures.{execute_fails}
 
 module _ (limit : Option ℕ) (numbers : Numbers) (bs : List BookRow) (kept : AreBooks bs) (b : BookRow) (there : Has bs b) (db : Trees) (has : HoldBooks (db 2) bs)
     (fits : FitsSigned w64 b.id) (short : length b.name ≤ 2 ^ 20) (obeys : Obeys book_schema db) where
@@ -188,7 +186,7 @@ module _ (limit : Option ℕ) (numbers : Numbers) (bs : List BookRow) (kept : Ar
       let same = edit_is it.0 (picked 2 update_query.filter update_query.project (overlay db []) params it.0 it.1.answer) in
       stops it.2 (λ s k. edit_never_stops db edit admitted obeys refl s (subst (λ e. Edited book_schema Enforced db e (Err s)) same k)) (λ on. never_stops _ stop on.2))
 
-  after : (w : Written) → Updates (task limit book params) (record { lets = []; body = update_query }) params db (Ok w) → (w.rows ≡ book_row new ∷ []) × Refers All book_schema w.trees
+  after : (w : Written) → Updates (task limit book params) (record { lets = []; body = update_query }) params db (Ok w) → Refers All book_schema w.trees
   after w h =
       let went = went_on h in
       let same = edit_is went.0 (picked 2 update_query.filter update_query.project (overlay db []) params went.0 went.1.answer) in
@@ -202,25 +200,19 @@ module _ (limit : Option ℕ) (numbers : Numbers) (bs : List BookRow) (kept : Ar
             (book_row new, subst (λ l. Has l (book_row new)) (sym step.rows) (has_put (book_row new) left), sym (ap (λ (x : Row). column x 0) item.2 ∙ ap Int id))
         | inr other ↦
             (q, subst (λ l. Has l q) (sym step.rows) (put_all_keeps (book_row new ∷ []) left q (fresh_one left (book_row new) free) (has_kept (λ r. not (has_rowid b.id r)) (db 2) q was (ap not other))), refl)
-      ] in (
-        ap (λ (it : Written). it.rows) is ∙ ap (λ (e : Edit). e.news) same,
-        subst (Refers All book_schema) (sym (ap (λ (it : Written). it.trees) is))
-            (refers_after db wrote.0 books book (inr (inl refl)) step.tables obeys (λ r _. inr (λ ref known. absurd known))),
-      )
+      ] in
+      subst (Refers All book_schema) (sym (ap (λ (it : Written). it.trees) is))
+      (refers_after db wrote.0 books book (inr (inl refl)) step.tables obeys (λ r _. inr (λ ref known. absurd known)))
 
-  abbrev show_terms : List Term
-  show_terms = col 0 14 ∷ col 0 15 ∷ col 0 16 ∷ col 0 17 ∷ col 0 18 ∷ col 0 19 ∷ col 0 20 ∷ col 0 21 ∷ col 0 22 ∷ []
+  pub update_stops : (stop : Option Error) → OnRows (task limit book params) outside None (Update 1 (record { lets = []; body = update_query })) db (Err stop) → IsSome limit
+  update_stops stop h = stops h (λ s k. updates s k) (λ it. concludes_quietly limit book params it.0 (after it.0 it.1) stop it.2)
 
-  pub update_stops : (stop : Option Error) → OnRows (task limit book params) outside (Some update_shows) (Update 1 (record { lets = []; body = update_query })) db (Err stop) → IsSome limit
-  update_stops stop h = stops h (λ s k. updates s k) (λ it.
-      let done = after it.0 it.1 in concludes_showing limit book params number_names show_terms 9 it.0 (book_row new) done.0 refl done.1 stop it.2)
-
-pub update_fails : (old new : State) (numbers : Numbers) (bs : List BookRow) (b : BookRow) (r : Result (Vec Row Global) Error) → IsTrue old.in_transaction → old.now.schema ≡ book_schema
+pub update_fails : (old new : State) (numbers : Numbers) (bs : List BookRow) (b : BookRow) (r : Result ℕ Error) → old.now.schema ≡ book_schema
     → AreBooks bs → HoldBooks (old.now.trees 2) bs → Has bs b → FitsSigned w64 b.id → length b.name ≤ 2 ^ 20 → Obeys book_schema old.now.trees
-    → IfErr r (λ e. FailsToQuery update_text (Int b.id ∷ number_cells numbers) old new e ⊎ IsTooLate update_text (Int b.id ∷ number_cells numbers) old new e)
+    → ExecutesInside 0 update_text (Int b.id ∷ number_cells numbers) old new r
     → IfErr r (λ e. e ≢ SqliteFailure OutOfMemory → HasOutsideCause old new)
 unfolding understood everything
-update_fails old new numbers bs b (Ok rows) inside schema kept has there fits short obeys h = tt
-update_fails old new numbers bs b (Err e) inside schema kept has there fits short obeys h =
-    query_fails update_text (Int b.id ∷ number_cells numbers) old new schema (Update 1 (record { lets = []; body = update_query })) (Some update_shows) update_is tt refl refl (refl, refl)
-    (λ stop did. update_stops old.step_limit numbers bs kept b there old.now.trees has fits short obeys stop did) update_shows refl inside e h
+update_fails old new numbers bs b (Ok count) schema kept has there fits short obeys h = tt
+update_fails old new numbers bs b (Err e) schema kept has there fits short obeys h =
+    execute_fails update_text (Int b.id ∷ number_cells numbers) old new schema (Update 1 (record { lets = []; body = update_query })) None update_is.0 tt refl refl (refl, refl)
+    (λ stop did. update_stops old.step_limit numbers bs kept b there old.now.trees has fits short obeys stop did) refl e h

@@ -1,7 +1,5 @@
 -- The effect of the update of a book's numbers.
-use Rattle.std.proofs.Common.{◌≡◌, inl, inr, ℕ, ℤ, Bool, true, false, List, [], ◌∷◌, map, filter, Option, Some, None, Ok, Err, Result, int_eq, IfOk, OnOk, refl, sym, ap, subst, ◌∙◌}
-use Rattle.std.specs.Prelude.{Vec}
-use Rattle.std.specs.declared.alloc.Global.{Global}
+use Rattle.std.proofs.Common.{◌≡◌, inl, inr, ℕ, ℤ, Bool, true, false, List, [], ◌∷◌, map, filter, Option, None, Ok, Err, Result, int_eq, OnOk, refl, sym, ap, subst, ◌∙◌}
 use Rattle.std.specs.List.Sorted.{IsPermutation}
 use Rattle.std.proofs.lemmas.List.Sorted.{IsPermutation-map, IsPermutation-trans}
 use Rattle.sqlite.specs.declared.types.Value.TheVariants.{Int}
@@ -12,12 +10,12 @@ use Rattle.sqlite.specs.Program.{overlay}
 use Rattle.sqlite.specs.Effect.{Database}
 use Rattle.sqlite.specs.Listing.{understood}
 use Rattle.sqlite.specs.Does.{Tally, Does}
-use Rattle.sqlite.specs.State.{State, Shown, mode_of}
+use Rattle.sqlite.specs.State.{State, Executes, ExecutesInside, Writes, mode_of}
 use Rattle.sqlite.specs.Rows.{Task, Then, Edited, Gives, Written, Updates}
 use Rattle.sqlite.specs.Edit.{Edit, edit_of}
 use Rattle.sqlite.specs.Command.TheVariants.{Update}
 use Rattle.sqlite.specs.Rowids.TheVariants.{Given}
-use Rattle.sqlite.proofs.Callers.{one_step, one_permutation, statement_of}
+use Rattle.sqlite.proofs.Callers.{one_step, one_permutation, runs_as, statement_of}
 use Rattle.sqlite_rules.specs.Cast.{cast_row}
 use Rattle.sqlite_rules.specs.Calls.{ids_of}
 use Rattle.sqlite_rules.specs.Lists.{Has}
@@ -27,15 +25,14 @@ use Rattle.sqlite_schema.specs.declared.schema.Keys.TheVariants.{Enforced}
 use Rattle.sqlite_sql.specs.declared.ops.CompareOp.TheVariants.{Eq}
 use Rattle.sqlite_typed.proofs.TestLemmas.{at_ints, last_term}
 use Rattle.store_tables.specs.Tables.{book_schema, book}
-use Rattle.store_tables.proofs.Queries.{update_text, update_query, update_shows}
+use Rattle.store_tables.proofs.Queries.{update_text, update_query}
 use Rattle.store_tables.specs.Books.{Numbers, number_cells, BookRow, book_row, book_cells, HoldBooks, AreBooks, with_book_numbers}
 use Rattle.store_tables.specs.StatementEffects.{KeepsOtherTables}
-use Rattle.store_tables.proofs.Texts.{update_is, update_returns}
+use Rattle.store_tables.proofs.Texts.{update_is}
 use Rattle.store_tables.proofs.Picks.{passes, shows, picked}
 use Rattle.store_tables.proofs.Cells.{shaped}
 use Rattle.store_tables.proofs.KeyedRows.{Apart, replaced, with_new, only_one, free_one, same_int}
 use Rattle.store_tables.proofs.PutLemmas.{went_on, same_value, cast_int, cast_null}
-use Rattle.store_tables.proofs.ReturningLemmas.{writes_as}
 
 abbrev pub book_id : BookRow → ℤ
 book_id b = b.id
@@ -107,25 +104,25 @@ same_rows numbers all (x ∷ xs) b sub same = step (int_eq x.id b.id) refl (same
     step true e more = rw e (ap (λ (y : BookRow). record y { numbers = numbers } ∷ map (with_new book_id book_row (λ _. refl) (record b { numbers = numbers })) xs) (sym (same x (sub x (inl refl)) (same_int x.id b.id e))) ∙ ap (λ l. record x { numbers = numbers } ∷ l) more)
     step false e more = rw e (ap (λ l. x ∷ l) more)
 
-pub updates_book : (old new : State) (numbers : Numbers) (bs : List BookRow) (b : BookRow) (rows : List Row) → old.now.schema ≡ book_schema → AreBooks bs → Has bs b → HoldBooks (old.now.trees 2) bs
-    → Shown update_text (Int b.id ∷ number_cells numbers) old new rows
+pub updates_book : (old new : State) (numbers : Numbers) (bs : List BookRow) (b : BookRow) (count : ℕ) → old.now.schema ≡ book_schema → AreBooks bs → Has bs b → HoldBooks (old.now.trees 2) bs
+    → Executes update_text (Int b.id ∷ number_cells numbers) old new (Ok count)
     → (new.now.schema ≡ book_schema) × HoldBooks (new.now.trees 2) (map (with_new book_id book_row (λ _. refl) (record b { numbers = numbers })) bs) × KeepsOtherTables 2 old.now.trees new.now.trees
-updates_book old new numbers bs b rows schema kept there has h =
+updates_book old new numbers bs b count schema kept there has h =
     let params = Int b.id ∷ number_cells numbers in
     let command = Update 1 (record { lets = []; body = update_query }) in
-    let w = writes_as update_text params old new book_schema schema command update_shows update_is update_returns rows h in
     let text = statement_of update_text (understood book_schema update_text) in
-    let done = went_on (subst (λ s. Does old.step_limit (mode_of old) params (record old.now { schema = s }) text (Some update_shows) command (Ok (w.1.tally, new.now))) schema w.1.changed) in
+    let w : Writes old new None command text params count = runs_as update_text params old new book_schema schema _ update_is.0 update_is.1 count h in
+    let done = went_on (subst (λ s. Does old.step_limit (mode_of old) params (record old.now { schema = s }) text None command (Ok (w.tally, new.now))) schema w.changed) in
     let tested = went_on done.2 in
     let returned = went_on tested.2 in
     let now = ap (λ (p : Tally × Database). p.1) (same_value returned.2) in
     let ends = updates old.step_limit numbers bs kept b there old.now.trees has done.0 done.1 in
     (ap (λ (d : Database). d.schema) now, subst (λ rows. HoldBooks rows (map (with_new book_id book_row (λ _. refl) (record b { numbers = numbers })) bs)) (ap (λ (d : Database). d.trees 2) (sym now)) ends.0, subst (KeepsOtherTables 2 old.now.trees) (ap (λ (d : Database). d.trees) (sym now)) ends.1)
 
-pub updates_rows : (old new : State) (numbers : Numbers) (bs : List BookRow) (b : BookRow) (r : Result (Vec Row Global) Error) → old.now.schema ≡ book_schema → AreBooks bs → Has bs b → HoldBooks (old.now.trees 2) bs
-    → IfOk r (λ rows. Shown update_text (Int b.id ∷ number_cells numbers) old new rows.items)
+pub updates_rows : (old new : State) (numbers : Numbers) (bs : List BookRow) (b : BookRow) (r : Result ℕ Error) → old.now.schema ≡ book_schema → AreBooks bs → Has bs b → HoldBooks (old.now.trees 2) bs
+    → ExecutesInside 0 update_text (Int b.id ∷ number_cells numbers) old new r
     → OnOk r ((new.now.schema ≡ book_schema) × HoldBooks (new.now.trees 2) (with_book_numbers b.id numbers bs) × KeepsOtherTables 2 old.now.trees new.now.trees)
-updates_rows old new numbers bs b (Ok rows) schema kept there has h =
-    let it = updates_book old new numbers bs b rows.items schema kept there has h in
+updates_rows old new numbers bs b (Ok count) schema kept there has h =
+    let it = updates_book old new numbers bs b count schema kept there has h.0 in
     (it.0, subst (λ l. HoldBooks (new.now.trees 2) l) (same_rows numbers bs bs b (λ x h. h) (λ x h e. Rattle.store_tables.proofs.KeyedRows.same_item book_id book_row (λ _. refl) bs x b (apart_books bs kept) h there e)) it.1, it.2)
 updates_rows old new numbers bs b (Err e) schema kept there has h = tt

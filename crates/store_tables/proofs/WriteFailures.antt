@@ -1,5 +1,5 @@
 -- The cause of an error of a statement that writes rows.
-use Rattle.std.proofs.Common.{◌≡◌, ◌≢◌, ◌⊎◌, inl, inr, ℕ, false, Bool, List, [], length, Option, Some, None, Ok, Err, Result, IsTrue, IsSome, sym, ap, subst, subst₂, ◌∙◌, append-nil, true≢false}
+use Rattle.std.proofs.Common.{◌≡◌, ◌≢◌, inl, inr, ℕ, false, Bool, List, [], length, Option, Some, None, Ok, Err, Result, IsSome, sym, ap, subst, subst₂, ◌∙◌, append-nil}
 use Rattle.std.proofs.lemmas.Bool.{leb-true}
 use Rattle.sqlite.specs.Clock.{timed}
 use Rattle.sqlite.specs.Command.{Command}
@@ -7,7 +7,7 @@ use Rattle.sqlite.specs.Command.TheVariants.{Insert, InsertOr, Update, Delete}
 use Rattle.sqlite.specs.Does.{Does}
 use Rattle.sqlite.specs.Listing.{understood}
 use Rattle.sqlite.specs.Order.{Row}
-use Rattle.sqlite.specs.State.{State, ExecutesInside, ExecutesIn, FailsToQuery, FailsToShow, IsTooLate, IsMisplaced, IsNoStatement, IsNotRun, IsStatement, EndsScope, Escapes, RunsCommand, HasCause, shows_rows, text_of, mode_of, store_error}
+use Rattle.sqlite.specs.State.{State, ExecutesInside, ExecutesIn, IsMisplaced, IsNoStatement, IsNotRun, IsStatement, EndsScope, Escapes, RunsCommand, HasCause, shows_rows, text_of, mode_of, store_error}
 use Rattle.sqlite.specs.declared.error.Error.{Error}
 use Rattle.sqlite.specs.declared.error.Error.TheVariants.{SqliteFailure}
 use Rattle.sqlite.specs.declared.error.ErrorCode.TheVariants.{OutOfMemory}
@@ -104,12 +104,3 @@ module _ (sql : List ℕ) (params : Row) (old new : State) (has : old.now.schema
         ran k.0 k.1 e (plainly k.0 k.1 e (rw off at k.2)) room
   ]
   execute_fails quiet e (inr h) room = absurd (stays old h.0.0.command (subst IsRowWrite (sym is ∙ ap command_of (known h.0.0 h.0.1)) rows) h.0.2)
-
-  pub query_fails : (it : Returning) → what ≡ Some it → IsTrue old.in_transaction → (e : Error) → FailsToQuery sql params old new e ⊎ IsTooLate sql params old new e → e ≢ SqliteFailure OutOfMemory → HasOutsideCause old new
-  unfolding FailsToQuery
-  query_fails it some inside e (inl (inl none)) room = not_run e none room
-  query_fails it some inside e (inl (inr k)) room =
-      let shows : k.0.returning ≡ Some it = sym (ap returning_of (known k.0 k.1)) ∙ (returns ∙ some) in
-      let told : FailsToShow old new sql k.0 (timed params k.0.formats k.1.now) e (Some it) = subst (λ r. FailsToShow old new sql k.0 (timed params k.0.formats k.1.now) e r) shows k.2 in
-      ran k.0 k.1 e (plainly k.0 k.1 e told) room
-  query_fails it some inside e (inr late) room = absurd (true≢false (sym inside ∙ late.3))

@@ -20,7 +20,7 @@ use Rattle.store_tables.specs.Keeps.{KeepRow, is_keep_of}
 use Rattle.store_tables.specs.Members.{MemberRow, has_uid}
 use Rattle.store_tables.specs.Tables.{book_schema}
 
--- ---- assumptions that hold in every store of this project
+-- ---- assumptions that hold in a file whose rows only this program wrote
 
 -- The rows obey the constraints of the declared tables: the types of the columns, the keys and the
 -- references. `sqlite` keeps this true of every open connection, and `Connection::schema` ensures

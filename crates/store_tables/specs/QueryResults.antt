@@ -23,9 +23,13 @@ abbrev pub IfAnswered : Result Row Error → Type 0 → Type 0
 IfAnswered (Ok row) Then = Then
 IfAnswered (Err e) Then = e ≡ QueryReturnedNoRows → Then
 
--- a count as a column value, which is at most 2^63 - 1
+-- the greatest integer of a column, 2^63 - 1
+abbrev pub greatest_integer : ℕ
+greatest_integer = 9223372036854775807
+
+-- a count as a column value
 abbrev pub count_value : ℕ → Value
-count_value n = Int (pos (min n 9223372036854775807))
+count_value n = Int (pos (min n greatest_integer))
 
 -- the rows are those of all the items, sorted by the comparison
 pub record AreRowsInOrder {X : Type 0} (compare : X → X → Ordering) (show : X → Row) (xs : List X)

@@ -127,7 +127,7 @@ fn renumber<S: Alter>(
     moved_in: i64,
     deleted: i64,
     moved_out: i64,
-) -> Result<Vec<Row>, Error>
+) -> Result<usize, Error>
     ensures same_reference { tx.new.conn.ghost_name ≡ tx.old.conn.ghost_name }
     ensures renumbers { GivenBooksTx S.Store tx.old.conn.now tx.new.conn.now
         (λ bs. (b : BookRow) → Has bs b → id ≡ b.id
@@ -146,11 +146,9 @@ fn renumber<S: Alter>(
         (λ bs. AcceptsNumbers bs id
         → WriteFailsFromOutside S.Store tx.old.conn.now tx.new.conn.now result) }
 {
-    tx.query_all(
+    tx.execute(
         "UPDATE book SET number = ?2, horizon = ?3, created = ?4, edited = ?5, imported = ?6, \
-         import_edited = ?7, moved_in = ?8, deleted = ?9, moved_out = ?10 WHERE id = ?1 \
-         RETURNING number, horizon, created, edited, imported, import_edited, moved_in, deleted, \
-         moved_out",
+         import_edited = ?7, moved_in = ?8, deleted = ?9, moved_out = ?10 WHERE id = ?1",
         params![
             id,
             number,
@@ -166,13 +164,13 @@ fn renumber<S: Alter>(
     )
 }
 
-/// Sets the nine numbers of the book with this id; its name stays. Returns the row of the new
-/// numbers. The clauses on success assume that a book has the id.
+/// Sets the nine numbers of the book with this id; its name stays. The clauses on success assume
+/// that a book has the id.
 pub fn renumber_book<S: Alter>(
     tx: &mut Transaction<'_, S>,
     id: i64,
     numbers: BookNumbers,
-) -> Result<Vec<Row>, Error>
+) -> Result<usize, Error>
     ensures same_reference { tx.new.conn.ghost_name ≡ tx.old.conn.ghost_name }
     ensures renumbers { GivenBooksTx S.Store tx.old.conn.now tx.new.conn.now
         (λ bs. (b : BookRow) → Has bs b → id ≡ b.id

@@ -11,6 +11,7 @@ pub mod creation;
 pub mod due_members;
 pub mod imports;
 pub mod keeps;
+pub mod laws;
 pub mod members;
 pub mod meta;
 pub mod settled;

@@ -13,17 +13,14 @@ ghost use Rattle.store_tables.specs.Members.{
   is_in_book,
   is_removed_above,
   is_removed_up_to,
-  member_cells,
   without_removed,
 };
 ghost use Rattle.store_tables.specs.OnConnections.{
   FailsFromOutside,
   GivenMembers,
   GivenMembersTx,
-  GivenTables,
   HasBooks,
   HasMembers,
-  ListsTable,
   MissesOrFailsFromOutside,
   NoCommit,
   ObeyTables,
@@ -131,8 +128,7 @@ pub fn members_of<S: Alter>(conn: &mut Connection<S>, book: i64) -> Result<Vec<R
 }
 
 /// Inserts or updates the member with this UID in the book with this id: it gets the number
-/// `changed` and the card; without a card it is a removed member. Returns the row of the new number
-/// and card.
+/// `changed` and the card; without a card it is a removed member.
 ///
 /// Fails with a constraint error if another member of the book has the number, or if no book has
 /// the id.
@@ -142,7 +138,7 @@ pub fn put_member<S: Alter>(
     uid: &str,
     changed: i64,
     card: Option<&str>,
-) -> Result<Vec<Row>, Error>
+) -> Result<usize, Error>
     ensures same_reference { tx.new.conn.ghost_name ≡ tx.old.conn.ghost_name }
     ensures puts { GivenMembersTx S.Store tx.old.conn.now tx.new.conn.now
         (λ ms. OnOk result
@@ -162,10 +158,9 @@ pub fn put_member<S: Alter>(
         → AcceptsMember bs ms book uid.now changed (option_copied card.entry)
         → WriteFailsFromOutside S.Store tx.old.conn.now tx.new.conn.now result) }
 {
-    tx.query_all(
+    tx.execute(
         "INSERT INTO member (book, uid, changed, card) VALUES (?1, ?2, ?3, ?4) \
-         ON CONFLICT (book, uid) DO UPDATE SET changed = excluded.changed, card = excluded.card \
-         RETURNING changed, card",
+         ON CONFLICT (book, uid) DO UPDATE SET changed = excluded.changed, card = excluded.card",
         params![book, uid, changed, card],
     )
 }
@@ -194,20 +189,5 @@ pub fn forget_members<S: Alter>(
     tx.execute(
         "DELETE FROM member WHERE book = ?1 AND card IS NULL AND changed <= ?2",
         params![book, upto],
-    )
-}
-
-/// Returns every row of the table, whatever its columns hold: the row id, the book, the UID, the
-/// number and the card.
-pub fn all_members<S: Alter>(conn: &mut Connection<S>) -> Result<Vec<Row>, Error>
-    ensures lists { GivenTables S.Store conn.old conn.new
-        (ListsTable S.Store conn.old 4 member_cells result) }
-    ensures unchanged { UnchangedOnOk S.Store conn.old conn.new result }
-    ensures fails_from_outside { FailsFromOutside S.Store conn.old conn.new result }
-    ensures reads_only { OnlyReads S.Store conn.old conn.new }
-{
-    conn.query_all(
-        "SELECT rowid, book, uid, changed, card FROM member",
-        params![],
     )
 }
