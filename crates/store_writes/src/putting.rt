@@ -38,7 +38,7 @@ use sqlite::{Alter, Connection, Error, Transaction};
 use std::alloc::Global;
 use store_lookups::{BookHeader, column_of, fault_of};
 use store_tables::books::{BookNumbers, renumber_book};
-use store_tables::members::put_member;
+use store_tables::members::update_or_put;
 use store_tables::settled::assert_no_pending_writes;
 use vcard_text::Card;
 
@@ -74,7 +74,7 @@ pub fn write_member<S: Alter>(
         (option_copied card.entry)
         → WriteFailsFromOutside S.Store tx.old.conn.now tx.new.conn.now result }
 {
-    put_member(tx, id, uid, changed, card)?;
+    update_or_put(tx, id, uid, changed, card)?;
     renumber_book(tx, id, numbers)?;
     Ok(())
 }
