@@ -66,6 +66,11 @@ at_tree db tree rows = elim (cases_eq tree tree) [ inl same ↦ rw (Rattle.std.p
 beside_tree : (db : Trees) (tree t : ℕ) (rows : List Row) → t ≢ tree → with_tree db tree rows t ≡ db t
 beside_tree db tree t rows other = elim (cases_Bool (t == tree)) [ inl same ↦ absurd (other (eqb-true t tree same)) | inr apart ↦ rw apart refl ]
 
+-- no action is left that could fail
+pub unsettled : (n : ℕ) (trees : Trees) (why : Option Refusal) → Leads book_schema Enforced n trees [] (Err why) → ⊥
+unsettled zero trees why h = absurd (let e = h.1 in cc)
+unsettled (suc n) trees why h = absurd (omega (arith, ap length h.2, length-append h.0 (h.1 ∷ [])))
+
 module _ (db : Trees) (edit : Edit) (it : IsAdmitted db edit) where
   abbrev next : Trees
   next = with_tree db edit.table.tree (edited db edit)
@@ -98,10 +103,6 @@ module _ (db : Trees) (edit : Edit) (it : IsAdmitted db edit) where
   not_refused obeys NoRowid h = true≢false (sym it.numbered ∙ h)
   not_refused obeys BadReference h = true≢false (sym it.referred ∙ h)
   not_refused obeys TooDeep h = h
-
-  unsettled : (n : ℕ) (trees : Trees) (why : Option Refusal) → Leads book_schema Enforced n trees [] (Err why) → ⊥
-  unsettled zero trees why h = absurd (let e = h.1 in cc)
-  unsettled (suc n) trees why h = absurd (omega (arith, ap length h.2, length-append h.0 (h.1 ∷ [])))
 
   written : Obeys book_schema db → works book_schema Enforced 0 edit.table.tree (taken_by db edit) edit.news ≡ [] → (why : Option Refusal) → Writes book_schema Enforced db edit (Err why) → ⊥
   written obeys none why (inl refused) = not_refused obeys refused.0 refused.1

@@ -33,3 +33,5 @@ pub mod UpdateFailures
 pub mod InsertFailures
 pub mod PutFailures
 pub mod ObeyLemmas
+pub mod AddLemmas
+pub mod AddFailures

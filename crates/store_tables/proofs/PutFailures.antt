@@ -90,8 +90,12 @@ typed_at : (db : Trees) (id book : ℤ) (uid : List ℕ) (changed : ℤ) (card :
 typed_at db id book uid changed None = refl
 typed_at db id book uid changed (Some text) = refl
 
+pub values_typed : (book : ℤ) (uid : List ℕ) (changed : ℤ) (card : Option (List ℕ)) → accepts_terms put_terms (Int book ∷ Text uid ∷ Int changed ∷ or_null Text card ∷ []) ≡ true
+values_typed book uid changed None = refl
+values_typed book uid changed (Some text) = refl
+
 module _ (n : MemberRow) (short : length n.uid ≤ 2 ^ 20) (slim : IfSome n.card (λ text. length text ≤ 2 ^ 20)) where
-  member_fits : (row : Row) → Has (member_row n ∷ []) row → ¬ IsOversized book_schema member row
+  pub member_fits : (row : Row) → Has (member_row n ∷ []) row → ¬ IsOversized book_schema member row
   member_fits row (inl e) = subst (λ r. ¬ IsOversized book_schema member r) (sym e) (fits_in book_schema member (member_row n) refl (member_storable n.id n.book n.uid n.changed n.card short slim) (omega arith)
       (λ i known. all_has (λ (i : Index). i.table ≡ 4 → IsStorable 0 (entry_of i.columns (member_row n))) book_schema.indexes i (
         (λ e. absurd (omega (arith, e))),
@@ -314,16 +318,12 @@ module _ (limit : Option ℕ) (book : ℤ) (uid : List ℕ) (changed : ℤ) (car
       go (Some (Violates Unique)) is h = absurd is
       go (Some (Violates ForeignKey)) is h = absurd is
 
-  values_typed : (card : Option (List ℕ)) → accepts_terms put_terms (Int book ∷ Text uid ∷ Int changed ∷ or_null Text card ∷ []) ≡ true
-  values_typed None = refl
-  values_typed (Some text) = refl
-
   source_is : with_rowid Chosen (db 4) (cast_row member (Null ∷ params)) ≡ member_row new
   source_is = ap (with_rowid Chosen (db 4)) (cast_new book uid changed card)
 
   inserts : (stop : Option Error) → InsertsOr (task limit member params) Abort (put_clause ∷ []) (Values put_terms 5) db (Err stop) → IsSome limit
   inserts stop h =
-      stops h (λ s k. values_stop limit (record { schema = book_schema; trees = db }) params put_terms 5 (values_typed card) s k)
+      stops h (λ s k. values_stop limit (record { schema = book_schema; trees = db }) params put_terms 5 (values_typed book uid changed card) s k)
       (λ rows. stops rows.2 (λ s k. never_stops _ s k)
       (λ counter. stops counter.2
       (λ s k. stops (subst (λ l. TriesEach (task limit member params) Abort (put_clause ∷ []) l (count_of counter.0) (nothing db) (Err s)) rows.1.1 k)

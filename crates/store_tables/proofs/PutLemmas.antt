@@ -99,7 +99,7 @@ has_permuted : {X : Type 0} (xs ys : List X) (x : X) → IsPermutation xs ys →
 has_permuted xs ys x = along_permutation (λ xs ys. Has xs x → Has ys x) (λ xs h. h) (λ y xs ys on. λ h. elim h [ inl e ↦ inl e | inr k ↦ inr (on k) ])
     (λ y z xs. λ h. elim h [ inl e ↦ inr (inl e) | inr k ↦ elim k [ inl e ↦ inl e | inr l ↦ inr (inr l) ] ]) (λ xs ys zs p q. λ h. q (p h)) xs ys
 
-none_at : (book : ℤ) (uid : List ℕ) (all ms : List MemberRow) → ((m : MemberRow) → Has ms m → Has all m) → ((m : MemberRow) → Has all m → has_uid book uid m ≡ true → ⊥) → AllByRecursion (λ m. has_uid book uid m ≡ false) ms
+pub none_at : (book : ℤ) (uid : List ℕ) (all ms : List MemberRow) → ((m : MemberRow) → Has ms m → Has all m) → ((m : MemberRow) → Has all m → has_uid book uid m ≡ true → ⊥) → AllByRecursion (λ m. has_uid book uid m ≡ false) ms
 none_at book uid all [] sub h = tt
 none_at book uid all (m ∷ ms) sub h = (false_of (has_uid book uid m) (h m (sub m (inl refl))), none_at book uid all ms (λ x k. sub x (inr k)) h)
   where

@@ -44,6 +44,12 @@ put_clause = record { target = Some (1 ∷ 2 ∷ []); update = Some (record { le
 abbrev pub put_command : Command
 put_command = InsertOr 2 Abort (Values put_terms 5) (put_clause ∷ [])
 
+abbrev pub add_member_text : List ℕ
+add_member_text = codes "INSERT INTO member (book, uid, changed, card) VALUES (?1, ?2, ?3, ?4)"
+
+abbrev pub add_member_command : Command
+add_member_command = Insert 2 (Values put_terms 5)
+
 abbrev pub find_text : List ℕ
 find_text = codes "SELECT changed, card FROM member WHERE book = ?1 AND uid = ?2"
 

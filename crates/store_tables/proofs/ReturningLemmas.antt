@@ -1,12 +1,21 @@
 -- What a statement leaves of the state of a connection, for any SQL text.
 use Rattle.std.specs.Prelude.{IfErr, IsTrue, OnOk, OnErr}
 use Rattle.sqlite.specs.Steps.{FailsToCommit}
-use Rattle.std.proofs.Common.{true≢false, ◌≡◌, ◌⊎◌, inl, inr, ℕ, List, Option, Some, None, Ok, Err, Result, sym, ◌∙◌}
+use Rattle.std.proofs.Common.{true≢false, false, ◌≡◌, ◌⊎◌, inl, inr, ℕ, List, Option, Some, None, Ok, Err, Result, sym, ◌∙◌, subst}
+use Rattle.sqlite.specs.Effect.{Database}
 use Rattle.sqlite.specs.Order.{Row}
 use Rattle.sqlite.specs.Clock.{timed}
-use Rattle.sqlite.specs.State.{HasCleanDisk, Survives, ExecutesInside, State, Shown, ShowsRows, IsUnchanged, IsRolledBack, KeepsCommit, IsNotRun, FailsToQuery, FailsToShow}
+use Rattle.sqlite.specs.State.{HasCleanDisk, Survives, ExecutesInside, State, Shown, ShowsRows, IsUnchanged, IsRolledBack, KeepsCommit, IsNotRun, FailsToQuery, FailsToShow, ExecutesIn, RunsCommand, shows_rows, store_error}
 use Rattle.sqlite.specs.declared.error.Error.{Error}
+use Rattle.sqlite.specs.declared.error.Error.TheVariants.{SqliteFailure}
+use Rattle.sqlite.specs.declared.error.ErrorCode.TheVariants.{ConstraintViolation}
+use Rattle.sqlite_resolve.specs.declared.compiled.Compiled.{Compiled}
+use Rattle.sqlite_schema.specs.declared.schema.Constraint.{Constraint}
+use Rattle.sqlite_trees.specs.declared.error.StoreError.{StoreError}
+use Rattle.sqlite_trees.specs.declared.error.StoreError.TheVariants as broken
+use Rattle.std.proofs.lemmas.Bool.{cases_Bool}
 use Rattle.sqlite_schema.specs.declared.command.Returning.{Returning}
+use Rattle.store_tables.specs.Acceptance.{IsViolation}
 use Rattle.store_tables.specs.Tables.{book_schema}
 use Rattle.store_tables.specs.StatementEffects.{KeepsOtherTables, WritesOnly, NoCommit, IsUndone}
 
@@ -74,3 +83,46 @@ pub undone_executed : (sql : List ℕ) (params : Row) (old new : State) (r : Res
 undone_executed sql params old new (Ok count) h = tt
 undone_executed sql params old new (Err e) (inl h) = h.1
 undone_executed sql params old new (Err e) (inr h) = inl h.2
+
+-- ---- a write that breaks a constraint
+
+no_violation : (rule : Constraint) (cause : StoreError) → SqliteFailure (ConstraintViolation rule) ≡ store_error cause → ⊥
+no_violation rule broken.OutOfMemory e = absurd (let it = e in cc)
+no_violation rule broken.Io e = absurd (let it = e in cc)
+no_violation rule broken.Corrupt e = absurd (let it = e in cc)
+no_violation rule broken.Full e = absurd (let it = e in cc)
+no_violation rule broken.Broken e = absurd (let it = e in cc)
+no_violation rule broken.Unstorable e = absurd (let it = e in cc)
+
+violation_unchanged : (sql : List ℕ) (params : Row) (old new : State) (e : Error) → ExecutesInside 0 sql params old new (Err e) → (rule : Constraint) → e ≡ SqliteFailure (ConstraintViolation rule) → IsUnchanged old new
+unfolding ExecutesIn IsNotRun
+violation_unchanged sql params old new e (inl h) rule is = go h.0
+  where
+    ran : (c : Compiled) (given : Row) → RunsCommand old new sql c given (Err e) → IsUnchanged old new
+    ran c given (inl k) = k.1
+    ran c given (inr k) = absurd (no_violation rule k.0 (sym is ∙ k.1))
+
+    go : ExecutesIn false sql params old new (Err e) → IsUnchanged old new
+    go (inl (inl none)) = none.1
+    go (inl (inr failed)) = absurd (no_violation rule failed.0 (sym is ∙ failed.1))
+    go (inr k) = elim (cases_Bool (shows_rows false k.0)) [
+      | inl shows ↦ (rw shows at k.2).1
+      | inr runs ↦ ran k.0 _ (rw runs at k.2)
+    ]
+violation_unchanged sql params old new e (inr h) rule is = h.2
+
+pub refused_unchanged : (sql : List ℕ) (params : Row) (old new : State) (r : Result ℕ Error) → ExecutesInside 0 sql params old new r → IfErr r (λ e. IsViolation e → IsUnchanged old new)
+refused_unchanged sql params old new (Ok count) h = tt
+refused_unchanged sql params old new (Err e) h = λ broken. violation_unchanged sql params old new e h broken.0 broken.1
+
+-- what holds of a connection still holds after a statement that changed nothing
+module _ (old mid : State) (same : IsUnchanged old mid) where
+  pub still : (P : Database → Type 0) → P old.now → P mid.now
+  still P h = subst P (sym same.0.now_is) h
+
+  pub still_inside : IsTrue old.in_transaction → IsTrue mid.in_transaction
+  still_inside inside = same.0.mode ∙ inside
+
+pub if_err_weaker : {X E : Type 0} {P Q : E → Type 0} (r : Result X E) → ((e : E) → P e → Q e) → IfErr r P → IfErr r Q
+if_err_weaker (Ok x) on h = tt
+if_err_weaker (Err e) on h = on e h

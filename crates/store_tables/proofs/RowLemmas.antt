@@ -98,11 +98,15 @@ module _ (id book : ℤ) (uid : List ℕ) (changed : ℤ) (card : Option (List �
   any_cells [] = refl
   any_cells (r ∷ rs) = ap (λ b. is_eq (value_cmp (rowid r) (Int id)) || b) (any_cells rs)
 
-  pub adds_kept : (ms : List MemberRow) (rows : List Row) (row : Row) → member_cells row ≡ member_row added → HoldMembers rows ms → is_taken rows row ≡ false → AreMembers ms → AreMembers (upsert_member id book uid changed card ms)
-  adds_kept ms rows row shows has free kept =
+  -- no member has the id of a row that is new
+  pub ids_apart : (ms : List MemberRow) (rows : List Row) (row : Row) → member_cells row ≡ member_row added → HoldMembers rows ms → is_taken rows row ≡ false → AllByRecursion (λ m. int_eq m.id id ≡ false) ms
+  ids_apart ms rows row shows has free =
       let same : rowid row ≡ Int id = ap rowid shows in
       let none = subst (λ v. list_any (λ r. is_eq (value_cmp (rowid r) v)) rows ≡ false) same free in
-      put_kept ms kept (none_taken ms (list_any-IsPermutation (λ r. is_eq (value_cmp (rowid r) (Int id))) _ _ has ∙ any_cells rows ∙ none))
+      none_taken ms (list_any-IsPermutation (λ r. is_eq (value_cmp (rowid r) (Int id))) _ _ has ∙ any_cells rows ∙ none)
+
+  pub adds_kept : (ms : List MemberRow) (rows : List Row) (row : Row) → member_cells row ≡ member_row added → HoldMembers rows ms → is_taken rows row ≡ false → AreMembers ms → AreMembers (upsert_member id book uid changed card ms)
+  adds_kept ms rows row shows has free kept = put_kept ms kept (ids_apart ms rows row shows has free)
 
   -- ---- a member has the key
 

@@ -8,10 +8,11 @@ use Rattle.sqlite.specs.State.{State, HasCleanDisk}
 use Rattle.sqlite.specs.Tree.{Trees, rowid}
 use Rattle.sqlite.specs.declared.error.Error.{Error}
 use Rattle.sqlite.specs.declared.error.Error.TheVariants.{SqliteFailure}
-use Rattle.sqlite.specs.declared.error.ErrorCode.TheVariants.{OutOfMemory}
+use Rattle.sqlite.specs.declared.error.ErrorCode.TheVariants.{ConstraintViolation, OutOfMemory}
 use Rattle.sqlite_rules.specs.Edit.{id_in, next_rowid}
 use Rattle.sqlite_rules.specs.Lists.{Has}
 use Rattle.sqlite_schema.specs.Rules.{Obeys}
+use Rattle.sqlite_schema.specs.declared.schema.Constraint.{Constraint}
 use Rattle.sqlite_sql.specs.Ops.{fits_i64}
 use Rattle.store_tables.specs.Books.{BookRow, has_id, has_name}
 use Rattle.store_tables.specs.Failures.{HasOutsideCause}
@@ -46,6 +47,10 @@ abbrev pub IsShort : List ℕ → Type 0
 IsShort text = length text ≤ 2 ^ 20
 
 -- ---- the constraints on a write
+
+-- the error names a constraint that the write would break
+abbrev pub IsViolation : Error → Type 0
+IsViolation e = (rule : Constraint) × (e ≡ SqliteFailure (ConstraintViolation rule))
 
 -- a book has the id
 abbrev pub HasBook : List BookRow → ℤ → Type 0

@@ -2,7 +2,7 @@
 //! card.
 ghost use Rattle.store_tables.specs.QueryResults.{AreRowsInOrder, FindsRow, FindsFirstRow};
 ghost use Rattle.store_tables.specs.QueryResults.{count_value};
-ghost use Rattle.store_tables.specs.Acceptance.{AcceptsMember, HasFreeIds};
+ghost use Rattle.store_tables.specs.Acceptance.{AcceptsMember, HasFreeIds, IsViolation};
 ghost use Rattle.store_tables.specs.Books.{BookRow};
 ghost use Rattle.store_tables.specs.Members.{
   by_changed,
@@ -21,6 +21,9 @@ ghost use Rattle.store_tables.specs.OnConnections.{
   GivenMembersTx,
   HasBooks,
   HasMembers,
+  HasOutsideCause,
+  InsideTx,
+  IsUnchanged,
   MissesOrFailsFromOutside,
   NoCommit,
   ObeyTables,
@@ -33,21 +36,27 @@ ghost use Rattle.store_tables.specs.OnConnections.{
   WritesOnly,
   table_rows,
 };
+ghost use Rattle.sqlite.specs.declared.error.Error.TheVariants.{SqliteFailure};
+ghost use Rattle.sqlite.specs.declared.error.ErrorCode.TheVariants.{OutOfMemory};
 ghost use Rattle.std.specs.Prelude.{
   [],
   ◌+◌,
   ◌∷◌,
   ◌≡◌,
+  ◌≢◌,
+  IfErr,
   IfOk,
+  IsTrue,
   List,
   OnOk,
+  false,
   filter,
   length,
   option_copied,
   ℕ,
 };
 
-use sqlite::{Alter, Connection, Error, Row, Transaction, params};
+use sqlite::{Alter, Connection, Error, ErrorCode, Row, Transaction, params};
 
 /// Returns the member with this UID in the book with this id: the number of its last change and its
 /// card, null if it is removed.
@@ -163,6 +172,129 @@ pub fn put_member<S: Alter>(
          ON CONFLICT (book, uid) DO UPDATE SET changed = excluded.changed, card = excluded.card",
         params![book, uid, changed, card],
     )
+}
+
+/// Inserts the member. If a constraint would be broken, as it is where the book has a member with
+/// the UID, nothing changes.
+fn insert_member<S: Alter>(
+    tx: &mut Transaction<'_, S>,
+    book: i64,
+    uid: &str,
+    changed: i64,
+    card: Option<&str>,
+) -> Result<usize, Error>
+    ensures same_reference { tx.new.conn.ghost_name ≡ tx.old.conn.ghost_name }
+    ensures puts { GivenMembersTx S.Store tx.old.conn.now tx.new.conn.now
+        (λ ms. OnOk result
+        (PutsRow S.Store tx.new.conn.now book uid.now changed (option_copied card.entry) ms)) }
+    ensures writes { GivenMembersTx S.Store tx.old.conn.now tx.new.conn.now
+        (λ _. OnOk result (WritesOnly S.Store tx.old.conn.now tx.new.conn.now 4)) }
+    ensures obeys { GivenMembersTx S.Store tx.old.conn.now tx.new.conn.now
+        (λ _. OnOk result (ObeyTables S.Store tx.new.conn.now)) }
+    ensures takes_one_id { GivenMembersTx S.Store tx.old.conn.now tx.new.conn.now
+        (λ _. (count : ℕ) → HasFreeIds (count + 1) (table_rows S.Store tx.old.conn.now 4)
+        → OnOk result (HasFreeIds count (table_rows S.Store tx.new.conn.now 4))) }
+    ensures no_commit { NoCommit S.Store tx.old.conn.now tx.new.conn.now }
+    ensures rolled_back { UndoneOnErr S.Store tx.old.conn.now tx.new.conn.now result }
+    ensures refused { InsideTx S.Store tx.old.conn.now tx.new.conn.now
+        (IfErr result (λ e. IsViolation e → IsUnchanged S.Store tx.old.conn.now tx.new.conn.now)) }
+    ensures fails_from_outside { GivenMembersTx S.Store tx.old.conn.now tx.new.conn.now
+        (λ ms. (bs : List BookRow) → HasBooks S.Store tx.old.conn.now bs
+        → HasFreeIds 1 (table_rows S.Store tx.old.conn.now 4)
+        → AcceptsMember bs ms book uid.now changed (option_copied card.entry)
+        → IfErr result (λ e. (IsViolation e → ⊥) → e ≢ SqliteFailure OutOfMemory
+        → HasOutsideCause S.Store tx.old.conn.now tx.new.conn.now)) }
+{
+    tx.execute(
+        "INSERT INTO member (book, uid, changed, card) VALUES (?1, ?2, ?3, ?4)",
+        params![book, uid, changed, card],
+    )
+}
+
+/// Whether the error names a constraint that the write would break.
+fn is_violation(error: Error) -> bool
+    ensures yes { IsTrue result → IsViolation error }
+    ensures no { result ≡ false → IsViolation error → ⊥ }
+{
+    matches!(
+        error,
+        Error::SqliteFailure(ErrorCode::ConstraintViolation(_))
+    )
+}
+
+/// Does what [`put_member`] does. It first tries a plain INSERT, which needs no search for a row to
+/// update.
+fn put_new_member<S: Alter>(
+    tx: &mut Transaction<'_, S>,
+    book: i64,
+    uid: &str,
+    changed: i64,
+    card: Option<&str>,
+) -> Result<usize, Error>
+    ensures same_reference { tx.new.conn.ghost_name ≡ tx.old.conn.ghost_name }
+    ensures puts { GivenMembersTx S.Store tx.old.conn.now tx.new.conn.now
+        (λ ms. OnOk result
+        (PutsRow S.Store tx.new.conn.now book uid.now changed (option_copied card.entry) ms)) }
+    ensures writes { GivenMembersTx S.Store tx.old.conn.now tx.new.conn.now
+        (λ _. OnOk result (WritesOnly S.Store tx.old.conn.now tx.new.conn.now 4)) }
+    ensures obeys { GivenMembersTx S.Store tx.old.conn.now tx.new.conn.now
+        (λ _. OnOk result (ObeyTables S.Store tx.new.conn.now)) }
+    ensures takes_one_id { GivenMembersTx S.Store tx.old.conn.now tx.new.conn.now
+        (λ _. (count : ℕ) → HasFreeIds (count + 1) (table_rows S.Store tx.old.conn.now 4)
+        → OnOk result (HasFreeIds count (table_rows S.Store tx.new.conn.now 4))) }
+    ensures no_commit { NoCommit S.Store tx.old.conn.now tx.new.conn.now }
+    ensures rolled_back { UndoneOnErr S.Store tx.old.conn.now tx.new.conn.now result }
+    ensures fails_from_outside { GivenMembersTx S.Store tx.old.conn.now tx.new.conn.now
+        (λ ms. (bs : List BookRow) → HasBooks S.Store tx.old.conn.now bs
+        → HasFreeIds 1 (table_rows S.Store tx.old.conn.now 4)
+        → AcceptsMember bs ms book uid.now changed (option_copied card.entry)
+        → WriteFailsFromOutside S.Store tx.old.conn.now tx.new.conn.now result) }
+{
+    match insert_member(tx, book, uid, changed, card) {
+        Ok(rows) => Ok(rows),
+        Err(error) => {
+            if is_violation(error) {
+                return put_member(tx, book, uid, changed, card);
+            }
+            Err(error)
+        }
+    }
+}
+
+/// Does what [`put_member`] does. It is faster if `likely_new` says rightly whether the book has no
+/// member with the UID, not even a removed one; the effect is the same.
+pub fn put_with_hint<S: Alter>(
+    tx: &mut Transaction<'_, S>,
+    book: i64,
+    uid: &str,
+    changed: i64,
+    card: Option<&str>,
+    likely_new: bool,
+) -> Result<usize, Error>
+    ensures same_reference { tx.new.conn.ghost_name ≡ tx.old.conn.ghost_name }
+    ensures puts { GivenMembersTx S.Store tx.old.conn.now tx.new.conn.now
+        (λ ms. OnOk result
+        (PutsRow S.Store tx.new.conn.now book uid.now changed (option_copied card.entry) ms)) }
+    ensures writes { GivenMembersTx S.Store tx.old.conn.now tx.new.conn.now
+        (λ _. OnOk result (WritesOnly S.Store tx.old.conn.now tx.new.conn.now 4)) }
+    ensures obeys { GivenMembersTx S.Store tx.old.conn.now tx.new.conn.now
+        (λ _. OnOk result (ObeyTables S.Store tx.new.conn.now)) }
+    ensures takes_one_id { GivenMembersTx S.Store tx.old.conn.now tx.new.conn.now
+        (λ _. (count : ℕ) → HasFreeIds (count + 1) (table_rows S.Store tx.old.conn.now 4)
+        → OnOk result (HasFreeIds count (table_rows S.Store tx.new.conn.now 4))) }
+    ensures no_commit { NoCommit S.Store tx.old.conn.now tx.new.conn.now }
+    ensures rolled_back { UndoneOnErr S.Store tx.old.conn.now tx.new.conn.now result }
+    ensures fails_from_outside { GivenMembersTx S.Store tx.old.conn.now tx.new.conn.now
+        (λ ms. (bs : List BookRow) → HasBooks S.Store tx.old.conn.now bs
+        → HasFreeIds 1 (table_rows S.Store tx.old.conn.now 4)
+        → AcceptsMember bs ms book uid.now changed (option_copied card.entry)
+        → WriteFailsFromOutside S.Store tx.old.conn.now tx.new.conn.now result) }
+{
+    if likely_new {
+        put_new_member(tx, book, uid, changed, card)
+    } else {
+        put_member(tx, book, uid, changed, card)
+    }
 }
 
 /// Deletes the removed members of the book with this id whose number is at most `upto`. Returns how
