@@ -35,3 +35,5 @@ pub mod PutFailures
 pub mod ObeyLemmas
 pub mod AddLemmas
 pub mod AddFailures
+pub mod ChangeLemmas
+pub mod ChangeFailures

@@ -127,7 +127,7 @@ module _ (limit : Option ℕ) (book : ℤ) (uid : List ℕ) (changed : ℤ) (car
   abbrev new : MemberRow
   new = record { id = next_rowid (db 4); book = book; uid = uid; changed = changed; card = card }
 
-  abbrev placing : List ℤ → Row → Edit
+  abbrev pub placing : List ℤ → Row → Edit
   placing gone row = record { table = member; gone = gone; news = row ∷ [] }
 
   abbrev the_item : (r : Row) → Has (db 4) r → (x : MemberRow) × Has ms x × (member_cells r ≡ member_row x)
@@ -191,7 +191,7 @@ module _ (limit : Option ℕ) (book : ℤ) (uid : List ℕ) (changed : ℤ) (car
   -- ---- a member has the UID
 
   module _ (m : MemberRow) (there : Has ms m) (here : has_uid book uid m ≡ true) where
-    abbrev later : MemberRow
+    abbrev pub later : MemberRow
     later = record m { changed = changed; card = card }
 
     abbrev left : List Row
@@ -247,7 +247,7 @@ module _ (limit : Option ℕ) (book : ℤ) (uid : List ℕ) (changed : ℤ) (car
     later_free : is_taken left (member_row later) ≡ false
     later_free = left_free m.id (db 4) (member_row later) refl
 
-    later_admitted : IsAdmitted db (placing (m.id ∷ []) (member_row later))
+    pub later_admitted : IsAdmitted db (placing (m.id ∷ []) (member_row later))
     later_admitted = record {
       keyed = refl;
       numbered = last_term (all_has (λ (m : MemberRow). fits_i64 m.id ≡ true) ms m old_fits there);
@@ -336,7 +336,7 @@ module _ (limit : Option ℕ) (book : ℤ) (uid : List ℕ) (changed : ℤ) (car
   abbrev Leaves : Written → Type 0
   Leaves w = Refers All book_schema w.trees
 
-  refers_with : (next : Trees) (n : MemberRow) (gone : List ℤ) → n.book ≡ book → Applies book_schema Enforced db (placing gone (member_row n)) next → Refers All book_schema next
+  pub refers_with : (next : Trees) (n : MemberRow) (gone : List ℤ) → n.book ≡ book → Applies book_schema Enforced db (placing gone (member_row n)) next → Refers All book_schema next
   refers_with next n gone at step =
       let books = step.tables.1.0 (λ e. omega (arith, e)) in
       refers_after db next (same_books db next books) member (inr (inr (inl refl))) step.tables obeys (λ r there. elim (put_has (member_row n) (without_all (db 4) gone) r (subst (λ l. Has l r) step.rows there)) [

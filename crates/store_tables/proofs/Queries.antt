@@ -50,6 +50,12 @@ add_member_text = codes "INSERT INTO member (book, uid, changed, card) VALUES (?
 abbrev pub add_member_command : Command
 add_member_command = Insert 2 (Values put_terms 5)
 
+abbrev pub change_text : List ℕ
+change_text = codes "UPDATE member SET changed = ?3, card = ?4 WHERE book = ?1 AND uid = ?2"
+
+abbrev pub change_query : Query
+change_query = picks 4 (op2 (Compare Eq Binary) (col 1 1) (col 0 0) ∷ op2 (Compare Eq Binary) (col 1 2) (col 0 1) ∷ []) (col 1 0 ∷ col 1 0 ∷ col 1 1 ∷ col 1 2 ∷ col 0 2 ∷ col 0 3 ∷ [])
+
 abbrev pub find_text : List ℕ
 find_text = codes "SELECT changed, card FROM member WHERE book = ?1 AND uid = ?2"
 

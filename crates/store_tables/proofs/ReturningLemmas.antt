@@ -1,5 +1,5 @@
 -- What a statement leaves of the state of a connection, for any SQL text.
-use Rattle.std.specs.Prelude.{IfErr, IsTrue, OnOk, OnErr}
+use Rattle.std.specs.Prelude.{IfOk, IfErr, IsTrue, OnOk, OnErr}
 use Rattle.sqlite.specs.Steps.{FailsToCommit}
 use Rattle.std.proofs.Common.{true≢false, false, ◌≡◌, ◌⊎◌, inl, inr, ℕ, List, Option, Some, None, Ok, Err, Result, sym, ◌∙◌, subst}
 use Rattle.sqlite.specs.Effect.{Database}
@@ -126,3 +126,11 @@ module _ (old mid : State) (same : IsUnchanged old mid) where
 pub if_err_weaker : {X E : Type 0} {P Q : E → Type 0} (r : Result X E) → ((e : E) → P e → Q e) → IfErr r P → IfErr r Q
 if_err_weaker (Ok x) on h = tt
 if_err_weaker (Err e) on h = on e h
+
+pub if_ok_weaker : {X E : Type 0} {P Q : X → Type 0} (r : Result X E) → ((x : X) → P x → Q x) → IfOk r P → IfOk r Q
+if_ok_weaker (Ok x) on h = on x h
+if_ok_weaker (Err e) on h = tt
+
+pub on_ok_of : {X E : Type 0} {P : X → Type 0} {Q : Type 0} (r : Result X E) → ((x : X) → P x → Q) → IfOk r P → OnOk r Q
+on_ok_of (Ok x) on h = on x h
+on_ok_of (Err e) on h = tt

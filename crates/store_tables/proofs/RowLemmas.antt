@@ -50,7 +50,7 @@ at_turned book uid m id changed card h = go (has_uid m.book m.uid (record { id =
         let same = at_parts m.book m.uid (record { id = id; book = book; uid = uid; changed = changed; card = card }) e in
         absurd (true≢false (sym (at_itself m) ∙ sym (ap₂ (λ b u. has_uid b u m) same.0 same.1) ∙ h))
 
-at_same : (book : ℤ) (uid : List ℕ) (x m : MemberRow) → has_uid book uid m ≡ true → has_uid x.book x.uid m ≡ false → has_uid book uid x ≡ false
+pub at_same : (book : ℤ) (uid : List ℕ) (x m : MemberRow) → has_uid book uid m ≡ true → has_uid x.book x.uid m ≡ false → has_uid book uid x ≡ false
 at_same book uid x m here apart = go (has_uid book uid x) refl
   where
     go : (b : Bool) → has_uid book uid x ≡ b → b ≡ false

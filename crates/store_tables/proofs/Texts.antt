@@ -8,7 +8,7 @@ use Rattle.sqlite_resolve.specs.declared.compiled.Compiled.{Compiled}
 use Rattle.sqlite_resolve.specs.declared.error.CompileError.{CompileError}
 use Rattle.sqlite_schema.specs.declared.command.Returning.{Returning}
 use Rattle.store_tables.specs.Tables.{book_schema}
-use Rattle.store_tables.proofs.Queries.{put_text, put_command, add_member_text, add_member_command, find_text, find_query, due_text, due_query, book_text, book_query, forget_text, forget_query, count_text, count_query, update_text, update_query, number_names, books_count_text, books_count_query, import_text, import_query, keep_text, keep_query, removed_text, removed_query, members_text, members_query, add_import_text, add_import_command, add_book_text, add_book_command, add_keep_text, add_schema_text, add_schema_command, add_keep_command, picks, books_text, books_query, all_members_text, all_members_terms, all_imports_text, all_imports_terms, all_keeps_text, all_keeps_terms, meta_text, meta_terms}
+use Rattle.store_tables.proofs.Queries.{put_text, put_command, add_member_text, add_member_command, change_text, change_query, find_text, find_query, due_text, due_query, book_text, book_query, forget_text, forget_query, count_text, count_query, update_text, update_query, number_names, books_count_text, books_count_query, import_text, import_query, keep_text, keep_query, removed_text, removed_query, members_text, members_query, add_import_text, add_import_command, add_book_text, add_book_command, add_keep_text, add_schema_text, add_schema_command, add_keep_command, picks, books_text, books_query, all_members_text, all_members_terms, all_imports_text, all_imports_terms, all_keeps_text, all_keeps_terms, meta_text, meta_terms}
 
 abbrev pub returning_of : Result Compiled CompileError → Option Returning
 returning_of (Ok c) = c.returning
@@ -25,6 +25,10 @@ put_is = (refl, (refl, refl))
 pub add_member_is : (command_of (understood book_schema add_member_text) ≡ add_member_command) × IsPlain (understood book_schema add_member_text)
 unfolding understood everything
 add_member_is = (refl, (refl, refl))
+
+pub change_is : (command_of (understood book_schema change_text) ≡ Update 2 (record { lets = []; body = change_query })) × IsPlain (understood book_schema change_text)
+unfolding understood everything
+change_is = (refl, (refl, refl))
 
 pub find_is : (command_of (understood book_schema find_text) ≡ Select (record { lets = []; body = find_query }) (codes "changed" ∷ codes "card" ∷ [])) × (reads_listing book_schema find_text ≡ false) × IsPlain (understood book_schema find_text)
 unfolding understood everything
