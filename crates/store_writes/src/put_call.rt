@@ -28,8 +28,8 @@ use store_lookups::{BookHeader, find_member_state};
 use store_tables::settled::assert_no_pending_writes;
 use vcard_text::Card;
 
-/// What a put of the card returns in the book with this header, and whether the book has a tombstone
-/// under its UID.
+/// What a put of the card returns in the book with this header, and whether the book has a
+/// tombstone under its UID.
 fn decide_put<S: Alter>(
     alloc: Global,
     conn: &mut Connection<S>,
@@ -62,8 +62,8 @@ fn decide_put<S: Alter>(
     Ok((answer, state.is_tombstone()))
 }
 
-/// What a put of the card returns, with the header of its book, and whether the book has a tombstone
-/// under its UID.
+/// What a put of the card returns, with the header of its book, and whether the book has a
+/// tombstone under its UID.
 fn plan_put<S: Alter>(
     alloc: Global,
     conn: &mut Connection<S>,

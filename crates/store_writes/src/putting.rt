@@ -38,12 +38,16 @@ use sqlite::{Alter, Connection, Error, Transaction};
 use std::alloc::Global;
 use store_lookups::{BookHeader, column_of, fault_of};
 use store_tables::books::{BookNumbers, renumber_book};
-use store_tables::members::put_member;
+use store_tables::members::update_or_put;
 use store_tables::settled::assert_no_pending_writes;
 use vcard_text::Card;
 
 /// Writes the member of the book `id` that has the UID, and updates the book's numbers. Without a
-/// card it is a removed member.
+/// card it is a removed member. After an error some of it may be written, so the caller rolls the
+/// transaction back.
+///
+/// Each statement sets the connection's `changes` and `last_insert_rowid`, as SQLite does: an UPDATE
+/// that finds no row sets `changes` to 0. No clause states them, and no crate reads them.
 pub fn write_member<S: Alter>(
     tx: &mut Transaction<'_, S>,
     id: i64,
@@ -74,7 +78,7 @@ pub fn write_member<S: Alter>(
         (option_copied card.entry)
         → WriteFailsFromOutside S.Store tx.old.conn.now tx.new.conn.now result }
 {
-    put_member(tx, id, uid, changed, card)?;
+    update_or_put(tx, id, uid, changed, card)?;
     renumber_book(tx, id, numbers)?;
     Ok(())
 }

@@ -23,14 +23,14 @@ use Rattle.store_writes.proofs.putting.write_member.Goals.{After-renumber_book}
 pub returns-clause-books_after : goal.returns-clause-books_after
 returns-clause-books_after g c header change changed_is is columns rows name clean inside line =
     let old = state g.S.Store c.args.tx.now.conn.now in
-    let mid = state g.S.Store c.put_member.new.tx.conn.now in
+    let mid = state g.S.Store c.update_or_put.new.tx.conn.now in
     let new = state g.S.Store c.renumber_book.new.tx.conn.now in
     let second : HasCleanDisk mid = clean_before _ mid new c.renumber_book.ensures.no_commit.survives clean in
     let id : to_z w64 (of_z w64 c.args.id) ≡ pos header.id = to_z-of_z c.ranges.id ∙ columns.id_is in
     let at : to_z w64 (of_z w64 c.args.changed) ≡ pos (header.number + 1) = to_z-of_z c.ranges.changed ∙ changed_is in
     let text = option_copied c.args.card in
-    let put = subst (λ z. PutsRow mid.now.trees z c.args.uid.now (pos (header.number + 1)) text rows.members) id (subst (λ z. PutsRow mid.now.trees (to_z w64 (of_z w64 c.args.id)) c.args.uid.now z text rows.members) at (c.in_ok-put_member.ensures.puts rows.members second inside line.holds.schema line.sound.members line.holds.members)) in
-    let one = c.in_ok-put_member.ensures.writes rows.members second inside line.holds.schema line.sound.members line.holds.members in
+    let put = subst (λ z. PutsRow mid.now.trees z c.args.uid.now (pos (header.number + 1)) text rows.members) id (subst (λ z. PutsRow mid.now.trees (to_z w64 (of_z w64 c.args.id)) c.args.uid.now z text rows.members) at (c.in_ok-update_or_put.ensures.puts rows.members second inside line.holds.schema line.sound.members line.holds.members)) in
+    let one = c.in_ok-update_or_put.ensures.writes rows.members second inside line.holds.schema line.sound.members line.holds.members in
     let held : HoldBooks (mid.now.trees 2) rows.books = subst (λ k. HoldBooks k rows.books) (sym (spares_books old.now.trees mid.now.trees one.other_tables)) line.holds.books in
     let books = subst (λ n. HasBooks new (with_book_numbers (pos header.id) n rows.books)) columns.numbers (subst (λ z. HasBooks new (with_book_numbers z (numbers_of c.args.numbers) rows.books)) id (c.in_ok-renumber_book.ensures.renumbers rows.books clean one.inside one.schema line.sound.books held (line_row name header) line.there id)) in
     row_put old mid new rows name header c.args.uid.now text change line is put one books (c.in_ok-renumber_book.ensures.writes rows.books clean one.inside one.schema line.sound.books held (line_row name header) line.there id)
@@ -43,7 +43,7 @@ module _ (g : given.Over) (c : After-renumber_book g) where
   old = state g.S.Store c.args.tx.now.conn.now
 
   abbrev mid : State
-  mid = state g.S.Store c.put_member.new.tx.conn.now
+  mid = state g.S.Store c.update_or_put.new.tx.conn.now
 
   abbrev new : State
   new = state g.S.Store c.renumber_book.new.tx.conn.now
@@ -57,7 +57,7 @@ module _ (g : given.Over) (c : After-renumber_book g) (rows : TableRows) (name :
   id = to_z-of_z c.ranges.id ∙ id_is
 
   one : WritesOnly 4 (old g c) (mid g c)
-  one = c.in_ok-put_member.ensures.writes rows.members (clean_mid g c clean) inside line.holds.schema line.sound.members line.holds.members
+  one = c.in_ok-update_or_put.ensures.writes rows.members (clean_mid g c clean) inside line.holds.schema line.sound.members line.holds.members
 
   held : HoldBooks ((mid g c).now.trees 2) rows.books
   held = subst (λ k. HoldBooks k rows.books) (sym (spares_books (old g c).now.trees (mid g c).now.trees one.other_tables)) line.holds.books
@@ -73,22 +73,25 @@ returns-clause-takes_one_id g c header id_is rows name clean inside line count f
     let p = (goal.at.returns-clause-takes_one_id g c).After-renumber_book in
     let first = one g p rows name header id_is clean inside line in
     let second = c.in_ok-renumber_book.ensures.writes rows.books clean first.inside first.schema line.sound.books (held g p rows name header id_is clean inside line) (line_row name header) line.there (id g p rows name header id_is clean inside line) in
-    subst (HasFreeIds count) (sym (spares_members (mid g p).now.trees (new g p).now.trees second.other_tables)) (c.in_ok-put_member.ensures.takes_one_id rows.members (clean_mid g p clean) inside line.holds.schema line.sound.members line.holds.members count free)
+    subst (HasFreeIds count) (sym (spares_members (mid g p).now.trees (new g p).now.trees second.other_tables)) (c.in_ok-update_or_put.ensures.takes_one_id rows.members (clean_mid g p clean) inside line.holds.schema line.sound.members line.holds.members count free)
+
+pub returns-in_err-update_or_put-clause-keeps_commit : goal.returns-in_err-update_or_put-clause-keeps_commit
+returns-in_err-update_or_put-clause-keeps_commit g c header id_is rows name clean inside line = c.update_or_put.ensures.keeps_commit rows.members clean inside line.holds.schema line.sound.members line.holds.members
 
 -- ---- errors
 
-pub returns-in_err-put_member-clause-fails_from_outside : goal.returns-in_err-put_member-clause-fails_from_outside
-returns-in_err-put_member-clause-fails_from_outside g c rows name header id_is accepts clean inside schema obeys =
+pub returns-in_err-update_or_put-clause-fails_from_outside : goal.returns-in_err-update_or_put-clause-fails_from_outside
+returns-in_err-update_or_put-clause-fails_from_outside g c rows name header id_is accepts clean inside schema obeys =
     let old = state g.S.Store c.args.tx.now.conn.now in
-    let new = state g.S.Store c.put_member.new.tx.conn.now in
+    let new = state g.S.Store c.update_or_put.new.tx.conn.now in
     let line = accepts.book.line in
     let id : to_z w64 (of_z w64 c.args.id) ≡ pos header.id = to_z-of_z c.ranges.id ∙ id_is in
     let at : to_z w64 (of_z w64 c.args.changed) ≡ c.args.changed = to_z-of_z c.ranges.changed in
     let member = subst (λ z. AcceptsMember rows.books rows.members (to_z w64 (of_z w64 c.args.id)) c.args.uid.now z (option_copied c.args.card)) (sym at)
     (subst (λ z. AcceptsMember rows.books rows.members z c.args.uid.now c.args.changed (option_copied c.args.card)) (sym id) accepts.member) in
-    let said : c.from_residual.result ≡ Err c.in_err-put_member.field-0.0 = search rules in
+    let said : c.from_residual.result ≡ Err c.in_err-update_or_put.field-0.0 = search rules in
     subst (λ r. IfErr r (λ e. e ≢ SqliteFailure OutOfMemory → HasOutsideCause old new)) (sym said)
-    (c.in_err-put_member.ensures.fails_from_outside rows.members clean inside schema line.sound.members line.holds.members rows.books line.holds.books accepts.free_id member clean inside schema obeys)
+    (c.in_err-update_or_put.ensures.fails_from_outside rows.members clean inside schema line.sound.members line.holds.members rows.books line.holds.books accepts.free_id member clean inside schema obeys)
 
 pub returns-in_err-renumber_book-clause-fails_from_outside : goal.returns-in_err-renumber_book-clause-fails_from_outside
 returns-in_err-renumber_book-clause-fails_from_outside g c rows name header id_is accepts clean inside schema obeys =
@@ -96,9 +99,9 @@ returns-in_err-renumber_book-clause-fails_from_outside g c rows name header id_i
     let line = accepts.book.line in
     let first = one g p rows name header id_is clean inside line in
     let early = clean_mid g p clean in
-    let kept = c.in_ok-put_member.ensures.obeys rows.members early inside schema line.sound.members line.holds.members in
+    let kept = c.in_ok-update_or_put.ensures.obeys rows.members early inside schema line.sound.members line.holds.members in
     let said : c.from_residual-in_err-renumber_book.result ≡ Err c.in_err-renumber_book.field-0.0 = search rules in
     subst (λ r. IfErr r (λ e. e ≢ SqliteFailure OutOfMemory → HasOutsideCause (old g p) (new g p))) (sym said)
-    (λ room. outside_later (old g p) (mid g p) (new g p) _ _ c.put_member.ensures.no_commit.survives early c.renumber_book.ensures.no_commit.survives
+    (λ room. outside_later (old g p) (mid g p) (new g p) _ _ c.update_or_put.ensures.survives early c.renumber_book.ensures.no_commit.survives
     (c.in_err-renumber_book.ensures.fails_from_outside rows.books clean first.inside first.schema line.sound.books (held g p rows name header id_is clean inside line)
     (line_row name header, line.there, id g p rows name header id_is clean inside line, accepts.book.short) clean first.inside first.schema kept room))
