@@ -50,13 +50,13 @@ ghost use Rattle.std.specs.FinMap as finite;
 ghost use Rattle.std.specs.Prelude.{◌≡◌, ◌+◌, ◌<◌, ◌^◌, IfErr, IfOk, List, OnOk, false, length, ℕ};
 
 use crate::import_plan::{ImportDecision, PlannedCard, plan_import};
-use book_model::{Denied, ImportTally, Limits};
+use book_model::{Denied, ImportTally, Limits, StoreReason};
 use sqlite::{Alter, Connection, Transaction};
 use std::alloc::Global;
 use store_lookups::{BookHeader, column_of, fault_of};
 use store_tables::books::renumber_book;
 use store_tables::imports::insert_import;
-use store_tables::members::put_member;
+use store_tables::members::put_with_hint;
 use store_tables::settled::assert_no_pending_writes;
 use store_writes::columns::{columns_of, text_of_card};
 use vcard_text::Card;
@@ -92,7 +92,15 @@ fn write_next_card<S: Alter>(
     let text = text_of_card(alloc, stored.card)?;
     let id = column_of(header.id())?;
     let changed = column_of(header.number() + 1)?;
-    match put_member(tx, id, stored.card.uid(), changed, Some(text.as_str())) {
+    let likely_new = stored.why == StoreReason::Import;
+    match put_with_hint(
+        tx,
+        id,
+        stored.card.uid(),
+        changed,
+        Some(text.as_str()),
+        likely_new,
+    ) {
         Ok(_) => Ok(header.after_storing(stored.why)),
         Err(error) => Err(fault_of(error)),
     }
