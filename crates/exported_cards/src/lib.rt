@@ -4,6 +4,3 @@
 mod export_text;
 
 pub use export_text::{ExportText, is_export};
-
-#[cfg(test)]
-mod tests;

@@ -6,6 +6,3 @@ mod line_starts;
 mod search;
 
 pub use search::line_of_fault;
-
-#[cfg(test)]
-mod tests;

@@ -1,9 +1,9 @@
 //! The line of the first fault of some texts. Expected lines are counted by hand.
-use crate::line_of_fault;
 use base_types::NoMemory;
 use std::alloc::Global;
 use std::rt::HostRuntime;
 use std::test::Fail;
+use vcard_fault_line::line_of_fault;
 use vcard_text::read_card;
 
 /// The line of the text's first fault. `Some(0)` for a card.
