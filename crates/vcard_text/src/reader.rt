@@ -14,7 +14,7 @@ ghost use Rattle.vcard_lines.specs.declared.line.Line.{Line};
 use crate::bounds::TEXT_OCTETS_MAX;
 use crate::card::Card;
 use crate::scan::Scan;
-use crate::writer::canonical_len;
+use crate::writer::{LINE_OCTETS, canonical_len};
 use base_types::Items;
 use std::alloc::Global;
 use vcard_lines::{CardFault, Line, continues, join, line_so_far};
@@ -68,7 +68,7 @@ fn read_lines(alloc: Global, text: &str) -> Result<Items<Line>, CardFault>
     let Some(mut first) = pieces.next() else {
         return scan.finish();
     };
-    let mut joined = String::new(alloc);
+    let mut joined = String::with_capacity(alloc, LINE_OCTETS)?;
     for piece in pieces {
         first = read_physical_line(alloc, &mut scan, first, &mut joined, piece)?;
     }
