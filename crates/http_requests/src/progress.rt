@@ -74,6 +74,18 @@ fn bound_fault(text: &[u8]) -> HeadFault
     }
 }
 
+/// Appends a reply. The first one is taken as it is, since a page may be long.
+fn append_reply(out: &mut Vec<u8>, reply: Vec<u8>) -> Result<(), NoMemory>
+    ensures { IfOk result (λ _. out.new.items ≡ out.old.items ++ reply.items) }
+{
+    if out.is_empty() {
+        *out = reply;
+    } else {
+        out.extend_from_slice(&reply)?;
+    }
+    Ok(())
+}
+
 impl Progress {
     pub(crate) fn new(alloc: Global) -> Progress
         ensures holds { MatchesStage result.held.items result.stage }
@@ -137,7 +149,7 @@ impl Progress {
         ensures err_closed { OnErr result (IsClosed self.new.stage) }
     {
         let reply = handler.handle(alloc, head, &self.held[start..])?;
-        out.extend_from_slice(&reply)?;
+        append_reply(out, reply)?;
         self.held.clear();
         if head.close {
             Ok(false)

@@ -1,4 +1,4 @@
-use Rattle.std.proofs.Common.{◌∙◌, sym, ap, [], ◌++◌}
+use Rattle.std.proofs.Common.{sym, []}
 use Rattle.base_types.proofs.TextMapLemmas.{on_err_from}
 use Rattle.http_requests.proofs.StepLemmas.{failed_part, whole_run, run_part, ended_stop, going_run, fresh}
 use Rattle.http_requests.proofs.progress.Progress.handle.Goals as goal
@@ -8,8 +8,8 @@ returns-in_err-reply-clause-err g c = on_err_from c.from_residual.result
     (failed_part g.H.Handler.does g.H.Handler.fault_reply c.args.self.now.held.items c.args.head.now c.args.start c.deref.result.now c.requires.whole c.deref.ensures.value
     c.args.handler.now c.handle.new.self c.in_err-reply.ensures.no_memory)
 
-pub returns-in_err-extend_from_slice-clause-err : goal.returns-in_err-extend_from_slice-clause-err
-returns-in_err-extend_from_slice-clause-err g c = on_err_from c.from_residual-in_err-extend_from_slice.result
+pub returns-in_err-append_reply-clause-err : goal.returns-in_err-append_reply-clause-err
+returns-in_err-append_reply-clause-err g c = on_err_from c.from_residual-in_err-append_reply.result
     (run_part g.H.Handler.does g.H.Handler.fault_reply c.args.self.now.held.items c.args.handler.now c.in_ok-reply.reply.items c.handle.new.self c.args.head.now.close []
     (whole_run g.H.Handler.does g.H.Handler.fault_reply c.args.self.now.held.items c.args.head.now c.args.start c.deref.result.now c.requires.whole c.deref.ensures.value
     c.args.handler.now c.in_ok-reply.reply.items c.handle.new.self c.in_ok-reply.ensures.done))
@@ -18,18 +18,18 @@ pub returns-then-head-clause-ok : goal.returns-then-head-clause-ok
 returns-then-head-clause-ok g c = record {
   is_closed = c.requires.closed;
   added = c.in_ok-reply.reply.items;
-  out_is = c.in_ok-extend_from_slice.ensures.items ∙ ap (λ t. c.args.out.now.items ++ t) c.deref-2.ensures.value;
+  out_is = c.in_ok-append_reply.ensures;
   stopped = ended_stop g.H.Handler.does g.H.Handler.fault_reply c.args.self.now.held.items c.args.handler.now c.in_ok-reply.reply.items c.handle.new.self c.args.head.now.close []
       (whole_run g.H.Handler.does g.H.Handler.fault_reply c.args.self.now.held.items c.args.head.now c.args.start c.deref.result.now c.requires.whole c.deref.ensures.value
       c.args.handler.now c.in_ok-reply.reply.items c.handle.new.self c.in_ok-reply.ensures.done) c.if-head.true;
 }
 
-pub returns-clause-ok : goal.returns-clause-ok
-returns-clause-ok g c = record {
+pub returns-else-head-clause-ok : goal.returns-else-head-clause-ok
+returns-else-head-clause-ok g c = record {
   holds = fresh c.clear.new.self.items c.clear.ensures.items;
   is_open = λ h. h;
   added = c.in_ok-reply.reply.items;
-  out_is = c.in_ok-extend_from_slice.ensures.items ∙ ap (λ t. c.args.out.now.items ++ t) c.deref-2.ensures.value;
+  out_is = c.in_ok-append_reply.ensures;
   runs = going_run g.H.Handler.does g.H.Handler.fault_reply c.args.self.now.held.items c.args.handler.now c.in_ok-reply.reply.items c.handle.new.self c.args.head.now.close [] c.clear.new.self.items
       (whole_run g.H.Handler.does g.H.Handler.fault_reply c.args.self.now.held.items c.args.head.now c.args.start c.deref.result.now c.requires.whole c.deref.ensures.value
       c.args.handler.now c.in_ok-reply.reply.items c.handle.new.self c.in_ok-reply.ensures.done) c.if-head.false (sym c.clear.ensures.items);
