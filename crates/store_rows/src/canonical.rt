@@ -14,6 +14,9 @@ use vcard_text::{Card, NoMemory};
 /// The most octets of a line that is written without a fold.
 const PHYSICAL_OCTETS_MAX: usize = 75;
 
+/// Most lines are shorter. A longer one makes the buffers grow.
+const LINE_OCTETS: usize = 128;
+
 /// The rest of the text after the part. `None` if the text doesn't begin with the part.
 fn strip<'a>(text: &'a [u8], part: &[u8]) -> Option<&'a [u8]>
     ensures { Strips text.now part.now result }
@@ -63,8 +66,11 @@ fn strip_folded<'a>(
 ) -> Result<Option<&'a [u8]>, NoMemory>
     ensures { IfOk result (Strips text.now (folded_text (line_text line.now))) }
 {
+    unfolded.clear();
+    unfolded.reserve(LINE_OCTETS)?;
     write_line(unfolded, line)?;
     folded.clear();
+    folded.reserve(LINE_OCTETS)?;
     write_folded(folded, unfolded.as_str())?;
     Ok(strip(text, folded.as_bytes()))
 }
