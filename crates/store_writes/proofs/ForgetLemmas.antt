@@ -77,3 +77,6 @@ forget_holds rows name header upto db may made = rw may made
 
 pub forgets_known : (horizon number upto : ℕ) → may_forget horizon number upto ≡ true → upto ≤ number
 forgets_known horizon number upto may = grind arith
+
+pub forgets_later : (horizon number upto : ℕ) → may_forget horizon number upto ≡ true → horizon ≤ upto
+forgets_later horizon number upto may = grind arith

@@ -7,5 +7,6 @@ pub mod AcceptLemmas
 pub mod HeldLemmas
 pub mod CallLemmas
 pub mod ForgetLemmas
+mod ForgottenCounts
 pub mod PutLemmas
 pub mod PlanLemmas

@@ -14,6 +14,7 @@ ghost use Rattle.store_tables.specs.OnConnections.{
 ghost use Rattle.store_lookups.specs.OnConnections.{
   ChangeFaultsFromOutside,
   ChangeFaultsFromOutsideInBook,
+  KeepsCounts,
 };
 ghost use Rattle.store_writes.specs.OnConnections.{
   AcceptsHeader,
@@ -25,10 +26,12 @@ ghost use Rattle.store_writes.specs.OnConnections.{
   KeepsCommitWithBook,
   with_book_after,
 };
-ghost use Rattle.std.specs.Prelude.{◌≡◌, ◌≤◌, IfErr, IfOk, List, OnOk, false, pos, ℕ};
+ghost use Rattle.std.specs.Prelude.{◌≡◌, ◌≤◌, IfErr, IfOk, List, OnErr, OnOk, false, pos, ℕ};
 
 use crate::columns::columns_of;
+use crate::counting::count_forgotten;
 use crate::lookups::open_header;
+use book_counts::TombstoneCounts;
 use book_model::decisions::may_forget;
 use book_model::{Denied, Refusal};
 use sqlite::{Alter, Connection, Error, Transaction};
@@ -128,18 +131,22 @@ fn write_forget<S: Alter>(
 }
 
 /// Raises the horizon of the named book to the number, deletes the tombstones up to it, and returns
-/// how many there were. The connection must be outside a transaction.
+/// how many there were. The connection must be outside a transaction. `counts` are the numbers of
+/// tombstones that the store keeps of its books; the book's is removed if tombstones were deleted.
 ///
 /// Refused, in this order, with `NoSuchBook`; `BadForget` if the number is below the book's horizon
 /// or above its number.
 pub fn forget_in_book<S: Alter>(
     conn: &mut Connection<S>,
+    counts: &mut TombstoneCounts,
     name: &str,
     upto: u64,
 ) -> Result<u64, Denied>
     requires { conn.old.in_transaction ≡ false }
     ensures changes { AppliesStep S.Store conn.old conn.new result
         (λ books. forget_step books name.now upto) }
+    ensures counts { KeepsCounts S.Store conn.old conn.new counts.old counts.new }
+    ensures same_counts_on_err { OnErr result (counts.new ≡ counts.old) }
     ensures store_fault { ChangeFaultsFromOutside S.Store conn.old conn.new result }
     ensures crash { CommitsOnce S.Store conn.old conn.new
         (λ books. forget_step books name.now upto) }
@@ -149,5 +156,7 @@ pub fn forget_in_book<S: Alter>(
     if !may_forget(header.horizon(), header.number(), upto) {
         return Err(Denied::Refused(Refusal::BadForget));
     }
-    write_forget(conn, header, upto)
+    let dropped = write_forget(conn, header, upto)?;
+    count_forgotten(counts, name, dropped);
+    Ok(dropped)
 }

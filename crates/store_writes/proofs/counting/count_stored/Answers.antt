@@ -1,30 +1,9 @@
-use Rattle.std.proofs.Common.{rules, ◌≡◌, ◌-◌, false, true, Some, None, sym, ap, subst, ◌∙◌, arith}
-use Rattle.std.specs.FinMap as finite
-use Rattle.book_counts.proofs.EntryLemmas.{absent_removed, right_cleared, right_number, right_same, right_set}
-use Rattle.book_counts.specs.Counts.{AreCountsOf, CountsByName, IsWritten}
+use Rattle.std.proofs.Common.{rules, ◌≡◌, ◌+◌, sym, subst}
 use Rattle.book_model.specs.BookQueries.{tombstone_count}
 use Rattle.book_model.specs.Counting.{one_if}
 use Rattle.store_writes.proofs.counting.count_stored.Goals as goal
 
-pub returns-then-not-was_tombstone : goal.returns-then-not-was_tombstone
-returns-then-not-was_tombstone c books before after right at fewer =
-    let live : c.args.was_tombstone ≡ false = search rules in
-    let none : one_if c.args.was_tombstone ≡ 0 = ap one_if live in
-    let same : tombstone_count after ≡ tombstone_count before = omega (arith, fewer, none) in
-    right_same c.args.counts.now books c.args.name.now before after right at same
-
-pub returns-in-Some : goal.returns-in-Some
-returns-in-Some c books before after right at fewer =
-    let removed : c.args.was_tombstone ≡ true = search rules in
-    let one : one_if c.args.was_tombstone ≡ 1 = ap one_if removed in
-    let kept : finite.get c.args.counts.now c.args.name.now ≡ Some c.in-Some.number = sym c.get.ensures ∙ c.in-Some.is in
-    let number : tombstone_count before ≡ c.in-Some.number = right_number c.args.counts.now books c.args.name.now before c.in-Some.number right at kept in
-    let less : c.saturating_sub.result ≡ c.in-Some.number - 1 = c.saturating_sub.ensures in
-    let is : c.saturating_sub.result ≡ tombstone_count after = omega (arith, fewer, one, number, less) in
-    right_set c.args.counts.now c.set.new.self books c.args.name.now after right (subst (λ n. IsWritten c.args.counts.now c.set.new.self c.args.name.now n) is c.set.ensures)
-
-pub returns-in_default : goal.returns-in_default
-returns-in_default c books before after right at fewer =
-    let absent : finite.get c.args.counts.now c.args.name.now ≡ None = sym c.get.ensures ∙ c.in_default.is in
-    subst (λ (counts : CountsByName). AreCountsOf counts (finite.insert books c.args.name.now after)) (sym (absent_removed c.args.counts.now c.args.name.now absent))
-    (right_cleared c.args.counts.now books c.args.name.now after right)
+pub returns : goal.returns
+returns c books before after right at fewer =
+    let is : c.from.result ≡ one_if c.args.was_tombstone = search rules in
+    c.count_replaced.ensures books before after right at (subst (λ n. tombstone_count after + n ≡ tombstone_count before) (sym is) fewer)
