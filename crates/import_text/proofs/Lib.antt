@@ -2,6 +2,7 @@ pub mod EscapeLemmas
 pub mod HeadLemmas
 pub mod WindowsLemmas
 pub mod RawLineLemmas
+pub mod PieceLemmas
 pub mod SplitLemmas
 pub mod UnitLemmas
 pub mod WordLemmas

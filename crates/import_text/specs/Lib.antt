@@ -1,4 +1,5 @@
 pub mod Encodings
+pub mod Pieces
 pub mod QuotedPrintable
 pub mod RawLines
 pub mod Units

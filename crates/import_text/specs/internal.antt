@@ -1,2 +1,3 @@
 pub mod EscapeSteps
 pub mod Heads
+pub mod LineLens

@@ -13,11 +13,8 @@ mod words;
 
 pub use encodings::{read_text, read_windows1252};
 pub use lines::{Folding, read_raw_lines};
-pub use pieces::{count_lines, is_card, is_line, split_piece};
+pub use pieces::{count_lines, is_card, split_piece};
 pub use quoted_printable::read_quoted_printable;
 pub use raw_line::RawLine;
 pub use utf16::read_utf16;
-pub use words::begins_with_word;
-
-#[cfg(test)]
-mod tests;
+pub use words::{begins_with_word, is_word_line};

@@ -1,70 +1,88 @@
 //! Cuts a file into pieces: cards, and what is between them.
-ghost use Rattle.std.specs.Prelude.{◌≡◌, ◌≢◌, ◌≤◌, ◌<◌, ◌++◌, [], length, count_by, ◌==◌};
+ghost use Rattle.std.specs.Prelude.{◌≡◌, ◌≢◌, ◌≤◌, ◌<◌, ◌-◌, ◌^◌, ◌++◌, [], length, count_by};
+ghost use Rattle.std.specs.Prelude.{◌==◌, ◌+◌, ℕ, true, take_while};
 ghost use Rattle.base_types.specs.Octets.{line_feed};
+ghost use Rattle.import_text.specs.declared.pieces.Nesting.{Nesting};
+ghost use Rattle.import_text.specs.declared.pieces.Step.TheVariants.{Ends, GoesOn};
+ghost use Rattle.import_text.specs.internal.LineLens.{line_len};
+ghost use Rattle.import_text.specs.Pieces.{after_end, after_other, begins_card, deeper};
+ghost use Rattle.import_text.specs.Pieces.{ends_and_begins, first_line, first_piece, is_card};
+ghost use Rattle.import_text.specs.Pieces.{next_step, outside, piece_len, shallower, whole_lines};
+ghost use Rattle.import_text.specs.Pieces.{is_before_agent, is_white, without_mark};
 
-/// What a physical line means for the pieces of a file.
-#[derive(Clone, Copy, Debug, PartialEq, Eq)]
-enum Mark {
-    /// It begins a card.
-    Begin,
-    /// It ends a card.
-    End,
-    /// It is an AGENT whose value is the card that begins after it.
-    Agent,
-    /// It is an AGENT and begins its card.
-    AgentBegin,
-    /// It is blank.
-    Blank,
-    /// It is any other line.
-    Other,
+use crate::words::{are_white, begins_with_word, is_white, is_word_line};
+
+/// The number of octets before the first line feed.
+fn first_line_len(octets: &[u8]) -> usize
+    ensures { result ≡ length (first_line octets.now) }
+{
+    octets.iter().take_while(|octet| **octet != b'\n').count()
 }
 
 /// The length of the first physical line, with its line feed.
 fn line_len(octets: &[u8]) -> usize
     ensures within { result ≤ length octets.now }
     ensures nonempty { 0 < length octets.now → 0 < result }
+    ensures len { result ≡ line_len octets.now }
 {
-    match octets.iter().position(|octet| *octet == b'\n') {
-        Some(place) => place + 1,
-        None => octets.len(),
-    }
-}
-
-/// The line without white space at its end, and without a byte order mark of UTF-8.
-fn trimmed(line: &[u8]) -> &[u8] {
-    let mut line = line.strip_prefix(b"\xEF\xBB\xBF").unwrap_or(line);
-    while let Some((b' ' | b'\t' | b'\r' | b'\n', front)) = line.split_last() {
-        line = front;
-    }
-    line
-}
-
-/// Whether a physical line is this text in any case, but for white space at its end and a byte
-/// order mark of UTF-8.
-pub fn is_line(line: &[u8], text: &[u8]) -> bool {
-    trimmed(line).eq_ignore_ascii_case(text)
-}
-
-fn mark_of(line: &[u8]) -> Mark {
-    let line = trimmed(line);
-    if line.is_empty() {
-        Mark::Blank
-    } else if line.eq_ignore_ascii_case(b"BEGIN:VCARD") {
-        Mark::Begin
-    } else if line.eq_ignore_ascii_case(b"END:VCARD") {
-        Mark::End
-    } else if line.eq_ignore_ascii_case(b"AGENT:") {
-        Mark::Agent
-    } else if line.eq_ignore_ascii_case(b"AGENT:BEGIN:VCARD") {
-        Mark::AgentBegin
+    let end = first_line_len(octets);
+    if end < octets.len() {
+        end + 1
     } else {
-        Mark::Other
+        octets.len()
     }
 }
 
-/// Whether a piece is a card: its first line is `BEGIN:VCARD`.
-pub fn is_card(piece: &[u8]) -> bool {
-    is_line(&piece[..line_len(piece)], b"BEGIN:VCARD")
+/// The octets without a byte order mark of UTF-8.
+fn without_mark(octets: &[u8]) -> &[u8]
+    ensures { result.now ≡ without_mark octets.now }
+{
+    if begins_with_word(octets, b"\xEF\xBB\xBF") {
+        return &octets[3..];
+    }
+    octets
+}
+
+/// Whether a line begins a card, perhaps after a byte order mark of UTF-8.
+fn begins_card(line: &[u8]) -> bool
+    ensures { result ≡ begins_card line.now }
+{
+    is_word_line(without_mark(line), b"BEGIN:VCARD")
+}
+
+/// The number of octets of white space before any others.
+fn white_len(octets: &[u8]) -> usize
+    ensures { result ≡ length (take_while is_white octets.now) }
+{
+    octets.iter().take_while(|octet| is_white(**octet)).count()
+}
+
+/// The octets after `END:VCARD` and the white space after it.
+fn after_end(line: &[u8]) -> &[u8]
+    requires { 9 ≤ length line.now }
+    ensures after { result.now ≡ after_end line.now }
+    ensures shorter { length result.now + 9 ≤ length line.now }
+{
+    let (_, rest) = line.split_at(9);
+    let (_, after) = rest.split_at(white_len(rest));
+    after
+}
+
+/// Whether a line ends a card and begins the next one, as where two files were joined of which the
+/// first has no line feed at its end.
+fn ends_and_begins(line: &[u8]) -> bool
+    ensures { result ≡ ends_and_begins line.now }
+{
+    begins_with_word(line, b"END:VCARD") && begins_card(after_end(line))
+}
+
+/// Whether a piece is a card: its first line is `BEGIN:VCARD`, in any case, perhaps after a byte
+/// order mark of UTF-8 and before white space.
+pub fn is_card(piece: &[u8]) -> bool
+    ensures { result ≡ is_card piece.now }
+{
+    let (line, _) = piece.split_at(first_line_len(piece));
+    begins_card(line)
 }
 
 /// The number of line feeds.
@@ -74,83 +92,125 @@ pub fn count_lines(octets: &[u8]) -> usize
     octets.iter().filter(|octet| **octet == b'\n').count()
 }
 
-/// How deep the cards are nested before a line, and whether the line before was an AGENT without
-/// its card.
-#[derive(Clone, Copy)]
-struct Nesting {
-    depth: u32,
-    is_agent: bool,
-}
-
-/// What a line does to a piece.
-#[derive(Clone, Copy)]
-enum Step {
-    /// The piece ends before it.
-    Before,
-    /// The piece ends with it.
-    After,
-    /// The piece goes on.
-    On(Nesting),
+/// Where a line is among the cards of a piece.
+#[derive(Clone, Copy, Debug, PartialEq, Eq)]
+pub(crate) struct Nesting {
+    /// The number of cards that began but didn't end.
+    pub(crate) depth: usize,
+    /// Whether a card that begins with the line belongs to the piece.
+    pub(crate) may_begin: bool,
 }
 
 /// What a line does to the piece in which it is.
-fn next_step(nesting: Nesting, mark: Mark) -> Step {
-    let depth = nesting.depth;
-    match mark {
-        Mark::Begin if depth > 0 && !nesting.is_agent => Step::Before,
-        Mark::Begin | Mark::AgentBegin => Step::On(Nesting {
-            depth: depth.saturating_add(1),
-            is_agent: false,
-        }),
-        Mark::End if depth == 1 => Step::After,
-        Mark::End => Step::On(Nesting {
-            depth: depth.saturating_sub(1),
-            is_agent: false,
-        }),
-        Mark::Agent => Step::On(Nesting {
-            depth,
-            is_agent: depth > 0,
-        }),
-        Mark::Blank => Step::On(nesting),
-        Mark::Other => Step::On(Nesting {
-            depth,
-            is_agent: false,
-        }),
+#[derive(Clone, Copy, Debug, PartialEq, Eq)]
+pub(crate) enum Step {
+    /// The piece ends after so many octets of the line.
+    Ends(usize),
+    /// The piece goes on after the line.
+    GoesOn(Nesting),
+}
+
+/// Within one more card.
+fn deeper(nesting: Nesting) -> Nesting
+    requires { nesting.depth < 2 ^ 64 - 1 }
+    ensures { result ≡ deeper nesting }
+{
+    Nesting {
+        depth: nesting.depth + 1,
+        may_begin: false,
     }
+}
+
+/// Within one card less.
+fn shallower(nesting: Nesting) -> Nesting
+    ensures { result ≡ shallower nesting }
+{
+    Nesting {
+        depth: nesting.depth.saturating_sub(1),
+        may_begin: false,
+    }
+}
+
+/// Whether a card that begins after the line belongs to the one around it.
+fn is_before_agent(nesting: Nesting, line: &[u8]) -> bool
+    ensures { result ≡ is_before_agent nesting line.now }
+{
+    nesting.depth != 0 && (is_word_line(line, b"AGENT:") || (nesting.may_begin && are_white(line)))
+}
+
+/// After a line that neither begins nor ends a card.
+fn after_other(nesting: Nesting, line: &[u8]) -> Nesting
+    ensures { result ≡ after_other nesting line.now }
+{
+    Nesting {
+        depth: nesting.depth,
+        may_begin: is_before_agent(nesting, line),
+    }
+}
+
+/// What a line does to the piece in which it is.
+fn next_step(nesting: Nesting, line: &[u8]) -> Step
+    requires { nesting.depth < 2 ^ 64 - 1 }
+    ensures step { result ≡ next_step nesting line.now }
+
+    // What the loop over the lines needs: it ends within the piece, and after its first octet.
+    ensures within { (count : ℕ) → result ≡ Ends count → count ≤ length line.now }
+    ensures nonempty { nesting.may_begin ≡ true → 0 < length line.now
+        → (count : ℕ) → result ≡ Ends count → 0 < count }
+    ensures depth { (next : Nesting) → result ≡ GoesOn next → next.depth ≤ nesting.depth + 1 }
+{
+    if begins_card(line) {
+        if nesting.may_begin {
+            return Step::GoesOn(deeper(nesting));
+        }
+        return Step::Ends(0);
+    }
+    if is_word_line(line, b"AGENT:BEGIN:VCARD") {
+        return Step::GoesOn(deeper(nesting));
+    }
+    if is_word_line(line, b"END:VCARD") {
+        if nesting.depth == 1 {
+            return Step::Ends(line.len());
+        }
+        return Step::GoesOn(shallower(nesting));
+    }
+    if ends_and_begins(line) {
+        return Step::Ends(line.len() - after_end(line).len());
+    }
+    Step::GoesOn(after_other(nesting, line))
 }
 
 /// The length of the first piece.
 fn piece_len(octets: &[u8]) -> usize
     ensures within { result ≤ length octets.now }
     ensures nonempty { 0 < length octets.now → 0 < result }
+    ensures len { result ≡ piece_len outside (whole_lines octets.now) }
 {
     let mut nesting = Nesting {
         depth: 0,
-        is_agent: false,
+        may_begin: true,
     };
     let mut end = 0;
     while end < octets.len() {
-        let rest = &octets[end..];
+        let (_, rest) = octets.split_at(end);
         let len = line_len(rest);
-        let mark = mark_of(&rest[..len]);
-        if mark == Mark::Begin && nesting.depth == 0 && end > 0 {
-            return end;
-        }
-        match next_step(nesting, mark) {
-            Step::Before if end > 0 => return end,
-            Step::After => return end + len,
-            Step::On(next) => nesting = next,
-            Step::Before => {}
+        match next_step(nesting, &rest[..len]) {
+            Step::Ends(count) => return end + count,
+            Step::GoesOn(next) => nesting = next,
         }
         end += len;
     }
-    octets.len()
+    end
 }
 
 /// The first piece of a file, and the octets after it. A piece is a card, from its `BEGIN:VCARD` up
 /// to its `END:VCARD` (or up to the next card if it has none), with the cards of its AGENT lines;
-/// or it is what comes before the next card.
+/// or it is what comes before the next card. So two pieces are in one line where it ends a card and
+/// begins the next.
 pub fn split_piece(octets: &[u8]) -> (&[u8], &[u8])
+    // The piece goes up to the end of its card, or to where the next card begins.
+    ensures piece { result.0.now ≡ first_piece octets.now }
+
     // The piece and the octets after it are the octets.
     ensures whole { octets.now ≡ result.0.now ++ result.1.now }
 

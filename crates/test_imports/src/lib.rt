@@ -8,3 +8,5 @@ mod exported_rows;
 mod fault_lines;
 #[cfg(test)]
 mod tests;
+#[cfg(test)]
+mod texts;

@@ -1,10 +1,10 @@
 //! Texts and lines from outside this program: the examples of RFC 2045, RFC 2781 and RFC 6350, and
 //! cards as telephones write them, joined by hand.
-use crate::{
-    Folding, begins_with_word, count_lines, is_card, is_line, read_quoted_printable,
+use base_types::NoMemory;
+use import_text::{
+    Folding, begins_with_word, count_lines, is_card, is_word_line, read_quoted_printable,
     read_raw_lines, read_text, read_utf16, read_windows1252, split_piece,
 };
-use base_types::NoMemory;
 use std::alloc::Global;
 use std::test::Fail;
 
@@ -139,8 +139,28 @@ fn files_are_cut(rt: HostRuntime) -> Result<(), Fail> {
     assert_eq!(rt; blank, b"\n".as_slice());
     let (last, rest) = split_piece(rest);
     assert!(rt; is_card(last));
-    assert!(rt; is_line(last, b"BEGIN:VCARD"));
+    assert!(rt; is_word_line(last, b"BEGIN:VCARD"));
     assert!(rt; begins_with_word(last, b"Begin"));
+    assert!(rt; rest.is_empty());
+    Ok(())
+}
+
+/// Two files that were joined, of which the first has no line feed at its end: two cards are in one
+/// line, perhaps with a byte order mark or white space between them.
+#[test]
+fn joined_files_are_cut(rt: HostRuntime) -> Result<(), Fail> {
+    let file = b"BEGIN:VCARD\r\nFN:Ann\r\nEND:VCARDBEGIN:VCARD\r\nFN:Bob\r\n\
+        end:vcard \xEF\xBB\xBFBegin:vCard\nFN:Cy\nEND:VCARD";
+    let (first, rest) = split_piece(file);
+    assert_eq!(rt; first, b"BEGIN:VCARD\r\nFN:Ann\r\nEND:VCARD".as_slice());
+    let (second, rest) = split_piece(rest);
+    assert_eq!(rt; second, b"BEGIN:VCARD\r\nFN:Bob\r\nend:vcard ".as_slice());
+    let (third, rest) = split_piece(rest);
+    assert_eq!(rt;
+        third,
+        b"\xEF\xBB\xBFBegin:vCard\nFN:Cy\nEND:VCARD".as_slice()
+    );
+    assert!(rt; is_card(third));
     assert!(rt; rest.is_empty());
     Ok(())
 }
