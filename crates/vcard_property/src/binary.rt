@@ -66,6 +66,11 @@ fn media_type_of(name: &str, word: &str) -> Option<&'static str> {
     }
 }
 
+/// Whether the octets begin as those of WebP do (RFC 9649, section 2.3).
+fn is_webp(octets: &[u8]) -> bool {
+    octets.starts_with(b"RIFF") && octets.get(8..12) == Some(b"WEBP".as_slice())
+}
+
 /// The media type of an image by its first octets, if they are those of a known format.
 fn image_type(octets: &[u8]) -> Option<&'static str> {
     if octets.starts_with(b"\xFF\xD8\xFF") {
@@ -74,6 +79,8 @@ fn image_type(octets: &[u8]) -> Option<&'static str> {
         Some("image/png")
     } else if octets.starts_with(b"GIF8") {
         Some("image/gif")
+    } else if is_webp(octets) {
+        Some("image/webp")
     } else {
         None
     }

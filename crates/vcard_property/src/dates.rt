@@ -26,6 +26,14 @@ fn has_extended_date(text: &str) -> bool {
     }
 }
 
+/// Whether the text begins with a date in the basic form, as 19960415.
+pub(crate) fn has_basic_date(text: &str) -> bool {
+    match text.as_bytes() {
+        [a, b, c, d, e, f, g, h, ..] => are_digits(&[*a, *b, *c, *d, *e, *f, *g, *h]),
+        _ => false,
+    }
+}
+
 /// Whether the text is a date without a year in the extended form, as --04-15.
 fn is_extended_day(text: &str) -> bool {
     match text.as_bytes() {

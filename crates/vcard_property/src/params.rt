@@ -104,13 +104,22 @@ fn add_param(
     Ok(())
 }
 
-/// Adds VALUE. `URL` is the old word for `uri`, and `binary` says what the encoding says.
+/// Whether VALUE with the word says what vCard 4.0 takes for granted: that a property of dates has
+/// a date (RFC 6350, section 6.2.5), or what the encoding says.
+fn is_known_value_type(name: &str, word: &str) -> bool {
+    let is_date = matches!(name, "BDAY" | "ANNIVERSARY");
+    is_word(word, "BINARY")
+        || is_word(word, "INLINE")
+        || (is_date && (is_word(word, "DATE") || is_word(word, "DATE-TIME")))
+}
+
+/// Adds VALUE. `URL` is the old word for `uri`.
 fn add_value_type(alloc: Global, property: &mut Property, word: &str) -> Result<(), NoMemory> {
     if is_word(word, "URL") || is_word(word, "URI") {
         property.is_uri = true;
         return add_param(alloc, property, "VALUE", "uri");
     }
-    if is_word(word, "BINARY") || is_word(word, "INLINE") {
+    if is_known_value_type(property.name.as_str(), word) {
         return Ok(());
     }
     add_param(alloc, property, "VALUE", word)

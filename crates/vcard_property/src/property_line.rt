@@ -3,8 +3,10 @@
 use crate::binary::{data_uri, decoded_base64, is_format};
 use crate::dates::basic_date;
 use crate::escapes::{ValueForm, with_escapes};
+use crate::geo::geo_value;
 use crate::line_parts::{make_param, make_value};
 use crate::names::aside_name;
+use crate::omitted_year::omit_year;
 use crate::params::all_params;
 use crate::property::{Encoding, Property};
 use crate::version::Version;
@@ -73,14 +75,6 @@ fn form_of(name: &str, is_uri: bool, version: Version) -> ValueForm {
     }
 }
 
-/// The value of GEO as a URI (RFC 5870), if it is a latitude and a longitude.
-fn geo_value(alloc: Global, value: String) -> Result<String, NoMemory> {
-    match value.as_str().split_once(';') {
-        Some((latitude, longitude)) => Ok(format!(in alloc; "geo:{latitude},{longitude}")?),
-        None => Ok(value),
-    }
-}
-
 /// The value in the form of vCard 4.0.
 fn text_value(alloc: Global, property: &Property, version: Version) -> Result<String, NoMemory> {
     let name = property.name.as_str();
@@ -88,10 +82,15 @@ fn text_value(alloc: Global, property: &Property, version: Version) -> Result<St
     let form = form_of(name, property.is_uri, version);
     let value = with_escapes(alloc, decoded.as_str(), form)?;
     match name {
-        "GEO" => geo_value(alloc, value),
+        "GEO" => geo_value(alloc, value, version),
         "BDAY" | "ANNIVERSARY" | "REV" => basic_date(alloc, value.as_str()),
         _ => Ok(value),
     }
+}
+
+/// Whether the values of the name are dates.
+fn is_date_name(name: &str) -> bool {
+    matches!(name, "BDAY" | "ANNIVERSARY" | "X-ANNIVERSARY")
 }
 
 /// The name that vCard 4.0 has for the property.
@@ -152,9 +151,12 @@ fn line_with(
 
 /// The line of a text or a URI.
 fn text_or_uri_line(alloc: Global, property: Property, version: Version) -> Result<Line, NoMemory> {
+    let mut property = property;
+    if is_date_name(property.name.as_str()) {
+        omit_year(alloc, &mut property)?;
+    }
     let value = text_value(alloc, &property, version)?;
     let name = name_of(alloc, property.name.as_str(), property.is_uri)?;
-    let mut property = property;
     if property.name.as_str() == "AGENT" && property.is_uri {
         property.types.push(make_value(alloc, "agent", false)?)?;
     }

@@ -1,0 +1,60 @@
+//! Dates without a year, as iOS writes them in vCard 3.0: the year is 1604 or any other, and the
+//! parameter `X-APPLE-OMIT-YEAR` says which.
+
+use crate::dates::{basic_date, has_basic_date};
+use crate::property::Property;
+use std::alloc::Global;
+use std::mem;
+use vcard_text::{Items, NoMemory, Param, Text};
+
+/// Whether the parameter gives the year that is none.
+fn is_omitted_year(param: &Param) -> bool {
+    param
+        .name
+        .as_str()
+        .eq_ignore_ascii_case("X-APPLE-OMIT-YEAR")
+}
+
+/// The year that is none, if a parameter gives it.
+fn omitted_year(params: &[Param]) -> Option<&str> {
+    let param = params.iter().find(|param| is_omitted_year(*param))?;
+    let value = param.values.as_slice().first()?;
+    Some(value.text.as_str())
+}
+
+/// The date without its year (RFC 6350, section 4.3.1), if it has that year.
+fn date_without_year(alloc: Global, value: &str, year: &str) -> Result<Option<Text>, NoMemory> {
+    let date = basic_date(alloc, value)?;
+    if year.len() != 4 || !has_basic_date(date.as_str()) {
+        return Ok(None);
+    }
+    match date.as_str().strip_prefix(year) {
+        Some(day) => Ok(Some(Text::new(format!(in alloc; "--{day}")?))),
+        None => Ok(None),
+    }
+}
+
+/// The parameters without the one that gives the year.
+fn without_omitted_year(alloc: Global, params: Items<Param>) -> Result<Items<Param>, NoMemory> {
+    let mut others = Items::new(alloc);
+    for param in params.into_vec() {
+        if !is_omitted_year(&param) {
+            others.push(param)?;
+        }
+    }
+    Ok(others)
+}
+
+/// Omits the year of a date if a parameter says that it is none, and then the parameter.
+pub(crate) fn omit_year(alloc: Global, property: &mut Property) -> Result<(), NoMemory> {
+    let Some(year) = omitted_year(property.params.as_slice()) else {
+        return Ok(());
+    };
+    let Some(value) = date_without_year(alloc, property.value.as_str(), year)? else {
+        return Ok(());
+    };
+    property.value = value;
+    let params = mem::replace(&mut property.params, Items::new(alloc));
+    property.params = without_omitted_year(alloc, params)?;
+    Ok(())
+}
