@@ -1,21 +1,23 @@
 -- Proper lines: one that a text spells, one with another name, and one without group and parameters.
-use Rattle.std.proofs.Common.{◌≡◌, ℕ, Bool, true, List, [], ◌∷◌, ◌++◌, length, take, codes, IsUtf8, IsCharBoundary, Option, Some, None, sym, ap, subst, ◌∙◌, refl, arith, drop_at, lit<}
-use Rattle.std.specs.Prelude.{IfSome}
+use Rattle.std.proofs.Common.{◌≡◌, ℕ, Bool, true, List, [], ◌∷◌, ◌++◌, length, take, drop, codes, IsUtf8, IsCharBoundary, Option, Some, None, sym, ap, subst, ◌∙◌, refl, arith, drop_at, lit<}
+use Rattle.std.specs.Prelude.{IfSome, IsTrue, ◌↔◌, ◌&&◌, not}
 use Rattle.std.specs.Char.{to_ascii_uppercase}
 use Rattle.std.specs.List.{list_all}
 use Rattle.std.specs.Str.{IsAscii, str_to_ascii_uppercase}
 use Rattle.std.proofs.lemmas.List.{length-append, take_at}
+use Rattle.std.proofs.lemmas.Bool.{and_parts}
 use Rattle.std.proofs.lemmas.Bool.Decides.{nat_tests}
 use Rattle.std.proofs.lemmas.Str.{IsUtf8-from_ascii, IsUtf8-append, IsAscii-append, IsUtf8-drop, IsCharBoundary-from_take}
 use Rattle.std.proofs.lemmas.Str.Ascii.{IsAscii-nil, IsAscii-cons}
 use Rattle.vcard_lines.specs.declared.line.Line.{Line}
 use Rattle.vcard_lines.specs.Grammar.{is_name_octet, is_permitted, AllInClass, IsName, group_text, params_text, line_text, SpellsLine}
 use Rattle.vcard_lines.specs.LegalParts.{has_legal_parts}
-use Rattle.vcard_lines.proofs.FrontLemmas.{name_is_ascii, of_class}
-use Rattle.vcard_lines.proofs.LegalPartLemmas.{legal_from_test}
+use Rattle.base_types.specs.Octets.{is_lower}
+use Rattle.vcard_lines.proofs.FrontLemmas.{name_is_ascii, of_class, all_of_class}
+use Rattle.vcard_lines.proofs.LegalPartLemmas.{legal_from_test, legal_to_test}
 use Rattle.vcard_text.specs.Cards.{IsProperLine}
-use Rattle.vcard_text.specs.Making.{upper_line}
 use Rattle.vcard_property.specs.Lines.{plain_line, aside_line}
+use Rattle.vcard_property.specs.internal.ProperTests.{has_upper_name, has_proper_parts}
 
 -- ---- upper case
 
@@ -101,22 +103,54 @@ spelled_is_proper text line u l =
       utf8 = subst (λ n. IsUtf8 (group ++ (n ++ rest))) (sym h.name) (other_text line.group h.name_written upper rest h.group h.is_name name (subst IsUtf8 h.text_is u));
     }
 
--- a line whose parts and characters were tested
-by_tests : (line : Line) → has_legal_parts (upper_line line) ≡ true → list_all is_permitted (line_text (upper_line line)) ≡ true → IsUtf8 (line_text (upper_line line)) → IsProperLine (upper_line line)
-by_tests line parts permitted utf8 =
-    let legal = legal_from_test (upper_line line) parts in
+-- a name in upper case, by test and by the grammar
+upper_from_test : (w : List ℕ) → list_all (λ octet. not (is_lower octet)) w ≡ true → w ≡ str_to_ascii_uppercase w
+upper_from_test [] e = refl
+upper_from_test (b ∷ w) e =
+    let p = and_parts (not (is_lower b)) (list_all (λ octet. not (is_lower octet)) w) e in
+    same_cons b (to_ascii_uppercase b) w (str_to_ascii_uppercase w) (stays b p.0) (upper_from_test w p.1)
+  where
+    stays : (b : ℕ) → not (is_lower b) ≡ true → b ≡ to_ascii_uppercase b
+    stays b e = grind (arith, nat_tests, e)
+
+    same_cons : (a b : ℕ) (v w : List ℕ) → a ≡ b → v ≡ w → a ∷ v ≡ b ∷ w
+    same_cons a b v w p q = cc
+
+upper_to_test : (w : List ℕ) → w ≡ str_to_ascii_uppercase w → list_all (λ octet. not (is_lower octet)) w ≡ true
+upper_to_test [] e = refl
+upper_to_test (b ∷ w) e =
+    rw (is_none b (ap (head_or 0) e), upper_to_test w (ap (drop 1) e)) refl
+  where
+    is_none : (b : ℕ) → b ≡ to_ascii_uppercase b → not (is_lower b) ≡ true
+    is_none b e = grind (arith, nat_tests, e)
+
+    head_or : ℕ → List ℕ → ℕ
+    head_or d [] = d
+    head_or d (b ∷ w) = b
+
+-- a line that passes the tests
+passed_is_proper : (line : Line) → has_proper_parts line ≡ true → list_all is_permitted (line_text line) ≡ true → IsUtf8 (line_text line) → IsProperLine line
+passed_is_proper line parts permitted utf8 =
+    let p = and_parts (has_upper_name line) (has_legal_parts line) parts in
+    let legal = legal_from_test line p.1 in
     record {
-      upper = uppers_stay line.name;
+      upper = upper_from_test line.name p.0;
       name = legal.name;
       group = legal.group;
       params = legal.params;
-      permitted = of_class is_permitted (line_text (upper_line line)) permitted;
+      permitted = of_class is_permitted (line_text line) permitted;
       utf8 = utf8;
     }
 
-pub tested_is_proper : (other line : Line) → line ≡ upper_line other → has_legal_parts line ≡ true → list_all is_permitted (line_text line) ≡ true → IsUtf8 (line_text line) → IsProperLine line
-tested_is_proper other line is parts permitted utf8 =
-    subst IsProperLine (sym is) (by_tests other (subst (λ l. has_legal_parts l ≡ true) is parts) (subst (λ l. list_all is_permitted (line_text l) ≡ true) is permitted) (subst (λ l. IsUtf8 (line_text l)) is utf8))
+proper_passes : (line : Line) → IsProperLine line → (list_all is_permitted (line_text line) && has_proper_parts line) ≡ true
+proper_passes line p =
+    rw (all_of_class is_permitted (line_text line) p.permitted, upper_to_test line.name p.upper, legal_to_test line (record { name = p.name; group = p.group; params = p.params })) refl
+
+pub tests_are_exact : (line : Line) (permitted parts : Bool) → permitted ≡ list_all is_permitted (line_text line) → parts ≡ has_proper_parts line → IsUtf8 (line_text line) → IsTrue (permitted && parts) ↔ IsProperLine line
+tests_are_exact line permitted parts e f utf8 = (
+  λ t. let p = and_parts permitted parts t in passed_is_proper line (sym f ∙ p.1) (sym e ∙ p.0) utf8,
+  λ proper. rw (e, f) (proper_passes line proper),
+)
 
 aside_is_name : (name : List ℕ) → IsName name → IsName (codes "X-" ++ name)
 aside_is_name name n = record { nonempty = omega arith; of_class = of-append is_name_octet (codes "X-") name (refl, (refl, tt)) n.of_class }

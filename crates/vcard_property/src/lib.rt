@@ -23,6 +23,6 @@ mod version;
 pub use change_kind::ChangeKind;
 pub use conversion::convert_line;
 pub use kept_texts::{text_line, text_value};
-pub use proper_line::{aside_line, plain_line};
+pub use proper_line::{aside_line, is_proper_line, plain_line, with_upper_name};
 pub use same_line::{are_line, read_uid_line};
 pub use version::Version;

@@ -1,11 +1,12 @@
 //! Lines that are proper by themselves: their names are in upper case, and their parts match the
 //! grammar (RFC 6350, section 3.3).
-ghost use Rattle.std.specs.Prelude.{◌≡◌, IfOk, IfSome, string_bytes};
+ghost use Rattle.std.specs.Prelude.{◌≡◌, ◌↔◌, IfOk, IfSome, IsTrue, string_bytes};
 ghost use Rattle.std.specs.Str.{str_to_ascii_uppercase};
 ghost use Rattle.vcard_lines.specs.Grammar.{AllInClass, IsName, is_permitted};
 ghost use Rattle.vcard_text.specs.Cards.{IsProperLine};
 ghost use Rattle.vcard_text.specs.Making.{upper_line};
 ghost use Rattle.vcard_property.specs.Lines.{plain_line, aside_line};
+ghost use Rattle.vcard_property.specs.internal.ProperTests.{has_proper_parts, has_upper_name};
 
 use crate::names::aside_name;
 use std::alloc::Global;
@@ -13,7 +14,7 @@ use vcard_lines::{has_legal_parts, is_permitted_text, write_line};
 use vcard_text::{Items, Line, NoMemory, Text};
 
 /// The line with its name in upper case. Allocates nothing.
-fn with_upper_name(line: Line) -> Line
+pub fn with_upper_name(line: Line) -> Line
     ensures { result ≡ upper_line line }
 {
     let Line {
@@ -32,15 +33,44 @@ fn with_upper_name(line: Line) -> Line
     }
 }
 
+/// Whether the name has no letter in lower case.
+fn has_upper_name(line: &Line) -> bool
+    ensures { result ≡ has_upper_name line.now }
+{
+    line.name
+        .as_str()
+        .as_bytes()
+        .iter()
+        .all(|octet| !matches!(*octet, b'a'..=b'z'))
+}
+
+/// Whether the name is in upper case, and the parts match the grammar.
+fn has_proper_parts(line: &Line) -> bool
+    ensures { result ≡ has_proper_parts line.now }
+{
+    has_upper_name(line) && has_legal_parts(line)
+}
+
+/// Whether the line is proper: its name is in upper case, its group, name and parameters match the
+/// grammar, and it has no control character but the tab. The only `Err` is out of memory.
+pub fn is_proper_line(alloc: Global, line: &Line) -> Result<bool, NoMemory>
+    ensures { IfOk result (λ proper. IsTrue proper ↔ IsProperLine line.now) }
+{
+    let mut text = String::new(alloc);
+    write_line(&mut text, line)?;
+    if !is_permitted_text(text.as_str()) {
+        return Ok(false);
+    }
+    Ok(has_proper_parts(line))
+}
+
 /// The line with its name in upper case, if it is then a proper one. The only `Err` is out of
 /// memory.
 pub(crate) fn proper_line(alloc: Global, line: Line) -> Result<Option<Line>, NoMemory>
     ensures { IfOk result (λ proper. IfSome proper IsProperLine) }
 {
     let line = with_upper_name(line);
-    let mut text = String::new(alloc);
-    write_line(&mut text, &line)?;
-    if is_permitted_text(text.as_str()) && has_legal_parts(&line) {
+    if is_proper_line(alloc, &line)? {
         return Ok(Some(line));
     }
     Ok(None)
