@@ -26,6 +26,7 @@ ghost use Rattle.book_model.specs.Books.{Book};
 ghost use Rattle.store_lookups.specs.OnConnections.{
   ChangeFaultsFromOutside,
   HasOutsideCauseOfFault,
+  KeepsCounts,
   WriteFaultsFromOutside,
 };
 ghost use Rattle.store_tables.specs.Acceptance.{IsShort};
@@ -47,9 +48,11 @@ ghost use Rattle.store_writes.specs.OnConnections.{
   with_book_after,
 };
 ghost use Rattle.std.specs.FinMap as finite;
-ghost use Rattle.std.specs.Prelude.{◌≡◌, ◌+◌, ◌<◌, ◌^◌, IfErr, IfOk, List, OnOk, false, length, ℕ};
+ghost use Rattle.std.specs.Prelude.{◌≡◌, ◌+◌, ◌<◌, ◌^◌, IfErr, IfOk, List, OnErr, OnOk, false};
+ghost use Rattle.std.specs.Prelude.{length, ℕ};
 
 use crate::import_plan::{ImportDecision, PlannedCard, plan_import};
+use book_counts::TombstoneCounts;
 use book_model::{Denied, ImportTally, Limits, StoreReason};
 use sqlite::{Alter, Connection, Transaction};
 use std::alloc::Global;
@@ -59,6 +62,7 @@ use store_tables::imports::insert_import;
 use store_tables::members::put_with_hint;
 use store_tables::settled::assert_no_pending_writes;
 use store_writes::columns::{columns_of, text_of_card};
+use store_writes::counting::count_replaced;
 use vcard_text::Card;
 
 /// Writes the card as the next change of the book and returns the header after it. The book's own
@@ -92,7 +96,7 @@ fn write_next_card<S: Alter>(
     let text = text_of_card(alloc, stored.card)?;
     let id = column_of(header.id())?;
     let changed = column_of(header.number() + 1)?;
-    let likely_new = stored.why == StoreReason::Import;
+    let likely_new = stored.why == StoreReason::Import && !stored.over_tombstone;
     match put_with_hint(
         tx,
         id,
@@ -269,13 +273,15 @@ fn commit_import<S: Alter>(
 
 /// Imports the cards, which have distinct UIDs, into the named book, and keeps the answer under the
 /// key. If the book already keeps an answer under the key, returns that one and changes nothing.
-/// The connection must be outside a transaction.
+/// The connection must be outside a transaction. `counts` are the numbers of tombstones that the
+/// store keeps of its books; each card that takes the place of a tombstone lowers its book's.
 ///
 /// Refused, in this order, with `NoSuchBook`; `BadKey`; and if no answer is kept under the key,
 /// `BookFull`; `ChangesSpent`.
 pub fn import_in_book<S: Alter>(
     alloc: Global,
     conn: &mut Connection<S>,
+    counts: &mut TombstoneCounts,
     limits: Limits,
     name: &str,
     key: &str,
@@ -285,6 +291,8 @@ pub fn import_in_book<S: Alter>(
     requires distinct { HaveDistinctUids cards.now }
     ensures changes { AppliesStep S.Store conn.old conn.new result
         (λ books. import_step limits books name.now key.now cards.now) }
+    ensures counts { KeepsCounts S.Store conn.old conn.new counts.old counts.new }
+    ensures same_counts_on_err { OnErr result (counts.new ≡ counts.old) }
     ensures store_fault { ChangeFaultsFromOutside S.Store conn.old conn.new result }
     ensures crash { CommitsOnce S.Store conn.old conn.new
         (λ books. import_step limits books name.now key.now cards.now) }
@@ -296,5 +304,6 @@ pub fn import_in_book<S: Alter>(
         ImportDecision::New(plan, tally) => (plan, tally),
     };
     commit_import(alloc, conn, header, key, plan.stored.as_slice(), tally)?;
+    count_replaced(counts, name, plan.replaced);
     Ok(tally)
 }

@@ -1,7 +1,7 @@
 -- An import over tables: its plan, computed card by card before anything is written, and its
 -- writes. This project's own.
 use Rattle.std.specs.Prelude.{◌≡◌, IsTrue, ◌+◌, ◌<◌, ◌^◌, ⊤, true, ℕ, pos, List, [], ◌∷◌, ◌++◌, map}
-use Rattle.std.specs.Prelude.{fold, length, Option, None, Result, Ok, Err}
+use Rattle.std.specs.Prelude.{fold, length, count_by, Option, None, Result, Ok, Err}
 use Rattle.std.specs.FinMap as finite
 use Rattle.vcard_lines.specs.declared.line.Line.{Line}
 use Rattle.vcard_text.specs.Cards.{uid_of}
@@ -11,7 +11,9 @@ use Rattle.book_model.specs.declared.counts.Counts.{Counts}
 use Rattle.book_model.specs.declared.denied.Denied.{Denied}
 use Rattle.book_model.specs.declared.denied.Denied.TheVariants.{Refused, Fault}
 use Rattle.book_model.specs.declared.refusal.Refusal.{Refusal}
+use Rattle.book_counts.specs.Counts.{is_tombstone_at}
 use Rattle.book_model.specs.Bounds.{Bounds}
+use Rattle.book_model.specs.BookQueries.{tombstone_count}
 use Rattle.book_model.specs.Books.{Book, Books, live_at}
 use Rattle.book_model.specs.Importing.{Importing, import_cards, import_with_reason, import_reason}
 use Rattle.book_model.specs.Importing.{import_state, import_step, is_legal_key, book_after_store}
@@ -79,6 +81,23 @@ book_with_stored book stored = fold book_with_pair book (map planned_pair stored
 abbrev pub book_with_import : Book → List PlannedCard → List ℕ → ImportTally → Book
 book_with_import book stored key tally =
     book_with_kept_import (book_with_stored book stored) key tally
+
+-- ---- the tombstones that the cards replace
+
+-- the number of cards whose UID has a tombstone in the book
+abbrev pub replaced_count : Book → List (List Line) → ℕ
+replaced_count book cards = count_by (λ card. is_tombstone_at book (uid_of card)) cards
+
+-- the book has fewer tombstones after the import, by the number that the plan replaces
+abbrev pub ReplacesTombstones : Book → ImportPlan → Type 0
+ReplacesTombstones book plan =
+    tombstone_count (book_with_stored book plan.stored.items) + plan.replaced
+    ≡ tombstone_count book
+
+-- the same if the decision is a plan
+abbrev pub ReplacesFor : Book → ImportDecision → Type 0
+ReplacesFor book (Kept tally) = ⊤
+ReplacesFor book (New plan tally) = ReplacesTombstones book plan
 
 -- ---- the plan against the model
 

@@ -45,6 +45,10 @@ pub returns-clause-reads_only : goal.returns-clause-reads_only
 returns-clause-reads_only g c =
     reads_then (state g.S.Store c.args.conn.now) (state g.S.Store c.find_import_key.new.conn) (state g.S.Store c.plan_new_import.new.conn) c.find_import_key.ensures.reads_only c.in_ok-header.ensures.unchanged c.plan_new_import.ensures.reads_only
 
+pub returns-clause-replaced : goal.returns-clause-replaced
+returns-clause-replaced g c rows clean holds sound =
+    over_then (state g.S.Store c.args.conn.now) (state g.S.Store c.find_import_key.new.conn) (state g.S.Store c.plan_new_import.new.conn) _ _ c.in_ok-header.ensures.unchanged c.plan_new_import.ensures.reads_only.survives c.in_ok-plan.ensures.replaced rows clean holds sound c.args.name.now
+
 -- ---- faults
 
 pub returns-in_err-header-clause-store_fault : goal.returns-in_err-header-clause-store_fault

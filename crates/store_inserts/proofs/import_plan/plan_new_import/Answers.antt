@@ -1,7 +1,11 @@
-use Rattle.std.proofs.Common.{rules, ◌≡◌, Err, sym, subst, arith, length, ◌<◌, ◌^◌}
+use Rattle.std.proofs.Common.{rules, ◌≡◌, Err, sym, ap, subst, arith, length, ◌<◌, ◌^◌}
+use Rattle.book_model.specs.BookQueries.{tombstone_count}
+use Rattle.book_model.specs.Books.{live_at}
+use Rattle.book_model.specs.Importing.{book_after_store, import_cards}
 use Rattle.store_lookups.proofs.StoreFaultLemmas.{passed_cause}
 use Rattle.store_rows.specs.TableBooks.{row_book, line_row}
-use Rattle.store_inserts.specs.internal.Importing.{IsBookImportPlanned, model_plan}
+use Rattle.store_inserts.specs.internal.Importing.{IsBookImportPlanned, book_with_stored, model_plan}
+use Rattle.store_inserts.proofs.TombstoneLemmas.{import_replaces}
 use Rattle.store_inserts.proofs.ImportLemmas.{planned_book, planned_tally, refused_tally, tally_is_exact}
 use Rattle.store_inserts.proofs.import_plan.plan_new_import.Goals as goal
 
@@ -22,6 +26,17 @@ returns-clause-planned g c rows clean holds sound name =
       planned_book c.args.limits book c.args.cards.now c.requires.distinct (model_plan plan) is,
       tally_is_exact _ _ c.in_ok-tally.tally (planned_tally c.args.limits book c.args.cards.now c.requires.distinct (model_plan plan) is) c.in_ok-tally.ensures.tally,
     )
+
+pub returns-clause-replaced : goal.returns-clause-replaced
+returns-clause-replaced g c rows clean holds sound name =
+    let book = row_book rows (line_row name c.args.header) in
+    let plan = c.in_ok-plan.plan in
+    let cards = c.args.cards.now in
+    let is = c.in_ok-plan.ensures.planned rows clean holds sound name in
+    let count = c.in_ok-plan.ensures.replaced rows clean holds sound name in
+    let all = import_replaces book cards c.requires.distinct in
+    let same : tombstone_count (import_cards live_at book_after_store book cards).book ≡ tombstone_count (book_with_stored book plan.stored.items) = ap tombstone_count (planned_book c.args.limits book cards c.requires.distinct (model_plan plan) is) in
+    omega (arith, count, all, same)
 
 pub returns-clause-numbers_fit : goal.returns-clause-numbers_fit
 returns-clause-numbers_fit g c =

@@ -23,10 +23,11 @@ use Rattle.store_rows.specs.TableRows.{TableRows, HoldsRows}
 use Rattle.store_rows.proofs.HeldRows.{books_held}
 use Rattle.store_lookups.specs.CallResults.{GivenSoundRows}
 use Rattle.store_writes.specs.TableChanges.{AppliesStep, CommitsOnce, HasBookRow, HoldsBooks, IsAtomic, TreesHold}
-use Rattle.store_inserts.specs.internal.Importing.{IsImportPlanned, book_with_import}
-use Rattle.store_lookups.specs.StoredBooks.{stored_books}
+use Rattle.store_inserts.specs.internal.Importing.{IsImportPlanned, ReplacesFor, ReplacesTombstones, book_with_import}
+use Rattle.book_counts.specs.Counts.{AreCountsOf, CountsByName}
+use Rattle.store_lookups.specs.StoredBooks.{KeepsCounts, stored_books}
 use Rattle.store_inserts.specs.declared.import_plan.ImportDecision.TheVariants.{Kept, New}
-use Rattle.store_writes.proofs.CallLemmas.{fault_does, reads_changes, wrote_changes, wrote_commits}
+use Rattle.store_writes.proofs.CallLemmas.{failed_counts, fault_does, read_counts, reads_changes, wrote_changes, wrote_commits, wrote_counts}
 use Rattle.store_inserts.proofs.ImportLemmas.{answered_does, answered_holds, line_of, refused_does}
 use Rattle.store_inserts.proofs.importing.import_in_book.Given as given
 use Rattle.store_inserts.proofs.importing.import_in_book.Goals as goal
@@ -76,6 +77,24 @@ module _ (g : given.Over) (c : After-commit_import g) where
       wrote_changes made (step g planning) (old g planning) (mid g planning) new r
       c.in_ok-header.ensures.unchanged c.plan_import.ensures.reads_only planned found c.commit_import.ensures.survives
       c.commit_import.ensures.settled c.in_ok-header.ensures.was_open atomic (λ rows a h. h.sound) matches_step
+
+  abbrev replaces : TableRows → Type 0
+  replaces rows = planned rows × ReplacesTombstones (row_book rows (line_row c.args.name.now c.in_ok-header.header)) c.in-New.plan
+
+  found_replaces : GivenSoundRows (old g planning) (mid g planning) replaces
+  found_replaces rows clean holds sound =
+      let order : c.in_ok-header.order ≡ New c.in-New.plan c.in-New.tally = search rules in (
+        found rows clean holds sound,
+        subst (λ o. ReplacesFor (row_book rows (line_row c.args.name.now c.in_ok-header.header)) o) order (c.in_ok-header.ensures.replaced rows clean holds sound),
+      )
+
+  counts : (r : Result ImportTally Denied) (after : CountsByName) → ((rows : TableRows) → HasCleanDisk new → HoldsRows (mid g planning).now rows → AreSoundRows rows → planned rows → IsAtomic (mid g planning) new r (made rows))
+      → ((rows : TableRows) → replaces rows → IsAtomic (old g planning) new r (made rows) → IsTrue new.is_open → AreCountsOf c.args.counts.now (stored_books (old g planning)) → stored_books (old g planning) ≡ books_of rows → AreCountsOf after (stored_books new))
+      → KeepsCounts (old g planning) new c.args.counts.now after
+  counts r after atomic right =
+      wrote_counts made (step g planning) (old g planning) (mid g planning) new r
+      c.in_ok-header.ensures.unchanged c.plan_import.ensures.reads_only replaces found_replaces c.commit_import.ensures.survives
+      (λ rows clean holds sound h. atomic rows clean holds sound h.0) c.args.counts.now after right
 
   crash : CommitsOnce (old g planning) new (step g planning)
   crash =
@@ -157,3 +176,31 @@ returns-in_err-commit_import-clause-store_fault g c rows clean holds accept free
     passed_cause c.from_residual-in_err-commit_import.result c.in_err-commit_import.field-0.0 _ c.from_residual-in_err-commit_import.ensures.1
     (λ store. outside_later before between (new g p) _ _ c.plan_import.ensures.reads_only.survives early c.commit_import.ensures.survives
     (c.in_err-commit_import.ensures.store_fault fits.0 (rw c.as_slice.ensures.value fits.1) rows name clean ready store))
+
+-- ---- the numbers of tombstones
+
+pub returns-in_err-header-clause-counts : goal.returns-in_err-header-clause-counts
+returns-in_err-header-clause-counts g c =
+    let p = (goal.at.returns-in_err-header-clause-counts g c).After-plan_import in
+    read_counts (old g p) (mid g p) c.args.counts.now c.plan_import.ensures.reads_only
+
+pub returns-in-Kept-clause-counts : goal.returns-in-Kept-clause-counts
+returns-in-Kept-clause-counts g c =
+    let p = (goal.at.returns-in-Kept-clause-counts g c).After-plan_import in
+    read_counts (old g p) (mid g p) c.args.counts.now c.plan_import.ensures.reads_only
+
+pub returns-in_err-commit_import-clause-counts : goal.returns-in_err-commit_import-clause-counts
+returns-in_err-commit_import-clause-counts g c =
+    let p = (goal.at.returns-in_err-commit_import-clause-counts g c).After-commit_import in
+    counts g p (Err c.in_err-commit_import.field-0.0) c.args.counts.now (λ rows clean holds sound h. c.in_err-commit_import.ensures.atomic rows c.args.name.now clean (line g p rows holds sound h) h.1)
+    (λ rows h done up right same. failed_counts {A = ImportTally} (made g p rows) (old g (planning g p)) (new g p) c.in_err-commit_import.field-0.0 c.args.counts.now done up right)
+
+pub returns-clause-counts : goal.returns-clause-counts
+returns-clause-counts g c =
+    let p = (goal.at.returns-clause-counts g c).After-commit_import in
+    let after = c.count_replaced.new.counts in
+    counts g p (Ok c.in-New.tally) after (λ rows clean holds sound h. rw c.as_slice.ensures.value at (c.in_ok-commit_import.ensures.atomic rows c.args.name.now clean (line g p rows holds sound h) h.1))
+    (λ rows h done up right same.
+    let book = row_book rows (line_row c.args.name.now c.in_ok-header.header) in
+    subst (λ (b : Books). AreCountsOf after b) (sym done.0.books_are)
+    (c.count_replaced.ensures (books_of rows) book (book_with_import book c.in-New.plan.stored.items c.args.key.now c.in-New.tally) (subst (λ (b : Books). AreCountsOf c.args.counts.now b) same right) h.0.0.book h.1))
