@@ -38,7 +38,7 @@ use store_writes::lookups::{check_open, open_header};
 use vcard_text::{Card, NoMemory};
 
 /// A card that the import stores, and why. `over_tombstone` says whether it takes the place of a
-/// tombstone; the write of its row is faster by it, and has the same effect.
+/// tombstone. It only decides which statement is tried first.
 #[derive(Clone, Copy)]
 pub(crate) struct PlannedCard<'a> {
     pub(crate) card: &'a Card,

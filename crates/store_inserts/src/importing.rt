@@ -29,14 +29,22 @@ ghost use Rattle.store_lookups.specs.OnConnections.{
   KeepsCounts,
   WriteFaultsFromOutside,
 };
-ghost use Rattle.store_tables.specs.Acceptance.{IsShort};
+ghost use Rattle.store_tables.specs.Acceptance.{AcceptsMember, HasFreeIds, IsShort};
+ghost use Rattle.store_tables.specs.Books.{BookRow};
 ghost use Rattle.store_tables.specs.OnConnections.{
   CountsFaults,
+  GivenMembersTx,
+  HasBooks,
   HasCleanDisk,
   HoldsInTx,
   KeepsCommit,
+  ObeyTables,
+  PutsRow,
   Survives,
   SurvivesAsBefore,
+  WriteFailsFromOutside,
+  WritesOnly,
+  table_rows,
 };
 ghost use Rattle.store_writes.specs.OnConnections.{
   AppliesStep,
@@ -49,21 +57,59 @@ ghost use Rattle.store_writes.specs.OnConnections.{
 };
 ghost use Rattle.std.specs.FinMap as finite;
 ghost use Rattle.std.specs.Prelude.{◌≡◌, ◌+◌, ◌<◌, ◌^◌, IfErr, IfOk, List, OnErr, OnOk, false};
-ghost use Rattle.std.specs.Prelude.{length, ℕ};
+ghost use Rattle.std.specs.Prelude.{length, option_copied, ℕ};
 
 use crate::import_plan::{ImportDecision, PlannedCard, plan_import};
 use book_counts::TombstoneCounts;
 use book_model::{Denied, ImportTally, Limits, StoreReason};
-use sqlite::{Alter, Connection, Transaction};
+use sqlite::{Alter, Connection, Error, Transaction};
 use std::alloc::Global;
 use store_lookups::{BookHeader, column_of, fault_of};
 use store_tables::books::renumber_book;
 use store_tables::imports::insert_import;
-use store_tables::members::put_with_hint;
+use store_tables::members::{put_with_hint, update_or_put};
 use store_tables::settled::assert_no_pending_writes;
 use store_writes::columns::{columns_of, text_of_card};
 use store_writes::counting::count_replaced;
 use vcard_text::Card;
+
+/// Puts the member as [`update_or_put`] does. If it is likely new, an INSERT is tried first.
+fn put_planned<S: Alter>(
+    tx: &mut Transaction<'_, S>,
+    book: i64,
+    uid: &str,
+    changed: i64,
+    card: Option<&str>,
+    likely_new: bool,
+) -> Result<(), Error>
+    ensures same_reference { tx.new.conn.ghost_name ≡ tx.old.conn.ghost_name }
+    ensures puts { GivenMembersTx S.Store tx.old.conn.now tx.new.conn.now
+        (λ ms. OnOk result
+        (PutsRow S.Store tx.new.conn.now book uid.now changed (option_copied card.entry) ms)) }
+    ensures writes { GivenMembersTx S.Store tx.old.conn.now tx.new.conn.now
+        (λ _. OnOk result (WritesOnly S.Store tx.old.conn.now tx.new.conn.now 4)) }
+    ensures obeys { GivenMembersTx S.Store tx.old.conn.now tx.new.conn.now
+        (λ _. OnOk result (ObeyTables S.Store tx.new.conn.now)) }
+    ensures takes_one_id { GivenMembersTx S.Store tx.old.conn.now tx.new.conn.now
+        (λ _. (count : ℕ) → HasFreeIds (count + 1) (table_rows S.Store tx.old.conn.now 4)
+        → OnOk result (HasFreeIds count (table_rows S.Store tx.new.conn.now 4))) }
+    ensures keeps_commit { GivenMembersTx S.Store tx.old.conn.now tx.new.conn.now
+        (λ _. KeepsCommit S.Store tx.old.conn.now tx.new.conn.now) }
+    ensures survives { SurvivesAsBefore S.Store tx.old.conn.now tx.new.conn.now }
+    ensures fails_from_outside { GivenMembersTx S.Store tx.old.conn.now tx.new.conn.now
+        (λ ms. (bs : List BookRow) → HasBooks S.Store tx.old.conn.now bs
+        → HasFreeIds 1 (table_rows S.Store tx.old.conn.now 4)
+        → AcceptsMember bs ms book uid.now changed (option_copied card.entry)
+        → WriteFailsFromOutside S.Store tx.old.conn.now tx.new.conn.now result) }
+{
+    if !likely_new {
+        return update_or_put(tx, book, uid, changed, card);
+    }
+    match put_with_hint(tx, book, uid, changed, card, likely_new) {
+        Ok(_) => Ok(()),
+        Err(error) => Err(error),
+    }
+}
 
 /// Writes the card as the next change of the book and returns the header after it. The book's own
 /// row is written later, by `write_book_row`.
@@ -97,7 +143,7 @@ fn write_next_card<S: Alter>(
     let id = column_of(header.id())?;
     let changed = column_of(header.number() + 1)?;
     let likely_new = stored.why == StoreReason::Import && !stored.over_tombstone;
-    match put_with_hint(
+    match put_planned(
         tx,
         id,
         stored.card.uid(),
@@ -105,7 +151,7 @@ fn write_next_card<S: Alter>(
         Some(text.as_str()),
         likely_new,
     ) {
-        Ok(_) => Ok(header.after_storing(stored.why)),
+        Ok(()) => Ok(header.after_storing(stored.why)),
         Err(error) => Err(fault_of(error)),
     }
 }

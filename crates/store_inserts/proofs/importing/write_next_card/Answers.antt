@@ -21,7 +21,7 @@ returns-in-Ok-clause-next_header g c = c.after_storing.ensures c.args.stored.car
 pub returns-in-Ok-clause-book_after : goal.returns-in-Ok-clause-book_after
 returns-in-Ok-clause-book_after g c rows name book clean inside wrote =
     let old = state g.S.Store c.args.tx.now.conn.now in
-    let new = state g.S.Store c.put_with_hint.new.tx.conn.now in
+    let new = state g.S.Store c.put_planned.new.tx.conn.now in
     let header = c.args.header in
     let change = Stores c.args.stored.card.now c.args.stored.why in
     let text = option_copied (Some c.as_str.result) in
@@ -40,7 +40,7 @@ returns-in-Ok-clause-obeys g c rows name book clean inside wrote obeys =
 pub returns-in-Ok-clause-takes_ids : goal.returns-in-Ok-clause-takes_ids
 returns-in-Ok-clause-takes_ids g c rows name book clean inside wrote =
     let old = state g.S.Store c.args.tx.now.conn.now in
-    let new = state g.S.Store c.put_with_hint.new.tx.conn.now in (
+    let new = state g.S.Store c.put_planned.new.tx.conn.now in (
       c.in-Ok.ensures.takes_one_id wrote.now.members clean inside wrote.holds.schema wrote.within.sound.members wrote.holds.members,
       spares_imports old.now.trees new.now.trees (c.in-Ok.ensures.writes wrote.now.members clean inside wrote.holds.schema wrote.within.sound.members wrote.holds.members).other_tables,
     )
