@@ -1,23 +1,17 @@
 -- The numbers of tombstones after a call that changes books.
-use Rattle.std.proofs.Common.{ap, ◌∙◌, ◌≡◌, ℕ, Bool, true, false, not, List, Option, Some, None, nat_lt, Result, Ok, Err, refl, sym, subst}
+use Rattle.std.proofs.Common.{ap, ◌∙◌, ◌≡◌, ℕ, Bool, true, false, not, List, None, nat_lt, Result, Ok, Err, refl, sym, subst}
 use Rattle.std.specs.Result.{IfOk}
-use Rattle.std.specs.Option.{option_map_or}
 use Rattle.std.specs.FinMap as finite
 use Rattle.std.proofs.lemmas.Bool.{not-true}
-use Rattle.vcard_lines.specs.declared.line.Line.{Line}
-use Rattle.book_model.specs.declared.answers.ImportTally.{ImportTally}
 use Rattle.book_model.specs.declared.denied.Denied.{Denied}
 use Rattle.book_model.specs.declared.denied.Denied.TheVariants.{Refused, Fault}
 use Rattle.book_model.specs.declared.refusal.Refusal.{Refusal}
-use Rattle.book_model.specs.declared.refusal.Refusal.TheVariants.{BadBookName, BadForget, BadKey, BookExists, NoSuchBook, TooManyBooks}
+use Rattle.book_model.specs.declared.refusal.Refusal.TheVariants.{BadBookName, BookExists, TooManyBooks}
 use Rattle.book_model.specs.Bounds.{Bounds}
 use Rattle.book_model.specs.BookNames.{is_legal_name}
-use Rattle.book_model.specs.Books.{Book, Books, book_named, fresh_book}
+use Rattle.book_model.specs.Books.{Books, fresh_book}
 use Rattle.book_model.specs.CallOutcomes.{◌>>=◌, MatchesStep, refuse_unless}
 use Rattle.book_model.specs.Creating.{create_step, new_id}
-use Rattle.book_model.specs.Forgetting.{book_after_forget, forget_step, may_forget}
-use Rattle.book_model.specs.Importing.{book_after_store, book_import_tally, book_with_kept_import, import_cards, import_step, import_under_key, is_legal_key}
-use Rattle.book_model.specs.Books.{live_at}
 use Rattle.book_model.proofs.BasicLemmas.{is_some-false}
 use Rattle.sqlite.specs.Effect.{Database}
 use Rattle.sqlite.specs.State.{State, HasCleanDisk}
@@ -32,7 +26,7 @@ use Rattle.store_writes.specs.TableChanges.{AppliesStep}
 use Rattle.store_writes.proofs.CallLemmas.{read_before}
 use Rattle.book_store.specs.StoreViews.{IsStore}
 use Rattle.book_counts.specs.Counts.{AreCountsOf, CountsByName}
-use Rattle.book_counts.proofs.EntryLemmas.{right_cleared, right_created, right_fewer}
+use Rattle.book_counts.proofs.EntryLemmas.{right_created}
 
 -- ---- what holds of the books after a step
 
@@ -48,13 +42,6 @@ module _ {B : Type 0} (P : B → Type 0) where
   tested : (test : Bool) (refusal : Refusal) (rest : Result B Refusal) → (test ≡ true → IfOk rest P) → IfOk (refuse_unless test refusal >>= λ _. rest) P
   tested true refusal rest h = h refl
   tested false refusal rest h = tt
-
-  named : (books : Books) (name : List ℕ) (rest : Book → Result B Refusal) → ((book : Book) → IfOk (rest book) P) → IfOk (book_named books name >>= rest) P
-  named books name rest h = by (finite.get books name)
-    where
-      by : (found : Option Book) → IfOk (option_map_or Ok found (Err NoSuchBook) >>= rest) P
-      by (Some book) = h book
-      by None = tt
 
   followed : {A : Type 0} (given : Result A Refusal) (rest : A → Result B Refusal) (Q : A → Type 0) → IfOk given Q → ((x : A) → Q x → IfOk (rest x) P) → IfOk (given >>= rest) P
   followed (Ok x) rest Q known h = h x known
@@ -76,34 +63,6 @@ created_counts counts limits name r old new m right =
     (followed (λ (done : ℕ × Books). AreCountsOf counts done.1) (new_id limits name (finite.contains_key old name) (finite.len old)) _ (λ _. finite.get old name ≡ None) (free_name limits old name)
     (λ id free. right_created counts old name (fresh_book id limits.keep) right free))
     right m
-
--- ---- the number of a book is not known, and the book is changed
-
-pub forgotten_counts : (counts : CountsByName) (name : List ℕ) (upto : ℕ) (r : Result ℕ Denied) (old new : Books) → MatchesStep r (forget_step old name upto) old new → AreCountsOf counts old → AreCountsOf (finite.remove counts name) new
-forgotten_counts counts name upto r old new m right =
-    let P : ℕ × Books → Type 0 = λ done. AreCountsOf (finite.remove counts name) done.1 in
-    matched (AreCountsOf (finite.remove counts name)) r (forget_step old name upto) old new
-    (named P old name _ (λ book. tested P (may_forget book.horizon book.number upto) BadForget _ (λ allowed. right_cleared counts old name (book_after_forget book upto) right)))
-    (right_fewer counts old name right) m
-
-pub imported_counts : (counts : CountsByName) (limits : Bounds) (name key : List ℕ) (cards : List (List Line)) (r : Result ImportTally Denied) (old new : Books) → MatchesStep r (import_step limits old name key cards) old new → AreCountsOf counts old → AreCountsOf (finite.remove counts name) new
-imported_counts counts limits name key cards r old new m right =
-    let P : ImportTally × Books → Type 0 = λ done. AreCountsOf (finite.remove counts name) done.1 in
-    matched (AreCountsOf (finite.remove counts name)) r (import_step limits old name key cards) old new
-    (named P old name _ (λ book. tested P (is_legal_key key) BadKey _ (λ legal. under_key book (finite.get book.imports key))))
-    (right_fewer counts old name right) m
-  where
-    under_key : (book : Book) (kept : Option ImportTally) → IfOk (import_under_key limits old name book key cards kept) (λ done. AreCountsOf (finite.remove counts name) done.1)
-    under_key book (Some kept) = right_fewer counts old name right
-    under_key book None =
-        let after = (import_cards live_at book_after_store book cards).book in
-        followed (λ (done : ImportTally × Books). AreCountsOf (finite.remove counts name) done.1) (book_import_tally limits (import_cards live_at book_after_store book cards)) _ (λ _. Unit {0})
-        (any (book_import_tally limits (import_cards live_at book_after_store book cards)))
-        (λ tally _. right_cleared counts old name (book_with_kept_import after key tally) right)
-      where
-        any : (given : Result ImportTally Refusal) → IfOk given (λ _. Unit {0})
-        any (Ok x) = tt
-        any (Err refusal) = tt
 
 -- ---- the numbers that a store keeps
 

@@ -99,10 +99,7 @@ impl<S: Alter> BookStore for SqlStore<S> {
         ensures changes { ChangesStore S.Store self.old self.new result
             (λ _ books. forget_step books book.now upto) }
     {
-        // The query may also delete rows at or below the old horizon, so how many tombstones are
-        // left is counted when it is next needed.
-        self.counts.clear(book);
-        forget_in_book(&mut self.conn, book, upto)
+        forget_in_book(&mut self.conn, &mut self.counts, book, upto)
     }
 
     fn kept_import(&mut self, book: &str, key: &str) -> Result<Option<ImportTally>, Denied>
@@ -117,10 +114,15 @@ impl<S: Alter> BookStore for SqlStore<S> {
         ensures changes { ChangesStore S.Store self.old self.new result
             (λ limits books. import_step limits books book.now key.now cards.now) }
     {
-        // An import doesn't look up which of its cards take the place of tombstones, so those that
-        // are left are counted when their number is next needed.
-        self.counts.clear(book);
-        import_in_book(self.alloc, &mut self.conn, self.limits, book, key, cards)
+        import_in_book(
+            self.alloc,
+            &mut self.conn,
+            &mut self.counts,
+            self.limits,
+            book,
+            key,
+            cards,
+        )
     }
 
     fn get(&mut self, book: &str, uid: &str) -> Result<Stored, Denied>

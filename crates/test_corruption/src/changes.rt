@@ -89,7 +89,8 @@ pub(crate) fn move_card(
 pub(crate) fn forget(output: &mut String, alloc: Global, conn: &mut Memory) -> Result<(), Denied>
     requires { conn.old.in_transaction ≡ false }
 {
-    let dropped = forget_in_book(conn, "staff", 5)?;
+    let mut counts = TombstoneCounts::new(alloc);
+    let dropped = forget_in_book(conn, &mut counts, "staff", 5)?;
     Ok(push_numbers(output, alloc, "forgot", &[dropped])?)
 }
 
@@ -104,7 +105,16 @@ pub(crate) fn import(
     let Ok(cards) = read_rows(alloc, ROWS.as_bytes()) else {
         return Err(Denied::Fault(Fault::Memory));
     };
-    let tally = import_in_book(alloc, conn, limits, "staff", "k3", cards.as_slice());
+    let mut counts = TombstoneCounts::new(alloc);
+    let tally = import_in_book(
+        alloc,
+        conn,
+        &mut counts,
+        limits,
+        "staff",
+        "k3",
+        cards.as_slice(),
+    );
     drop(cards);
     Ok(push_import(output, alloc, tally?)?)
 }

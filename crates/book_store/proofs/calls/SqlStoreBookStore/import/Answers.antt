@@ -1,11 +1,10 @@
-use Rattle.std.proofs.Common.{refl, subst, sym}
+use Rattle.std.proofs.Common.{refl, subst}
 use Rattle.book_model.specs.Books.{Books}
 use Rattle.book_model.specs.Bounds.{Bounds}
 use Rattle.book_model.specs.Importing.{import_step}
 use Rattle.book_store.specs.StoreViews.{ChangesStore, StoreView}
 use Rattle.sqlite.specs.Held.{state}
-use Rattle.book_counts.specs.Counts.{AreCountsOf}
-use Rattle.book_store.proofs.CountLemmas.{stepped_counts, imported_counts}
+use Rattle.book_store.proofs.CountLemmas.{kept_counts}
 use Rattle.book_store.proofs.StoreLemmas.{changed_store, changes_store}
 use Rattle.book_store.proofs.calls.SqlStoreBookStore.import.Goals as goal
 
@@ -24,6 +23,5 @@ invariant_of-self g c =
     let old = state g.S.Store c.self.inside.conn in
     let new = state g.S.Store c.import_in_book.new.conn in (
       changed_store old new c.self.inside.limits c.import_in_book.result _ c.self.invariant.0 c.import_in_book.ensures.changes,
-      stepped_counts old new c.self.inside.limits c.self.inside.counts c.clear.new.self c.import_in_book.result _ c.self.invariant.0 c.import_in_book.ensures.changes c.self.invariant.1
-          (λ from to matches right. subst (λ counts. AreCountsOf counts to) (sym c.clear.ensures) (imported_counts c.self.inside.counts c.self.inside.limits c.args.book.now c.args.key.now c.args.cards.now c.import_in_book.result from to matches right)),
+      kept_counts old new c.self.inside.limits c.self.inside.counts c.import_in_book.new.counts c.import_in_book.result _ c.self.invariant.0 c.import_in_book.ensures.changes c.self.invariant.1 c.import_in_book.ensures.counts,
     )
