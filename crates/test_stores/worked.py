@@ -311,6 +311,26 @@ import staff k COLUMNS\np,Pat Lee,Lee,Pat,pat@example.test,,,\n => added 1 edite
 export staff cards => rows uid,vcard\np,"BEGIN:VCARD\r\nVERSION:4.0\r\nUID:p\r\nFN:Pat Lee\r\nN:Lee;Pat;;;\r\nEMAIL:pat@example.test\r\nEND:VCARD\r\n"\n
 export staff columns => rows COLUMNS\np,Pat Lee,Lee,Pat,pat@example.test,,,\n
 """),
+    ("Imported cards take the place of tombstones, and a refused import leaves the tally as it was",
+     """
+create staff => book 1
+card staff a FN:Ann => created 1
+card staff b FN:Bob => created 2
+remove staff a => gone 3
+remove staff b => gone 4
+""", r"""
+tally staff => cards 0 created 2 deleted 2 edited 0 horizon 0 import_edited 0 imported 0 moved_in 0 moved_out 0 number 4 remembered 2
+import staff k/3 COLUMNS\na,Ann,,,,,,\n => refused 15
+tally staff => cards 0 created 2 deleted 2 edited 0 horizon 0 import_edited 0 imported 0 moved_in 0 moved_out 0 number 4 remembered 2
+import staff k COLUMNS\na,Ann,,,,,,\nc,Cy,,,,,,\n => added 2 edited 0 same 0 number 6
+tally staff => cards 2 created 2 deleted 2 edited 0 horizon 0 import_edited 0 imported 2 moved_in 0 moved_out 0 number 6 remembered 1
+import staff k => added 2 edited 0 same 0 number 6
+tally staff => cards 2 created 2 deleted 2 edited 0 horizon 0 import_edited 0 imported 2 moved_in 0 moved_out 0 number 6 remembered 1
+forget staff 4 => forgot 1 horizon 4
+tally staff => cards 2 created 2 deleted 2 edited 0 horizon 4 import_edited 0 imported 2 moved_in 0 moved_out 0 number 6 remembered 0
+import staff k2 COLUMNS\nb,Bob,,,,,,\n => added 1 edited 0 same 0 number 7
+tally staff => cards 3 created 2 deleted 2 edited 0 horizon 4 import_edited 0 imported 3 moved_in 0 moved_out 0 number 7 remembered 0
+"""),
 ]
 
 # A group of a group, of a card that is named with `urn:uuid:`, and of a card that is missing; a
