@@ -104,4 +104,17 @@ CARDS = [
         ["UID:a", "N:Low;Bob;;;", "EMAIL:b@example.test", "FN:Bob Low"],
         ["line 1: FN added"],
     ),
+    Converted(
+        "iOS: a birthday without a year; vCard 3.0 has the latitude first",
+        card("3.0", "UID:a", "FN:Ann", "BDAY;X-APPLE-OMIT-YEAR=1604;VALUE=date:1604-04-12",
+             "GEO:37.386013;-122.082932"),
+        ["UID:a", "FN:Ann", "BDAY:--0412", "GEO:geo:37.386013,-122.082932"],
+        ["line 5: BDAY rewritten", "line 6: GEO rewritten"],
+    ),
+    Converted(
+        "vCard 2.1 has the longitude first",
+        card("2.1", "UID:a", "FN:Ann", "GEO:37.24,-17.87"),
+        ["UID:a", "FN:Ann", "GEO:geo:-17.87,37.24"],
+        ["line 5: GEO rewritten"],
+    ),
 ]

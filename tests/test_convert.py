@@ -87,6 +87,17 @@ class Convert(OrderTest):
                 wanted = card("4.0", "UID:a", "FN:Zoë Ångström")
                 self.assertEqual(wanted, unfolded(rows_of(ended.out)[0][1].encode()))
 
+    def test_joined_files(self):
+        """The first of two joined files has no line feed at its end."""
+        first, second = text(card("3.0", "UID:a", "FN:Ann")), text(card("3.0", "UID:b", "FN:Bob"))
+        ended = self.convert((first.removesuffix("\r\n") + second).encode())
+        self.assertEqual((0, summary(2, 0, 0)), (ended.status, ended.err))
+        self.assertEqual([["a", "Ann"], ["b", "Bob"]], [
+            [uid, unfolded(vcard.encode())[3].partition(":")[2]]
+            for uid, vcard in rows_of(ended.out)
+        ])
+        self.imported(ended.out, 2)
+
     def test_a_uid_is_that_of_the_octets(self):
         octets = text(card("3.0", "FN:Ann")).encode()
         ended = self.convert(octets + text(card("3.0", "FN:Bob")).encode())
