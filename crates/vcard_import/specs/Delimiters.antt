@@ -1,18 +1,8 @@
 -- The logical lines that begin or end a card or give its version (RFC 6350, sections 6.1.1, 6.1.2
 -- and 6.7.9). They are no properties of the card. This project's own.
-use Rattle.std.specs.Prelude.{ℕ, Bool, ◌||◌, ◌&&◌, ◌==◌, List, length, drop, codes}
-use Rattle.std.specs.List.{list_all}
-use Rattle.base_types.specs.Octets.{tab, space}
+use Rattle.std.specs.Prelude.{ℕ, Bool, ◌||◌, List, codes}
+use Rattle.import_text.specs.Pieces.{is_word_line}
 use Rattle.import_text.specs.RawLines.{begins_with_word}
-
--- a space or a tab
-abbrev pub is_blank : ℕ → Bool
-is_blank octet = octet == space || octet == tab
-
--- the octets are the word, in any case, and then only spaces and tabs
-abbrev pub is_word_line : List ℕ → List ℕ → Bool
-is_word_line word octets = begins_with_word word octets
-    && list_all is_blank (drop (length word) octets)
 
 -- the line begins or ends a card, or gives its version
 abbrev pub is_delimiter : List ℕ → Bool

@@ -10,10 +10,10 @@ ghost use Rattle.vcard_import.specs.internal.Steps.{Makes, Extends, breaks_rule,
 ghost use Rattle.vcard_import.specs.internal.Steps.{has_stray_members};
 
 use crate::change::Change;
-use crate::delimiters::{begins_card, is_delimiter, is_word_line};
+use crate::delimiters::{begins_card, is_delimiter};
 use crate::first_uid::{UidLine, first_uid};
 use crate::rules::{Reading, Seen, breaks_rule, has_stray_members};
-use import_text::{RawLine, read_text};
+use import_text::{RawLine, is_word_line, read_text};
 use std::alloc::Global;
 use vcard_property::{ChangeKind, Version, are_line, aside_line, convert_line, text_line};
 use vcard_text::{Items, Line, NoMemory};

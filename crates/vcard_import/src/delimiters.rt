@@ -1,24 +1,8 @@
 //! What needs no report: a logical line that begins or ends the card or gives its version.
 ghost use Rattle.std.specs.Prelude.{◌≡◌};
-ghost use Rattle.std.specs.List.{list_all};
-ghost use Rattle.vcard_import.specs.Delimiters.{is_blank, is_word_line, is_delimiter};
-ghost use Rattle.vcard_import.specs.Delimiters.{begins_card};
+ghost use Rattle.vcard_import.specs.Delimiters.{begins_card, is_delimiter};
 
-use import_text::begins_with_word;
-
-/// Whether all octets are spaces and tabs.
-fn are_blank(octets: &[u8]) -> bool
-    ensures { result ≡ list_all is_blank octets.now }
-{
-    octets.iter().all(|octet| *octet == b' ' || *octet == b'\t')
-}
-
-/// Whether the octets are the word, in any case, and then only spaces and tabs.
-pub(crate) fn is_word_line(octets: &[u8], word: &[u8]) -> bool
-    ensures { result ≡ is_word_line word.now octets.now }
-{
-    begins_with_word(octets, word) && are_blank(&octets[word.len()..])
-}
+use import_text::{begins_with_word, is_word_line};
 
 /// Whether a logical line begins or ends a card, or gives its version.
 pub(crate) fn is_delimiter(octets: &[u8]) -> bool

@@ -15,4 +15,5 @@ mod version;
 
 pub use change::Change;
 pub use conversion::{Conversion, convert_card};
+pub use uid::derived_uid;
 pub use vcard_property::ChangeKind;

@@ -6,9 +6,9 @@ use std::alloc::Global;
 use uuid::Uuid;
 use vcard_text::NoMemory;
 
-/// The UID that a card with these octets gets: `urn:uuid:` and the UUID of version 5 of the octets
-/// in the namespace of object identifiers. The only `Err` is out of memory.
-pub(crate) fn derived_uid(alloc: Global, octets: &[u8]) -> Result<String, NoMemory>
+/// The UID that a card with these octets gets: `urn:uuid:` and the UUID of version 5 (RFC 9562) of
+/// the octets in the namespace of object identifiers. The only `Err` is out of memory.
+pub fn derived_uid(alloc: Global, octets: &[u8]) -> Result<String, NoMemory>
     ensures { IfOk result (λ uid. string_bytes uid ≡ derived_uid octets.now) }
 {
     let namespace = Uuid::NAMESPACE_OID;
