@@ -5,3 +5,4 @@ pub mod ResultLemmas
 pub mod RuleLemmas
 pub mod StepLemmas
 pub mod UidLemmas
+pub mod WholeCardLemmas

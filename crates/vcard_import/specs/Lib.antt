@@ -3,4 +3,5 @@ pub mod Delimiters
 pub mod DerivedUid
 pub mod FirstUid
 pub mod Versions
+pub mod WholeCards
 pub mod internal

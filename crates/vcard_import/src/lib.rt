@@ -7,6 +7,7 @@ mod change;
 mod conversion;
 mod delimiters;
 mod first_uid;
+pub mod laws;
 mod missing_lines;
 mod parsed_name;
 mod rules;
