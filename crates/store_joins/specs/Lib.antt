@@ -1,0 +1,2 @@
+pub mod NamedMembers
+pub mod OnConnections
