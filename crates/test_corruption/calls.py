@@ -79,10 +79,16 @@ class Reader:
         return self.kept(self.find("staff"), "k1") or "none"
 
     def get(self):
-        live = self.live(self.find("staff"), "ann")
-        if live is None:
+        """The numbers of the book are read only if the UID has no member, live or removed."""
+        members = self.rows("SELECT changed, card FROM member WHERE uid = 'ann' AND book = "
+                            "(SELECT id FROM book WHERE name = 'staff')")
+        if not members:
+            self.find("staff")
             refuse(4)
-        return f"card {live[0]} {uid_of(live[1])}"
+        version, spelled = natural(members[0][0]), card_of(members[0][1])
+        if spelled is None:
+            refuse(4)
+        return f"card {version} {uid_of(spelled)}"
 
     def books(self):
         rows = sorted(self.rows("SELECT name, id, number, horizon FROM book"))

@@ -1,8 +1,8 @@
-//! Queries of one book: each call looks up the name, and then reads at most one more row.
+//! Queries of one book. A call for a card looks it up by the name of its book and its UID. Each
+//! other call looks up the name, and then reads at most one more row.
 //!
 //! Nothing is written, on success and on error. A malformed row among those read is `Store`; an
 //! error of the database is `Memory` if it is out of memory, otherwise `Store`.
-ghost use Rattle.book_model.specs.Books.{live_at, live_or_no_such_card};
 ghost use Rattle.book_model.specs.Importing.{kept_import_step};
 ghost use Rattle.book_model.specs.BookQueries.{
   book_line_step,
@@ -18,7 +18,7 @@ ghost use Rattle.store_lookups.specs.CallResults.{FollowsStep, IsExactly};
 ghost use Rattle.store_lookups.specs.Faults.{IsDeniedFault};
 ghost use Rattle.store_lookups.specs.StoreFaults.{FailsOnlyForMemory};
 ghost use Rattle.store_queries.specs.KeepQueries.{keep_step};
-ghost use Rattle.store_queries.specs.internal.QuerySteps.{import_tally_step};
+ghost use Rattle.store_queries.specs.internal.QuerySteps.{import_tally_step, missing_card_step};
 ghost use Rattle.store_lookups.specs.OnConnections.{
   ChangeFaultsFromOutside,
   FaultsFromOutside,
@@ -30,14 +30,14 @@ ghost use Rattle.store_lookups.specs.OnConnections.{
 ghost use Rattle.store_tables.specs.OnConnections.{OnlyReads};
 ghost use Rattle.std.specs.Prelude.{◌≡◌, IfErr, IfOk, Ok};
 
+use crate::live_rows::live_in;
 use book_counts::TombstoneCounts;
 use book_model::decisions::is_import_key;
 use book_model::{BookLine, Denied, ImportTally, Refusal, Stored, Tally};
-use sqlite::{Alter, Connection};
+use sqlite::{Alter, Connection, Error};
 use std::alloc::Global;
-use store_lookups::{
-    BookHeader, fetch_keep, find_header, find_import_tally, find_live, remembered,
-};
+use store_joins::named_members::find_named_member;
+use store_lookups::{BookHeader, fault_of, fetch_keep, find_header, find_import_tally, remembered};
 use vcard_text::Text;
 
 fn line_with(alloc: Global, name: &str, header: BookHeader) -> Result<BookLine, Denied>
@@ -69,25 +69,23 @@ pub fn line_of_book<S: Alter>(
     line_with(alloc, name, header)
 }
 
-fn stored_at<S: Alter>(
-    alloc: Global,
-    conn: &mut Connection<S>,
-    header: BookHeader,
-    uid: &str,
-) -> Result<Stored, Denied>
-    ensures answers { GivenBook S.Store conn.old conn.new header
-        (λ book. FollowsStep IsExactly result (live_or_no_such_card (live_at book uid.now))) }
-    ensures store_fault { FaultsFromOutsideInBook S.Store conn.old conn.new header result }
+/// Why no book with this name has a member: refused with `NoSuchBook` if there is no such book, and
+/// otherwise with `NoSuchCard`.
+fn refuse_missing<S: Alter>(conn: &mut Connection<S>, name: &str) -> Result<Stored, Denied>
+    ensures answers { GivenSoundRows S.Store conn.old conn.new
+        (λ rows. FollowsStep IsExactly result (missing_card_step (books_of rows) name.now)) }
+    ensures store_fault { FaultsFromOutside S.Store conn.old conn.new result }
     ensures reads_only { OnlyReads S.Store conn.old conn.new }
 {
-    match find_live(alloc, conn, header, uid)? {
-        Some(stored) => Ok(stored),
-        None => Err(Denied::Refused(Refusal::NoSuchCard)),
-    }
+    find_header(conn, name)?;
+    Err(Denied::Refused(Refusal::NoSuchCard))
 }
 
 /// Returns the live card of the UID in the book with this name, with its version. Refused with
 /// `NoSuchBook`, and with `NoSuchCard` if the UID has no live card.
+///
+/// One statement finds the card. Only if the UID has no member in the book, live or removed, a
+/// second one looks up the book.
 pub fn stored_of_book<S: Alter>(
     alloc: Global,
     conn: &mut Connection<S>,
@@ -99,8 +97,15 @@ pub fn stored_of_book<S: Alter>(
     ensures store_fault { FaultsFromOutside S.Store conn.old conn.new result }
     ensures reads_only { OnlyReads S.Store conn.old conn.new }
 {
-    let header = find_header(conn, name)?;
-    stored_at(alloc, conn, header, uid)
+    let row = match find_named_member(conn, name, uid) {
+        Ok(row) => row,
+        Err(Error::QueryReturnedNoRows) => return refuse_missing(conn, name),
+        Err(error) => return Err(fault_of(error)),
+    };
+    match live_in(alloc, &row)? {
+        Some(stored) => Ok(stored),
+        None => Err(Denied::Refused(Refusal::NoSuchCard)),
+    }
 }
 
 fn import_at<S: Alter>(

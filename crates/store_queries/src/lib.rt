@@ -3,5 +3,6 @@
 
 pub mod book_queries;
 pub mod list_queries;
+mod live_rows;
 pub mod report_queries;
 pub mod row_lists;

@@ -1,16 +1,23 @@
 -- The steps of the queries of one book. This project's own.
-use Rattle.std.specs.Prelude.{ℕ, List, Option, Result, Ok}
+use Rattle.std.specs.Prelude.{ℕ, List, Option, Result, Ok, Err}
 use Rattle.std.specs.FinMap as finite
 use Rattle.book_model.specs.declared.answers.ImportTally.{ImportTally}
+use Rattle.book_model.specs.declared.answers.Stored.{Stored}
 use Rattle.book_model.specs.declared.refusal.Refusal.{Refusal}
-use Rattle.book_model.specs.declared.refusal.Refusal.TheVariants.{BadKey}
+use Rattle.book_model.specs.declared.refusal.Refusal.TheVariants.{BadKey, NoSuchCard}
 use Rattle.book_model.specs.declared.token.Mark.{Mark}
 use Rattle.book_model.specs.declared.token.Token.{Token}
-use Rattle.book_model.specs.Books.{Book}
+use Rattle.book_model.specs.Books.{Book, Books, book_named}
 use Rattle.book_model.specs.Bounds.{Bounds}
 use Rattle.book_model.specs.Importing.{is_legal_key}
 use Rattle.book_model.specs.CallOutcomes.{◌>>=◌, refuse_unless}
 use Rattle.book_model.specs.Pages.{ReportRequest, requested_mark, page_size}
+
+-- the refusal of a look-up of a card that no book with the name has
+abbrev pub missing_card_step : Books → List ℕ → Result Stored Refusal
+missing_card_step books name = do
+  book ← book_named books name
+  Err NoSuchCard
 
 -- the stored result of the import with the key, if any; refused if the key is not legal
 abbrev pub import_tally_step : List ℕ → Book → Result (Option ImportTally) Refusal
