@@ -24,7 +24,7 @@ pub(crate) fn lines_in(alloc: Global, rows: &[Row]) -> Result<Vec<BookLine>, Den
     ensures fault { IfErr result IsDeniedFault }
     ensures memory { AllByRecursion ShowsFaultlessBook rows.now → FailsOnlyForMemory result }
 {
-    let mut lines = Vec::new(alloc);
+    let mut lines = Vec::with_capacity(alloc, rows.len())?;
     for row in rows {
         let line = line_in(row)?;
         lines.push(line)?;
@@ -86,7 +86,7 @@ pub fn entries_in(alloc: Global, rows: &[Row]) -> Result<(Items<Entry>, u64), De
     ensures fault { IfErr result IsDeniedFault }
     ensures memory { AllByRecursion ShowsFaultlessMember rows.now → FailsOnlyForMemory result }
 {
-    let mut entries = Vec::new(alloc);
+    let mut entries = Vec::with_capacity(alloc, rows.len())?;
     let mut last = 0;
     for row in rows {
         let member = member_in(alloc, row)?;

@@ -10,7 +10,7 @@ use Rattle.store_queries.proofs.QueryFaultLemmas.{all_at}
 use Rattle.store_queries.proofs.row_lists.entries_in.Goals as goal
 
 pub loop-row-init : goal.loop-row-init
-loop-row-init c = subst (λ (es : List Entry). ShowEntries [] es 0) (sym c.new-entries.ensures.items) no_entries
+loop-row-init c = subst (λ (es : List Entry). ShowEntries [] es 0) (sym c.in_ok-entries.ensures.items) no_entries
 
 pub loop-row-preserved : goal.loop-row-preserved
 loop-row-preserved c =
@@ -24,4 +24,4 @@ returns-clause-entries c =
 
 pub returns-in_err-member-clause-memory : goal.returns-in_err-member-clause-memory
 returns-in_err-member-clause-memory c all =
-    passed_on c.from_residual.result c.in_err-member.field-0.0 c.from_residual.ensures.1 (c.in_err-member.ensures.memory (all_at ShowsFaultlessMember c.args.rows.now c.loop-row.row-index c.row-item.result all c.loop-row-test.true c.row-item.is))
+    passed_on c.from_residual-in_err-member.result c.in_err-member.field-0.0 c.from_residual-in_err-member.ensures.1 (c.in_err-member.ensures.memory (all_at ShowsFaultlessMember c.args.rows.now c.loop-row.row-index c.row-item.result all c.loop-row-test.true c.row-item.is))

@@ -18,4 +18,4 @@ returns-clause-lines c = subst (λ (rs : List Row). ShowLines rs c.loop-row.line
 
 pub returns-in_err-line-clause-memory : goal.returns-in_err-line-clause-memory
 returns-in_err-line-clause-memory c all =
-    passed_on c.from_residual.result c.in_err-line.field-0.0 c.from_residual.ensures.1 (c.in_err-line.ensures.memory (all_at ShowsFaultlessBook c.args.rows.now c.loop-row.row-index c.row-item.result all c.loop-row-test.true c.row-item.is))
+    passed_on c.from_residual-in_err-line.result c.in_err-line.field-0.0 c.from_residual-in_err-line.ensures.1 (c.in_err-line.ensures.memory (all_at ShowsFaultlessBook c.args.rows.now c.loop-row.row-index c.row-item.result all c.loop-row-test.true c.row-item.is))
