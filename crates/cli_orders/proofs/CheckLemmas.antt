@@ -19,12 +19,12 @@ same_refusal a b r first second = cc (first, second)
 found_refuses : (file : FileKind) (octets : List ℕ) (refusal : Refusal) (finding : Finding) → IsFound file octets finding
     → verdict_of finding ≡ Err (Refused refusal) → IsRefusalOf file octets refusal
 found_refuses kind.CsvRows octets refusal (Rows count) found reached = absurd (cc reached)
-found_refuses kind.CsvRows octets refusal (BadRow fault) found reached =
-    record { fault = fault; first = found; refusal_is = sym (same_refusal (BadImport fault.row (cause_number fault.cause)) refusal (verdict_of (BadRow fault)) refl reached) }
+found_refuses kind.CsvRows octets refusal (BadRow fault line) found reached =
+    record { fault = fault; first = found.0; refusal_is = sym (same_refusal (BadImport fault.row (cause_number fault.cause)) refusal (verdict_of (BadRow fault line)) refl reached) }
 found_refuses kind.CsvRows octets refusal Card found reached = absurd found
 found_refuses kind.CsvRows octets refusal (BadCard fault line) found reached = absurd found
 found_refuses kind.OneCard octets refusal (Rows count) found reached = absurd found
-found_refuses kind.OneCard octets refusal (BadRow fault) found reached = absurd found
+found_refuses kind.OneCard octets refusal (BadRow fault line) found reached = absurd found
 found_refuses kind.OneCard octets refusal Card found reached = absurd (cc reached)
 found_refuses kind.OneCard octets refusal (BadCard fault line) found reached =
     record { fault = fault; first = found.0; refusal_is = sym (same_refusal (BadCardText fault) refusal (verdict_of (BadCard fault line)) refl reached) }

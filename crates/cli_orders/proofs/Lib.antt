@@ -1,8 +1,8 @@
 pub mod PaddingLemmas
+pub mod RowReaderLemmas
 pub mod OctetLemmas
 pub mod StopLemmas
 pub mod CommandLemmas
-pub mod ListingLemmas
 pub mod ReplyLemmas
 pub mod FirstPathLemmas
 pub mod InputLemmas

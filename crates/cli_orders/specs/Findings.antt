@@ -14,6 +14,7 @@ use Rattle.vcard_lines.specs.FaultNumbers.{card_fault_text}
 use Rattle.vcard_lines.specs.declared.line.Line.{Line}
 use Rattle.vcard_text.specs.FirstFaults.{IsFirstFaultOfText}
 use Rattle.vcard_text.specs.Spelling.{Spells}
+use Rattle.cli_orders.specs.CardRows.{IsLineInRow}
 use Rattle.cli_orders.specs.CauseWords.{cause_words}
 use Rattle.cli_orders.specs.declared.finding.FileKind.{FileKind}
 use Rattle.cli_orders.specs.declared.finding.FileKind.TheVariants as kind
@@ -49,7 +50,8 @@ pub record HasCard (octets : List ℕ) : Type 0 where
 -- this is found in a file of this kind with these octets
 abbrev pub IsFound : FileKind → List ℕ → Finding → Type 0
 IsFound kind.CsvRows octets (Rows count) = HasRows octets count
-IsFound kind.CsvRows octets (BadRow fault) = IsFirstRowFault octets fault
+IsFound kind.CsvRows octets (BadRow fault line) =
+    IsFirstRowFault octets fault × IsLineInRow octets fault line
 IsFound kind.OneCard octets Card = HasCard octets
 IsFound kind.OneCard octets (BadCard fault line) =
     IsFirstFaultOfText octets fault × IsLineOfFault octets fault line
@@ -59,9 +61,12 @@ IsFound file octets finding = ⊥
 
 abbrev pub finding_output : Finding → List ℕ
 finding_output (Rows count) = codes "rows " ++ (decimal count ++ line_feed ∷ [])
-finding_output (BadRow fault) =
+finding_output (BadRow fault None) =
     codes "row " ++ (decimal fault.row ++ (codes ": " ++ (cause_words fault.cause
     ++ (cause_hint fault.cause ++ line_feed ∷ []))))
+finding_output (BadRow fault (Some line)) =
+    codes "row " ++ (decimal fault.row ++ (codes ": line " ++ (decimal line ++ (codes ": "
+    ++ (cause_words fault.cause ++ (cause_hint fault.cause ++ line_feed ∷ []))))))
 finding_output Card = codes "card" ++ line_feed ∷ []
 finding_output (BadCard fault None) =
     codes "card: " ++ (card_fault_text fault ++ (fault_hint fault ++ line_feed ∷ []))
@@ -72,7 +77,7 @@ finding_output (BadCard fault (Some line)) =
 -- A file with a fault is refused, as an import or a put of its octets would be.
 abbrev pub verdict_of : Finding → Result (Unit {0}) Stop
 verdict_of (Rows count) = Ok tt
-verdict_of (BadRow fault) =
+verdict_of (BadRow fault line) =
     Err (Refused (BadImport fault.row (cause_number fault.cause)))
 verdict_of Card = Ok tt
 verdict_of (BadCard fault line) = Err (Refused (BadCardText fault))

@@ -9,10 +9,12 @@ pub mod Inputs
 pub mod TryStops
 pub mod TryResults
 pub mod TryOutputs
-pub mod Listings
 pub mod CauseWords
+pub mod CardRows
 pub mod Hints
 pub mod Findings
 pub mod CheckLaws
 pub mod Versions
+pub mod RowFaultWords
+pub mod FaultyRows
 pub mod internal

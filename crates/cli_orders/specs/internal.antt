@@ -1,1 +1,1 @@
-pub mod ListingSteps
+pub mod RowReaders

@@ -3,6 +3,7 @@ ghost use Rattle.std.specs.Prelude.{◌≡◌, IfOk, string_bytes};
 ghost use Rattle.cli_orders.specs.Findings.{IsFound, finding_output};
 ghost use Rattle.cli_orders.specs.Findings.{kind_of_file, names_card, verdict_of};
 
+use crate::card_rows::line_in_row;
 use crate::cause_words::CauseWords;
 use crate::hints::{cause_hint, fault_hint};
 use crate::stop::Stop;
@@ -26,8 +27,8 @@ pub enum FileKind {
 pub enum Finding {
     /// A header and this number of rows, each a card.
     Rows(u64),
-    /// The first faulty row.
-    BadRow(CsvFault),
+    /// The first faulty row, and the line of its card if the fault is one of that line.
+    BadRow(CsvFault, Option<u64>),
     /// One card.
     Card,
     /// The first fault of a text that isn't a card's, and its line if it is one of a line.
@@ -60,7 +61,7 @@ fn check_rows(alloc: Global, octets: &[u8]) -> Result<Finding, NoMemory>
         Ok(cards) => Ok(Finding::Rows(cards.len() as u64)),
         Err(fault) => match fault.cause {
             CsvCause::Memory => Err(NoMemory),
-            _ => Ok(Finding::BadRow(fault)),
+            _ => Ok(Finding::BadRow(fault, line_in_row(alloc, octets, fault)?)),
         },
     }
 }
@@ -105,19 +106,30 @@ fn bad_card_text(alloc: Global, fault: CardFault, line: Option<u64>) -> Result<S
     Ok(text)
 }
 
-/// The line for what was found: for example `rows 2000`, `row 1500: the name is empty`, `card`,
-/// `card: FN is missing`, or `card: line 2: the version isn't 4.0; try contacts convert`.
+/// The line for the first faulty row, with the number of the line in its card if it has one.
+fn bad_row_text(alloc: Global, fault: CsvFault, line: Option<u64>) -> Result<String, NoMemory>
+    ensures { IfOk result (λ text.
+        string_bytes text ≡ finding_output (Finding.BadRow fault line)) }
+{
+    let row = fault.row;
+    let words = CauseWords(fault.cause);
+    let hint = cause_hint(fault.cause);
+    let text = match line {
+        None => format!(in alloc; "row {row}: {words}{hint}\n")?,
+        Some(line) => format!(in alloc; "row {row}: line {line}: {words}{hint}\n")?,
+    };
+    Ok(text)
+}
+
+/// The line for what was found: for example `rows 2000`, `card`, `row 1500: the name is empty`,
+/// `card: FN is missing`, or `card: line 2: the version isn't 4.0; try contacts convert`. The line
+/// of a row's card follows the row, as in `row 3: line 5: a line isn't a property line`.
 pub(crate) fn finding_text(alloc: Global, finding: Finding) -> Result<Vec<u8>, NoMemory>
     ensures { IfOk result (λ text. text.items ≡ finding_output finding) }
 {
     let text = match finding {
         Finding::Rows(count) => format!(in alloc; "rows {count}\n")?,
-        Finding::BadRow(fault) => {
-            let row = fault.row;
-            let words = CauseWords(fault.cause);
-            let hint = cause_hint(fault.cause);
-            format!(in alloc; "row {row}: {words}{hint}\n")?
-        }
+        Finding::BadRow(fault, line) => bad_row_text(alloc, fault, line)?,
         Finding::Card => format!(in alloc; "card\n")?,
         Finding::BadCard(fault, line) => bad_card_text(alloc, fault, line)?,
     };
@@ -131,7 +143,7 @@ pub(crate) fn verdict_of(finding: Finding) -> Result<(), Stop>
 {
     match finding {
         Finding::Rows(_) | Finding::Card => Ok(()),
-        Finding::BadRow(fault) => Err(Stop::Refused(Refusal::BadImport {
+        Finding::BadRow(fault, _) => Err(Stop::Refused(Refusal::BadImport {
             row: fault.row,
             cause: fault.cause.number(),
         })),

@@ -2,19 +2,22 @@
 //! output.
 #![tactic(auto)]
 
+mod card_rows;
 mod cause_words;
 mod checking;
 mod commands;
 mod expansion_output;
+mod faulty_row;
 mod finding;
 mod hints;
 mod input;
 pub mod laws;
-mod listing;
 mod mirror_output;
 mod one_line_outputs;
 mod reading;
+mod row_fault_words;
 mod serving;
+mod shown;
 mod stop;
 mod tally_output;
 mod try_order;
@@ -26,9 +29,9 @@ mod writing;
 pub use checking::run_check;
 pub use commands::{run_command, run_mirror};
 pub use expansion_output::expand_text;
+pub use faulty_row::report_damage;
 pub use finding::{FileKind, Finding, kind_of_file};
 pub use input::read_input;
-pub use listing::{Listing, run_listing};
 pub use mirror_output::mirror_text;
 pub use one_line_outputs::{book_text, forget_text, import_text, made_text, migrate_text};
 pub use reading::{read_at_most, read_rows_of};
