@@ -6,3 +6,4 @@ pub mod ChangeableLemmas
 pub mod CrashLemmas
 pub mod RefusalLemmas
 pub mod CountLemmas
+pub mod SearchLemmas

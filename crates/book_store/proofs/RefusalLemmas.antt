@@ -37,7 +37,7 @@ use Rattle.book_store.specs.OpenOutcomes.{IsCreationRefusal, IsOpenRefusal}
 module _ {D : Type 0} {g : Ghosts D} (image : Image) (conn refused : Held (FileStore D g)) (last : FileStore D g) (opened : HasCleanDisk (file_state conn) → Opens (file_state conn) × IsLive (file_state conn)) (found : HasCleanDisk (file_state conn) → FindsIn image (file_state conn))
     (quiet : IsQuiet view faults recovers is_shielded refused.store last) where
   -- it shows the tables in the files
-  shown : (Fact : Database → Type 0) → HasCleanDisk (file_state conn) → Fact (file_state conn).now → FileHas image Fact
+  pub shown : (Fact : Database → Type 0) → HasCleanDisk (file_state conn) → Fact (file_state conn).now → FileHas image Fact
   shown Fact clean fact =
       let (opens, live) = opened clean in record {
         db = (file_state conn).now;

@@ -3,3 +3,4 @@ pub mod StoreViews
 pub mod Crashes
 pub mod FileRefusals
 pub mod OnConnections
+pub mod FileSearches

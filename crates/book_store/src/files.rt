@@ -107,7 +107,7 @@ fn creation_refusal<S: Start>(
 }
 
 /// The same for files in which a store was to be opened.
-fn open_refusal<S: Start>(
+pub(crate) fn open_refusal<S: Start>(
     alloc: Global,
     error: Error,
     left: Option<Leftover<FileFrom<S>>>,

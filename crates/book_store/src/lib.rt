@@ -3,6 +3,7 @@
 #![tactic(auto)]
 
 mod calls;
+mod faulty;
 mod files;
 mod keeps;
 pub mod laws;
@@ -10,6 +11,7 @@ mod opening;
 mod schema_creation;
 mod sql_store;
 
+pub use faulty::FileSearch;
 pub use files::{FileBooks, FileBooksFrom};
 pub use sql_store::SqlStore;
 pub use store_schema::OpenFault;
