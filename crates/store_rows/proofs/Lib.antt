@@ -14,3 +14,4 @@ pub mod LineLemmas
 pub mod AddedLemmas
 pub mod OpenLemmas
 pub mod StripLemmas
+pub mod FoldStripLemmas
