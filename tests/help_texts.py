@@ -26,9 +26,9 @@ book's initial report
   expand   List the people in a group and in its nested groups
   migrate  Convert a store file from schema 1 to schema 2, and print its number of books
   check    Check a CSV file or a vCard, and print its number of rows or the first fault
-  convert  Convert the cards of other programs to vCard 4.0, as CSV for `import`
-  books    List the books with their ids, cards, numbers and horizons
-  verify   Test the whole store file, and list its books
+  convert  Convert cards and contacts of other programs to vCard 4.0, as CSV for `import`
+  books    List the books with their ids, cards, numbers, horizons and keeps
+  verify   Test the whole store file, and list its books or print the row at fault
   help     Print this message or the help of the given subcommand(s)
 
 Options:
@@ -266,12 +266,12 @@ refused, with status 1.
 """
 
 HELP["convert"] = """\
-Convert the cards of other programs to vCard 4.0, as CSV for `import`
+Convert cards and contacts of other programs to vCard 4.0, as CSV for `import`
 
 Usage: contacts convert [OPTIONS] <FILE>
 
 Arguments:
-  <FILE>  File with vCards of version 2.1, 3.0 or 4.0
+  <FILE>  vCards of version 2.1, 3.0 or 4.0, CSV of Google or Outlook, or rows of `export`
 
 Options:
       --to <DIR>         Existing folder to write files to: one `.vcf` file per card, or the CSV \
@@ -290,7 +290,7 @@ and so on, beside FILE or in the folder. No file is overwritten.
 """
 
 HELP["books"] = """\
-List the books with their ids, cards, numbers and horizons
+List the books with their ids, cards, numbers, horizons and keeps
 
 Usage: contacts books <FILE>
 
@@ -305,7 +305,7 @@ Example:
 """
 
 HELP["verify"] = """\
-Test the whole store file, and list its books
+Test the whole store file, and list its books or print the row at fault
 
 Usage: contacts verify <FILE>
 

@@ -11,7 +11,11 @@ use std::alloc::{AllocError, Global};
 pub(crate) fn convert_command<'a>(alloc: Global) -> Result<Command<'a>, AllocError>
     ensures { IfOk result (IsOrderCommand lines.convert_command) }
 {
-    let file = argument(alloc, "FILE", "File with vCards of version 2.1, 3.0 or 4.0");
+    let file = argument(
+        alloc,
+        "FILE",
+        "vCards of version 2.1, 3.0 or 4.0, CSV of Google or Outlook, or rows of `export`",
+    );
     let folder = free_option(
         alloc,
         "DIR",
@@ -38,11 +42,11 @@ pub(crate) fn convert_command<'a>(alloc: Global) -> Result<Command<'a>, AllocErr
     order_command(
         alloc,
         "convert",
-        "Convert the cards of other programs to vCard 4.0, as CSV for `import`",
+        "Convert cards and contacts of other programs to vCard 4.0, as CSV for `import`",
         "Example:\n  contacts convert phone.vcf > people.csv\n\nNeeds no store file. Standard \
-         error gets a line for each line of a card that was changed, a line for each card that can't be \
-         carried over, and their numbers. The status is 1 if a card wasn't carried over. With \
-         --rows or --octets the files are named after FILE, `phone-1.csv`, `phone-2.csv` and so \
+         error gets a line for each line of a card that was changed, a line for each card that \
+         can't be carried over, and their numbers. The status is 1 if a card wasn't carried over. \
+         With --rows or --octets the files are named after FILE, `phone-1.csv`, `phone-2.csv` and so \
          on, beside FILE or in the folder. No file is overwritten.",
         Vec::from_array(alloc, [file, folder, rows, octets])?,
     )

@@ -19,8 +19,8 @@ ghost use Rattle.cli_args.specs.WorkedLines.{WorkedPorts, WorkedVersions};
 /// - `limits`: with `--together` or `--patience`, even if it gives the default, `serve` has limits,
 ///   and the default of the other; 1 and 1000 connections are accepted, 0 and 1001 are not; 1 and
 ///   3600 seconds are accepted, 0 and 3601 are not.
-/// - `logs`: with `--log`, `serve` prints a line for each request, and has limits; given twice, with
-///   a value or after another order it is invalid.
+/// - `logs`: with `--log`, `serve` prints a line for each request, and has limits; given twice,
+///   with a value or after another order it is invalid.
 /// - `forms`: `columns` is a form; `rows` is none.
 /// - `numbers`: `forget` accepts 999999999999999, and not one more.
 /// - `pages`: `mirror` accepts a limit of 0 with 1000000 pages; not 1000001 or 0 pages, nor a limit

@@ -139,7 +139,7 @@ pub enum Order {
         /// The path of a store file.
         file: Text,
     },
-    /// Test the whole store file, and list its books.
+    /// Test the whole store file, and list its books or print the row at fault.
     Verify {
         /// The path of a store file.
         file: Text,

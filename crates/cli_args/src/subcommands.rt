@@ -313,7 +313,7 @@ fn books_command<'a>(alloc: Global) -> Result<Command<'a>, AllocError>
     order_command(
         alloc,
         "books",
-        "List the books with their ids, cards, numbers and horizons",
+        "List the books with their ids, cards, numbers, horizons and keeps",
         "Example:\n  contacts books office.db",
         Vec::from_array(alloc, [file_arg(alloc)])?,
     )
@@ -325,7 +325,7 @@ fn verify_command<'a>(alloc: Global) -> Result<Command<'a>, AllocError>
     order_command(
         alloc,
         "verify",
-        "Test the whole store file, and list its books",
+        "Test the whole store file, and list its books or print the row at fault",
         "Example:\n  contacts verify office.db\n\nTests what each command that uses the file tests \
          first: every row of the file. A damaged file ends with `fault open 4`.",
         Vec::from_array(alloc, [file_arg(alloc)])?,

@@ -39,10 +39,10 @@ use store_writes::counting::count_stored;
 use store_writes::lookups::{as_version_and_card, open_header};
 use vcard_text::Card;
 
-/// A planned move: the headers of both books before it, the card, and its new numbers. Of the source
-/// book, the number up to which it forgets tombstones, `None` if it forgets nothing, and how many it
-/// has afterwards, `None` if that is not known. Of the target book, whether it has a tombstone under
-/// the UID.
+/// A planned move: the headers of both books before it, the card, and its new numbers. Of the
+/// source book, the number up to which it forgets tombstones, `None` if it forgets nothing, and how
+/// many it has afterwards, `None` if that is not known. Of the target book, whether it has a
+/// tombstone under the UID.
 #[derive(Drop)]
 pub(crate) struct Transfer {
     pub(crate) source: BookHeader,

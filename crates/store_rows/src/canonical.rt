@@ -88,8 +88,8 @@ fn strip_end<'a>(text: &'a [u8], piece: &[u8]) -> Option<&'a [u8]>
     strip(after_piece, b"\r\n")
 }
 
-/// The rest of the text after a value, folded and ended by CRLF. `room` is the number of octets that
-/// still fit into the physical line.
+/// The rest of the text after a value, folded and ended by CRLF. `room` is the number of octets
+/// that still fit into the physical line.
 fn strip_value<'a>(text: &'a [u8], value: &[u8], room: usize) -> Option<&'a [u8]>
     requires ascii { IsAscii value.now }
     requires room { 1 ≤ room }

@@ -46,8 +46,8 @@ use vcard_text::Card;
 /// card it is a removed member. After an error some of it may be written, so the caller rolls the
 /// transaction back.
 ///
-/// Each statement sets the connection's `changes` and `last_insert_rowid`, as SQLite does: an UPDATE
-/// that finds no row sets `changes` to 0. No clause states them, and no crate reads them.
+/// Each statement sets the connection's `changes` and `last_insert_rowid`, as SQLite does: an
+/// UPDATE that finds no row sets `changes` to 0. No clause states them, and no crate reads them.
 pub fn write_member<S: Alter>(
     tx: &mut Transaction<'_, S>,
     id: i64,
