@@ -1,0 +1,3 @@
+pub mod FillLemmas
+mod CutLemmas
+mod UnreadLemmas

@@ -1,0 +1,3 @@
+pub mod Readers
+pub mod Texts
+pub mod internal
