@@ -1,7 +1,7 @@
-mod FillLemmas
+mod FileLemmas
 mod LineLemmas
 mod PieceLemmas
 mod ProgressLemmas
 mod ReadBackLemmas
-mod RowLemmas
+pub mod RowLemmas
 mod UidLemmas

@@ -17,11 +17,11 @@ use Rattle.card_conversion.specs.Accounts.{ConvertsAll}
 use Rattle.card_conversion.specs.Counts.{counted, nothing_counted, summary_of}
 use Rattle.card_conversion.specs.declared.ledger.Summary.{Summary}
 use Rattle.std.proofs.lemmas.Grind.{fold-append}
-use Rattle.card_conversion.specs.Deliveries.{WritesInTurn}
+use Rattle.card_conversion.specs.Deliveries.{HasUids, WritesInTurn}
 use Rattle.card_conversion.specs.Fates.{Entry, HaveFates, IsFate, cards_of, cards_of_fate, octets_of, uids_of, uids_of_fate}
 use Rattle.card_conversion.specs.internal.PieceReaders.{HasEnded, left_of}
-use Rattle.card_conversion.specs.internal.States.{HasUids, Progress, Takes}
-use Rattle.card_conversion.proofs.FillLemmas.{consumes_more}
+use Rattle.card_conversion.specs.internal.States.{Progress, Takes}
+use Rattle.text_reader.proofs.FillLemmas.{consumes_more}
 
 abbrev entry_of : List ℕ → Fate → Entry
 entry_of octets fate = record { octets = octets; fate = fate }
@@ -128,12 +128,14 @@ module _ {A : Type 0} (writes : List Line → A → A → Type 0) where
     pub all_done : (now : A) (old found : PieceReader R) (map : finite.FinMap text_cmp (Unit {0})) (summary : Summary) → Progress writes remaining input before now old map summary → Consumes (left_of remaining old) (left_of remaining found) [] → IsAtEnd (left_of remaining found) → ConvertsAll writes input before now summary
     all_done now old found map summary p nothing at_end = record {
       entries = p.entries;
-      whole = whole_read input (left_of remaining old) (left_of remaining found) (octets_of p.entries) p.passed nothing at_end;
-      fates = p.fates;
+      accounts = record {
+        whole = whole_read input (left_of remaining old) (left_of remaining found) (octets_of p.entries) p.passed nothing at_end;
+        fates = p.fates;
+        distinct = apart_each [] p.entries p.fates;
+        cards = each_card [] p.entries p.fates;
+        counts = p.counts;
+      };
       written = p.written;
-      distinct = apart_each [] p.entries p.fates;
-      cards = each_card [] p.entries p.fates;
-      counts = p.counts;
     }
 
     pub one_piece : (now then : A) (old found new : PieceReader R) (map after : finite.FinMap text_cmp (Unit {0})) (octets : List ℕ) (fate : Fate) (summary more : Summary)

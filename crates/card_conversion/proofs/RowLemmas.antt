@@ -8,7 +8,7 @@ use Rattle.vcard_text.specs.Cards.{IsCard, uid_of}
 use Rattle.csv_cards.specs.Reading.{TextHasCards}
 use Rattle.csv_cards.specs.Writing.{csv_text}
 use Rattle.csv_cards.specs.declared.form.Form.TheVariants.{Cards}
-use Rattle.card_conversion.specs.Accounts.{ConvertsAll, WritesRows}
+use Rattle.card_conversion.specs.Accounts.{ConvertsAll, ConvertsToRows, WritesRows}
 use Rattle.card_conversion.specs.declared.ledger.Summary.{Summary}
 use Rattle.card_conversion.specs.Deliveries.{WritesInTurn}
 use Rattle.card_conversion.specs.Fates.{cards_of}
@@ -33,14 +33,24 @@ module _ {A : Type 0} (contents : A → Option (List ℕ)) where
   rows_appended (card ∷ cards) a b written =
       appends_all (contents a) (contents written.0) (contents b) (card_row_text card) (flat_map card_row_text cards) written.1 (rows_appended cards written.0 b written.2)
 
-  pub all_rows : (before : Option (List ℕ)) (start now : A) (summary : Summary) → Appends before (contents start) header_row_text → ConvertsAll row_step None start now summary
+  -- the header, and the rows of cards after it
+  pub rows_written : (cards : List (List Line)) (before : Option (List ℕ)) (start now : A) → Appends before (contents start) header_row_text → WritesInTurn row_step cards start now
+      → AllByRecursion IsCard cards → AllPairs (λ a b. a ≢ b) (map uid_of cards)
       → ((cards : List (List Line)) → csv_text Cards cards ≡ header_row_text ++ flat_map card_row_text cards)
       → ((cards : List (List Line)) → AllByRecursion IsCard cards → AllPairs (λ a b. a ≢ b) (map uid_of cards) → TextHasCards (csv_text Cards cards) cards)
-      → WritesRows before (contents now)
-  all_rows before start now summary header converts text read = record {
-    cards = cards_of converts.entries;
-    written = subst (Appends before (contents now)) (sym (text (cards_of converts.entries)))
-        (appends_all before (contents start) (contents now) header_row_text (flat_map card_row_text (cards_of converts.entries)) header
-        (rows_appended (cards_of converts.entries) start now converts.written));
-    read = read (cards_of converts.entries) converts.cards converts.distinct;
+      → WritesRows cards before (contents now)
+  rows_written cards before start now header written are distinct text read = record {
+    written = subst (Appends before (contents now)) (sym (text cards))
+        (appends_all before (contents start) (contents now) header_row_text (flat_map card_row_text cards) header (rows_appended cards start now written));
+    read = read cards are distinct;
+  }
+
+  pub all_rows : (input before : Option (List ℕ)) (start now : A) (summary : Summary) → Appends before (contents start) header_row_text → ConvertsAll row_step input start now summary
+      → ((cards : List (List Line)) → csv_text Cards cards ≡ header_row_text ++ flat_map card_row_text cards)
+      → ((cards : List (List Line)) → AllByRecursion IsCard cards → AllPairs (λ a b. a ≢ b) (map uid_of cards) → TextHasCards (csv_text Cards cards) cards)
+      → ConvertsToRows input before (contents now) summary
+  all_rows input before start now summary header converts text read = record {
+    entries = converts.entries;
+    accounts = converts.accounts;
+    rows = rows_written (cards_of converts.entries) before start now header converts.written converts.accounts.cards converts.accounts.distinct text read;
   }

@@ -11,7 +11,7 @@ use Rattle.std.proofs.lemmas.Slice.Eq.{bytes_eq-Decides}
 use Rattle.std.proofs.lemmas.List.Elements.{Contains-append_left, Contains-append_right, Contains-append_cases}
 use Rattle.base_types.specs.TextMaps.{text_cmp}
 use Rattle.base_types.proofs.TextLemmas.{same-equal}
-use Rattle.card_conversion.specs.internal.States.{HasUids}
+use Rattle.card_conversion.specs.Deliveries.{HasUids}
 
 text_same : (a b : List ℕ) → a ≡ b → eq_by_cmp text_cmp a b ≡ true
 text_same a b e = is_eq-slice_cmp a b ∙ (bytes_eq-Decides a b).1 e

@@ -12,20 +12,30 @@ use Rattle.card_conversion.specs.Counts.{summary_of}
 use Rattle.card_conversion.specs.declared.ledger.Summary.{Summary}
 use Rattle.card_conversion.specs.Deliveries.{WritesInTurn}
 
--- The pieces are the whole file, each has its fate, the cards among them were written in order, and
--- the summary counts them.
+-- The pieces are all octets of the input, in order, and each has its fate. The cards that were
+-- written have different UIDs, and each keeps the rules of a card. The summary counts the pieces.
+pub record AccountsFor (input : Option (List ℕ)) (entries : List Entry) (summary : Summary) : Type 0
+  where
+    pub whole : IfSome input (λ octets. octets ≡ octets_of entries)
+    pub fates : HaveFates [] entries
+    pub distinct : AllPairs (λ a b. a ≢ b) (map uid_of (cards_of entries))
+    pub cards : AllByRecursion IsCard (cards_of entries)
+    pub counts : summary ≡ summary_of entries
+
+-- The input was converted piece by piece, and the cards among its pieces were written in order.
 pub record ConvertsAll {A : Type 0} (writes : List Line → A → A → Type 0)
     (input : Option (List ℕ)) (before after : A) (summary : Summary) : Type 0 where
   pub entries : List Entry
-  pub whole : IfSome input (λ octets. octets ≡ octets_of entries)
-  pub fates : HaveFates [] entries
+  pub accounts : AccountsFor input entries summary
   pub written : WritesInTurn writes (cards_of entries) before after
-  pub distinct : AllPairs (λ a b. a ≢ b) (map uid_of (cards_of entries))
-  pub cards : AllByRecursion IsCard (cards_of entries)
-  pub counts : summary ≡ summary_of entries
 
--- The header and the rows of cards were written, and they are read back as these cards.
-pub record WritesRows (before after : Option (List ℕ)) : Type 0 where
-  pub cards : List (List Line)
+-- The header and the rows of these cards were written, and they are read back as these cards.
+pub record WritesRows (cards : List (List Line)) (before after : Option (List ℕ)) : Type 0 where
   pub written : Appends before after (csv_text Cards cards)
   pub read : TextHasCards (csv_text Cards cards) cards
+
+-- The input was converted piece by piece, and the cards among its pieces were written as rows.
+pub record ConvertsToRows (input before after : Option (List ℕ)) (summary : Summary) : Type 0 where
+  pub entries : List Entry
+  pub accounts : AccountsFor input entries summary
+  pub rows : WritesRows (cards_of entries) before after

@@ -3,6 +3,7 @@
 use crate::outlet::OutletFault;
 use base_types::{NoMemory, Text};
 use std::alloc::AllocError;
+use std::io::{Error, ErrorKind};
 
 /// Why a conversion stopped before the end of its file.
 #[derive(Debug, Drop)]
@@ -35,5 +36,13 @@ impl From<OutletFault> for ConversionFault {
             OutletFault::Memory => ConversionFault::Memory,
             OutletFault::Failed(words) => ConversionFault::Output(words),
         }
+    }
+}
+
+/// The fault for an error of the reader.
+pub(crate) fn read_fault(error: Error) -> ConversionFault {
+    match error.kind() {
+        ErrorKind::OutOfMemory => ConversionFault::Memory,
+        _ => ConversionFault::Input,
     }
 }

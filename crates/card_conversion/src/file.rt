@@ -1,35 +1,34 @@
 //! Converts a file of cards in any encoding.
-ghost use Rattle.std.specs.Prelude.{IfOk, None};
+ghost use Rattle.std.specs.Prelude.{IfOk, option_map};
+ghost use Rattle.text_reader.specs.Texts.{text_octets};
 ghost use Rattle.card_conversion.specs.Accounts.{ConvertsAll};
 
-use crate::fault::ConversionFault;
-use crate::fill::fill;
+use crate::fault::{ConversionFault, read_fault};
 use crate::ledger::Summary;
 use crate::outlet::Outlet;
 use crate::run::convert_cards;
-use crate::utf16_reader::Utf16Reader;
 use std::alloc::Global;
 use std::io::{Read, Write};
+use text_reader::TextReader;
 
-/// Converts a file of cards of vCard 2.1, 3.0 and 4.0, in UTF-8, Latin-1, or UTF-16 with its byte
-/// order mark.
+/// Converts a file of cards of vCard 2.1, 3.0 and 4.0, in UTF-8, Windows-1252, or UTF-16 with its
+/// byte order mark.
+///
+/// An `Err` is `Input` if the file can't be read to its end, `Output` if the outlet takes no more
+/// cards, `Report` if the report can't be written, or `Memory`. Cards that were written before it
+/// remain.
 pub fn convert_file<R: Read + Drop, O: Outlet, E: Write>(
     alloc: Global,
     reader: R,
     outlet: &mut O,
     errors: &mut E,
 ) -> Result<Summary, ConversionFault>
-    ensures { IfOk result (λ summary. ConvertsAll O.writes None outlet.old outlet.new summary) }
+    // The pieces are those of the file's octets, or of its text in UTF-8 if it is in UTF-16.
+    ensures { IfOk result (λ summary. ConvertsAll O.writes
+        (option_map text_octets (R.remaining reader)) outlet.old outlet.new summary) }
 {
-    let mut reader = reader;
-    let mut head = [0; 2];
-    let Ok(count) = fill(&mut reader, &mut head) else {
-        return Err(ConversionFault::Input);
-    };
-    if head == [0xFE, 0xFF] || head == [0xFF, 0xFE] {
-        let reader = Utf16Reader::new(alloc, head, reader);
-        return convert_cards(alloc, reader, outlet, errors);
+    match TextReader::new(alloc, reader) {
+        Ok(text) => convert_cards(alloc, text, outlet, errors),
+        Err(error) => Err(read_fault(error)),
     }
-    let front = head.get(..count).unwrap_or(&[]);
-    convert_cards(alloc, front.chain(reader), outlet, errors)
 }

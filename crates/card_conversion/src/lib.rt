@@ -1,10 +1,11 @@
 //! Converts a file of cards of any version of vCard, one card at a time, and reports each change.
 #![tactic(auto)]
 
+mod chunks;
+mod delivery;
 mod fate;
 mod fault;
 mod file;
-mod fill;
 pub mod laws;
 mod ledger;
 mod line_cursor;
@@ -16,8 +17,8 @@ mod rows;
 mod rows_order;
 mod rows_outlet;
 mod run;
-mod utf16_reader;
 
+pub use delivery::{Outcome, deliver};
 pub use fault::ConversionFault;
 pub use file::convert_file;
 pub use ledger::Summary;

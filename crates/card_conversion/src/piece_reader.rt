@@ -3,11 +3,12 @@ ghost use Rattle.std.specs.Prelude.{◌≡◌, ◌≤◌, [], None, IfOk, IfSome
 ghost use Rattle.std.specs.Io.KnownBytes.{Consumes, IsAtEnd};
 ghost use Rattle.card_conversion.specs.internal.PieceReaders.{HasEnded, left_of, unread_of};
 
+use crate::chunks::read_chunk;
 use crate::fault::ConversionFault;
-use crate::fill::{joined, read_chunk};
 use import_text::split_piece;
 use std::alloc::Global;
 use std::io::Read;
+use text_reader::joined;
 
 /// The number of octets that are read at once, at least.
 const CHUNK_OCTETS: usize = 65_536;

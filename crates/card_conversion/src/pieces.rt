@@ -4,12 +4,13 @@ ghost use Rattle.vcard_import.specs.Conversions.{IsRefused};
 ghost use Rattle.std.specs.List.{list_all};
 ghost use Rattle.card_conversion.specs.Fates.{IsConversion, first_line, is_blank};
 ghost use Rattle.card_conversion.specs.Fates.{is_card, is_white};
-ghost use Rattle.card_conversion.specs.internal.States.{HasUids, IsAdmitted, Takes};
+ghost use Rattle.card_conversion.specs.internal.States.{Takes};
 ghost use Rattle.vcard_text.specs.Spelling.{without_bom};
 
+use crate::delivery::{Outcome, deliver};
 use crate::fate::Fate;
 use crate::fault::ConversionFault;
-use crate::outlet::{Delivery, Outlet};
+use crate::outlet::Outlet;
 use crate::piece_reader::PIECE_OCTETS_MAX;
 use base_types::{NoMemory, TextMap};
 use import_text::begins_with_word;
@@ -58,20 +59,8 @@ fn is_card(piece: &[u8]) -> bool
     begins_with_word(line, b"BEGIN:VCARD") && are_white(&line[11..])
 }
 
-/// Remembers a UID. `false` if it was known.
-fn is_new(alloc: Global, uids: &mut TextMap<()>, uid: &str) -> Result<bool, NoMemory>
-    ensures { (known : List (List ℕ)) → HasUids uids.old known
-        → IfOk result (IsAdmitted known uid.now uids.new) }
-{
-    if uids.get(uid).is_some() {
-        return Ok(false);
-    }
-    uids.insert(String::from_str(alloc, uid)?, ())?;
-    Ok(true)
-}
-
 /// Writes a card that was converted, unless an earlier one has its UID.
-fn deliver<O: Outlet>(
+fn deliver_piece<O: Outlet>(
     alloc: Global,
     uids: &mut TextMap<()>,
     number: u64,
@@ -81,12 +70,10 @@ fn deliver<O: Outlet>(
     ensures { (octets : List ℕ) → IsConversion octets conversion
         → IfOk result (Takes O.writes octets uids.old uids.new outlet.old outlet.new) }
 {
-    if !is_new(alloc, uids, conversion.card.uid())? {
-        return Ok(Fate::Repeated(conversion));
-    }
-    match outlet.put(alloc, number, &conversion.card)? {
-        Delivery::Written => Ok(Fate::Written(conversion)),
-        Delivery::Refused(words) => Ok(Fate::Declined(conversion, words)),
+    match deliver(alloc, uids, number, &conversion.card, outlet)? {
+        Outcome::Repeated => Ok(Fate::Repeated(conversion)),
+        Outcome::Declined(words) => Ok(Fate::Declined(conversion, words)),
+        Outcome::Written => Ok(Fate::Written(conversion)),
     }
 }
 
@@ -129,7 +116,7 @@ pub(crate) fn take_piece<O: Outlet>(
         return Ok(Fate::Long);
     }
     match convert(alloc, piece)? {
-        Ok(conversion) => deliver(alloc, uids, number, conversion, outlet),
+        Ok(conversion) => deliver_piece(alloc, uids, number, conversion, outlet),
         Err(fault) => Ok(Fate::Refused(fault)),
     }
 }

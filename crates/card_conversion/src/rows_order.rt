@@ -1,6 +1,7 @@
 //! Converts a file to the rows of an import.
-ghost use Rattle.std.specs.Prelude.{IfOk};
-ghost use Rattle.card_conversion.specs.Accounts.{WritesRows};
+ghost use Rattle.std.specs.Prelude.{IfOk, option_map};
+ghost use Rattle.text_reader.specs.Texts.{text_octets};
+ghost use Rattle.card_conversion.specs.Accounts.{ConvertsToRows};
 
 use crate::fault::ConversionFault;
 use crate::file::convert_file;
@@ -17,9 +18,11 @@ pub fn convert_to_rows<R: Read + Drop, W: Write, E: Write>(
     outlet: &mut RowsOutlet<W>,
     errors: &mut E,
 ) -> Result<Summary, ConversionFault>
-    // What was written is read back by `read_rows` as cards, of which no two have the same UID.
+    // The pieces of the file's octets have their fates. The header and the rows of the cards among
+    // them were written. `read_rows` reads them as these cards, of which no two have one UID.
     ensures { IfOk result (λ summary.
-        WritesRows (W.contents outlet.old.writer) (W.contents outlet.new.writer)) }
+        ConvertsToRows (option_map text_octets (R.remaining reader))
+        (W.contents outlet.old.writer) (W.contents outlet.new.writer) summary) }
 {
     // A law: the header and the rows of cards with different UIDs are read back as these cards.
     written_rows_are_read();

@@ -1,7 +1,6 @@
 -- The state of a conversion between two pieces. This project's own.
-use Rattle.std.specs.Prelude.{ℕ, ◌≡◌, ◌↔◌, ◌++◌, [], ◌∷◌, Bool, true, false, List, Option}
+use Rattle.std.specs.Prelude.{ℕ, ◌≡◌, ◌++◌, [], ◌∷◌, Bool, true, false, List, Option}
 use Rattle.std.specs.FinMap as finite
-use Rattle.std.specs.Option.{IsSome}
 use Rattle.std.specs.List.{Contains}
 use Rattle.std.specs.Io.KnownBytes.{Consumes}
 use Rattle.base_types.specs.TextMaps.{text_cmp}
@@ -11,13 +10,9 @@ use Rattle.card_conversion.specs.Fates.{Entry, HaveFates, IsFate, cards_of, card
 use Rattle.card_conversion.specs.Fates.{octets_of, uids_of, uids_of_fate}
 use Rattle.card_conversion.specs.Counts.{summary_of}
 use Rattle.card_conversion.specs.declared.ledger.Summary.{Summary}
-use Rattle.card_conversion.specs.Deliveries.{WritesInTurn}
+use Rattle.card_conversion.specs.Deliveries.{HasUids, WritesInTurn}
 use Rattle.card_conversion.specs.internal.PieceReaders.{HasEnded, left_of}
 use Rattle.card_conversion.specs.declared.piece_reader.PieceReader.{PieceReader}
-
--- the keys of the map are these UIDs
-abbrev pub HasUids : finite.FinMap text_cmp (Unit {0}) → List (List ℕ) → Type 0
-HasUids map uids = (uid : List ℕ) → IsSome (finite.get map uid) ↔ Contains uids uid
 
 -- The UID isn't one of the known ones, and the map has it now; or it is one of them.
 abbrev pub IsAdmitted : List (List ℕ) → List ℕ → finite.FinMap text_cmp (Unit {0}) → Bool → Type 0

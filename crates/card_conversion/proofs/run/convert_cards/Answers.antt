@@ -1,5 +1,5 @@
 use Rattle.std.proofs.Common.{rules, [], sym, subst}
-use Rattle.card_conversion.specs.internal.States.{HasUids}
+use Rattle.card_conversion.specs.Deliveries.{HasUids}
 use Rattle.card_conversion.proofs.ProgressLemmas.{all_done, begun, none_known, one_piece}
 use Rattle.card_conversion.proofs.run.convert_cards.Goals as goal
 

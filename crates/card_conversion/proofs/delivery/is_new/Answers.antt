@@ -1,6 +1,6 @@
 use Rattle.std.proofs.Common.{rules}
 use Rattle.card_conversion.proofs.UidLemmas.{one_more_uid}
-use Rattle.card_conversion.proofs.pieces.is_new.Goals as goal
+use Rattle.card_conversion.proofs.delivery.is_new.Goals as goal
 
 pub returns : goal.returns
 returns c known has = (

@@ -1,0 +1,33 @@
+-- The octets of a file that are converted.
+use Rattle.std.proofs.Common.{◌≡◌, ℕ, List, Option, Some, None, subst}
+use Rattle.std.specs.Prelude.{IfSome}
+use Rattle.std.specs.Option.{option_map}
+use Rattle.vcard_lines.specs.declared.line.Line.{Line}
+use Rattle.card_conversion.specs.Accounts.{ConvertsAll}
+use Rattle.card_conversion.specs.Fates.{octets_of}
+use Rattle.card_conversion.specs.declared.ledger.Summary.{Summary}
+
+-- what is known of the octets that a reader gives is known of the file, where its octets are known
+pub of_file : {A : Type 0} (writes : List Line → A → A → Type 0) (text : List ℕ → List ℕ) (file given : Option (List ℕ)) (before after : A) (summary : Summary) → IfSome file (λ octets. given ≡ Some (text octets)) → ConvertsAll writes given before after summary → ConvertsAll writes (option_map text file) before after summary
+of_file writes text None given before after summary same converts = record {
+  entries = converts.entries;
+  accounts = record {
+    whole = tt;
+    fates = converts.accounts.fates;
+    distinct = converts.accounts.distinct;
+    cards = converts.accounts.cards;
+    counts = converts.accounts.counts;
+  };
+  written = converts.written;
+}
+of_file writes text (Some octets) given before after summary same converts = record {
+  entries = converts.entries;
+  accounts = record {
+    whole = subst (λ input. IfSome input (λ os. os ≡ octets_of converts.entries)) same converts.accounts.whole;
+    fates = converts.accounts.fates;
+    distinct = converts.accounts.distinct;
+    cards = converts.accounts.cards;
+    counts = converts.accounts.counts;
+  };
+  written = converts.written;
+}

@@ -1,0 +1,55 @@
+//! Writes a card to an outlet, unless an earlier one has its UID.
+ghost use Rattle.std.specs.Prelude.{ℕ, List, IfOk};
+ghost use Rattle.card_conversion.specs.Deliveries.{ComesTo, HasUids};
+ghost use Rattle.card_conversion.specs.internal.States.{IsAdmitted};
+
+use crate::fault::ConversionFault;
+use crate::outlet::{Delivery, Outlet};
+use base_types::{NoMemory, Text, TextMap};
+use std::alloc::Global;
+use vcard_text::Card;
+
+/// What became of a card that was converted.
+#[derive(Debug, Drop)]
+pub enum Outcome {
+    /// It has the UID of an earlier card that came to the outlet.
+    Repeated,
+    /// The outlet can't take it, for a reason in words.
+    Declined(Text),
+    /// It was written.
+    Written,
+}
+
+/// Remembers a UID. `false` if it was known.
+fn is_new(alloc: Global, uids: &mut TextMap<()>, uid: &str) -> Result<bool, NoMemory>
+    ensures { (known : List (List ℕ)) → HasUids uids.old known
+        → IfOk result (IsAdmitted known uid.now uids.new) }
+{
+    if uids.get(uid).is_some() {
+        return Ok(false);
+    }
+    uids.insert(String::from_str(alloc, uid)?, ())?;
+    Ok(true)
+}
+
+/// Writes a card to the outlet, unless its UID is one of those that came to the outlet before, and
+/// remembers the UID. `number` counts the cards of the file, from 1. An `Err` is `Output` or
+/// `Memory`.
+pub fn deliver<O: Outlet>(
+    alloc: Global,
+    uids: &mut TextMap<()>,
+    number: u64,
+    card: &Card,
+    outlet: &mut O,
+) -> Result<Outcome, ConversionFault>
+    ensures { (known : List (List ℕ)) → HasUids uids.old known
+        → IfOk result (ComesTo O.writes known card.now uids.new outlet.old outlet.new) }
+{
+    if !is_new(alloc, uids, card.uid())? {
+        return Ok(Outcome::Repeated);
+    }
+    match outlet.put(alloc, number, card)? {
+        Delivery::Written => Ok(Outcome::Written),
+        Delivery::Refused(words) => Ok(Outcome::Declined(words)),
+    }
+}
