@@ -1,23 +1,24 @@
 -- What the loop over the cells keeps, and the UID of the card.
-use Rattle.std.proofs.Common.{◌≡◌, ◌≤◌, ◌+◌, ℕ, List, [], ◌∷◌, ◌++◌, codes, get_or, length, true, inl, inr, map, ap, refl, sym, subst, ◌∙◌, arith}
+use Rattle.std.proofs.Common.{◌≡◌, ◌≤◌, ◌+◌, ℕ, List, [], ◌∷◌, ◌++◌, codes, get_or, length, true, None, inl, inr, map, ap, refl, sym, subst, ◌∙◌, arith}
 use Rattle.std.specs.Char.{to_ascii_uppercase}
 use Rattle.std.specs.Str.{str_to_ascii_uppercase}
 use Rattle.std.specs.List.{Contains, list_any}
 use Rattle.std.proofs.Math.Nat.{eq-or-lt_of_le}
 use Rattle.std.proofs.lemmas.Bool.Decides.{nat_tests}
 use Rattle.std.proofs.lemmas.List.{map-append, append-nil, get_or-map}
-use Rattle.contact_csv.specs.Cells.{cell_text}
+use Rattle.contact_columns.specs.Cells.{cell_text}
 use Rattle.contact_csv.specs.Contacts.{IsContact}
 use Rattle.contact_csv.specs.RowUids.{row_uid}
 use Rattle.std.proofs.lemmas.List.Elements.{Contains-append_right}
+use Rattle.vcard_import.specs.declared.change.Change.{Change}
 use Rattle.vcard_lines.specs.declared.line.Line.{Line}
 use Rattle.vcard_text.specs.Cards.{uid_of}
 use Rattle.vcard_text.specs.Making.{upper_line, upper_lines}
-use Rattle.contact_csv.specs.Lines.{plain_line}
+use Rattle.vcard_property.specs.Lines.{plain_line}
 use Rattle.vcard_property.specs.declared.change_kind.ChangeKind.TheVariants.{Rewritten, KeptAside}
-use Rattle.contact_csv.specs.Carrying.{IsCarried, IsAsideName, property_at, change, is_date_column, is_date_name, as_date, kept_aside}
-use Rattle.contact_csv.specs.internal.Keeping.{BeginsWithUid, KeepsAside, KeepsCell, Keeps}
-use Rattle.contact_csv.specs.declared.columns.Column.{Column}
+use Rattle.contact_csv.specs.Carrying.{IsCarried, IsAsideName, column_at, component_in, change, is_date_column, is_date_name, as_date, in_parts, kept_aside, whole}
+use Rattle.contact_csv.specs.internal.Keeping.{BeginsWithUid, IsCarriedWhole, KeepsAside, KeepsCell, Keeps}
+use Rattle.contact_columns.specs.declared.columns.Column.{Column}
 use Rattle.contact_csv.specs.declared.keeping.Kept.{Kept}
 use Rattle.contact_csv.proofs.CarryLemmas.{carried_stays}
 
@@ -53,14 +54,14 @@ begins_more uid lines line begins = begins_stays uid lines (upper_line line ∷ 
 -- ---- cells
 
 -- one more cell
-pub keeps_more : (uid : List ℕ) (columns : List Column) (texts : List (List ℕ)) (place : ℕ) (old new : Kept) → Keeps uid columns texts place old → KeepsCell (property_at columns place) place (get_or texts place []) old new → Keeps uid columns texts (place + 1) new
+pub keeps_more : (uid : List ℕ) (columns : List Column) (texts : List (List ℕ)) (place : ℕ) (old new : Kept) → Keeps uid columns texts place old → KeepsCell (column_at columns place) place (get_or texts place []) old new → Keeps uid columns texts (place + 1) new
 keeps_more uid columns texts place old new keeps cell = record {
   begins = subst (BeginsWithUid uid) (sym cell.lines_are) (begins_stays uid old.lines cell.lines cell.upper keeps.begins);
   cells = λ other small. elim (eq-or-lt_of_le {n = other} {m = place} (omega (arith, small))) [
-    | inr earlier ↦ subst (λ l. IsCarried (property_at columns other) other (get_or texts other []) l new.changes) (sym cell.lines_are)
-        (subst (λ l. IsCarried (property_at columns other) other (get_or texts other []) (old.lines ++ cell.lines) l) (sym cell.changes_are)
-        (carried_stays (property_at columns other) other (get_or texts other []) old.lines cell.lines old.changes cell.changes (keeps.cells other earlier)))
-    | inl same ↦ subst (λ p. IsCarried (property_at columns p) p (get_or texts p []) new.lines new.changes) (sym same) cell.carried
+    | inr earlier ↦ subst (λ l. IsCarried (column_at columns other) other (get_or texts other []) l new.changes) (sym cell.lines_are)
+        (subst (λ l. IsCarried (column_at columns other) other (get_or texts other []) (old.lines ++ cell.lines) l) (sym cell.changes_are)
+        (carried_stays (column_at columns other) other (get_or texts other []) old.lines cell.lines old.changes cell.changes (keeps.cells other earlier)))
+    | inl same ↦ subst (λ p. IsCarried (column_at columns p) p (get_or texts p []) new.lines new.changes) (sym same) cell.carried
   ];
 }
 
@@ -70,8 +71,8 @@ last_is xs x = Contains-append_right xs (x ∷ []) x (0, omega arith, refl)
 -- ---- what is kept of a cell
 
 -- nothing, where the lines carry it
-pub whole_keeps : (property : List ℕ) (place : ℕ) (text : List ℕ) (old : Kept) → IsCarried property place text old.lines old.changes → KeepsCell property place text old old
-whole_keeps property place text old carried = record {
+pub whole_keeps : (column : Column) (place : ℕ) (text : List ℕ) (old : Kept) → IsCarried column place text old.lines old.changes → KeepsCell column place text old old
+whole_keeps column place text old carried = record {
   lines = [];
   upper = refl;
   lines_are = sym (append-nil old.lines);
@@ -81,20 +82,20 @@ whole_keeps property place text old carried = record {
 }
 
 -- a report, where it is a date
-pub date_keeps : (property : List ℕ) (place : ℕ) (text : List ℕ) (old new : Kept) → is_date_column property ≡ true → list_any (λ line. is_date_name line.name) old.lines ≡ true → new.lines ≡ old.lines → new.changes ≡ old.changes ++ change place Rewritten ∷ [] → KeepsCell property place text old new
-date_keeps property place text old new column line lines changes = record {
+pub date_keeps : (column : Column) (place : ℕ) (text : List ℕ) (old new : Kept) → is_date_column column.property ≡ true → list_any (λ line. is_date_name line.name) old.lines ≡ true → new.lines ≡ old.lines → new.changes ≡ old.changes ++ change place Rewritten ∷ [] → KeepsCell column place text old new
+date_keeps column place text old new dates line lines changes = record {
   lines = [];
   upper = refl;
   lines_are = lines ∙ sym (append-nil old.lines);
   changes = change place Rewritten ∷ [];
   changes_are = changes;
-  carried = as_date column (subst (λ (ls : List Line). list_any (λ l. is_date_name l.name) ls ≡ true) (sym lines) line)
+  carried = as_date dates (subst (λ (ls : List Line). list_any (λ l. is_date_name l.name) ls ≡ true) (sym lines) line)
       (subst (λ cs. Contains cs (change place Rewritten)) (sym changes) (last_is old.changes (change place Rewritten)));
 }
 
 -- a line and a report
-pub aside_keeps : (property : List ℕ) (place : ℕ) (text : List ℕ) (old new : Kept) → KeepsAside place text old new → KeepsCell property place text old new
-aside_keeps property place text old new kept = record {
+pub aside_keeps : (column : Column) (place : ℕ) (text : List ℕ) (old new : Kept) → KeepsAside place text old new → KeepsCell column place text old new
+aside_keeps column place text old new kept = record {
   lines = kept.line ∷ [];
   upper = ap (λ l. l ∷ []) kept.upper;
   lines_are = kept.lines_are;
@@ -107,7 +108,7 @@ aside_keeps property place text old new kept = record {
 -- the contact of a row
 pub row_kept : (uid : List ℕ) (columns : List Column) (row : List (List ℕ)) (made : Kept) → uid ≡ row_uid row → Keeps uid columns (map cell_text row) (length row) made → IsContact columns row made.lines made.changes
 row_kept uid columns row made is keeps = record {
-  cells = λ place small. subst (λ text. IsCarried (property_at columns place) place text made.lines made.changes) (get_or-map cell_text row place [] [] small) (keeps.cells place small);
+  cells = λ place small. subst (λ text. IsCarried (column_at columns place) place text made.lines made.changes) (get_or-map cell_text row place [] [] small) (keeps.cells place small);
   uid = ap uid_of keeps.begins.lines_are ∙ is;
 }
 
@@ -117,3 +118,8 @@ keeps_fewer uid columns texts count place made fewer keeps = record {
   begins = keeps.begins;
   cells = λ other small. keeps.cells other (omega (arith, small, fewer));
 }
+
+-- a text that is no component is carried as a value
+pub carried_whole : (column : Column) (place : ℕ) (text : List ℕ) (lines : List Line) (changes : List Change) → component_in column ≡ None → IsCarriedWhole column.property text lines → IsCarried column place text lines changes
+carried_whole column place text lines changes none (inl held) = whole none held
+carried_whole column place text lines changes none (inr parts) = in_parts parts.0 none parts.1 parts.2

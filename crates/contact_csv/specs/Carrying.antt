@@ -1,7 +1,8 @@
 -- How a card carries a cell: which line has its text, or which change reports it (RFC 6350,
 -- sections 3.3 and 5; RFC 6868). This project's own.
 use Rattle.std.specs.Prelude.{ℕ, ◌≡◌, ◌⊎◌, Bool, true, ◌||◌, ◌&&◌, ◌==◌, List, [], ◌∷◌, ◌++◌}
-use Rattle.std.specs.Prelude.{codes, bytes_eq, flat_map, map, get_or, if◌then◌else◌}
+use Rattle.std.specs.Prelude.{codes, bytes_eq, flat_map, map, get_or, Option, Some, None}
+use Rattle.std.specs.Prelude.{if◌then◌else◌}
 use Rattle.std.specs.List.{list_any, Contains}
 use Rattle.std.specs.Str.{chars, encode_utf8_all, str_to_ascii_lowercase}
 use Rattle.base_types.specs.Octets.{line_feed, quote}
@@ -11,9 +12,10 @@ use Rattle.vcard_values.specs.TextValues.{escaped_value, components}
 use Rattle.vcard_import.specs.declared.change.Change.{Change}
 use Rattle.vcard_property.specs.declared.change_kind.ChangeKind.{ChangeKind}
 use Rattle.vcard_property.specs.declared.change_kind.ChangeKind.TheVariants.{Rewritten, KeptAside}
-use Rattle.contact_csv.specs.Cells.{is_void}
+use Rattle.contact_columns.specs.Cells.{is_void}
+use Rattle.contact_columns.specs.Components.{component_of}
+use Rattle.contact_columns.specs.declared.columns.Column.{Column}
 use Rattle.contact_csv.specs.Labels.{label_types}
-use Rattle.contact_csv.specs.declared.columns.Column.{Column}
 
 -- ---- the text of a line
 
@@ -44,6 +46,17 @@ abbrev pub is_held : List ℕ → List ℕ → List Line → Bool
 is_held property text lines =
     list_any (λ line. bytes_eq line.name property && has_text text line) lines
 
+-- ---- components
+
+-- the text is the component of the line's value at the index
+abbrev pub has_component : ℕ → List ℕ → Line → Bool
+has_component index text line = bytes_eq (get_or (components line.value) index []) text
+
+-- a line of the property has the text in its component at the index
+abbrev pub is_component_held : List ℕ → ℕ → List ℕ → List Line → Bool
+is_component_held property index text lines =
+    list_any (λ line. bytes_eq line.name property && has_component index text line) lines
+
 -- ---- several values in a cell
 
 -- The part has no value, or a line of the property has it, maybe without Google's `* `.
@@ -73,12 +86,14 @@ pub data IsLabel (cell label : List ℕ) : Type 0 where
   plain_label : cell ≡ label → IsLabel cell label
   starred_label : cell ≡ codes "* " ++ label → IsLabel cell label
 
--- A line has the types that the label is, or the label is the name of a line, in any case.
-pub data IsLabelHeld (cell : List ℕ) (lines : List Line) : Type 0 where
-  as_types : (label : List ℕ) (line : Line) → IsLabel cell label → Contains lines line
-      → has_types (label_types label) line → IsLabelHeld cell lines
-  as_name : (label : List ℕ) (line : Line) → IsLabel cell label → Contains lines line
-      → str_to_ascii_lowercase line.name ≡ str_to_ascii_lowercase label → IsLabelHeld cell lines
+-- A line has the types that the label is, or the label is the name of a line, in any case, or the
+-- text of a line X-ABLABEL.
+pub data IsLabelHeld (label : List ℕ) (lines : List Line) : Type 0 where
+  as_types : (line : Line) → Contains lines line → has_types (label_types label) line
+      → IsLabelHeld label lines
+  as_name : (line : Line) → Contains lines line
+      → str_to_ascii_lowercase line.name ≡ str_to_ascii_lowercase label → IsLabelHeld label lines
+  as_text : is_held (codes "X-ABLABEL") label lines ≡ true → IsLabelHeld label lines
 
 -- ---- cells
 
@@ -95,28 +110,44 @@ is_date_column property = is_date_name property || bytes_eq property (codes "X-A
 abbrev pub IsAsideName : List ℕ → Type 0
 IsAsideName name = (rest : List ℕ) × (name ≡ codes "X-" ++ rest)
 
--- The card carries the text of the cell at the index of the row, in a column of the property.
-pub data IsCarried (property : List ℕ) (place : ℕ) (text : List ℕ) (lines : List Line)
+-- the component of its property that the cells of the column are
+abbrev pub component_in : Column → Option ℕ
+component_in column = component_of column.property column.name
+
+-- The card carries the text of the cell at the index of the row, in the column.
+pub data IsCarried (column : Column) (place : ℕ) (text : List ℕ) (lines : List Line)
     (changes : List Change) : Type 0 where
   -- it has no value
-  no_value : is_void text ≡ true → IsCarried property place text lines changes
-  -- a line of the property has the text
-  whole : is_held property text lines ≡ true → IsCarried property place text lines changes
-  -- lines of the property have the values between the separators
-  in_parts : (separator : List ℕ) → ArePartsHeld separator property lines text
-      → (separator ≡ codes " ::: ") ⊎ ((separator ≡ codes ";") × (property ≡ codes "CATEGORIES"))
-      → IsCarried property place text lines changes
+  no_value : is_void text ≡ true → IsCarried column place text lines changes
+  -- its column has a component, and a line of the property has the text in this component
+  in_component : (index : ℕ) → component_in column ≡ Some index
+      → is_component_held column.property index text lines ≡ true
+      → IsCarried column place text lines changes
+  -- its column has no component, and a line of the property has the text
+  whole : component_in column ≡ None → is_held column.property text lines ≡ true
+      → IsCarried column place text lines changes
+  -- its column has no component, and lines of the property have the values between the separators
+  in_parts : (separator : List ℕ) → component_in column ≡ None
+      → ArePartsHeld separator column.property lines text
+      → (separator ≡ codes " ::: ")
+      ⊎ ((separator ≡ codes ";") × (column.property ≡ codes "CATEGORIES"))
+      → IsCarried column place text lines changes
   -- it is the label of a line
-  as_label : property ≡ codes "X-ABLABEL" → IsLabelHeld text lines
-      → IsCarried property place text lines changes
+  as_label : (label : List ℕ) → column.property ≡ codes "X-ABLABEL" → IsLabel text label
+      → IsLabelHeld label lines → IsCarried column place text lines changes
   -- it is in a column of dates, a line is a date, and the cell is reported
-  as_date : is_date_column property ≡ true → list_any (λ line. is_date_name line.name) lines ≡ true
-      → Contains changes (change place Rewritten) → IsCarried property place text lines changes
+  as_date : is_date_column column.property ≡ true
+      → list_any (λ line. is_date_name line.name) lines ≡ true
+      → Contains changes (change place Rewritten) → IsCarried column place text lines changes
   -- a line whose name begins with X- has the text, and the cell is reported
   kept_aside : (line : Line) → Contains lines line → IsAsideName line.name
       → line.value ≡ escaped_value text → Contains changes (change place KeptAside)
-      → IsCarried property place text lines changes
+      → IsCarried column place text lines changes
 
--- the property of the column at the index; empty if there is none
-abbrev pub property_at : List Column → ℕ → List ℕ
-property_at columns place = get_or (map (λ column. column.property) columns) place []
+-- the column of cells to which the header gives none
+abbrev pub extra_column : Column
+extra_column = record { name = codes "COLUMN"; property = [] }
+
+-- the column at the index
+abbrev pub column_at : List Column → ℕ → Column
+column_at columns place = get_or columns place extra_column

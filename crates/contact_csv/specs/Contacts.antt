@@ -1,5 +1,6 @@
 -- The contact of a row, and a reader of the rows of a file. This project's own.
 use Rattle.std.specs.Prelude.{ℕ, ◌≡◌, ◌<◌, Bool, List, [], Option, length, get_or, option_map}
+use Rattle.std.specs.Prelude.{Result, MatchResult}
 use Rattle.csv.specs.Reading.{Ready, ReadRecord, reader_config, reader_state, reader_trim}
 use Rattle.csv.specs.Reading.{source_of, strip_bom}
 use Rattle.csv.specs.declared.parser.State.TheVariants as st
@@ -10,10 +11,11 @@ use Rattle.vcard_lines.specs.declared.line.Line.{Line}
 use Rattle.vcard_text.specs.Cards.{uid_of}
 use Rattle.vcard_text.specs.Making.{IsFirstFaultOfLines}
 use Rattle.vcard_import.specs.declared.change.Change.{Change}
-use Rattle.contact_csv.specs.Carrying.{IsCarried, property_at}
-use Rattle.contact_csv.specs.Cells.{cell_text}
+use Rattle.vcard_import.specs.declared.conversion.Conversion.{Conversion}
+use Rattle.contact_csv.specs.Carrying.{IsCarried, column_at}
+use Rattle.contact_columns.specs.Cells.{cell_text}
 use Rattle.contact_csv.specs.RowUids.{row_uid}
-use Rattle.contact_csv.specs.declared.columns.Column.{Column}
+use Rattle.contact_columns.specs.declared.columns.Column.{Column}
 use Rattle.contact_csv.specs.declared.rows.ContactReader.{ContactReader}
 
 -- The lines carry the text of each cell of the row, or a change reports the cell; their UID is that
@@ -21,7 +23,7 @@ use Rattle.contact_csv.specs.declared.rows.ContactReader.{ContactReader}
 pub record IsContact (columns : List Column) (fields : List (List ℕ)) (lines : List Line)
     (changes : List Change) : Type 0 where
   pub cells : (place : ℕ) → place < length fields
-      → IsCarried (property_at columns place) place (cell_text (get_or fields place [])) lines
+      → IsCarried (column_at columns place) place (cell_text (get_or fields place [])) lines
       changes
   pub uid : uid_of lines ≡ row_uid fields
 
@@ -32,6 +34,12 @@ pub record IsRefused (columns : List Column) (fields : List (List ℕ)) (fault :
     pub changes : List Change
     pub contact : IsContact columns fields lines changes
     pub first : IsFirstFaultOfLines lines fault
+
+-- What the row becomes: its contact, or why it is refused.
+abbrev pub Becomes : List Column → List (List ℕ) → Result Conversion CardFault → Type 0
+Becomes columns fields row = MatchResult row
+    (λ made. IsContact columns fields made.card made.changes)
+    (λ fault. IsRefused columns fields fault)
 
 -- the reader of records
 abbrev pub rows_of : {R : Type 0} → ContactReader R → Reader R

@@ -1,15 +1,15 @@
 //! Whether a line of a card holds a cell.
-ghost use Rattle.std.specs.Prelude.{◌≡◌, ◌<◌, ◌++◌, true, IfOk, IfSome, IsTrue, map, codes, length};
-ghost use Rattle.std.specs.Prelude.{bytes_eq, string_bytes};
+ghost use Rattle.std.specs.Prelude.{◌≡◌, ◌<◌, ◌++◌, [], ℕ, List, true, IfOk, IfSome, IsTrue};
+ghost use Rattle.std.specs.Prelude.{bytes_eq, codes, get_or, length, map, string_bytes};
 ghost use Rattle.std.specs.List.{list_any};
 ghost use Rattle.vcard_values.specs.TextValues.{components};
 ghost use Rattle.contact_csv.specs.Carrying.{caret_text, param_has, has_text, is_held, IsPartHeld};
 ghost use Rattle.contact_csv.specs.Carrying.{ArePartsHeld, has_types, IsLabel, IsLabelHeld};
-ghost use Rattle.contact_csv.specs.Carrying.{is_date_name, is_date_column};
+ghost use Rattle.contact_csv.specs.Carrying.{is_component_held, is_date_name, is_date_column};
 
-use crate::cell::is_void;
 use crate::labels::label_types;
 use crate::lines::caret_text;
+use contact_columns::is_void;
 use std::alloc::Global;
 use vcard_text::{Line, NoMemory, Param, ParamValue, components, escape};
 
@@ -18,6 +18,26 @@ fn has_part(parts: &[String], text: &str) -> bool
     ensures { result ≡ list_any (λ part. bytes_eq (string_bytes part) text.now) parts.now }
 {
     parts.iter().any(|part| part.as_str() == text)
+}
+
+/// Whether the part at the index is the text.
+fn is_part(parts: &[String], index: usize, text: &str) -> bool
+    ensures { IsTrue result
+        → bytes_eq (get_or (map string_bytes parts.now) index []) text.now ≡ true }
+{
+    if index >= parts.len() {
+        return false;
+    }
+    parts[index].as_str() == text
+}
+
+/// Whether the component of the value at the index is the text (RFC 6350, section 3.3).
+fn is_component(alloc: Global, value: &str, index: usize, text: &str) -> Result<bool, NoMemory>
+    ensures { IfOk result (λ is. IsTrue is
+        → bytes_eq (get_or (components value.now) index []) text.now ≡ true) }
+{
+    let parts = components(alloc, value)?;
+    Ok(is_part(parts.as_slice(), index, text))
 }
 
 /// Whether a component of the value is the text (RFC 6350, section 3.3).
@@ -85,6 +105,28 @@ pub(crate) fn holds_text(
         return Ok(false);
     }
     has_text(alloc, line, text)
+}
+
+/// Whether the line at the index `home` has the name, and the text in its component at `index`.
+pub(crate) fn holds_component(
+    alloc: Global,
+    lines: &[Line],
+    home: usize,
+    property: &str,
+    index: usize,
+    text: &str,
+) -> Result<bool, NoMemory>
+    ensures { IfOk result (λ holds. IsTrue holds
+        → is_component_held property.now index text.now lines.now ≡ true) }
+{
+    if home >= lines.len() {
+        return Ok(false);
+    }
+    let line = &lines[home];
+    if line.name.as_str() != property {
+        return Ok(false);
+    }
+    is_component(alloc, line.value.as_str(), index, text)
 }
 
 /// The text before the first separator, and the text after it. `None` without a separator.
@@ -209,19 +251,36 @@ fn plain_label(text: &str) -> &str
 }
 
 /// Whether the line at the index has the types that the label is, or is named as the label.
-pub(crate) fn holds_label(lines: &[Line], home: usize, text: &str) -> bool
-    ensures { IsTrue result → IsLabelHeld text.now lines.now }
+fn has_label(lines: &[Line], home: usize, label: &str) -> bool
+    ensures { IsTrue result → IsLabelHeld label.now lines.now }
 {
     if home >= lines.len() {
         return false;
     }
-    let label = plain_label(text);
     let line = &lines[home];
     let types = label_types(label);
     if !types.is_empty() && has_types(line, types) {
         return true;
     }
     line.name.as_str().eq_ignore_ascii_case(label)
+}
+
+/// Whether the line at the index has the label of the cell: as its types, as its name, or as the
+/// text of X-ABLABEL.
+pub(crate) fn holds_label(
+    alloc: Global,
+    lines: &[Line],
+    home: usize,
+    cell: &str,
+) -> Result<bool, NoMemory>
+    ensures { IfOk result (λ holds. IsTrue holds → (label : List ℕ)
+        × IsLabel cell.now label × IsLabelHeld label lines.now) }
+{
+    let label = plain_label(cell);
+    if has_label(lines, home, label) {
+        return Ok(true);
+    }
+    holds_text(alloc, lines, home, "X-ABLABEL", label)
 }
 
 /// Whether the name is that of a property with a date.

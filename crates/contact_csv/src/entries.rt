@@ -1,12 +1,10 @@
 //! The lines of one property of a row.
 
-use crate::cell::is_void;
 use crate::dates::basic_date;
 use crate::labels::label_types;
 use crate::lines::{label_param, make_param, type_param};
-use crate::meaning::{Part, component_count};
 use crate::row_lines::RowLines;
-use crate::slots::Slot;
+use contact_columns::{Part, Slot, component_count, is_void};
 use std::alloc::Global;
 use vcard_text::{Items, Line, NoMemory, Param, Part as Copied, Text, escape};
 

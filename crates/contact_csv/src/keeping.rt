@@ -1,20 +1,20 @@
 //! Keeps aside what the lines of a row don't hold, and reports it.
 ghost use Rattle.std.specs.Prelude.{◌≡◌, ◌≢◌, ◌∷◌, ◌++◌, [], ℕ, List, IfOk, OnOk, string_bytes};
 ghost use Rattle.std.specs.Prelude.{length, map, codes, get_or, IsTrue};
-ghost use Rattle.vcard_lines.specs.declared.line.Line.{Line};
 ghost use Rattle.vcard_values.specs.TextValues.{escaped_value};
 ghost use Rattle.vcard_text.specs.Making.{upper_line, upper_lines};
 ghost use Rattle.vcard_import.specs.declared.change.Change.{Change};
-ghost use Rattle.contact_csv.specs.Carrying.{IsCarried, IsAsideName, change, property_at};
-ghost use Rattle.contact_csv.specs.internal.Keeping.{BeginsWithUid, KeepsAside, KeepsCell, Keeps};
+ghost use Rattle.contact_csv.specs.Carrying.{IsCarried, IsAsideName, change};
+ghost use Rattle.contact_csv.specs.Carrying.{column_at, extra_column};
+ghost use Rattle.contact_csv.specs.internal.Keeping.{BeginsWithUid, IsCarriedWhole, KeepsAside};
+ghost use Rattle.contact_csv.specs.internal.Keeping.{KeepsCell, Keeps};
 
-use crate::carried::{holds_label, holds_parts, holds_text, is_dated};
-use crate::cell::is_void;
-use crate::columns::Column;
-use crate::lines::plain_line;
+use crate::carried::{holds_component, holds_label, holds_parts, holds_text, is_dated};
 use crate::row_lines::RowLines;
+use contact_columns::{Column, component_of, is_void};
 use std::alloc::Global;
 use vcard_import::{Change, ChangeKind};
+use vcard_property::{plain_line, with_upper_name};
 use vcard_text::{Items, Line, NoMemory, Text, escape};
 
 /// The lines of a card and the changes so far.
@@ -22,26 +22,6 @@ use vcard_text::{Items, Line, NoMemory, Text, escape};
 pub(crate) struct Kept {
     pub(crate) lines: Items<Line>,
     pub(crate) changes: Items<Change>,
-}
-
-/// The line with its name in upper case. Allocates nothing.
-fn with_upper_name(line: Line) -> Line
-    ensures { result ≡ upper_line line }
-{
-    let Line {
-        group,
-        name,
-        params,
-        value,
-    } = line;
-    let mut name = name.into_string();
-    name.make_ascii_uppercase();
-    Line {
-        group,
-        name: Text::new(name),
-        params,
-        value,
-    }
 }
 
 /// The line of the UID, and then the lines with their names in upper case.
@@ -85,7 +65,31 @@ fn aside_line(alloc: Global, column: &str, text: &str) -> Result<Line, NoMemory>
     Ok(with_upper_name(plain_line(alloc, name.as_str(), value)?))
 }
 
-/// Whether the lines carry the text as it is.
+/// Whether the lines carry the cell of the column as it is.
+fn is_carried(
+    alloc: Global,
+    lines: &[Line],
+    home: usize,
+    column: &Column,
+    text: &str,
+) -> Result<bool, NoMemory>
+    ensures { IfOk result (λ carried. IsTrue carried → (place : ℕ) (changes : List Change)
+        → IsCarried column.now place text.now lines.now changes) }
+{
+    if is_void(text) {
+        return Ok(true);
+    }
+    let property = column.property.as_str();
+    if property == "X-ABLABEL" {
+        return holds_label(alloc, lines, home, text);
+    }
+    match component_of(property, column.name.as_str()) {
+        Some(index) => holds_component(alloc, lines, home, property, index, text),
+        None => is_carried_whole(alloc, lines, home, property, text),
+    }
+}
+
+/// Whether the lines carry the text, which is no component.
 fn is_carried_whole(
     alloc: Global,
     lines: &[Line],
@@ -93,32 +97,12 @@ fn is_carried_whole(
     property: &str,
     text: &str,
 ) -> Result<bool, NoMemory>
-    ensures { IfOk result (λ carried. IsTrue carried → (place : ℕ) (changes : List Change)
-        → IsCarried property.now place text.now lines.now changes) }
+    ensures { IfOk result (λ carried. IsTrue carried
+        → IsCarriedWhole property.now text.now lines.now) }
 {
-    if is_void(text) {
-        return Ok(true);
-    }
     if holds_text(alloc, lines, home, property, text)? {
         return Ok(true);
     }
-    if property == "X-ABLABEL" {
-        return Ok(holds_label(lines, home, text));
-    }
-    is_carried_in_parts(alloc, lines, home, property, text)
-}
-
-/// Whether the lines carry the values of the text.
-fn is_carried_in_parts(
-    alloc: Global,
-    lines: &[Line],
-    home: usize,
-    property: &str,
-    text: &str,
-) -> Result<bool, NoMemory>
-    ensures { IfOk result (λ carried. IsTrue carried → (place : ℕ) (changes : List Change)
-        → IsCarried property.now place text.now lines.now changes) }
-{
     if holds_parts(alloc, lines, home, property, text, " ::: ")? {
         return Ok(true);
     }
@@ -164,14 +148,13 @@ impl Kept {
         home: usize,
     ) -> Result<(), NoMemory>
         ensures { OnOk result
-            (KeepsCell column.now.property place text.now self.old self.new) }
+            (KeepsCell column.now place text.now self.old self.new) }
     {
         let lines = self.lines.as_slice();
-        let property = column.property.as_str();
-        if is_carried_whole(alloc, lines, home, property, text)? {
+        if is_carried(alloc, lines, home, column, text)? {
             return Ok(());
         }
-        if is_dated(lines, home, property) {
+        if is_dated(lines, home, column.property.as_str()) {
             return self.report(place, ChangeKind::Rewritten);
         }
         self.keep_aside(alloc, column.name.as_str(), place, text)
@@ -180,7 +163,7 @@ impl Kept {
 
 /// The column of cells to which the header gives none.
 fn extra_column(alloc: Global) -> Result<Column, NoMemory>
-    ensures { IfOk result (λ column. column.property ≡ []) }
+    ensures { IfOk result (λ column. column ≡ extra_column) }
 {
     Ok(Column {
         name: Text::copy_of(alloc, "COLUMN")?,
@@ -198,8 +181,8 @@ fn home_of(homes: &[usize], place: usize) -> usize {
 
 /// The column at the index, or the extra one.
 fn column_at<'a>(columns: &'a [Column], place: usize, extra: &'a Column) -> &'a Column
-    requires { extra.now.property ≡ [] }
-    ensures { result.now.property ≡ property_at columns.now place }
+    requires { extra.now ≡ extra_column }
+    ensures { result.now ≡ column_at columns.now place }
 {
     if place < columns.len() {
         return &columns[place];
@@ -216,7 +199,7 @@ fn keep_all(
     cells: &[Text],
     draft: RowLines,
 ) -> Result<Kept, NoMemory>
-    requires { extra.now.property ≡ [] }
+    requires { extra.now ≡ extra_column }
     ensures { IfOk result (λ made. Keeps (string_bytes uid) columns.now cells.now
         (length cells.now) made) }
 {

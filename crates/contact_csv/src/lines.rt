@@ -1,11 +1,10 @@
-//! Makes lines and their parameters.
+//! Makes the parameters of lines.
 ghost use Rattle.std.specs.Prelude.{◌≡◌, ◌++◌, IfOk, OnOk, string_bytes};
 ghost use Rattle.std.specs.Str.{encode_utf8_all};
-ghost use Rattle.contact_csv.specs.Lines.{plain_line};
 ghost use Rattle.contact_csv.specs.Carrying.{caret_char, caret_text};
 
 use std::alloc::Global;
-use vcard_text::{Items, Line, NoMemory, Param, ParamValue, Text};
+use vcard_text::{Items, NoMemory, Param, ParamValue, Text};
 
 /// Whether a parameter's value with the character must be in double quotes.
 fn needs_quotes(c: char) -> bool {
@@ -73,16 +72,4 @@ pub(crate) fn label_param(alloc: Global, types: &[&str]) -> Result<Param, NoMemo
     }
     let name = Text::copy_of(alloc, "TYPE")?;
     Ok(Param { name, values })
-}
-
-/// A line without group and parameters.
-pub(crate) fn plain_line(alloc: Global, name: &str, value: String) -> Result<Line, NoMemory>
-    ensures { IfOk result (λ line. line ≡ plain_line name.now (string_bytes value)) }
-{
-    Ok(Line {
-        group: None,
-        name: Text::copy_of(alloc, name)?,
-        params: Items::new(alloc),
-        value: Text::new(value),
-    })
 }

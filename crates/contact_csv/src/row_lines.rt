@@ -1,8 +1,7 @@
 //! `RowLines`: the lines that a row's cells become, and which line holds which cell.
 
-use crate::lines::plain_line;
 use std::alloc::Global;
-use vcard_lines::{has_legal_parts, is_permitted_text, write_line};
+use vcard_property::{is_proper_line, plain_line};
 use vcard_text::{Items, Line, NoMemory, Text};
 
 /// The lines of a row so far.
@@ -45,11 +44,9 @@ impl RowLines {
         }
     }
 
-    /// Appends the line if it matches the grammar. The cell of a line that doesn't is kept aside.
+    /// Appends the line if it is a proper one. The cell of a line that isn't is kept aside.
     pub(crate) fn push(&mut self, alloc: Global, line: Line) -> Result<(), NoMemory> {
-        let mut text = String::new(alloc);
-        write_line(&mut text, &line)?;
-        if is_permitted_text(text.as_str()) && has_legal_parts(&line) {
+        if is_proper_line(alloc, &line)? {
             self.lines.push(line)?;
         }
         Ok(())

@@ -2,12 +2,12 @@
 ghost use Rattle.std.specs.Prelude.{◌≡◌, ℕ, List, IfOk, IfSome, IfNone, true, false};
 ghost use Rattle.csv.specs.Reading.{ReadRecord};
 ghost use Rattle.csv.specs.Records.{fields_of};
-ghost use Rattle.contact_csv.specs.Contacts.{IsContact, IsReady, HasReadHeader};
+ghost use Rattle.contact_csv.specs.Contacts.{Becomes, IsReady, HasReadHeader};
 ghost use Rattle.contact_csv.specs.Contacts.{rows_of, columns_of, delimiter_of};
 
-use crate::columns::{ContactColumns, read_columns};
 use crate::conversion::convert_row;
 use crate::fault::ContactFault;
+use contact_columns::{ContactColumns, read_columns, row_field};
 use csv::{ByteRecord, Error, ErrorKind, Reader, ReaderBuilder};
 use std::alloc::Global;
 use std::io::Read;
@@ -20,6 +20,8 @@ pub struct ContactReader<R> {
     rows: Reader<R>,
     row: ByteRecord,
     columns: ContactColumns,
+    /// The number of lines that the library counts late.
+    late: u64,
 }
 
 /// Why the library reads no record.
@@ -27,6 +29,27 @@ fn fault_of(error: Error) -> ContactFault {
     match error.kind() {
         ErrorKind::OutOfMemory => ContactFault::Memory,
         _ => ContactFault::Unreadable,
+    }
+}
+
+/// The number of line feeds in the fields of a row.
+fn count_feeds(row: &ByteRecord) -> u64 {
+    let mut feeds: u64 = 0;
+    for place in 0..row.len() {
+        let octets = row_field(row, place).iter();
+        let count = octets.filter(|octet| **octet == b'\n').count();
+        feeds = feeds.saturating_add(count as u64);
+    }
+    feeds
+}
+
+/// The number of lines that the library counts late: 1 where rows end with CR LF, since it passes
+/// the LF only with the next row. So after the header it is still at the header's last line.
+fn late_lines(header: &ByteRecord, line: u64) -> u64 {
+    if line <= count_feeds(header).saturating_add(1) {
+        1
+    } else {
+        0
     }
 }
 
@@ -54,7 +77,15 @@ impl<R: Read + Drop> ContactReader<R> {
             return Err(fault_of(error));
         }
         match read_columns(alloc, &row)? {
-            Some(columns) => Ok(ContactReader { rows, row, columns }),
+            Some(columns) => {
+                let late = late_lines(&row, rows.position().line());
+                Ok(ContactReader {
+                    rows,
+                    row,
+                    columns,
+                    late,
+                })
+            }
             None => Err(ContactFault::UnknownHeader),
         }
     }
@@ -64,10 +95,11 @@ impl<R: Read + Drop> ContactReader<R> {
         &self.columns
     }
 
-    /// The number of the physical line at which the last row began, counted from 1.
+    /// The number of the physical line at which the last row began, counted from 1. Rows end with
+    /// LF or CR LF, all alike; empty lines before the row are counted with it.
     pub fn line(&self) -> u64 {
         match self.row.position() {
-            Some(position) => position.line(),
+            Some(position) => position.line().saturating_add(self.late),
             None => 0,
         }
     }
@@ -85,20 +117,21 @@ impl<R: Read + Drop> ContactReader<R> {
         }
     }
 
-    /// The contact of the last row that was read.
+    /// The contact of the last row that was read, or its fault.
     fn contact(&self, alloc: Global) -> Result<Result<Conversion, CardFault>, ContactFault>
-        ensures { IfOk result (λ read. IfOk read (λ made.
-            IsContact (columns_of self.now) (fields_of self.now.row)
-            made.card made.changes)) }
+        ensures { IfOk result (Becomes (columns_of self.now) (fields_of self.now.row)) }
     {
         match convert_row(alloc, &self.columns, &self.row) {
             Ok(made) => Ok(Ok(made)),
-            Err(CardFault::Memory) => Err(ContactFault::Memory),
-            Err(fault) => Ok(Err(fault)),
+            Err(fault) => match fault {
+                CardFault::Memory => Err(ContactFault::Memory),
+                _ => Ok(Err(fault)),
+            },
         }
     }
 
-    /// The card of the next row, or its fault; `None` after the last row.
+    /// The card of the next row, or the fault for which the row is refused; `None` after the last
+    /// row. After a refused row the reader goes on with the next one.
     ///
     /// An `Err` is `Unreadable` if the source fails, or `Memory`. After `Unreadable` there are no
     /// more rows.
@@ -106,11 +139,12 @@ impl<R: Read + Drop> ContactReader<R> {
         &mut self,
         alloc: Global,
     ) -> Result<Option<Result<Conversion, CardFault>>, ContactFault>
-        // The contact is that of the next record of the source.
-        ensures contact { IfOk result (λ read. IfSome read (λ row. IfOk row (λ made.
+        // The next record of the source was read. It becomes this contact, or is refused for this
+        // fault.
+        ensures row { IfOk result (λ read. IfSome read (λ row.
             IsReady self.old → (fields : List (List ℕ))
             × ReadRecord R.remaining (rows_of self.old) (rows_of self.new) true fields
-            × IsContact (columns_of self.old) fields made.card made.changes))) }
+            × Becomes (columns_of self.old) fields row)) }
 
         // `None` comes only after the last record.
         ensures end { IfOk result (λ read. IfNone read (IsReady self.old → (fields : List (List ℕ))

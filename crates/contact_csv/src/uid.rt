@@ -1,26 +1,16 @@
 //! The UID of a row's card.
-ghost use Rattle.std.specs.Prelude.{◌≡◌, ◌++◌, ◌∷◌, [], IfOk, OnOk, string_bytes, get_or};
+ghost use Rattle.std.specs.Prelude.{◌≡◌, ◌++◌, ◌∷◌, [], IfOk, OnOk, string_bytes};
 ghost use Rattle.csv.specs.Records.{fields_of};
-ghost use Rattle.vcard_import.specs.DerivedUid.{derived_uid};
 ghost use Rattle.contact_csv.specs.RowUids.{row_octets, row_uid, unit_separator};
 
+use contact_columns::row_field;
 use csv::ByteRecord;
 use std::alloc::Global;
-use uuid::Uuid;
+use vcard_import::derived_uid;
 use vcard_text::NoMemory;
 
 /// What separates fields where the octets of a row are one list: ASCII's unit separator.
 const UNIT_SEPARATOR: u8 = 0x1F;
-
-/// The field at the index, or an empty one if there are fewer fields.
-pub(crate) fn row_field(row: &ByteRecord, place: usize) -> &[u8]
-    ensures { result.now ≡ get_or (fields_of row.now) place [] }
-{
-    match row.get(place) {
-        Some(row_field) => row_field,
-        None => b"",
-    }
-}
 
 /// Appends a field and a unit separator.
 fn push_field(octets: &mut Vec<u8>, field: &[u8]) -> Result<(), NoMemory>
@@ -41,17 +31,6 @@ fn row_octets(alloc: Global, row: &ByteRecord) -> Result<Vec<u8>, NoMemory>
         push_field(&mut octets, row_field(row, place))?;
     }
     Ok(octets)
-}
-
-/// `urn:uuid:` and the UUID of version 5 of the octets in the namespace of object identifiers. The
-/// only `Err` is out of memory.
-fn derived_uid(alloc: Global, octets: &[u8]) -> Result<String, NoMemory>
-    ensures { IfOk result (λ uid. string_bytes uid ≡ derived_uid octets.now) }
-{
-    let namespace = Uuid::NAMESPACE_OID;
-    let uuid = Uuid::new_v5(&namespace, octets);
-    let mut buffer = [0u8; 45];
-    Ok(String::from_str(alloc, uuid.urn().encode_lower(&mut buffer))?)
 }
 
 /// The UID of the row's card: `urn:uuid:` and the UUID of version 5 of the row's octets in the

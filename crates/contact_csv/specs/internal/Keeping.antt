@@ -1,14 +1,22 @@
 -- The lines and the changes while cells are kept aside. Public contracts don't cite it.
-use Rattle.std.specs.Prelude.{ℕ, ◌≡◌, ◌<◌, List, [], ◌∷◌, ◌++◌, codes, get_or}
+use Rattle.std.specs.Prelude.{ℕ, ◌≡◌, ◌<◌, ◌⊎◌, true, List, [], ◌∷◌, ◌++◌, codes, get_or}
 use Rattle.vcard_lines.specs.declared.line.Line.{Line}
 use Rattle.vcard_values.specs.TextValues.{escaped_value}
 use Rattle.vcard_text.specs.Making.{upper_line, upper_lines}
-use Rattle.contact_csv.specs.Lines.{plain_line}
+use Rattle.vcard_property.specs.Lines.{plain_line}
 use Rattle.vcard_import.specs.declared.change.Change.{Change}
 use Rattle.vcard_property.specs.declared.change_kind.ChangeKind.TheVariants.{KeptAside}
-use Rattle.contact_csv.specs.Carrying.{IsCarried, IsAsideName, change, property_at}
-use Rattle.contact_csv.specs.declared.columns.Column.{Column}
+use Rattle.contact_csv.specs.Carrying.{ArePartsHeld, IsCarried, IsAsideName}
+use Rattle.contact_csv.specs.Carrying.{change, column_at, is_held}
+use Rattle.contact_columns.specs.declared.columns.Column.{Column}
 use Rattle.contact_csv.specs.declared.keeping.Kept.{Kept}
+
+-- The text is carried in a column of the property whose cells are no components.
+abbrev pub IsCarriedWhole : List ℕ → List ℕ → List Line → Type 0
+IsCarriedWhole property text lines = (is_held property text lines ≡ true)
+    ⊎ ((separator : List ℕ) × ArePartsHeld separator property lines text
+    × ((separator ≡ codes " ::: ")
+    ⊎ ((separator ≡ codes ";") × (property ≡ codes "CATEGORIES"))))
 
 -- the lines begin with that of the UID, and their names are in upper case
 pub record BeginsWithUid (uid : List ℕ) (lines : List Line) : Type 0 where
@@ -26,18 +34,17 @@ pub record KeepsAside (place : ℕ) (text : List ℕ) (old new : Kept) : Type 0 
   pub changes_are : new.changes ≡ old.changes ++ change place KeptAside ∷ []
 
 -- lines and changes are appended so that the cell is carried
-pub record KeepsCell (property : List ℕ) (place : ℕ) (text : List ℕ) (old new : Kept) : Type 0
-  where
-    pub lines : List Line
-    pub upper : upper_lines lines ≡ lines
-    pub lines_are : new.lines ≡ old.lines ++ lines
-    pub changes : List Change
-    pub changes_are : new.changes ≡ old.changes ++ changes
-    pub carried : IsCarried property place text new.lines new.changes
+pub record KeepsCell (column : Column) (place : ℕ) (text : List ℕ) (old new : Kept) : Type 0 where
+  pub lines : List Line
+  pub upper : upper_lines lines ≡ lines
+  pub lines_are : new.lines ≡ old.lines ++ lines
+  pub changes : List Change
+  pub changes_are : new.changes ≡ old.changes ++ changes
+  pub carried : IsCarried column place text new.lines new.changes
 
 -- the lines begin with that of the UID, and the first cells are carried
 pub record Keeps (uid : List ℕ) (columns : List Column) (texts : List (List ℕ)) (count : ℕ)
     (made : Kept) : Type 0 where
   pub begins : BeginsWithUid uid made.lines
   pub cells : (place : ℕ) → place < count
-      → IsCarried (property_at columns place) place (get_or texts place []) made.lines made.changes
+      → IsCarried (column_at columns place) place (get_or texts place []) made.lines made.changes

@@ -1,20 +1,9 @@
-use Rattle.std.proofs.Common.{◌≡◌, ◌∙◌, ap, sym, subst, arith}
-use Rattle.std.specs.List.{Contains}
-use Rattle.std.specs.Str.{str_to_ascii_lowercase}
-use Rattle.contact_csv.specs.Carrying.{has_types, as_types, as_name}
+use Rattle.contact_csv.specs.Carrying.{as_text}
+use Rattle.contact_csv.proofs.ResultLemmas.{ok_then}
 use Rattle.contact_csv.proofs.carried.holds_label.Goals as goal
 
-pub returns-then-has_types : goal.returns-then-has_types
-returns-then-has_types c = λ t.
-    let label = c.plain_label-label.result.now in
-    let line = c.index-lines-home.result in
-    let there : Contains c.args.lines.now line = (c.args.home, omega (arith, c.if-home-lines.false), sym c.index-lines-home.is) in
-    as_types label line c.plain_label-label.ensures there (subst (λ types. has_types types line) c.label_types-types.ensures (c.has_types.ensures c.if-has_types.true))
+pub returns-then-has_label : goal.returns-then-has_label
+returns-then-has_label c = λ t. (c.plain_label-label.result.now, c.plain_label-label.ensures, c.has_label.ensures c.if-has_label.true)
 
 pub returns : goal.returns
-returns c = λ t.
-    let label = c.plain_label-label.result.now in
-    let line = c.index-lines-home.result in
-    let there : Contains c.args.lines.now line = (c.args.home, omega (arith, c.if-home-lines.false), sym c.index-lines-home.is) in
-    let named : str_to_ascii_lowercase line.name ≡ str_to_ascii_lowercase label = ap str_to_ascii_lowercase (sym c.as_str.ensures) ∙ c.eq_ignore_ascii_case.ensures.test.0 t in
-    as_name label line c.plain_label-label.ensures there named
+returns c = ok_then c.holds_text.result (λ holds held t. (c.plain_label-label.result.now, c.plain_label-label.ensures, as_text (held t))) c.holds_text.ensures

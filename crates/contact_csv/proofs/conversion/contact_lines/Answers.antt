@@ -1,7 +1,7 @@
 use Rattle.std.proofs.Common.{◌∙◌, map, length, subst, string_bytes}
 use Rattle.csv.specs.Records.{fields_of}
 use Rattle.std.proofs.lemmas.List.{length-map}
-use Rattle.contact_csv.specs.Cells.{cell_text}
+use Rattle.contact_columns.specs.Cells.{cell_text}
 use Rattle.contact_csv.specs.internal.Keeping.{Keeps}
 use Rattle.contact_csv.proofs.KeepLemmas.{row_kept}
 use Rattle.contact_csv.proofs.ResultLemmas.{ok_then}

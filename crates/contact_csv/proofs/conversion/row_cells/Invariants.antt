@@ -1,6 +1,6 @@
 use Rattle.std.proofs.Common.{◌≡◌, take, map}
 use Rattle.csv.specs.Records.{fields_of}
-use Rattle.contact_csv.specs.Cells.{cell_text}
+use Rattle.contact_columns.specs.Cells.{cell_text}
 use Rattle.contact_csv.proofs.conversion.row_cells.Given as goal
 
 -- the texts of the fields so far

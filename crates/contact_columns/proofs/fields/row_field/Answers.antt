@@ -1,6 +1,6 @@
 use Rattle.csv.specs.Records.{fields_of}
-use Rattle.contact_csv.proofs.RowLemmas.{field-some, field-none}
-use Rattle.contact_csv.proofs.uid.row_field.Goals as goal
+use Rattle.contact_columns.proofs.FieldLemmas.{field-some, field-none}
+use Rattle.contact_columns.proofs.fields.row_field.Goals as goal
 
 pub returns-in-Some : goal.returns-in-Some
 returns-in-Some c = field-some (fields_of c.args.row.now) c.args.place c.in-Some.row_field.now c.in-Some.ensures.value

@@ -6,24 +6,25 @@ use vcard_text::{Items, NoMemory, Text};
 
 /// A column of a slot.
 #[derive(Clone, Copy, Debug, PartialEq, Eq)]
-pub(crate) struct SlotColumn {
-    /// The index of the column.
-    pub(crate) place: usize,
+pub struct SlotColumn {
+    /// The index of the column in the row, from 0.
+    pub place: usize,
     /// What its cells are of the property.
-    pub(crate) part: Part,
+    pub part: Part,
 }
 
 /// The columns that give one property, as `Phone 1 - Label` and `Phone 1 - Value`.
 #[derive(Debug, Drop)]
-pub(crate) struct Slot {
+pub struct Slot {
     /// The name of the property.
-    pub(crate) property: Text,
+    pub property: Text,
     /// What tells the slot from others of the same property.
     key: Text,
-    /// The types that the names of the columns give.
-    pub(crate) types: Text,
+    /// The types that the names of the columns give, with commas between them; empty if they give
+    /// none.
+    pub types: Text,
     /// The columns, each with another part.
-    pub(crate) columns: Items<SlotColumn>,
+    pub columns: Items<SlotColumn>,
 }
 
 impl Slot {
@@ -44,8 +45,8 @@ impl Slot {
             && self.types.as_str() == meaning.types
     }
 
-    /// The index of the column with the part.
-    pub(crate) fn place_of(&self, part: Part) -> Option<usize> {
+    /// The index in the row of the column with the part, if the slot has one.
+    pub fn place_of(&self, part: Part) -> Option<usize> {
         let column = self
             .columns
             .as_slice()

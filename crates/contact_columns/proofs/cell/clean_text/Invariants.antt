@@ -1,7 +1,7 @@
 use Rattle.std.proofs.Common.{◌≡◌, flat_map, string_bytes}
 use Rattle.std.specs.Str.{encode_utf8_all}
-use Rattle.contact_csv.specs.Cells.{clean_char}
-use Rattle.contact_csv.proofs.cell.clean_text.Given as goal
+use Rattle.contact_columns.specs.Cells.{clean_char}
+use Rattle.contact_columns.proofs.cell.clean_text.Given as goal
 
 -- the characters so far are written
 abbrev pub invariant-loop-c : goal.invariant-loop-c

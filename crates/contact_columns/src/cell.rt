@@ -2,8 +2,8 @@
 ghost use Rattle.std.specs.Prelude.{◌≡◌, ◌++◌, IfOk, OnOk, string_bytes};
 ghost use Rattle.std.specs.List.{list_all};
 ghost use Rattle.std.specs.Str.{encode_utf8_all};
-ghost use Rattle.contact_csv.specs.Cells.{has_line_feed, clean_char, clean_text, cell_text};
-ghost use Rattle.contact_csv.specs.Cells.{is_blank, is_void};
+ghost use Rattle.contact_columns.specs.Cells.{has_line_feed, clean_char, clean_text, cell_text};
+ghost use Rattle.contact_columns.specs.Cells.{is_blank, is_void};
 
 use import_text::read_text;
 use std::alloc::Global;
@@ -46,10 +46,10 @@ fn clean_text(alloc: Global, text: &str, has_feeds: bool) -> Result<String, NoMe
     Ok(clean)
 }
 
-/// The text of a cell: UTF-8 if it is, and otherwise Latin-1; with line feeds as its only line
-/// ends, and a space for each other control character but the tab. The only `Err` is out of memory.
+/// The text of a cell: UTF-8 if it is, and otherwise Windows-1252. Line feeds are its only line
+/// ends, and each other control character but the tab is a space. The only `Err` is out of memory.
 #[tactic(auto, unfolding(crate::specs::Cells::cell_text))]
-pub(crate) fn cell_text(alloc: Global, octets: &[u8]) -> Result<Text, NoMemory>
+pub fn cell_text(alloc: Global, octets: &[u8]) -> Result<Text, NoMemory>
     ensures { IfOk result (λ text. text ≡ cell_text octets.now) }
 {
     let text = read_text(alloc, octets)?;
@@ -66,7 +66,7 @@ fn is_blank(text: &str) -> bool
 
 /// Whether the text is what the programs write where there is no value: white space, Google's `* `
 /// for a preferred value without a label, or Outlook's `0/0/00` for no date.
-pub(crate) fn is_void(text: &str) -> bool
+pub fn is_void(text: &str) -> bool
     ensures { result ≡ is_void text.now }
 {
     is_blank(text) || text == "* " || text == "0/0/00"

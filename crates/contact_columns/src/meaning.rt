@@ -2,7 +2,7 @@
 
 /// What a cell is of its property.
 #[derive(Clone, Copy, Debug, PartialEq, Eq)]
-pub(crate) enum Part {
+pub enum Part {
     /// A component of a structured value, counted from 0 (RFC 6350, section 3.3).
     Component(usize),
     /// The value.
@@ -55,7 +55,7 @@ impl<'a> Meaning<'a> {
 
 /// The number of components of the property's value (RFC 6350, sections 6.2.2, 6.3.1 and 6.6.4), or
 /// 0 if it has none.
-pub(crate) fn component_count(property: &str) -> usize {
+pub fn component_count(property: &str) -> usize {
     match property {
         "N" => 5,
         "ADR" => 7,

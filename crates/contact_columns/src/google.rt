@@ -1,18 +1,12 @@
 //! The columns of Google's exports: today's (`First Name`, `E-mail 1 - Label`) and the older ones
 //! (`Given Name`, `E-mail 1 - Type`).
 
+use crate::components::name_component;
 use crate::meaning::{Meaning, Part};
 
 /// A column of a person's name, which both programs have.
 pub(crate) fn name_meaning(name: &str) -> Option<Meaning<'_>> {
-    let place = match name {
-        "Last Name" | "Family Name" => 0,
-        "First Name" | "Given Name" => 1,
-        "Middle Name" | "Additional Name" => 2,
-        "Name Prefix" | "Title" => 3,
-        "Name Suffix" | "Suffix" => 4,
-        _ => return None,
-    };
+    let place = name_component(name)?;
     Some(Meaning::component("N", "", place, ""))
 }
 

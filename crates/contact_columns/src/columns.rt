@@ -1,11 +1,11 @@
 //! `ContactColumns`: the columns of an export.
 
 use crate::cell::cell_text;
+use crate::fields::row_field;
 use crate::google::{google_meaning, name_meaning};
 use crate::meaning::{Meaning, Part};
 use crate::outlook::outlook_meaning;
 use crate::slots::{Slot, add_column};
-use crate::uid::row_field;
 use csv::ByteRecord;
 use std::alloc::Global;
 use vcard_text::{Items, NoMemory, Text};
@@ -25,8 +25,8 @@ pub struct Column {
 pub struct ContactColumns {
     /// The columns.
     pub columns: Items<Column>,
-    /// The properties that they give.
-    pub(crate) slots: Vec<Slot>,
+    /// The properties that they give, each once, in the order of their first columns.
+    pub slots: Vec<Slot>,
 }
 
 /// What a column of this name means, if it is one of Google's or Outlook's.

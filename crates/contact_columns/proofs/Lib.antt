@@ -1,0 +1,2 @@
+mod FieldLemmas
+pub mod TextLemmas
