@@ -1,3 +1,2 @@
 mod ProgressLemmas
 mod RowLemmas
-mod UidLemmas

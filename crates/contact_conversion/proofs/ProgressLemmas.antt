@@ -1,28 +1,28 @@
 -- The rows so far, and one more.
-use Rattle.std.proofs.Common.{◌≡◌, ◌≢◌, ◌∷◌, ◌++◌, [], ℕ, List, Option, Some, None, Result, Ok, refl, sym, ap, subst, ◌∙◌, map, append_assoc, append-nil, arith, ◌<◌, length, get_or, zero, suc}
+use Rattle.std.proofs.Common.{◌≡◌, ◌≢◌, ◌∷◌, ◌++◌, [], ℕ, List, Option, Some, None, Result, Ok, true, refl, sym, ap, subst, ◌∙◌, map, append_assoc, append-nil, arith, ◌<◌, length, get_or, zero, suc}
 use Rattle.std.specs.List.{All, AllByRecursion, AllPairs, Contains}
 use Rattle.std.specs.FinMap as finite
 use Rattle.std.specs.Option.{IsSome}
 use Rattle.std.proofs.lemmas.List.{flat_map_more}
 use Rattle.std.proofs.lemmas.List.Elements.{Contains-append_left, Contains-append_right}
 use Rattle.std.proofs.lemmas.List.Kept.{AllPairs-cons}
+use Rattle.csv.specs.Reading.{ReadRecord}
 use Rattle.csv.specs.declared.reader.Reader.{Reader}
 use Rattle.base_types.specs.TextMaps.{text_cmp}
 use Rattle.vcard_lines.specs.declared.fault.CardFault.{CardFault}
 use Rattle.vcard_lines.specs.declared.line.Line.{Line}
 use Rattle.vcard_text.specs.Cards.{IsCard, uid_of}
 use Rattle.vcard_import.specs.declared.conversion.Conversion.{Conversion}
-use Rattle.card_conversion.specs.Deliveries.{WritesInTurn}
+use Rattle.card_conversion.specs.Deliveries.{HasUids, WritesInTurn}
 use Rattle.card_conversion.specs.Counts.{nothing_counted}
 use Rattle.card_conversion.specs.declared.ledger.Summary.{Summary}
 use Rattle.std.proofs.lemmas.Grind.{fold-append}
-use Rattle.card_conversion.specs.internal.States.{HasUids}
-use Rattle.contact_csv.specs.Contacts.{IsContact, IsReady, columns_of, rows_of}
-use Rattle.contact_csv.specs.declared.columns.Column.{Column}
+use Rattle.contact_csv.specs.Contacts.{Becomes, IsReady, columns_of, rows_of}
+use Rattle.contact_columns.specs.declared.columns.Column.{Column}
 use Rattle.contact_csv.specs.declared.rows.ContactReader.{ContactReader}
 use Rattle.contact_conversion.specs.declared.fate.RowFate.{RowFate}
 use Rattle.contact_conversion.specs.declared.fate.RowFate.TheVariants.{Refused, Repeated, Declined, Written}
-use Rattle.contact_conversion.specs.Accounts.{ConvertsContacts, ReadsFields, ReadsInTurn}
+use Rattle.contact_conversion.specs.Accounts.{ConvertsContacts, ReadsInTurn}
 use Rattle.contact_conversion.specs.Fates.{IsRowContact, RowEntry, HaveFates, IsFate, cards_of, cards_of_fate, counted, summary_of, uids_of, uids_of_fate}
 use Rattle.contact_conversion.specs.internal.States.{IsFateOf, Progress, ReadsRow, TakesRow}
 
@@ -103,33 +103,19 @@ none_known uid = (λ some. cc (subst IsSome (finite.get-empty text_cmp uid) some
 
 module _ {R : Type 0} (remaining : R → Option (List ℕ)) where
   -- one more record is read after the others
-  more_read : (entries : List RowEntry) (fields : List (List ℕ)) (fate : RowFate) (a b c : Reader R) → ReadsInTurn remaining entries a b → ReadsFields remaining fields fate b c → ReadsInTurn remaining (entries ++ entry_of fields fate ∷ []) a c
-  more_read [] fields fate a b c same then = (c, subst (λ x. ReadsFields remaining fields fate x c) same then, refl)
+  more_read : (entries : List RowEntry) (fields : List (List ℕ)) (fate : RowFate) (a b c : Reader R) → ReadsInTurn remaining entries a b → ReadRecord remaining b c true fields → ReadsInTurn remaining (entries ++ entry_of fields fate ∷ []) a c
+  more_read [] fields fate a b c same then = (c, subst (λ x. ReadRecord remaining x c true fields) same then, refl)
   more_read (e ∷ es) fields fate a b c first then = (first.0, first.1, more_read es fields fate first.0 b c first.2 then)
 
-  -- the fields of what was read
-  pub record IsTaken (columns : List Column) (uids : List (List ℕ)) (fate : RowFate) (before after : Reader R) : Type 0 where
-    pub fields : List (List ℕ)
-    pub read : ReadsFields remaining fields fate before after
-    pub is : IsFate columns uids fields fate
+-- the row with these fields became a card or a fault, which has the fate
+card_of : (columns : List Column) (fields : List (List ℕ)) (row : Result Conversion CardFault) (made : Conversion) → Becomes columns fields row → row ≡ Ok made → IsCard made.card → IsRowContact columns fields made
+card_of columns fields row made becomes is card = record { card = card; contact = subst (Becomes columns fields) is becomes }
 
-  contact_taken : (before after : ContactReader R) (row : Result Conversion CardFault) (made : Conversion) → ReadsRow remaining before after (Some row) → row ≡ Ok made → ReadsRow remaining before after (Some (Ok made))
-  contact_taken before after row made step is = subst (λ r. ReadsRow remaining before after (Some r)) is step
-
-  card_of : (columns : List Column) (fields : List (List ℕ)) (made : Conversion) → IsCard made.card → IsContact columns fields made.card made.changes → IsRowContact columns fields made
-  card_of columns fields made card contact = record { card = card; contact = contact }
-
-  row_taken : (uids : List (List ℕ)) (before after : ContactReader R) (row : Result Conversion CardFault) (fate : RowFate) → ReadsRow remaining before after (Some row) → IsFateOf uids row fate → IsTaken (columns_of before) uids fate (rows_of before) (rows_of after)
-  row_taken uids before after row (Refused fault) step is = record { fields = []; read = tt; is = tt }
-  row_taken uids before after row (Repeated made) step is =
-      let got : ReadsRow remaining before after (Some (Ok made)) = contact_taken before after row made step is.0 in
-      record { fields = got.0; read = got.1; is = (card_of (columns_of before) got.0 made is.1 got.2, is.2) }
-  row_taken uids before after row (Declined made words) step is =
-      let got : ReadsRow remaining before after (Some (Ok made)) = contact_taken before after row made step is.0 in
-      record { fields = got.0; read = got.1; is = (card_of (columns_of before) got.0 made is.1 got.2, is.2) }
-  row_taken uids before after row (Written made) step is =
-      let got : ReadsRow remaining before after (Some (Ok made)) = contact_taken before after row made step is.0 in
-      record { fields = got.0; read = got.1; is = (card_of (columns_of before) got.0 made is.1 got.2, is.2) }
+fate_of : (columns : List Column) (fields : List (List ℕ)) (uids : List (List ℕ)) (row : Result Conversion CardFault) (fate : RowFate) → Becomes columns fields row → IsFateOf uids row fate → IsFate columns uids fields fate
+fate_of columns fields uids row (Refused fault) becomes is = subst (Becomes columns fields) is becomes
+fate_of columns fields uids row (Repeated made) becomes is = (card_of columns fields row made becomes is.0 is.1, is.2)
+fate_of columns fields uids row (Declined made words) becomes is = (card_of columns fields row made becomes is.0 is.1, is.2)
+fate_of columns fields uids row (Written made) becomes is = (card_of columns fields row made becomes is.0 is.1, is.2)
 
 -- ---- the loop
 
@@ -149,16 +135,18 @@ module _ {A : Type 0} (writes : List Line → A → A → Type 0) where
     pub all_done : (now : A) (old found : ContactReader R) (map : finite.FinMap text_cmp (Unit {0})) (summary : Summary) → SoFar now old map summary → ReadsRow remaining old found None → ConvertsContacts writes remaining first before now summary
     all_done now old found map summary p none = record {
       entries = p.entries;
-      last = rows_of old;
-      read = p.read;
-      end = rows_of found;
-      fields = none.0;
-      no_more = none.1;
-      fates = p.fates;
+      accounts = record {
+        last = rows_of old;
+        read = p.read;
+        end = rows_of found;
+        fields = none.0;
+        no_more = none.1;
+        fates = p.fates;
+        distinct = apart_each (columns_of first) [] p.entries p.fates;
+        cards = each_card (columns_of first) [] p.entries p.fates;
+        counts = p.counts;
+      };
       written = p.written;
-      distinct = apart_each (columns_of first) [] p.entries p.fates;
-      cards = each_card (columns_of first) [] p.entries p.fates;
-      counts = p.counts;
     }
 
     pub one_row : (now then : A) (old new : ContactReader R) (map after : finite.FinMap text_cmp (Unit {0})) (row : Result Conversion CardFault) (fate : RowFate) (summary more : Summary)
@@ -171,16 +159,16 @@ module _ {A : Type 0} (writes : List Line → A → A → Type 0) where
         → SoFar then new after more
     one_row now then old new map after row fate summary more p step same ready takes counts =
         let taken = takes (uids_of p.entries) p.known in
-        let entry : IsTaken remaining (columns_of old) (uids_of p.entries) fate (rows_of old) (rows_of new) = row_taken remaining (uids_of p.entries) old new row fate step taken.0 in
+        let fields = step.0 in
         record {
-          entries = p.entries ++ entry_of entry.fields fate ∷ [];
-          read = more_read remaining p.entries entry.fields fate (rows_of first) (rows_of old) (rows_of new) p.read entry.read;
+          entries = p.entries ++ entry_of fields fate ∷ [];
+          read = more_read remaining p.entries fields fate (rows_of first) (rows_of old) (rows_of new) p.read step.1;
           ready = ready;
           same_columns = same ∙ p.same_columns;
-          fates = more_fates (columns_of first) [] p.entries entry.fields fate p.fates
-              (subst (λ columns. IsFate columns (uids_of p.entries) entry.fields fate) p.same_columns entry.is);
-          known = subst (HasUids after) (sym (more_uids p.entries entry.fields fate)) taken.1;
-          written = subst (λ cards. WritesInTurn writes cards before then) (sym (more_cards p.entries entry.fields fate))
+          fates = more_fates (columns_of first) [] p.entries fields fate p.fates
+              (subst (λ columns. IsFate columns (uids_of p.entries) fields fate) p.same_columns (fate_of (columns_of old) fields (uids_of p.entries) row fate step.2 taken.0));
+          known = subst (HasUids after) (sym (more_uids p.entries fields fate)) taken.1;
+          written = subst (λ cards. WritesInTurn writes cards before then) (sym (more_cards p.entries fields fate))
               (more_written (cards_of p.entries) (cards_of_fate fate) before now then p.written taken.2);
-          counts = counts ∙ ap (λ s. counted s fate) p.counts ∙ sym (more_counts p.entries entry.fields fate);
+          counts = counts ∙ ap (λ s. counted s fate) p.counts ∙ sym (more_counts p.entries fields fate);
         }

@@ -1,5 +1,5 @@
--- The rows of cards that were written one after another.
-use Rattle.std.proofs.Common.{◌≡◌, ◌≢◌, ◌∷◌, ◌++◌, [], ℕ, List, Option, Some, None, sym, ap, subst, ◌∙◌, map, append_assoc, append-nil}
+-- The rows of the cards of contacts.
+use Rattle.std.proofs.Common.{◌≡◌, ◌≢◌, ◌++◌, ℕ, List, Option, map}
 use Rattle.std.specs.Prelude.{flat_map}
 use Rattle.std.specs.List.{AllByRecursion, AllPairs}
 use Rattle.std.specs.Io.KnownBytes.{Appends}
@@ -8,42 +8,24 @@ use Rattle.vcard_text.specs.Cards.{IsCard, uid_of}
 use Rattle.csv_cards.specs.Reading.{TextHasCards}
 use Rattle.csv_cards.specs.Writing.{csv_text}
 use Rattle.csv_cards.specs.declared.form.Form.TheVariants.{Cards}
-use Rattle.card_conversion.specs.Accounts.{WritesRows}
 use Rattle.card_conversion.specs.declared.ledger.Summary.{Summary}
-use Rattle.card_conversion.specs.Deliveries.{WritesInTurn}
 use Rattle.card_conversion.specs.RowTexts.{card_row_text, header_row_text}
+use Rattle.card_conversion.proofs.RowLemmas.{rows_written}
 use Rattle.contact_csv.specs.declared.rows.ContactReader.{ContactReader}
-use Rattle.contact_conversion.specs.Accounts.{ConvertsContacts}
+use Rattle.contact_conversion.specs.Accounts.{ConvertsContacts, ContactsToRows}
 use Rattle.contact_conversion.specs.Fates.{cards_of}
 
-nothing_appended : (a : Option (List ℕ)) → Appends a a []
-nothing_appended None = tt
-nothing_appended (Some x) = sym (append-nil x)
+-- what writing the row of a card does
+abbrev row_step : {A : Type 0} → (A → Option (List ℕ)) → List Line → A → A → Type 0
+row_step contents card before after = Appends (contents before) (contents after) (card_row_text card)
 
-appends_all : (a b c : Option (List ℕ)) (front back : List ℕ) → Appends a b front → Appends b c back → Appends a c (front ++ back)
-appends_all None b c front back p q = tt
-appends_all (Some x) None c front back p q = absurd p
-appends_all (Some x) (Some y) None front back p q = absurd q
-appends_all (Some x) (Some y) (Some z) front back p q = q ∙ ap (λ ys. ys ++ back) p ∙ append_assoc x front back
-
-module _ {A : Type 0} (contents : A → Option (List ℕ)) where
-  abbrev row_step : List Line → A → A → Type 0
-  row_step card before after = Appends (contents before) (contents after) (card_row_text card)
-
-  rows_appended : (cards : List (List Line)) (a b : A) → WritesInTurn row_step cards a b → Appends (contents a) (contents b) (flat_map card_row_text cards)
-  rows_appended [] a b same = subst (λ x. Appends (contents a) (contents x) []) (sym same) (nothing_appended (contents a))
-  rows_appended (card ∷ cards) a b written =
-      appends_all (contents a) (contents written.0) (contents b) (card_row_text card) (flat_map card_row_text cards) written.1 (rows_appended cards written.0 b written.2)
-
-  module _ {R : Type 0} (remaining : R → Option (List ℕ)) (reader : ContactReader R) where
-    pub all_rows : (before : Option (List ℕ)) (start now : A) (summary : Summary) → Appends before (contents start) header_row_text → ConvertsContacts row_step remaining reader start now summary
-        → ((cards : List (List Line)) → csv_text Cards cards ≡ header_row_text ++ flat_map card_row_text cards)
-        → ((cards : List (List Line)) → AllByRecursion IsCard cards → AllPairs (λ a b. a ≢ b) (map uid_of cards) → TextHasCards (csv_text Cards cards) cards)
-        → WritesRows before (contents now)
-    all_rows before start now summary header converts text read = record {
-      cards = cards_of converts.entries;
-      written = subst (Appends before (contents now)) (sym (text (cards_of converts.entries)))
-          (appends_all before (contents start) (contents now) header_row_text (flat_map card_row_text (cards_of converts.entries)) header
-          (rows_appended (cards_of converts.entries) start now converts.written));
-      read = read (cards_of converts.entries) converts.cards converts.distinct;
-    }
+pub all_rows : {A R : Type 0} (contents : A → Option (List ℕ)) (remaining : R → Option (List ℕ)) (reader : ContactReader R) (before : Option (List ℕ)) (start now : A) (summary : Summary)
+    → Appends before (contents start) header_row_text → ConvertsContacts (row_step contents) remaining reader start now summary
+    → ((cards : List (List Line)) → csv_text Cards cards ≡ header_row_text ++ flat_map card_row_text cards)
+    → ((cards : List (List Line)) → AllByRecursion IsCard cards → AllPairs (λ a b. a ≢ b) (map uid_of cards) → TextHasCards (csv_text Cards cards) cards)
+    → ContactsToRows remaining reader before (contents now) summary
+all_rows contents remaining reader before start now summary header converts text read = record {
+  entries = converts.entries;
+  accounts = converts.accounts;
+  rows = rows_written contents (cards_of converts.entries) before start now header converts.written converts.accounts.cards converts.accounts.distinct text read;
+}

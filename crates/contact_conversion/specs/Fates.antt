@@ -6,8 +6,8 @@ use Rattle.vcard_text.specs.Cards.{IsCard, uid_of}
 use Rattle.vcard_import.specs.declared.conversion.Conversion.{Conversion}
 use Rattle.card_conversion.specs.Counts.{nothing_counted, with_refused, with_written}
 use Rattle.card_conversion.specs.declared.ledger.Summary.{Summary}
-use Rattle.contact_csv.specs.Contacts.{IsContact}
-use Rattle.contact_csv.specs.declared.columns.Column.{Column}
+use Rattle.contact_csv.specs.Contacts.{IsContact, IsRefused}
+use Rattle.contact_columns.specs.declared.columns.Column.{Column}
 use Rattle.contact_conversion.specs.declared.fate.RowFate.{RowFate}
 use Rattle.contact_conversion.specs.declared.fate.RowFate.TheVariants.{Refused, Repeated}
 use Rattle.contact_conversion.specs.declared.fate.RowFate.TheVariants.{Declined, Written}
@@ -18,10 +18,9 @@ pub record IsRowContact (columns : List Column) (fields : List (List ℕ)) (made
   pub card : IsCard made.card
   pub contact : IsContact columns fields made.card made.changes
 
--- The fate of a row after rows whose cards had these UIDs. Nothing is said of a row that is
--- refused.
+-- The fate of a row after rows whose cards had these UIDs.
 abbrev pub IsFate : List Column → List (List ℕ) → List (List ℕ) → RowFate → Type 0
-IsFate columns uids fields (Refused fault) = Unit {0}
+IsFate columns uids fields (Refused fault) = IsRefused columns fields fault
 IsFate columns uids fields (Repeated made) =
     IsRowContact columns fields made × Contains uids (uid_of made.card)
 IsFate columns uids fields (Declined made words) =

@@ -15,30 +15,6 @@ pub(crate) struct RowPlace {
     pub(crate) line: u64,
 }
 
-/// The number of lines that the library `csv` counts late: one if rows end with CR LF, since it
-/// passes the LF with the next row. The first row then seems to begin in the header.
-fn late_lines(first: u64, columns: &[Column]) -> u64 {
-    let mut header_lines: u64 = 1;
-    for column in columns {
-        let feeds = column.name.as_str().as_bytes().iter();
-        let count = feeds.filter(|octet| **octet == b'\n').count() as u64;
-        header_lines = header_lines.saturating_add(count);
-    }
-    if first <= header_lines { 1 } else { 0 }
-}
-
-/// The place of a row that begins at the line by the library's count. `late` is the number of lines
-/// that it counts late, which is known from the first row on.
-pub(crate) fn place_of(row: u64, line: u64, columns: &[Column], late: &mut u64) -> RowPlace {
-    if row == 1 {
-        *late = late_lines(line, columns);
-    }
-    RowPlace {
-        row,
-        line: line.saturating_add(*late),
-    }
-}
-
 /// The most characters of a name in a report.
 const NAME_CHARS_MAX: usize = 60;
 

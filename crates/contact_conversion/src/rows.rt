@@ -1,13 +1,12 @@
 //! Reads a row, and decides what becomes of it.
-ghost use Rattle.std.specs.Prelude.{◌≡◌, IfOk, ℕ, List, Ok};
+ghost use Rattle.std.specs.Prelude.{◌≡◌, IfOk, Ok};
 ghost use Rattle.vcard_text.specs.Cards.{IsCard};
-ghost use Rattle.card_conversion.specs.internal.States.{HasUids, IsAdmitted};
 ghost use Rattle.contact_csv.specs.Contacts.{IsReady, columns_of};
 ghost use Rattle.contact_conversion.specs.internal.States.{ReadsRow, TakesRow};
 
 use crate::fate::RowFate;
-use base_types::{NoMemory, TextMap};
-use card_conversion::{ConversionFault, Delivery, Outlet};
+use base_types::TextMap;
+use card_conversion::{ConversionFault, Outcome, Outlet, deliver};
 use contact_csv::{ContactFault, ContactReader};
 use std::alloc::Global;
 use std::io::Read;
@@ -31,20 +30,8 @@ pub(crate) fn next_row<R: Read + Drop>(
     }
 }
 
-/// Remembers a UID. `false` if it was known.
-fn is_new(alloc: Global, uids: &mut TextMap<()>, uid: &str) -> Result<bool, NoMemory>
-    ensures { (known : List (List ℕ)) → HasUids uids.old known
-        → IfOk result (IsAdmitted known uid.now uids.new) }
-{
-    if uids.get(uid).is_some() {
-        return Ok(false);
-    }
-    uids.insert(String::from_str(alloc, uid)?, ())?;
-    Ok(true)
-}
-
 /// Writes a card, unless an earlier one has its UID.
-fn deliver<O: Outlet>(
+fn deliver_row<O: Outlet>(
     alloc: Global,
     uids: &mut TextMap<()>,
     number: u64,
@@ -54,12 +41,10 @@ fn deliver<O: Outlet>(
     ensures { IfOk result (λ fate. IsCard conversion.card → TakesRow O.writes (Ok conversion)
         uids.old uids.new outlet.old outlet.new fate) }
 {
-    if !is_new(alloc, uids, conversion.card.uid())? {
-        return Ok(RowFate::Repeated(conversion));
-    }
-    match outlet.put(alloc, number, &conversion.card)? {
-        Delivery::Written => Ok(RowFate::Written(conversion)),
-        Delivery::Refused(words) => Ok(RowFate::Declined(conversion, words)),
+    match deliver(alloc, uids, number, &conversion.card, outlet)? {
+        Outcome::Repeated => Ok(RowFate::Repeated(conversion)),
+        Outcome::Declined(words) => Ok(RowFate::Declined(conversion, words)),
+        Outcome::Written => Ok(RowFate::Written(conversion)),
     }
 }
 
@@ -77,7 +62,7 @@ pub(crate) fn take_row<O: Outlet>(
         Ok(conversion) => {
             // Its clause says that the lines keep the rules of a card.
             let _lines = conversion.card.lines();
-            deliver(alloc, uids, number, conversion, outlet)
+            deliver_row(alloc, uids, number, conversion, outlet)
         }
         Err(fault) => Ok(RowFate::Refused(fault)),
     }

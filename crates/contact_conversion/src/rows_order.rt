@@ -1,7 +1,7 @@
 //! Converts contacts to the rows of an import.
 ghost use Rattle.std.specs.Prelude.{IfOk};
-ghost use Rattle.card_conversion.specs.Accounts.{WritesRows};
 ghost use Rattle.contact_csv.specs.Contacts.{IsReady};
+ghost use Rattle.contact_conversion.specs.Accounts.{ContactsToRows};
 
 use crate::run::convert_contacts;
 use card_conversion::laws::written_rows_are_read;
@@ -17,9 +17,10 @@ pub fn convert_contacts_to_rows<R: Read + Drop, W: Write, E: Write>(
     outlet: &mut RowsOutlet<W>,
     errors: &mut E,
 ) -> Result<Summary, ConversionFault>
-    // What was written is read back by `read_rows` as cards, of which no two have the same UID.
-    ensures { IsReady reader → IfOk result (λ summary.
-        WritesRows (W.contents outlet.old.writer) (W.contents outlet.new.writer)) }
+    // The rows that the reader has left have their fates. The header and the rows of the cards
+    // among them were written. `read_rows` reads them as these cards, of which no two have one UID.
+    ensures { IsReady reader → IfOk result (λ summary. ContactsToRows R.remaining reader
+        (W.contents outlet.old.writer) (W.contents outlet.new.writer) summary) }
 {
     // A law: the header and the rows of cards with different UIDs are read back as these cards.
     written_rows_are_read();

@@ -3,7 +3,7 @@ ghost use Rattle.std.specs.Prelude.{IfOk};
 ghost use Rattle.contact_csv.specs.Contacts.{IsReady};
 ghost use Rattle.contact_conversion.specs.Accounts.{ConvertsContacts};
 
-use crate::report::{place_of, report_text};
+use crate::report::{RowPlace, report_text};
 use crate::rows::{next_row, take_row};
 use crate::tally::{count_row, no_rows};
 use base_types::TextMap;
@@ -56,16 +56,17 @@ pub fn convert_contacts<R: Read + Drop, O: Outlet, E: Write>(
     let mut contacts = reader;
     let mut uids = TextMap::new(alloc);
     let mut summary = no_rows();
-    let mut late = 0;
     for number in 1..u64::MAX {
         let Some(row) = next_row(alloc, &mut contacts)? else {
             report_summary(alloc, summary, errors)?;
             return Ok(summary);
         };
         let fate = take_row(alloc, &mut uids, number, row, outlet)?;
-        let line = contacts.line();
+        let place = RowPlace {
+            row: number,
+            line: contacts.line(),
+        };
         let columns = contacts.columns().columns.as_slice();
-        let place = place_of(number, line, columns, &mut late);
         let text = report_text(alloc, place, columns, &fate)?;
         report(errors, text.as_str())?;
         count_row(&mut summary, &fate);

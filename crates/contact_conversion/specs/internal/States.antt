@@ -10,11 +10,10 @@ use Rattle.vcard_lines.specs.declared.fault.CardFault.{CardFault}
 use Rattle.vcard_lines.specs.declared.line.Line.{Line}
 use Rattle.vcard_text.specs.Cards.{IsCard, uid_of}
 use Rattle.vcard_import.specs.declared.conversion.Conversion.{Conversion}
-use Rattle.card_conversion.specs.Deliveries.{WritesInTurn}
+use Rattle.card_conversion.specs.Deliveries.{HasUids, WritesInTurn}
 use Rattle.card_conversion.specs.declared.ledger.Summary.{Summary}
-use Rattle.card_conversion.specs.internal.States.{HasUids}
-use Rattle.contact_csv.specs.Contacts.{IsContact, IsReady, columns_of, rows_of}
-use Rattle.contact_csv.specs.declared.columns.Column.{Column}
+use Rattle.contact_csv.specs.Contacts.{Becomes, IsReady, columns_of, rows_of}
+use Rattle.contact_columns.specs.declared.columns.Column.{Column}
 use Rattle.contact_csv.specs.declared.rows.ContactReader.{ContactReader}
 use Rattle.contact_conversion.specs.declared.fate.RowFate.{RowFate}
 use Rattle.contact_conversion.specs.declared.fate.RowFate.TheVariants.{Refused, Repeated}
@@ -28,10 +27,9 @@ abbrev pub ReadsRow : {R : Type 0} → (R → Option (List ℕ)) → ContactRead
     → Option (Result Conversion CardFault) → Type 0
 ReadsRow remaining before after None =
     (fields : List (List ℕ)) × ReadRecord remaining (rows_of before) (rows_of after) false fields
-ReadsRow remaining before after (Some (Err fault)) = Unit {0}
-ReadsRow remaining before after (Some (Ok made)) =
+ReadsRow remaining before after (Some row) =
     (fields : List (List ℕ)) × ReadRecord remaining (rows_of before) (rows_of after) true fields
-    × IsContact (columns_of before) fields made.card made.changes
+    × Becomes (columns_of before) fields row
 
 -- the fate of what was read, after cards with these UIDs
 abbrev pub IsFateOf : List (List ℕ) → Result Conversion CardFault → RowFate → Type 0

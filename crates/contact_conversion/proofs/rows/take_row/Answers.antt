@@ -8,6 +8,6 @@ pub returns-in-Ok : goal.returns-in-Ok
 returns-in-Ok g c =
     let same : c.args.row ≡ Ok c.in-Ok.conversion = search rules in
     let card : IsCard c.in-Ok.conversion.card = search rules in
-    IfOk-weaker c.deliver.result _ _ (λ fate takes.
-    subst (λ row. TakesRow g.O.Outlet.writes row c.args.uids.now c.deliver.new.uids c.args.outlet.now c.deliver.new.outlet fate) (sym same) (takes card))
-    c.deliver.ensures
+    IfOk-weaker c.deliver_row.result _ _ (λ fate takes.
+    subst (λ row. TakesRow g.O.Outlet.writes row c.args.uids.now c.deliver_row.new.uids c.args.outlet.now c.deliver_row.new.outlet fate) (sym same) (takes card))
+    c.deliver_row.ensures

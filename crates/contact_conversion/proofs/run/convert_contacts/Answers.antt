@@ -1,5 +1,5 @@
 use Rattle.std.proofs.Common.{rules, ◌≡◌, [], Some, None, sym, subst}
-use Rattle.card_conversion.specs.internal.States.{HasUids}
+use Rattle.card_conversion.specs.Deliveries.{HasUids}
 use Rattle.contact_conversion.specs.internal.States.{ReadsRow}
 use Rattle.contact_conversion.proofs.ProgressLemmas.{all_done, begun, none_known, one_row}
 use Rattle.contact_conversion.proofs.run.convert_contacts.Goals as goal
