@@ -49,7 +49,6 @@ GOOGLE = [
         "CATEGORIES:myContacts",
         "FN:Vale Supplies",
         "ORG:Vale Supplies",
-        "X-E-MAIL-1---LABEL:* Other",
         "item1.EMAIL;PREF=1:orders@vale.example",
         "item1.X-ABLABEL:Other",
         "item2.TEL:+44 20 7946 0000",
@@ -59,8 +58,7 @@ GOOGLE = [
 GOOGLE_REPORT = """\
 row 1, line 2: the cell of Birthday rewritten
 row 2, line 6: the cell of Birthday rewritten
-row 3, line 7: the cell of E-mail 1 - Label kept as X-E-MAIL-1---LABEL
-3 cards written, 3 changed, 0 not carried
+3 cards written, 2 changed, 0 not carried
 """
 
 # Outlook's columns. The second row has no value, the fourth is the first one again, and the fifth
@@ -174,6 +172,14 @@ class ConvertContacts(OrderTest):
         octets = csv_text([OUTLOOK_HEAD, JURGEN]).encode("cp1252")
         ended = self.convert(octets)
         self.assertEqual([OUTLOOK[0]], [self.lines(row) for row in rows_of(ended.out)])
+
+    def test_utf_16(self):
+        octets = (ROOT / "examples/google.csv").read_bytes()
+        ended = self.convert(octets)
+        for mark, encoding in (b"\xff\xfe", "utf-16-le"), (b"\xfe\xff", "utf-16-be"):
+            with self.subTest(encoding):
+                coded = mark + octets.decode().encode(encoding)
+                self.assertEqual(ended, self.convert(coded))
 
     def test_no_row(self):
         ended = self.convert(csv_text([OUTLOOK_HEAD]).encode())

@@ -85,6 +85,7 @@ pub(crate) fn read_head<R: Read>(alloc: Global, reader: &mut R) -> Result<Vec<u8
             Ok(0) => break,
             Ok(more) => count = count.saturating_add(more),
             Err(error) if error.kind() == ErrorKind::Interrupted => {}
+            Err(error) if error.kind() == ErrorKind::OutOfMemory => return Err(HeadFault::Memory),
             Err(_) => return Err(HeadFault::Unreadable),
         }
     }

@@ -1,4 +1,6 @@
 //! How the order ends.
+ghost use Rattle.std.specs.Prelude.{◌≡◌, MatchResult};
+ghost use Rattle.cli_convert.specs.Endings.{status_of};
 
 use base_types::{NoMemory, Text};
 use card_conversion::{ConversionFault, Summary};
@@ -70,11 +72,9 @@ fn report_stop<E: Write>(alloc: Global, stop: &ConvertStop, errors: &mut E) {
 
 /// Reports a stop, and returns the exit status: 0 if all was carried, 1 if something wasn't, and 3
 /// for a stop.
-pub(crate) fn end<E: Write>(
-    alloc: Global,
-    done: Result<Summary, ConvertStop>,
-    errors: &mut E,
-) -> u8 {
+pub(crate) fn end<E: Write>(alloc: Global, done: Result<Summary, ConvertStop>, errors: &mut E) -> u8
+    ensures { MatchResult done (λ summary. result ≡ status_of summary) (λ _. result ≡ 3) }
+{
     match done {
         Ok(summary) if summary.refused == 0 => 0,
         Ok(_) => 1,

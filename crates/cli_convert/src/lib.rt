@@ -11,5 +11,6 @@ mod run;
 mod sources;
 mod wanted;
 
+pub use card_conversion::RowsOutlet;
 pub use run::run_convert;
 pub use wanted::Wanted;

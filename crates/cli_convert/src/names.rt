@@ -1,7 +1,8 @@
 //! The names of the files that are written.
-ghost use Rattle.std.specs.Prelude.{◌≡◌};
-ghost use Rattle.std.specs.List.{list_all};
-ghost use Rattle.cli_convert.specs.Names.{is_name_octet, is_safe_name};
+ghost use Rattle.std.specs.Prelude.{◌≡◌, IfOk, codes, nat_eq};
+ghost use Rattle.std.specs.List.{ends_with, list_all};
+ghost use Rattle.cli_convert.specs.Names.{bare_uid, card_name, is_name_octet, is_safe_name};
+ghost use Rattle.cli_convert.specs.Names.{path_in};
 
 use base_types::{NoMemory, Text};
 use std::alloc::Global;
@@ -33,10 +34,44 @@ fn is_safe_name(text: &str) -> bool
         && are_name_octets(octets)
 }
 
-/// The path of a name in a folder.
-fn path_in(alloc: Global, folder: &str, name: &str) -> Result<Text, NoMemory> {
-    let slash = if folder.ends_with('/') { "" } else { "/" };
-    Ok(Text::new(format!(in alloc; "{folder}{slash}{name}")?))
+/// Whether the path ends with a slash.
+fn ends_with_slash(path: &str) -> bool
+    ensures { result ≡ ends_with nat_eq path.now (codes "/") }
+{
+    path.ends_with("/")
+}
+
+/// The path of a name in a folder. The only `Err` is out of memory.
+fn path_in(alloc: Global, folder: &str, name: &str) -> Result<Text, NoMemory>
+    ensures { IfOk result (λ path. path ≡ path_in folder.now name.now) }
+{
+    if ends_with_slash(folder) {
+        Ok(Text::new(format!(in alloc; "{folder}{name}")?))
+    } else {
+        Ok(Text::new(format!(in alloc; "{folder}/{name}")?))
+    }
+}
+
+/// The UID without `urn:uuid:` before it.
+fn bare_uid(uid: &str) -> &str
+    ensures { result.now ≡ bare_uid uid.now }
+{
+    match uid.strip_prefix("urn:uuid:") {
+        Some(bare) => bare,
+        None => uid,
+    }
+}
+
+/// The name of the file of a card. The only `Err` is out of memory.
+fn card_name(alloc: Global, number: u64, uid: &str) -> Result<Text, NoMemory>
+    ensures { IfOk result (λ name. name ≡ card_name number uid.now) }
+{
+    let uid = bare_uid(uid);
+    if is_safe_name(uid) {
+        Ok(Text::new(format!(in alloc; "{uid}.vcf")?))
+    } else {
+        Ok(Text::new(format!(in alloc; "card-{number}.vcf")?))
+    }
 }
 
 /// The path of the file of a card in a folder. It is named after the card's UID where that is the
@@ -46,13 +81,10 @@ pub(crate) fn card_path(
     folder: &str,
     number: u64,
     uid: &str,
-) -> Result<Text, NoMemory> {
-    let uid = uid.strip_prefix("urn:uuid:").unwrap_or(uid);
-    let name = if is_safe_name(uid) {
-        format!(in alloc; "{uid}.vcf")?
-    } else {
-        format!(in alloc; "card-{number}.vcf")?
-    };
+) -> Result<Text, NoMemory>
+    ensures { IfOk result (λ path. path ≡ path_in folder.now (card_name number uid.now)) }
+{
+    let name = card_name(alloc, number, uid)?;
     path_in(alloc, folder, name.as_str())
 }
 

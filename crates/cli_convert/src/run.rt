@@ -1,4 +1,6 @@
 //! Runs the order.
+ghost use Rattle.std.specs.Prelude.{◌<◌, ◌≤◌, IfOk, IsTrue};
+ghost use Rattle.cli_convert.specs.Endings.{Ends, Prints, prints_rows};
 
 use crate::card_files::CardFiles;
 use crate::content::{Content, HeadFault, content_of, read_head};
@@ -8,11 +10,12 @@ use crate::row_files::RowFiles;
 use crate::sources::{convert_to, convert_to_writer};
 use crate::wanted::Wanted;
 use base_types::Text;
-use card_conversion::{ConversionFault, Summary};
+use card_conversion::{ConversionFault, RowsOutlet, Summary};
 use std::alloc::Global;
 use std::fs;
 use std::fs::Files;
-use std::io::{Read, Write};
+use std::io::{ErrorKind, Read, Write};
+use text_reader::TextReader;
 
 /// The most rows of an import.
 const ROWS_MAX: u64 = 10_000;
@@ -46,15 +49,18 @@ fn check_folder<F: Files>(
 }
 
 /// Converts a file that was opened.
-fn convert_opened<F: Files, R: Read + Drop, W: Write + Drop, E: Write>(
+fn convert_opened<F: Files, R: Read + Drop, W: Write, E: Write>(
     alloc: Global,
     files: &F,
     wanted: Wanted<'_>,
     content: Content,
     reader: R,
-    writer: W,
+    rows: &mut RowsOutlet<W>,
     errors: &mut E,
-) -> Result<Summary, ConversionFault> {
+) -> Result<Summary, ConversionFault>
+    ensures { IfOk result (λ summary. IsTrue (prints_rows wanted.entry)
+        → Prints (W.contents rows.old.writer) (W.contents rows.new.writer) summary) }
+{
     if wanted.has_bounds() {
         let front = rows_front(alloc, wanted.file, wanted.folder)?;
         let rows_max = wanted.rows.unwrap_or(ROWS_MAX);
@@ -67,7 +73,20 @@ fn convert_opened<F: Files, R: Read + Drop, W: Write + Drop, E: Write>(
             let mut outlet = CardFiles { files, folder };
             convert_to(alloc, content, reader, &mut outlet, errors)
         }
-        None => convert_to_writer(alloc, content, reader, writer, errors),
+        None => convert_to_writer(alloc, content, reader, rows, errors),
+    }
+}
+
+/// A reader of the text of a file that was opened.
+fn read_as_text<R: Read + Drop>(
+    alloc: Global,
+    path: &str,
+    file: R,
+) -> Result<TextReader<R>, ConvertStop> {
+    match TextReader::new(alloc, file) {
+        Ok(reader) => Ok(reader),
+        Err(error) if error.kind() == ErrorKind::OutOfMemory => Err(ConvertStop::Memory),
+        Err(_) => Err(unreadable(alloc, path)),
     }
 }
 
@@ -90,34 +109,50 @@ fn read_content<R: Read>(
 }
 
 /// Opens the file and converts it.
-fn convert<F: Files, W: Write + Drop, E: Write>(
+fn convert<F: Files, W: Write, E: Write>(
     alloc: Global,
     files: &F,
     wanted: Wanted<'_>,
-    writer: W,
+    rows: &mut RowsOutlet<W>,
     errors: &mut E,
-) -> Result<Summary, ConvertStop> {
-    let Ok(mut reader) = fs::open(files, wanted.file) else {
+) -> Result<Summary, ConvertStop>
+    ensures { IfOk result (λ summary. IsTrue (prints_rows wanted.entry)
+        → Prints (W.contents rows.old.writer) (W.contents rows.new.writer) summary) }
+{
+    let Ok(file) = fs::open(files, wanted.file) else {
         return Err(unreadable(alloc, wanted.file));
     };
     check_folder(alloc, files, wanted.folder)?;
+    let mut reader = read_as_text(alloc, wanted.file, file)?;
     let (head, content) = read_content(alloc, wanted.file, &mut reader)?;
     let reader = head.as_slice().chain(reader);
-    match convert_opened(alloc, files, wanted, content, reader, writer, errors) {
+    match convert_opened(alloc, files, wanted, content, reader, rows, errors) {
         Ok(summary) => Ok(summary),
         Err(fault) => Err(stop_of(alloc, fault, wanted.file)),
     }
 }
 
-/// Converts the cards or the contacts of a file, and writes their cards as rows to the writer, as
-/// rows to files, or as one file for each card. Returns the exit status of the program.
-pub fn run_convert<F: Files, W: Write + Drop, E: Write>(
+/// Converts the cards or the contacts of a file. Writes their cards as rows to standard output, as
+/// rows to files, or as one file for each card.
+///
+/// Returns the exit status of the program: 0 if all was carried, 1 if something wasn't, and 3 if
+/// the conversion stopped, which standard error tells. It stops where a file, a folder, standard
+/// output or standard error can't be used, or without memory.
+pub fn run_convert<F: Files, W: Write, E: Write>(
     alloc: Global,
     files: &F,
     wanted: Wanted<'_>,
-    writer: W,
+    rows: &mut RowsOutlet<W>,
     errors: &mut E,
-) -> u8 {
-    let done = convert(alloc, files, wanted, writer, errors);
+) -> u8
+    ensures status { result ≤ 3 }
+
+    // A conversion to standard output that didn't stop wrote the header, and a row for each card
+    // that was carried. They are read back as these cards. The status is that of the summary, which
+    // counts what was carried and what wasn't.
+    ensures printed { result < 3 → IsTrue (prints_rows wanted.entry)
+        → Ends (W.contents rows.old.writer) (W.contents rows.new.writer) result }
+{
+    let done = convert(alloc, files, wanted, rows, errors);
     end(alloc, done, errors)
 }

@@ -1,4 +1,7 @@
 //! Converts what a file has.
+ghost use Rattle.std.specs.Prelude.{IfOk};
+ghost use Rattle.contact_csv.specs.Contacts.{IsReady};
+ghost use Rattle.cli_convert.specs.Endings.{Prints};
 
 use crate::content::Content;
 use card_conversion::{
@@ -15,7 +18,9 @@ fn read_contacts<R: Read + Drop>(
     alloc: Global,
     reader: R,
     delimiter: u8,
-) -> Result<ContactReader<R>, ConversionFault> {
+) -> Result<ContactReader<R>, ConversionFault>
+    ensures { IfOk result IsReady }
+{
     match ContactReader::new(alloc, reader, delimiter) {
         Ok(contacts) => Ok(contacts),
         Err(ContactFault::Memory) => Err(ConversionFault::Memory),
@@ -42,24 +47,22 @@ pub(crate) fn convert_to<R: Read + Drop, O: Outlet, E: Write>(
 }
 
 /// Converts what a file has to rows on a writer.
-pub(crate) fn convert_to_writer<R: Read + Drop, W: Write + Drop, E: Write>(
+pub(crate) fn convert_to_writer<R: Read + Drop, W: Write, E: Write>(
     alloc: Global,
     content: Content,
     reader: R,
-    writer: W,
+    outlet: &mut RowsOutlet<W>,
     errors: &mut E,
-) -> Result<Summary, ConversionFault> {
-    let mut outlet = RowsOutlet { writer };
+) -> Result<Summary, ConversionFault>
+    ensures { IfOk result (λ summary.
+        Prints (W.contents outlet.old.writer) (W.contents outlet.new.writer) summary) }
+{
     match content {
-        Content::Export => {
-            convert_to_rows(alloc, ExportText::new(alloc, reader), &mut outlet, errors)
-        }
+        Content::Export => convert_to_rows(alloc, ExportText::new(alloc, reader), outlet, errors),
         Content::Contacts(delimiter) => {
             let contacts = read_contacts(alloc, reader, delimiter)?;
-            convert_contacts_to_rows(alloc, contacts, &mut outlet, errors)
+            convert_contacts_to_rows(alloc, contacts, outlet, errors)
         }
-        Content::Cards | Content::OtherRows => {
-            convert_to_rows(alloc, reader, &mut outlet, errors)
-        }
+        Content::Cards | Content::OtherRows => convert_to_rows(alloc, reader, outlet, errors),
     }
 }

@@ -1,4 +1,5 @@
 //! What the order is given.
+ghost use Rattle.std.specs.Prelude.{◌≡◌, ◌||◌, is_some};
 
 /// What to convert, and where the cards go.
 #[derive(Clone, Copy, Debug)]
@@ -15,7 +16,9 @@ pub struct Wanted<'a> {
 
 impl<'a> Wanted<'a> {
     /// Whether files of rows are wanted.
-    pub(crate) fn has_bounds(&self) -> bool {
+    pub(crate) fn has_bounds(&self) -> bool
+        ensures { result ≡ (is_some self.now.rows || is_some self.now.octets) }
+    {
         self.rows.is_some() || self.octets.is_some()
     }
 }

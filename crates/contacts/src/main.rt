@@ -5,7 +5,7 @@
 
 use base_types::Text;
 use cli_args::{LineFault, Order};
-use cli_convert::{Wanted, run_convert};
+use cli_convert::{RowsOutlet, Wanted, run_convert};
 use cli_host::{note_waiting, order_of_args, run_and_report};
 use std::env;
 use std::io::IsTerminal;
@@ -42,7 +42,10 @@ fn conversion_of(order: &Result<Order, LineFault>) -> Option<Wanted<'_>> {
 fn main(rt: HostRuntime) -> ExitCode {
     let order = order_of_args(rt.alloc(), env::args(&rt));
     if let Some(wanted) = conversion_of(&order) {
-        let status = run_convert(rt.alloc(), &rt, wanted, rt.stdout(), &mut rt.stderr());
+        let mut rows = RowsOutlet {
+            writer: rt.stdout(),
+        };
+        let status = run_convert(rt.alloc(), &rt, wanted, &mut rows, &mut rt.stderr());
         return ExitCode::from(status);
     }
     // Nothing depends on this line, so a standard error that fails changes nothing.
