@@ -30,8 +30,9 @@ def forget_text(body):
 
 
 def books_text(lines):
-    """A line for each book: dictionaries of name, id, cards, number and horizon, sorted by name."""
-    form = "name {name} id {id} cards {cards} number {number} horizon {horizon}\n"
+    """A line for each book: dictionaries of name, id, cards, number, horizon and keep, sorted by
+    name."""
+    form = "name {name} id {id} cards {cards} number {number} horizon {horizon} keep {keep}\n"
     return "".join(form.format(**line) for line in lines).encode()
 
 

@@ -12,9 +12,10 @@ import order_rows as rows
 from order_texts import books_text
 from order_trials import FIVE_CHANGES, MORE_CHANGES, NEEDS_STRICT, OrderTest
 from program import ROOT, Ended, Folder, run
+from tables import Tables
 
-STAFF = {"name": "staff", "id": 1, "cards": 2, "number": 9, "horizon": 0}
-CLIENTS = {"name": "clients", "id": 2, "cards": 2, "number": 2, "horizon": 0}
+STAFF = {"name": "staff", "id": 1, "cards": 2, "number": 9, "horizon": 0, "keep": 10_000}
+CLIENTS = {"name": "clients", "id": 2, "cards": 2, "number": 2, "horizon": 0, "keep": 10_000}
 
 
 class Books(OrderTest):
@@ -32,9 +33,18 @@ class Books(OrderTest):
 
     def test_books_in_order_of_name(self):
         self.make_books(books=["staff", "clients", "a-1"])
-        empty = {"cards": 0, "number": 0, "horizon": 0}
+        empty = {"cards": 0, "number": 0, "horizon": 0, "keep": 10_000}
         self.assert_lists([{"name": "a-1", "id": 3, **empty}, {"name": "clients", "id": 2, **empty},
                            {"name": "staff", "id": 1, **empty}])
+
+    @NEEDS_STRICT
+    def test_a_book_that_keeps_less(self):
+        self.make_books(books=["staff", "clients"])
+        with Tables(self.folder / "a.db") as tables:
+            tables.run("UPDATE keeping SET keep = 3 WHERE book = 2")
+        empty = {"cards": 0, "number": 0, "horizon": 0}
+        self.assert_lists([{"name": "clients", "id": 2, **empty, "keep": 3},
+                           {"name": "staff", "id": 1, **empty, "keep": 10_000}])
 
     def test_books_with_changes(self):
         """Staff: a and b move or stay, c and d go. The move and the put leave two in clients."""
@@ -63,7 +73,11 @@ class Books(OrderTest):
         with sqlite3.connect(self.folder / "a.db") as connection:
             connection.execute("UPDATE book SET number = number + 1")
         connection.close()
-        self.assertEqual(Ended(3, b"", b"fault open 4\n"), run("verify", "a.db", cwd=self.folder))
+        for order in "books", "tally":
+            arguments = [order, "a.db", *(["staff"] if order == "tally" else [])]
+            with self.subTest(order):
+                self.assertEqual(Ended(3, b"", b"fault open 4\n"),
+                                 run(*arguments, cwd=self.folder))
 
 
 class Version(unittest.TestCase):

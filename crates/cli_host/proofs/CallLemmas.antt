@@ -6,19 +6,24 @@ use Rattle.book_http.specs.OctetPromise.{ServiceStep}
 use Rattle.cli_orders.specs.Announcements.{AnnouncesAndServes, StopsServing}
 use Rattle.cli_orders.specs.CommandRuns.{PrintsCommand, StopsCommand}
 use Rattle.cli_orders.specs.OrderOutputs.{made_output, migrate_output}
+use Rattle.cli_orders.specs.FaultyRows.{ReportsDamage}
 use Rattle.cli_orders.specs.Findings.{PassesCheck, StopsCheck, kind_of_file}
+use Rattle.cli_host.specs.Listings.{PrintsListing, StopsListing}
+use Rattle.cli_host.specs.declared.listing.Listing.TheVariants.{Verified}
 use Rattle.cli_orders.specs.Stops.{out_of_memory}
 use Rattle.book_http.specs.Streams.{WritesPrefix}
 use Rattle.cli_orders.specs.declared.stop.Stop.{Stop}
 use Rattle.cli_orders.specs.declared.stop.Stop.TheVariants.{Open, Device}
 use Rattle.cli_orders.proofs.StopLemmas.{kept_same}
-use Rattle.cli_host.specs.Hosts.{HostCall, Creates, Opens, Migrates, ReadsRows, Binds, Finishes, HasLog, LogsCalls}
-use Rattle.cli_host.specs.OrdersOnHost.{ChecksFile, DoesInFile, DoesStoreWork, ImportsRows, MakesStore, MigratesFile, ServesFile, StopsChecking, StopsInFile, StopsMaking, StopsMigrating, StopsOnImport, StopsReadingRows, StopsServe, StopsStoreWork, StopsUnbound, StopsUnopened}
+use Rattle.cli_host.specs.Hosts.{HostCall, Creates, Opens, FindsFault, Migrates, ReadsRows, Binds, Finishes, HasLog, LogsCalls}
+use Rattle.cli_host.specs.OrdersOnHost.{ChecksFile, DoesInFile, DoesStoreWork, ImportsRows, MakesStore, MigratesFile, ServesFile, StopsChecking, StopsInFile, StopsMaking, StopsMigrating, StopsOnImport, StopsReadingRows, StopsServe, StopsStoreWork, StopsUnbound, StopsUnopened, StopsVerifying, VerifiesFile}
 use Rattle.cli_host.specs.declared.work.StoreWork.{StoreWork}
 use Rattle.http_replies.specs.Replies.{head_fault_octets}
 use Rattle.hub_server.specs.EndpointRuns.{EndpointRelation}
 use Rattle.hub_server.specs.declared.limits.ServeLimits.{ServeLimits}
+use Rattle.store_check.specs.declared.faults.FaultyRow.{FaultyRow}
 use Rattle.store_schema.specs.declared.open_fault.OpenFault.{OpenFault}
+use Rattle.store_schema.specs.declared.open_fault.OpenFault.TheVariants.{Damaged}
 use Rattle.sync_core.specs.StoreModels.{StoreModel}
 
 unopened : (fault : OpenFault) (w : Option (List ℕ)) → StopsUnopened fault (Open fault) w w
@@ -128,6 +133,32 @@ module _ {S P H : Type 0} (model : StoreModel S) (calls : HostCall S P → H →
     made = (opened, made, stops.made);
     holds = inr (record { store = store; later = stops.log; calls = refl; store_after = store_after; stops = stops.holds });
   }
+
+  -- ---- verifying a file
+
+  pub verify_unopened : (old new : H) (file : List ℕ) (fault : OpenFault) (w : Option (List ℕ)) → fault ≢ Damaged → calls (Opens file (Err fault)) old new → LogsCalls calls old new (StopsVerifying model file (Open fault) w w)
+  verify_unopened old new file fault w undamaged made =
+      one_call calls old new (Opens file (Err fault)) (StopsVerifying model file (Open fault) w w) made (inl (record { fault = fault; undamaged = undamaged; calls = refl; stops = unopened fault w }))
+
+  pub damage_reported : (old opened new : H) (file : List ℕ) (found : Result (Option FaultyRow) OpenFault) (stop : Stop) (before after : Option (List ℕ)) → calls (Opens file (Err Damaged)) old opened → calls (FindsFault file found) opened new
+      → ReportsDamage found stop before after → LogsCalls calls old new (StopsVerifying model file stop before after)
+  damage_reported old opened new file found stop before after made searched reports = record {
+    log = Opens file (Err Damaged) ∷ FindsFault file found ∷ [];
+    made = (opened, made, (new, searched, refl));
+    holds = inr (inl (record { found = found; calls = refl; reports = reports }));
+  }
+
+  pub file_verified : (result : Result (Unit {0}) Stop) (old new : H) (file : List ℕ) (store store_after : S) (before after : Option (List ℕ)) → calls (Opens file (Ok store)) old new
+      → OnOk result (PrintsListing model Verified store before after store_after) → OnOk result (LogsCalls calls old new (VerifiesFile model file before after))
+  file_verified (Ok done) old new file store store_after before after made prints =
+      one_call calls old new (Opens file (Ok store)) (VerifiesFile model file before after) made (record { store = store; later = []; calls = refl; store_after = store_after; does = (refl, prints) })
+  file_verified (Err stop) old new file store store_after before after made prints = tt
+
+  pub file_unverified : (result : Result (Unit {0}) Stop) (old new : H) (file : List ℕ) (store store_after : S) (before after : Option (List ℕ)) → calls (Opens file (Ok store)) old new
+      → IfErr result (λ stop. StopsListing model Verified store stop before after store_after) → IfErr result (λ stop. LogsCalls calls old new (StopsVerifying model file stop before after))
+  file_unverified (Ok done) old new file store store_after before after made stops = tt
+  file_unverified (Err stop) old new file store store_after before after made stops =
+      one_call calls old new (Opens file (Ok store)) (StopsVerifying model file stop before after) made (inr (inr (record { store = store; later = []; calls = refl; store_after = store_after; stops = (refl, stops) })))
 
 -- ---- serving
 

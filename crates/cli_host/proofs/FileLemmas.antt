@@ -5,16 +5,17 @@ use Rattle.hub_server.specs.declared.limits.ServeLimits.{ServeLimits}
 use Rattle.sync_core.specs.StoreModels.{StoreModel}
 use Rattle.cli_orders.specs.declared.stop.Stop.{Stop}
 use Rattle.cli_host.specs.Hosts.{HostCall, LogsCalls}
-use Rattle.cli_host.specs.OrdersOnHost.{HasRefusedFile, KeepsWorkOutput, StopsChecking, StopsInFile, StopsMaking, StopsMigrating, StopsServe, StopsStoreWork, StopsWork}
+use Rattle.cli_host.specs.OrdersOnHost.{HasRefusedFile, HasReportedDamage, KeepsWorkOutput, StopsAtDamage, StopsChecking, StopsInFile, StopsMaking, StopsMigrating, StopsServe, StopsStoreWork, StopsVerifying, StopsWork}
 use Rattle.cli_host.specs.declared.work.StoreWork.{StoreWork}
 use Rattle.cli_host.specs.declared.work.StoreWork.TheVariants.{Perform, ImportFile, ListBooks, MirrorBook}
 use Rattle.cli_host.specs.declared.work.Work.{Work}
-use Rattle.cli_host.specs.declared.work.Work.TheVariants.{Nothing, PrintVersion, CheckFile, CreateFile, MigrateFile, ServeFile, UseFile}
+use Rattle.cli_host.specs.declared.work.Work.TheVariants.{Nothing, PrintVersion, CheckFile, CreateFile, MigrateFile, ServeFile, UseFile, VerifyFile}
 use Rattle.cli_orders.specs.Announcements.{WritesListeningLine}
+use Rattle.cli_host.specs.declared.listing.Listing.TheVariants.{Verified}
 use Rattle.cli_orders.specs.ReplyTexts.{KeepsOutput}
 use Rattle.cli_orders.specs.Stops.{out_of_memory}
 use Rattle.cli_orders.proofs.CommandLemmas.{mirror_stop_leaves}
-use Rattle.cli_orders.proofs.ListingLemmas.{listing_stop_leaves}
+use Rattle.cli_host.proofs.ListingLemmas.{listing_stop_leaves}
 use Rattle.cli_orders.proofs.StopLemmas.{keeps_leaves, output_kept_by_device, serving_stop_leaves, stop_leaves}
 
 module _ {S P : Type 0} where
@@ -40,6 +41,17 @@ module _ {S P : Type 0} where
     ])
   ]
 
+  -- a damaged file was reported, or nothing was written
+  damage_leaves : (file : List ℕ) (stop : Stop) (before after : Option (List ℕ)) (log : List (HostCall S P)) → StopsAtDamage file stop before after log
+      → KeepsOutput stop before after ⊎ HasReportedDamage (VerifyFile file) stop before after
+  damage_leaves file stop before after log s = elim s.reports [
+    | inl reported ↦ inr (reported.0, s.found, reported.1)
+    | inr rest ↦ inl (elim rest [
+      | inl kept ↦ keeps_leaves stop before after kept.1
+      | inr cut ↦ output_kept_by_device stop before after cut.0
+    ])
+  ]
+
 module _ {S P : Type 0} (model : StoreModel S) where
   store_work_leaves : (work : StoreWork) (old new : S) (stop : Stop) (before after : Option (List ℕ)) (log : List (HostCall S P)) → StopsStoreWork model old work stop before after new log → KeepsOutput stop before after
   store_work_leaves (Perform command) old new stop before after log s = stop_leaves s.1.reply stop before after s.1.stops
@@ -51,6 +63,12 @@ module _ {S P : Type 0} (model : StoreModel S) where
   in_file_leaves : (file : List ℕ) (work : StoreWork) (stop : Stop) (before after : Option (List ℕ)) (log : List (HostCall S P)) → StopsInFile model file work stop before after log → KeepsOutput stop before after
   in_file_leaves file work stop before after log (inl s) = keeps_leaves stop before after s.2.unwritten
   in_file_leaves file work stop before after log (inr s) = store_work_leaves work s.store s.store_after stop before after s.later s.stops
+
+  verifying_leaves : (file : List ℕ) (stop : Stop) (before after : Option (List ℕ)) (log : List (HostCall S P)) → StopsVerifying model file stop before after log
+      → KeepsOutput stop before after ⊎ HasReportedDamage (VerifyFile file) stop before after
+  verifying_leaves file stop before after log (inl s) = inl (keeps_leaves stop before after s.stops.unwritten)
+  verifying_leaves file stop before after log (inr (inl s)) = damage_leaves file stop before after log s
+  verifying_leaves file stop before after log (inr (inr s)) = inl (store_work_leaves (ListBooks Verified) s.store s.store_after stop before after s.later s.stops)
 
 module _ {S P : Type 0} (model : StoreModel S) (effects : EndpointRelation P) where
   serve_leaves : (file : List ℕ) (requested : ℕ) (limits : ServeLimits) (stop : Stop) (before after : Option (List ℕ)) (log : List (HostCall S P)) → StopsServe model effects file requested limits stop before after log
@@ -66,13 +84,17 @@ module _ {S P : Type 0} (model : StoreModel S) (effects : EndpointRelation P) wh
   work_leaves PrintVersion stop before after log s = inl (output_kept_by_device stop before after s.1.stop_is)
   work_leaves (CheckFile file) stop before after log s = elim (checking_leaves file stop before after log s) [
     | inl kept ↦ inl kept
-    | inr refused ↦ inr (inr refused)
+    | inr refused ↦ inr (inr (inl refused))
   ]
   work_leaves (CreateFile file) stop before after log s = inl (making_leaves file stop before after log s)
   work_leaves (MigrateFile file) stop before after log s = inl (migrating_leaves file stop before after log s)
   work_leaves (ServeFile file port limits is_logged) stop before after log s = elim (serve_leaves file port limits stop before after log s) [
     | inl kept ↦ inl kept
     | inr announced ↦ inr (inl announced)
+  ]
+  work_leaves (VerifyFile file) stop before after log s = elim (verifying_leaves model file stop before after log s) [
+    | inl kept ↦ inl kept
+    | inr reported ↦ inr (inr (inr reported))
   ]
   work_leaves (UseFile file work) stop before after log s = inl (in_file_leaves model file work stop before after log s)
 

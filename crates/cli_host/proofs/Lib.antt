@@ -1,3 +1,4 @@
 pub mod CallLemmas
 pub mod FileLemmas
 pub mod EndingLemmas
+pub mod ListingLemmas

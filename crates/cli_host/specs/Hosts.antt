@@ -1,5 +1,5 @@
 -- The host that orders run on: the calls that are made of it. This project's own.
-use Rattle.std.specs.Prelude.{◌≡◌, ⊤, ℕ, List, [], ◌∷◌, Result}
+use Rattle.std.specs.Prelude.{◌≡◌, ⊤, ℕ, List, [], ◌∷◌, Option, Result}
 use Rattle.std.specs.declared.net.ip_addr.IpAddr.{IpAddr}
 use Rattle.std.specs.declared.net.ip_addr.IpAddr.TheVariants.{V4}
 use Rattle.book_model.specs.Bounds.{Bounds}
@@ -8,6 +8,7 @@ use Rattle.cli_orders.specs.declared.stop.Stop.TheVariants.{Device}
 use Rattle.cli_orders.specs.Stops.{out_of_memory}
 use Rattle.socket_endpoint.specs.declared.bind_fault.BindFault.{BindFault}
 use Rattle.socket_endpoint.specs.declared.bind_fault.BindFault.TheVariants as bind
+use Rattle.store_check.specs.declared.faults.FaultyRow.{FaultyRow}
 use Rattle.store_schema.specs.declared.open_fault.OpenFault.{OpenFault}
 
 -- A call of a host, with the file or port that it is about, and its result. A store holds the books
@@ -17,6 +18,8 @@ pub data HostCall (Store Endpoint : Type 0) : Type 0 where
   Creates : List ℕ → Result Store OpenFault → HostCall Store Endpoint
   -- opening the store of the books in the file
   Opens : List ℕ → Result Store OpenFault → HostCall Store Endpoint
+  -- searching the file for a row at fault, of which there may be none
+  FindsFault : List ℕ → Result (Option FaultyRow) OpenFault → HostCall Store Endpoint
   -- migrating the file to the current schema, which returns its number of books
   Migrates : List ℕ → Result ℕ OpenFault → HostCall Store Endpoint
   -- reading all octets of the file

@@ -3,6 +3,9 @@ pub mod DefaultLimits
 pub mod Waiting
 pub mod Progress
 pub mod Hosts
+pub mod Keeps
+pub mod Listings
 pub mod OrdersOnHost
 pub mod Arguments
 pub mod Exits
+pub mod internal

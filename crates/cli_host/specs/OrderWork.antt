@@ -13,10 +13,10 @@ use Rattle.hub_server.specs.declared.limits.ServeLimits.{ServeLimits}
 use Rattle.cli_host.specs.declared.work.Work.{Work}
 use Rattle.cli_host.specs.declared.work.Work.TheVariants.{Nothing, PrintVersion, CheckFile}
 use Rattle.cli_host.specs.declared.work.Work.TheVariants.{CreateFile, MigrateFile, ServeFile}
-use Rattle.cli_host.specs.declared.work.Work.TheVariants.{UseFile}
+use Rattle.cli_host.specs.declared.work.Work.TheVariants.{UseFile, VerifyFile}
 use Rattle.cli_host.specs.declared.work.StoreWork.TheVariants.{Perform, ImportFile, MirrorBook}
 use Rattle.cli_host.specs.declared.work.StoreWork.TheVariants.{ListBooks}
-use Rattle.cli_orders.specs.declared.listing.Listing.TheVariants as listing
+use Rattle.cli_host.specs.declared.listing.Listing.TheVariants as listing
 
 -- the most connections that are open at once, if the order names no limits
 abbrev pub together_default : ℕ
@@ -49,7 +49,7 @@ store_work_of (Forget file book upto) = UseFile file (Perform (ForgetUpto book u
 store_work_of (Mirror file book limit pages) = UseFile file (MirrorBook book limit pages)
 store_work_of (Expand file book uid) = UseFile file (Perform (People book uid))
 store_work_of (Books file) = UseFile file (ListBooks listing.Books)
-store_work_of (Verify file) = UseFile file (ListBooks listing.Verified)
+store_work_of (Verify file) = VerifyFile file
 store_work_of order = Nothing
 
 -- each order's arguments in their places

@@ -1,6 +1,6 @@
 -- Running an order on a host: the calls that are made of the host, what is done with their results,
 -- and what is printed. This project's own.
-use Rattle.std.specs.Prelude.{◌≡◌, ◌≢◌, ◌⊎◌, ℕ, List, [], ◌∷◌, Option, Ok, Err}
+use Rattle.std.specs.Prelude.{◌≡◌, ◌≢◌, ◌⊎◌, ℕ, List, [], ◌∷◌, Option, Result, Ok, Err}
 use Rattle.std.specs.Io.KnownBytes.{Appends, Keeps}
 use Rattle.book_commands.specs.declared.command.Command.TheVariants.{Import as ImportRows}
 use Rattle.book_http.specs.OctetPromise.{ServiceStep}
@@ -12,7 +12,8 @@ use Rattle.cli_orders.specs.OrderOutputs.{made_output, migrate_output}
 use Rattle.cli_orders.specs.CommandRuns.{PrintsCommand, PrintsMirror, StopsCommand, StopsMirror}
 use Rattle.cli_orders.specs.declared.stop.Stop.{Stop}
 use Rattle.cli_orders.specs.declared.stop.Stop.TheVariants.{Open, Device}
-use Rattle.cli_host.specs.Hosts.{HostCall, Creates, Opens, Migrates, ReadsRows, Binds, Finishes}
+use Rattle.cli_host.specs.Hosts.{HostCall, Creates, Opens, FindsFault, Migrates, ReadsRows, Binds}
+use Rattle.cli_host.specs.Hosts.{Finishes}
 use Rattle.cli_host.specs.OrderWork.{work_of}
 use Rattle.cli_host.specs.declared.work.StoreWork.{StoreWork}
 use Rattle.cli_host.specs.declared.work.StoreWork.TheVariants.{Perform, ImportFile, MirrorBook}
@@ -20,15 +21,19 @@ use Rattle.cli_host.specs.declared.work.StoreWork.TheVariants.{ListBooks}
 use Rattle.cli_host.specs.declared.work.Work.{Work}
 use Rattle.cli_host.specs.declared.work.Work.TheVariants.{Nothing, PrintVersion, CheckFile}
 use Rattle.cli_host.specs.declared.work.Work.TheVariants.{CreateFile, MigrateFile, ServeFile}
-use Rattle.cli_host.specs.declared.work.Work.TheVariants.{UseFile}
+use Rattle.cli_host.specs.declared.work.Work.TheVariants.{UseFile, VerifyFile}
+use Rattle.cli_orders.specs.FaultyRows.{ReportsDamage, damage_text}
 use Rattle.cli_orders.specs.Findings.{PassesCheck, PrintsFinding, StopsCheck, kind_of_file}
-use Rattle.cli_orders.specs.Listings.{PrintsListing, StopsListing}
+use Rattle.cli_host.specs.Listings.{PrintsListing, StopsListing}
+use Rattle.cli_host.specs.declared.listing.Listing.TheVariants.{Verified}
 use Rattle.cli_orders.specs.Versions.{version_output}
 use Rattle.cli_orders.specs.Announcements.{AnnouncesAndServes, StopsServing, WritesListeningLine}
 use Rattle.cli_orders.specs.ReplyTexts.{KeepsOutput}
 use Rattle.cli_orders.specs.Stops.{out_of_memory}
 use Rattle.book_http.specs.Streams.{WritesPrefix}
+use Rattle.store_check.specs.declared.faults.FaultyRow.{FaultyRow}
 use Rattle.store_schema.specs.declared.open_fault.OpenFault.{OpenFault}
+use Rattle.store_schema.specs.declared.open_fault.OpenFault.TheVariants.{Damaged}
 use Rattle.sync_core.specs.StoreModels.{StoreModel}
 
 -- the file couldn't be used, as this fault says, and nothing is written
@@ -70,13 +75,20 @@ HasRefusedFile (CheckFile file) stop before after =
     (octets : List ℕ) × PrintsFinding (kind_of_file file) octets (Err stop) before after
 HasRefusedFile work stop before after = ⊥
 
+-- the work is to verify a file, which is damaged, and the text for what a search of it found was
+-- written
+abbrev pub HasReportedDamage : Work → Stop → Option (List ℕ) → Option (List ℕ) → Type 0
+HasReportedDamage (VerifyFile file) stop before after = (stop ≡ Open Damaged)
+    × (found : Result (Option FaultyRow) OpenFault) × Appends before after (damage_text found)
+HasReportedDamage work stop before after = ⊥
+
 -- Nothing is written on a refusal, on a fault, or if the file can't be opened. But the order to
--- serve may have announced its port before memory ran out, and the order to check a file has
--- written why it refuses the file.
+-- serve may have announced its port before memory ran out, the order to check a file has written
+-- why it refuses the file, and the order to verify one which row is at fault.
 abbrev pub KeepsWorkOutput : Work → Stop → Option (List ℕ) → Option (List ℕ) → Type 0
 KeepsWorkOutput work stop before after = KeepsOutput stop before after
     ⊎ (((stop ≡ out_of_memory) × HasAnnounced work before after)
-    ⊎ HasRefusedFile work stop before after)
+    ⊎ (HasRefusedFile work stop before after ⊎ HasReportedDamage work stop before after))
 
 abbrev pub KeepsOrderOutput : Order → Stop → Option (List ℕ) → Option (List ℕ) → Type 0
 KeepsOrderOutput order stop before after = KeepsWorkOutput (work_of order) stop before after
@@ -142,6 +154,23 @@ module _ {S P : Type 0} where
   StopsChecking file stop before after log =
       ((log ≡ ReadsRows file (Err stop) ∷ []) × StopsUnbound stop before after)
       ⊎ StopsOnCheck file stop before after log
+
+  -- ---- a damaged file
+
+  -- the file's store wasn't opened for another fault than damage, and nothing is written
+  pub record StopsUndamaged (file : List ℕ) (stop : Stop)
+      (before after : Option (List ℕ)) (log : List (HostCall S P)) : Type 0 where
+    pub fault : OpenFault
+    pub undamaged : fault ≢ Damaged
+    pub calls : log ≡ Opens file (Err fault) ∷ []
+    pub stops : StopsUnopened fault stop before after
+
+  -- the file is damaged, it was searched next, and what was found was reported
+  pub record StopsAtDamage (file : List ℕ) (stop : Stop)
+      (before after : Option (List ℕ)) (log : List (HostCall S P)) : Type 0 where
+    pub found : Result (Option FaultyRow) OpenFault
+    pub calls : log ≡ Opens file (Err Damaged) ∷ FindsFault file found ∷ []
+    pub reports : ReportsDamage found stop before after
 
 -- A store is represented by its books.
 module _ {S P : Type 0} (model : StoreModel S) where
@@ -224,6 +253,22 @@ module _ {S P : Type 0} (model : StoreModel S) where
       × StopsUnopened fault stop before after)
       ⊎ StopsOnFile file work stop before after log
 
+  -- ---- verifying a file
+
+  -- the file's store was opened, and its books and their number were listed
+  abbrev pub VerifiesFile : List ℕ → Option (List ℕ) → Option (List ℕ) → List (HostCall S P)
+      → Type 0
+  VerifiesFile file before after log = DoesInFile file (ListBooks Verified) before after log
+
+  -- the file wasn't opened, and if it is damaged, the row at fault was reported; or it was opened,
+  -- and the listing stopped
+  abbrev pub StopsVerifying : List ℕ → Stop → Option (List ℕ) → Option (List ℕ)
+      → List (HostCall S P) → Type 0
+  StopsVerifying file stop before after log =
+      StopsUndamaged file stop before after log
+      ⊎ (StopsAtDamage file stop before after log
+      ⊎ StopsOnFile file (ListBooks Verified) stop before after log)
+
 -- A store is represented by its books, and an endpoint by the effects of its calls.
 module _ {S P : Type 0} (model : StoreModel S) (effects : EndpointRelation P) where
   -- ---- serving a file
@@ -283,6 +328,7 @@ module _ {S P : Type 0} (model : StoreModel S) (effects : EndpointRelation P) wh
   DoesWork (MigrateFile file) before after log = MigratesFile file before after log
   DoesWork (ServeFile file port limits is_logged) before after log =
       ServesFile file port limits before after log
+  DoesWork (VerifyFile file) before after log = VerifiesFile model file before after log
   DoesWork (UseFile file work) before after log = DoesInFile model file work before after log
 
   -- Why the work wasn't done, or its output wasn't printed. `try` has no work here, since it needs
@@ -297,6 +343,8 @@ module _ {S P : Type 0} (model : StoreModel S) (effects : EndpointRelation P) wh
   StopsWork (MigrateFile file) stop before after log = StopsMigrating file stop before after log
   StopsWork (ServeFile file port limits is_logged) stop before after log =
       StopsServe file port limits stop before after log
+  StopsWork (VerifyFile file) stop before after log =
+      StopsVerifying model file stop before after log
   StopsWork (UseFile file work) stop before after log =
       StopsInFile model file work stop before after log
 

@@ -1,4 +1,4 @@
--- What is said on a terminal of a long import. This project's own.
+-- What is said on a terminal of a long import or a long opening. This project's own.
 use Rattle.std.specs.Prelude.{ℕ, ◌/◌, List, [], ◌∷◌, ◌++◌, codes, decimal}
 use Rattle.std.specs.List.{count_by}
 use Rattle.std.specs.Prelude.{◌==◌}
@@ -8,11 +8,17 @@ use Rattle.base_types.specs.Octets.{line_feed}
 abbrev pub line_count : List ℕ → ℕ
 line_count rows = count_by (λ octet. octet == line_feed) rows
 
--- before it
+-- before a file is opened that has this number of octets
+abbrev pub opening_line : List ℕ → ℕ → List ℕ
+opening_line file octets =
+    codes "opening " ++ (file ++ (codes ": " ++ (decimal (octets / 1000000)
+    ++ (codes " MB .." ++ line_feed ∷ []))))
+
+-- before an import
 abbrev pub begin_line : ℕ → List ℕ
 begin_line lines = codes "importing " ++ (decimal lines ++ (codes " lines .." ++ line_feed ∷ []))
 
--- after it
+-- after either
 abbrev pub end_line : ℕ → List ℕ
 end_line micros = codes "done after " ++ (decimal (micros / 1000)
     ++ (codes " milliseconds" ++ line_feed ∷ []))

@@ -11,13 +11,13 @@ ghost use Rattle.cli_orders.specs.Stops.{out_of_memory, stop_line};
 ghost use Rattle.book_http.specs.Streams.{ReadsAtMost};
 
 use crate::host::Host;
+use crate::keeps::BookKeeps;
 use crate::running::run_on_host;
 use cli_args::{LineFault, Order};
 use cli_orders::{Stop, run_try, write_out};
 use hub_server::Endpoint;
 use std::alloc::Global;
 use std::io::{Read, Write};
-use sync_core::BookStore;
 use vcard_text::NoMemory;
 
 /// How the program ended.
@@ -96,7 +96,7 @@ fn run_try_order<R: Read, W: Write, E: Write>(
 }
 
 /// Runs another order, and reports a stop.
-fn run_other_order<S: BookStore + Drop, P: Endpoint, M: Host<S, P>, W: Write, E: Write>(
+fn run_other_order<S: BookKeeps + Drop, P: Endpoint, M: Host<S, P>, W: Write, E: Write>(
     alloc: Global,
     host: &mut M,
     order: Order,
@@ -113,7 +113,7 @@ fn run_other_order<S: BookStore + Drop, P: Endpoint, M: Host<S, P>, W: Write, E:
 }
 
 /// Runs an order on a host, and reports errors on standard error.
-pub fn run_and_report<S: BookStore + Drop, P: Endpoint, M: Host<S, P>, R: Read, W: Write, E: Write>(
+pub fn run_and_report<S: BookKeeps + Drop, P: Endpoint, M: Host<S, P>, R: Read, W: Write, E: Write>(
     alloc: Global,
     host: &mut M,
     order: Result<Order, LineFault>,

@@ -1,7 +1,8 @@
 //! The trait of hosts: the files and ports that orders use.
 ghost use Rattle.std.specs.Prelude.{◌≡◌, ◌≢◌, ◌⊎◌, IfErr, IfOk, IfSome, OnErr};
 ghost use Rattle.cli_host.specs.Hosts.{HostCall, Creates, Opens, Migrates, ReadsRows, Binds};
-ghost use Rattle.cli_host.specs.Hosts.{Finishes, loopback_ip, standard_limits, stop_of_binding};
+ghost use Rattle.cli_host.specs.Hosts.{FindsFault, Finishes, loopback_ip, standard_limits};
+ghost use Rattle.cli_host.specs.Hosts.{stop_of_binding};
 ghost use Rattle.std.specs.Net.Socket.{socket_ip, socket_port};
 ghost use Rattle.cli_orders.specs.Stops.{out_of_memory};
 
@@ -15,6 +16,7 @@ use std::io::{IsTerminal, Read, Write};
 use std::net::{IpAddr, Ipv4Addr, SocketAddr};
 use std::rt::HostRuntime;
 use std::{fs, io};
+use store_check::faults::FaultyRow;
 use store_migration::migrate;
 use sync_core::Limits;
 
@@ -24,8 +26,8 @@ use sync_core::Limits;
 /// The contracts of the real host say neither what a file holds nor who connects to a port. The
 /// contracts over any host say which calls are made of it, and one body runs orders on all hosts.
 ///
-/// A host also prints the lines of `serve --log`, and says how a long import goes on. These are no
-/// calls, since they change nothing.
+/// A host also prints the lines of `serve --log`, and says that a long import or opening goes on.
+/// These are no calls, since they change nothing.
 pub trait Host<S, P>: RequestLog {
     /// What is known of a call: its result, and the host before and after it.
     ghost calls: { HostCall S P → Self → Self → Type 0 };
@@ -37,6 +39,11 @@ pub trait Host<S, P>: RequestLog {
     /// Opens the store of the books in the file.
     fn open(&mut self, file: &str) -> Result<S, OpenFault>
         ensures { calls (Opens file.now result) self.old self.new };
+
+    /// Searches a file that can't be opened, since it is damaged, for a row at fault. `None` if it
+    /// holds well-formed books.
+    fn find_fault(&mut self, file: &str) -> Result<Option<FaultyRow>, OpenFault>
+        ensures { calls (FindsFault file.now result) self.old self.new };
 
     /// Migrates the file to the current schema, and returns its number of books.
     fn migrate_file(&mut self, file: &str) -> Result<u64, OpenFault>
@@ -55,6 +62,9 @@ pub trait Host<S, P>: RequestLog {
         ensures called { calls (Binds port together result) self.old self.new }
         ensures port { IfOk result (λ bound. port ≢ 0 → bound.1 ≡ port) }
         ensures stop { IfErr result (λ stop. (stop ≡ out_of_memory) ⊎ (stop ≡ Stop.Device)) };
+
+    /// The number of octets of a file; 0 if the host can't read it.
+    fn octets_of(&self, file: &str) -> u64;
 
     /// Whether somebody watches standard error: whether it is a terminal.
     fn has_watcher(&self) -> bool;
@@ -124,6 +134,10 @@ impl Host<FileBooks, SocketEndpoint> for HostRuntime {
         SqlStore::open(self, file, limits())
     }
 
+    fn find_fault(&mut self, file: &str) -> Result<Option<FaultyRow>, OpenFault> {
+        SqlStore::find_fault(self, file)
+    }
+
     fn migrate_file(&mut self, file: &str) -> Result<u64, OpenFault> {
         migrate(self, file)
     }
@@ -149,6 +163,13 @@ impl Host<FileBooks, SocketEndpoint> for HostRuntime {
             return Err(Stop::Device);
         };
         Ok((endpoint, address.port()))
+    }
+
+    fn octets_of(&self, file: &str) -> u64 {
+        match fs::metadata(self, file) {
+            Ok(metadata) => metadata.len(),
+            Err(_) => 0,
+        }
     }
 
     fn has_watcher(&self) -> bool {

@@ -4,15 +4,20 @@
 mod args;
 mod exit;
 mod host;
+mod keeps;
 pub mod laws;
+mod listing;
 mod progress;
 mod running;
+mod verifying;
 mod waiting;
 mod work;
 
 pub use args::order_of_args;
 pub use exit::{ProgramExit, run_and_report};
 pub use host::Host;
+pub use keeps::BookKeeps;
+pub use listing::{Listing, run_listing};
 pub use running::{run_on_host, run_order};
 pub use waiting::note_waiting;
 pub use work::{StoreWork, Work, work_of};

@@ -1,11 +1,13 @@
-//! Says on a terminal that a long import goes on.
+//! Says on a terminal that a long import or a long opening goes on.
 ghost use Rattle.std.specs.Prelude.{◌≡◌, ◌/◌, IfErr, IfOk, OnOk};
-ghost use Rattle.cli_host.specs.Progress.{begin_line, end_line, line_count};
+ghost use Rattle.cli_host.specs.Hosts.{Opens};
+ghost use Rattle.cli_host.specs.Progress.{begin_line, end_line, line_count, opening_line};
 ghost use Rattle.cli_orders.specs.CommandRuns.{PrintsCommand, StopsCommand};
 
 use crate::host::Host;
 use base_types::NoMemory;
 use book_service::Command;
+use book_store::OpenFault;
 use cli_orders::{Stop, run_command};
 use std::alloc::Global;
 use std::io::Write;
@@ -14,11 +16,22 @@ use sync_core::BookStore;
 /// The most lines of a file of rows that is imported without a word.
 const SILENT_LINES_MAX: usize = 1_000;
 
+/// The most octets of a file that is opened without a word: those of about 100,000 small cards.
+const SILENT_OCTETS_MAX: u64 = 20_000_000;
+
 /// The number of lines of a file of rows.
 pub(crate) fn line_count(rows: &[u8]) -> usize
     ensures { result ≡ line_count rows.now }
 {
     rows.iter().filter(|octet| **octet == b'\n').count()
+}
+
+/// What is said before a long opening.
+fn opening_text(alloc: Global, file: &str, octets: u64) -> Result<Vec<u8>, NoMemory>
+    ensures { IfOk result (λ text. text.items ≡ opening_line file.now octets) }
+{
+    let megabytes = octets / 1_000_000;
+    Ok(format!(in alloc; "opening {file}: {megabytes} MB ..\n")?.into_bytes())
 }
 
 /// What is said before a long import.
@@ -28,7 +41,7 @@ fn begin_text(alloc: Global, lines: usize) -> Result<Vec<u8>, NoMemory>
     Ok(format!(in alloc; "importing {lines} lines ..\n")?.into_bytes())
 }
 
-/// What is said after it.
+/// What is said after either.
 fn end_text(alloc: Global, micros: u64) -> Result<Vec<u8>, NoMemory>
     ensures { IfOk result (λ text. text.items ≡ end_line micros) }
 {
@@ -66,4 +79,25 @@ pub(crate) fn run_import<S: BookStore, P, M: Host<S, P>, W: Write>(
     let done = run_command(alloc, store, command, writer);
     say(host, end_text(alloc, host.micros_since(start)));
     done
+}
+
+/// Opens the store of the books in the file. If the file has more than 20,000,000 octets, and
+/// standard error is a terminal, it says before how long the file is, and afterwards how long
+/// opening it took.
+pub(crate) fn open_watched<S, P, M: Host<S, P>>(
+    alloc: Global,
+    host: &mut M,
+    file: &str,
+) -> Result<S, OpenFault>
+    ensures { M.calls (Opens file.now result) host.old host.new }
+{
+    let octets = host.octets_of(file);
+    if octets <= SILENT_OCTETS_MAX || !host.has_watcher() {
+        return host.open(file);
+    }
+    say(&*host, opening_text(alloc, file, octets));
+    let start = host.now();
+    let opened = host.open(file);
+    say(&*host, end_text(alloc, host.micros_since(start)));
+    opened
 }

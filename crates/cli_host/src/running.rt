@@ -10,7 +10,10 @@ ghost use Rattle.cli_host.specs.OrdersOnHost.{StopsOnHost, StopsOnImport, StopsR
 ghost use Rattle.cli_host.specs.OrdersOnHost.{StopsServe, StopsStoreWork, StopsWork};
 
 use crate::host::Host;
-use crate::progress::{line_count, run_import};
+use crate::keeps::BookKeeps;
+use crate::listing::run_listing;
+use crate::progress::{line_count, open_watched, run_import};
+use crate::verifying::run_verify;
 use crate::work::{StoreWork, Work, work_of};
 use base_types::Text;
 use book_http::Service;
@@ -19,7 +22,7 @@ use book_store::FileBooks;
 use cli_args::Order;
 use cli_orders::{
     Stop, announce_and_serve, kind_of_file, made_text, migrate_text, run_check, run_command,
-    run_listing, run_mirror, version_text, write_out,
+    run_mirror, version_text, write_out,
 };
 use hub_server::{Endpoint, ServeLimits};
 use request_log::{LoggedEndpoint, LoggedHandler};
@@ -102,7 +105,7 @@ fn run_serve<S: BookStore + Drop, P: Endpoint, M: Host<S, P>, W: Write>(
         (StopsServe S.model P.calls file port limits stop
         (W.contents writer.old) (W.contents writer.new))) }
 {
-    let store = host.open(file.as_str())?;
+    let store = open_watched(alloc, host, file.as_str())?;
     let service = Service::new(alloc, store)?;
     let (endpoint, port) = host.listen(alloc, port, limits.together)?;
     let log = log_if(is_logged, &*host);
@@ -142,7 +145,7 @@ fn import_rows<S: BookStore, P, M: Host<S, P>, W: Write>(
 }
 
 /// Does an order's work on a store, and prints the result.
-fn do_store_work<S: BookStore, P, M: Host<S, P>, W: Write>(
+fn do_store_work<S: BookKeeps, P, M: Host<S, P>, W: Write>(
     alloc: Global,
     host: &mut M,
     store: &mut S,
@@ -169,7 +172,7 @@ fn do_store_work<S: BookStore, P, M: Host<S, P>, W: Write>(
 }
 
 /// Does an order's work on the store in the file, which is opened first.
-fn use_file<S: BookStore + Drop, P, M: Host<S, P>, W: Write>(
+fn use_file<S: BookKeeps + Drop, P, M: Host<S, P>, W: Write>(
     alloc: Global,
     host: &mut M,
     file: Text,
@@ -181,12 +184,12 @@ fn use_file<S: BookStore + Drop, P, M: Host<S, P>, W: Write>(
     ensures stopped { IfErr result (λ stop. LogsCalls M.calls host.old host.new
         (StopsInFile S.model file work stop (W.contents writer.old) (W.contents writer.new))) }
 {
-    let mut store = host.open(file.as_str())?;
+    let mut store = open_watched(alloc, host, file.as_str())?;
     do_store_work(alloc, host, &mut store, work, writer)
 }
 
 /// Does an order's work on a host, and prints its output.
-fn do_work<S: BookStore + Drop, P: Endpoint, M: Host<S, P>, W: Write>(
+fn do_work<S: BookKeeps + Drop, P: Endpoint, M: Host<S, P>, W: Write>(
     alloc: Global,
     host: &mut M,
     work: Work,
@@ -205,6 +208,7 @@ fn do_work<S: BookStore + Drop, P: Endpoint, M: Host<S, P>, W: Write>(
         Work::CheckFile { file } => run_check_of(alloc, host, file.as_str(), writer),
         Work::CreateFile { file } => run_init(host, file, writer),
         Work::MigrateFile { file } => run_migrate(alloc, host, file, writer),
+        Work::VerifyFile { file } => run_verify(alloc, host, file, writer),
         Work::ServeFile {
             file,
             port,
@@ -225,7 +229,7 @@ fn do_work<S: BookStore + Drop, P: Endpoint, M: Host<S, P>, W: Write>(
 /// are served only before the first is accepted. Changes that were made remain if the output can't
 /// be written. The stop for a faulty file is its refusal. `Device` for `Try`, which needs standard
 /// input, and for `Convert`, which needs files of another kind (`cli_convert` runs it).
-pub fn run_on_host<S: BookStore + Drop, P: Endpoint, M: Host<S, P>, W: Write>(
+pub fn run_on_host<S: BookKeeps + Drop, P: Endpoint, M: Host<S, P>, W: Write>(
     alloc: Global,
     host: &mut M,
     order: Order,
@@ -240,8 +244,8 @@ pub fn run_on_host<S: BookStore + Drop, P: Endpoint, M: Host<S, P>, W: Write>(
         (W.contents writer.old) (W.contents writer.new))) }
 
     // Nothing is written on a refusal, on a fault, or if the file can't be opened. But the order to
-    // serve may have announced its port before memory ran out, and the order to check a file has
-    // written why it refuses the file.
+    // serve may have announced its port before memory ran out, the order to check a file has
+    // written why it refuses the file, and the order to verify one which row is at fault.
     ensures output_kept { IfErr result (λ stop.
         KeepsOrderOutput order stop (W.contents writer.old) (W.contents writer.new)) }
 {
@@ -261,8 +265,8 @@ pub fn run_order<W: Write>(rt: &HostRuntime, order: Order, writer: &mut W) -> Re
         (W.contents writer.old) (W.contents writer.new))) }
 
     // Nothing is written on a refusal, on a fault, or if the file can't be opened. But the order to
-    // serve may have announced its port before memory ran out, and the order to check a file has
-    // written why it refuses the file.
+    // serve may have announced its port before memory ran out, the order to check a file has
+    // written why it refuses the file, and the order to verify one which row is at fault.
     ensures output_kept { IfErr result (λ stop.
         KeepsOrderOutput order stop (W.contents writer.old) (W.contents writer.new)) }
 {

@@ -4,10 +4,10 @@ ghost use Rattle.cli_host.specs.OrderWork.{limits_of, store_work_of, work_of};
 ghost use Rattle.cli_host.specs.declared.work.StoreWork.TheVariants.{Perform};
 ghost use Rattle.cli_host.specs.declared.work.Work.TheVariants.{ServeFile, UseFile};
 
+use crate::listing::Listing;
 use base_types::Text;
 use book_service::Command;
 use cli_args::Order;
-use cli_orders::Listing;
 use hub_server::ServeLimits;
 
 /// The most connections that are open at once, if the order names no limits.
@@ -35,6 +35,11 @@ pub enum Work {
     },
     /// Migrates the file to the current schema.
     MigrateFile {
+        /// The file's name.
+        file: Text,
+    },
+    /// Opens the store in the file, which tests all its rows, and lists its books.
+    VerifyFile {
         /// The file's name.
         file: Text,
     },
@@ -162,7 +167,7 @@ fn store_work_of(order: Order) -> Work
         Order::Forget { file, book, upto } => perform_in(file, Command::Forget { book, upto }),
         Order::Expand { file, book, uid } => perform_in(file, Command::People { book, uid }),
         Order::Books { file } => use_in(file, StoreWork::ListBooks(Listing::Books)),
-        Order::Verify { file } => use_in(file, StoreWork::ListBooks(Listing::Verified)),
+        Order::Verify { file } => Work::VerifyFile { file },
         _ => Work::Nothing,
     }
 }

@@ -1,0 +1,42 @@
+//! Verifies a file.
+ghost use Rattle.std.specs.Prelude.{IfErr, OnOk};
+ghost use Rattle.cli_host.specs.Hosts.{LogsCalls};
+ghost use Rattle.cli_host.specs.OrdersOnHost.{StopsVerifying, VerifiesFile};
+
+use crate::host::Host;
+use crate::keeps::BookKeeps;
+use crate::listing::{Listing, run_listing};
+use crate::progress::open_watched;
+use base_types::Text;
+use book_store::OpenFault;
+use cli_orders::{Stop, report_damage};
+use std::alloc::Global;
+use std::io::Write;
+
+/// Opens the store in the file, which tests all its rows, and lists its books and their number. If
+/// the file is damaged, it prints which row is at fault, and why.
+pub(crate) fn run_verify<S: BookKeeps + Drop, P, M: Host<S, P>, W: Write>(
+    alloc: Global,
+    host: &mut M,
+    file: Text,
+    writer: &mut W,
+) -> Result<(), Stop>
+    ensures done { OnOk result (LogsCalls M.calls host.old host.new
+        (VerifiesFile S.model file (W.contents writer.old) (W.contents writer.new))) }
+    ensures stopped { IfErr result (λ stop. LogsCalls M.calls host.old host.new
+        (StopsVerifying S.model file stop (W.contents writer.old) (W.contents writer.new))) }
+{
+    match open_watched(alloc, host, file.as_str()) {
+        Ok(store) => {
+            let mut store = store;
+            run_listing(alloc, &mut store, Listing::Verified, writer)
+        }
+        Err(fault) => match fault {
+            OpenFault::Damaged => {
+                let found = host.find_fault(file.as_str());
+                Err(report_damage(alloc, found, writer))
+            }
+            _ => Err(Stop::Open(fault)),
+        },
+    }
+}
