@@ -1,5 +1,5 @@
 -- How the order `convert` ends, and what it writes to standard output. This project's own.
-use Rattle.std.specs.Prelude.{ℕ, ◌≡◌, ◌<◌, ◌||◌, ◌==◌, Bool, not, true, List, []}
+use Rattle.std.specs.Prelude.{ℕ, ◌≡◌, ◌||◌, ◌==◌, Bool, not, List, []}
 use Rattle.std.specs.Prelude.{Option, is_some, if◌then◌else◌}
 use Rattle.vcard_lines.specs.declared.line.Line.{Line}
 use Rattle.card_conversion.specs.Accounts.{WritesRows}

@@ -1,6 +1,6 @@
 -- The names of the files that are written. This project's own.
 use Rattle.std.specs.Prelude.{ℕ, ◌||◌, ◌&&◌, ◌==◌, Bool, not, List, length, nat_le, nat_lt}
-use Rattle.std.specs.Prelude.{slice_index_or, ◌++◌, [], codes, decimal, drop, nat_eq, if◌then◌else◌}
+use Rattle.std.specs.Prelude.{slice_index_or, ◌++◌, codes, decimal, drop, nat_eq, if◌then◌else◌}
 use Rattle.std.specs.Char.{is_ascii_alphanumeric}
 use Rattle.std.specs.List.{list_all, starts_with, ends_with}
 use Rattle.base_types.specs.Octets.{dot, hyphen, underscore}

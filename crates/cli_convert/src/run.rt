@@ -1,5 +1,5 @@
 //! Runs the order.
-ghost use Rattle.std.specs.Prelude.{◌<◌, ◌≤◌, IfOk, IsTrue};
+ghost use Rattle.std.specs.Prelude.{◌≡◌, ◌⊎◌, ◌<◌, IfOk, IsTrue};
 ghost use Rattle.cli_convert.specs.Endings.{Ends, Prints, prints_rows};
 
 use crate::card_files::CardFiles;
@@ -145,7 +145,7 @@ pub fn run_convert<F: Files, W: Write, E: Write>(
     rows: &mut RowsOutlet<W>,
     errors: &mut E,
 ) -> u8
-    ensures status { result ≤ 3 }
+    ensures status { (result ≡ 0) ⊎ ((result ≡ 1) ⊎ (result ≡ 3)) }
 
     // A conversion to standard output that didn't stop wrote the header, and a row for each card
     // that was carried. They are read back as these cards. The status is that of the summary, which
