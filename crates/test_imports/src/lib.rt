@@ -10,3 +10,5 @@ mod fault_lines;
 mod tests;
 #[cfg(test)]
 mod texts;
+#[cfg(test)]
+mod values;
