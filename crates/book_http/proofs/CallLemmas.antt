@@ -108,11 +108,6 @@ sent_none (suc count) pieces none = absurd (omega (arith, none))
 
 -- ---- a piece, and the whole connection
 
--- the writer failed
-pub answers_fault : (a b : Option (List ConnectionCall)) (pieces : ℕ) (fault : ServeFault) → fault ≡ Write → SendsInOrder pieces (Waits pieces) a b (Err fault) → AnswersInOrder pieces a b (Err fault)
-answers_fault a b pieces fault is sends =
-    subst (λ f. AnswersInOrder pieces a b (Err f)) (sym is) sends
-
 module _ (a b c : Option (List ConnectionCall)) (pieces : ℕ) where
   -- the input ended
   pub ends_at_end : (count : ℕ) → count ≡ 0 → LeadsOn a b (Waits 0) (Waits pieces) → ReadsInOrder pieces b c (Ok count) → EndsInOrder None a c

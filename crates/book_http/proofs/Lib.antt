@@ -9,3 +9,4 @@ pub mod OneRunLemmas
 pub mod CutRunLemmas
 pub mod ConnectionLemmas
 pub mod ReaderLemmas
+pub mod ServedHubLemmas

@@ -10,16 +10,6 @@ use Rattle.std.proofs.lemmas.List.Folds.{concat-append}
 use Rattle.book_http.specs.Pieces.{IsInPieces, IsPiece, piece_octets_max}
 use Rattle.book_http.specs.Streams.{ReadsAtMost, WritesPrefix}
 
--- what is read after nothing was read
-pub kept_consumes : (a b c : Option (List ℕ)) (octets : List ℕ) → Keeps a b → Consumes b c octets → Consumes a c octets
-kept_consumes None b c octets kept read = tt
-kept_consumes (Some x) None c octets kept read = absurd kept
-kept_consumes (Some x) (Some y) None octets kept read = absurd read
-kept_consumes (Some x) (Some y) (Some z) octets kept read = rw (sym kept) read
-
-pub up_to_none : (a : Option (List ℕ)) (most : ℕ) → ReadsAtMost most a a
-up_to_none a most = record { octets = []; read = Consumes-nil a; within = omega arith }
-
 pub up_to_kept : (a b c : Option (List ℕ)) (most more : ℕ) → most ≤ more → ReadsAtMost most a b → Keeps b c → ReadsAtMost more a c
 up_to_kept a b c most more less reads kept = record { octets = reads.octets; read = Consumes-kept a b c reads.octets reads.read kept; within = omega (arith, less, reads.within) }
 

@@ -10,3 +10,4 @@ pub mod Pieces
 pub mod ServedConnections
 pub mod OctetRuns
 pub mod OctetPromise
+pub mod ServedHubs

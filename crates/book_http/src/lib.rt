@@ -4,6 +4,7 @@
 mod answering;
 mod closing;
 mod connection;
+pub mod hub_laws;
 pub mod laws;
 mod listen_fault;
 mod listener;

@@ -61,12 +61,6 @@ pub run_limits : (now : SystemState) (run : List TraceStep) → Run now run → 
 run_limits now [] steps = refl
 run_limits now (h ∷ run) steps = run_limits h.after run steps.1 ∙ step_limits now h.after h.event h.reply steps.0
 
-pub run_leads : (now : SystemState) (run : List TraceStep) → Run now run → Leads now.model.limits now.model.books (end_of now run).model.books
-run_leads now [] steps = leads_nowhere now.model.limits now.model.books now.model.books refl
-run_leads now (h ∷ run) steps =
-    leads_on now.model.limits now.model.books h.after.model.books (end_of h.after run).model.books (step_leads now h.after h.event h.reply steps.0)
-    (subst (λ (l : Bounds). Leads l h.after.model.books (end_of h.after run).model.books) (step_limits now h.after h.event h.reply steps.0) (run_leads h.after run steps.1))
-
 pub runs_split : (now : SystemState) (run more : List TraceStep) → Run now (run ++ more) → Run now run × Run (end_of now run) more
 runs_split now [] more steps = (tt, steps)
 runs_split now (h ∷ run) more steps = let rest = runs_split h.after run more steps.1 in ((steps.0, rest.0), rest.1)

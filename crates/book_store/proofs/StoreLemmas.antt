@@ -100,9 +100,6 @@ counted_reads_store g allows old new counts r query store right same left return
 pub new_store_is_sound : (s : State) → IsNewStoreCommitted s → IsCommittedAndSound s
 new_store_is_sound s h = record { committed = h.committed; sound = record { rows = no_rows; holds = new_tables_empty s.now h.created; sound = no_rows_sound } }
 
-pub new_store_books : (s : State) → IsNewStoreCommitted s → stored_books s ≡ finite.empty
-new_store_books s h = (nothing_held s.now (new_tables_empty s.now h.created)).books
-
 -- a call that changed the tables of a store
 pub changes_store : {S A : Type 0} (g : Ghosts S) (old new : StoreView S) (r : Result A Denied) (step : Bounds → Books → Result (A × Books) Refusal) → IsStore (state g old.conn) old.limits → new.limits ≡ old.limits
     → AppliesStep (state g old.conn) (state g new.conn) r (step old.limits) → CommitsOnce (state g old.conn) (state g new.conn) (step old.limits) → ChangeFaultsFromOutside (state g old.conn) (state g new.conn) r → ChangesStore g old new r step

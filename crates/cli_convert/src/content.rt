@@ -1,11 +1,11 @@
 //! What a file has: cards, rows of cards, or contacts of Google or Outlook.
 ghost use Rattle.std.specs.Prelude.{◌≡◌, IfOk, IsTrue};
-ghost use Rattle.exported_cards.specs.Exports.{is_export};
+ghost use Rattle.csv_cards.specs.Exports.{is_export};
 ghost use Rattle.cli_convert.specs.declared.content.Content.TheVariants.{Export};
 
 use base_types::NoMemory;
 use contact_csv::delimiter_of;
-use exported_cards::is_export;
+use csv_cards::is_export;
 use import_text::begins_with_word;
 use std::alloc::Global;
 use std::io::{ErrorKind, Read};

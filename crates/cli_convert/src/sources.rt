@@ -9,7 +9,7 @@ use card_conversion::{
 };
 use contact_conversion::{convert_contacts, convert_contacts_to_rows};
 use contact_csv::{ContactFault, ContactReader};
-use exported_cards::ExportText;
+use csv_cards::ExportText;
 use std::alloc::Global;
 use std::io::{Read, Write};
 

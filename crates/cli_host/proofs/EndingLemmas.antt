@@ -11,14 +11,6 @@ use Rattle.cli_orders.specs.declared.stop.Stop.{Stop}
 use Rattle.hub_server.specs.EndpointRuns.{EndpointRelation}
 use Rattle.sync_core.specs.StoreModels.{StoreModel}
 
-pub tried_ends : (r : Result (Unit {0}) Stop) (a before after errors_before errors_after : Option (List ℕ)) (exit : ProgramExit) → OnOk r (IfSome a (λ input. PrintsTryResult input before after))
-    → IfErr r (λ stop. IfSome a (λ input. IsTryStop input stop)) → IfErr r (λ stop. IfSome a (λ input. KeepsTryOutput stop input before after)) → ReportsResult r errors_before errors_after exit
-    → IfSome a (λ input. IsTryDone input before after errors_before errors_after exit ⊎ IsTryStopped input before after errors_before errors_after exit)
-tried_ends (Ok done) None before after errors_before errors_after exit printed stopped output_kept e = tt
-tried_ends (Ok done) (Some input) before after errors_before errors_after exit printed stopped output_kept e = inl (record { printed = printed; succeeds = e })
-tried_ends (Err stop) None before after errors_before errors_after exit printed stopped output_kept e = tt
-tried_ends (Err stop) (Some input) before after errors_before errors_after exit printed stopped output_kept e = inr (record { stop = stop; agrees = stopped; output_kept = output_kept; reports_stop = e })
-
 module _ {S P H : Type 0} (model : StoreModel S) (effects : EndpointRelation P) (calls : HostCall S P → H → H → Type 0) where
   pub ran_ends : (r : Result (Unit {0}) Stop) (old new : H) (order : Order) (before after errors_before errors_after : Option (List ℕ)) (exit : ProgramExit)
       → OnOk r (LogsCalls calls old new (RunsOnHost model effects order before after)) → IfErr r (λ stop. LogsCalls calls old new (StopsOnHost model effects order stop before after))

@@ -36,9 +36,6 @@ module _ (a b : Reader (Bor (List ℕ))) (fields : Row) (text : List ℕ) (rows 
 
 -- ---- a number of rows
 
-pub none_skipped : (a : Reader (Bor (List ℕ))) (text : List ℕ) (rows : List Row) → IsAfterRows a text rows → SkipsRows a text rows 0
-none_skipped a text rows after = record { skipped = []; count_is = refl; after = subst (IsAfterRows a text) (sym (append-nil rows)) after }
-
 pub one_more_skipped : (a b : Reader (Bor (List ℕ))) (text : List ℕ) (rows : List Row) (row : Row) (count : ℕ) → (skips : SkipsRows a text rows count) → IsAfterRows b text ((rows ++ skips.skipped) ++ row ∷ []) → SkipsRows b text rows (count + 1)
 one_more_skipped a b text rows row count skips after = record {
   skipped = skips.skipped ++ row ∷ [];
@@ -114,10 +111,6 @@ no_rows text number rows octets has =
 pub other_header : (a : Reader (Bor (List ℕ))) (text : List ℕ) (first : Row) (number : ℕ) → IsAfterRows a text (first ∷ []) → (first ≡ header form.Cards → ⊥) → HasNoCardText text number
 other_header a text first number after other octets has =
     other (first_same st.StartRecord (strip_bom text) first (header form.Cards) [] (has.before ++ has.row ∷ []) (reader_state a) has.begin.state after.rest has.begin.rest after.reached has.begin.reached)
-
--- the header is no row of a card
-pub no_row_zero : (text : List ℕ) (number : ℕ) → number ≡ 0 → HasNoCardText text number
-no_row_zero text number is octets has = absurd (omega (arith, is, has.place))
 
 -- ---- the row of the number
 

@@ -26,10 +26,6 @@ keeps_leaves (Open fault) before after k = k
 keeps_leaves (Serve fault) before after k = tt
 keeps_leaves Device before after k = tt
 
--- a writer that wasn't reached has what it had
-pub output_kept_same : (stop : Stop) (w : Option (List ℕ)) → KeepsOutput stop w w
-output_kept_same stop w = keeps_leaves stop w w (kept_same w)
-
 -- a writer that failed may have anything
 pub output_kept_by_device : (stop : Stop) (before after : Option (List ℕ)) → stop ≡ Device → KeepsOutput stop before after
 output_kept_by_device stop before after is = subst (λ (s : Stop). KeepsOutput s before after) (sym is) tt

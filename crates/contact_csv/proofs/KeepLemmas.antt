@@ -32,14 +32,7 @@ uppers_stay (b ∷ w) = ap (λ c. c ∷ str_to_ascii_uppercase (str_to_ascii_upp
 pub line_stays : (line : Line) → upper_line (upper_line line) ≡ upper_line line
 line_stays line = ap (λ name. record { group = line.group; name = name; params = line.params; value = line.value }) (uppers_stay line.name)
 
--- the name of a line that is kept aside, in upper case
-pub aside_stays : (name : List ℕ) → IsAsideName name → IsAsideName (str_to_ascii_uppercase name)
-aside_stays name is = (str_to_ascii_uppercase is.0, ap str_to_ascii_uppercase is.1)
-
 -- ---- lines after the UID
-
-pub begins_alone : (uid : List ℕ) → BeginsWithUid uid (plain_line (codes "UID") uid ∷ [])
-begins_alone uid = record { others = []; lines_are = refl; upper = refl }
 
 pub begins_stays : (uid : List ℕ) (lines more : List Line) → upper_lines more ≡ more → BeginsWithUid uid lines → BeginsWithUid uid (lines ++ more)
 begins_stays uid lines more up begins = record {

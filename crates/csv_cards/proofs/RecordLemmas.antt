@@ -53,10 +53,6 @@ same-suc (x ∷ xs) (y ∷ ys) (suc place) small smaller same this =
     ap (λ f. f ∷ take (suc place) xs) (ap first same)
     ∙ ap (λ fs. y ∷ fs) (same-suc xs ys place (omega arith) (omega arith) (ap (drop 1) same) this)
 
--- a field that differs
-pub other_row : (a b : Row) (place : ℕ) → row_field a place ≢ row_field b place → a ≢ b
-other_row a b place differs same = differs (ap (λ row. row_field row place) same)
-
 pub same-more : (a b : Row) (place : ℕ) → place < length a → length a ≡ length b → take place a ≡ take place b → row_field a place ≡ row_field b place → take (place + 1) a ≡ take (place + 1) b
 same-more a b place small long same this =
     let next : place + 1 ≡ suc place = omega arith in

@@ -4,4 +4,5 @@ pub mod Causes
 pub mod Reading
 pub mod Writing
 pub mod ReadBack
+pub mod Exports
 pub mod internal

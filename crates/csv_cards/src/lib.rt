@@ -4,6 +4,7 @@
 
 mod cause;
 mod columns;
+mod export_text;
 mod fault;
 mod form;
 pub mod laws;
@@ -14,6 +15,7 @@ mod row;
 mod writing;
 
 pub use cause::CsvCause;
+pub use export_text::{ExportText, is_export};
 pub use fault::CsvFault;
 pub use form::Form;
 pub use order::CardsInOrder;

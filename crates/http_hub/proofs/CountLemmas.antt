@@ -29,16 +29,3 @@ count_opened place now before after opens =
     let changed = count_set before.slots place None (Some slot) opens.was_free in
     let one_more : count_by is_some (slice_set before.slots place (Some slot)) ≡ suc (open_count before) = omega (arith, changed) in
     ap open_count opens.after_is ∙ one_more
-
--- one fewer is open
-pub count_ended : (place : ℕ) (before after : HubValue) → EndsAt place before after → suc (open_count after) ≡ open_count before
-count_ended place before after ends =
-    let changed = count_set before.slots place (Some ends.slot) None ends.found in
-    let one_fewer : suc (count_by is_some (slice_set before.slots place None)) ≡ open_count before = omega (arith, changed) in
-    ap (λ (hub : HubValue). suc (open_count hub)) ends.after_is ∙ one_fewer
-
--- a change of a connection opens and ends none
-pub count_with_link : (hub : HubValue) (place serial : ℕ) (slot : Slot) (link : LinkValue) → IsAt hub place slot → open_count (with_link hub place serial link) ≡ open_count hub
-count_with_link hub place serial slot link found =
-    let changed = count_set hub.slots place (Some slot) (Some (record { serial = serial; link = link })) found in
-    omega (arith, changed)

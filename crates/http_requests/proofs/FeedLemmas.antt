@@ -28,11 +28,6 @@ closed_is held (stage.Head state) is = absurd is
 closed_is held (stage.Body head start end) is = absurd is
 closed_is held stage.Closed is = refl
 
-pub closed_where : (held : List ℕ) (at : Stage) → open_octets held at ≡ None → IsClosed at
-closed_where held (stage.Head state) is = absurd (cc is)
-closed_where held (stage.Body head start end) is = absurd (cc is)
-closed_where held stage.Closed is = tt
-
 pub closed_holds : (held : List ℕ) (at : Stage) → IsClosed at → MatchesStage held at
 closed_holds held (stage.Head state) is = absurd is
 closed_holds held (stage.Body head start end) is = absurd is

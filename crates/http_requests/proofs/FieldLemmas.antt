@@ -27,16 +27,6 @@ use Rattle.base_types.proofs.BoolLemmas.{or_false}
 pub map_more : {A B : Type 0} (f : A → B) (xs : List A) (i : ℕ) (d : A) → i < length xs → map f (take (i + 1) xs) ≡ map f (take i xs) ++ f (get_or xs i d) ∷ []
 map_more f xs i d below = ap (map f) (take_more xs i d below) ∙ map-append f (take i xs) (get_or xs i d ∷ [])
 
-pub count_yes : {A B : Type 0} (p : B → Bool) (f : A → B) (xs : List A) (i : ℕ) (d : A) → i < length xs → p (f (get_or xs i d)) ≡ true
-    → count_by p (map f (take (i + 1) xs)) ≡ count_by p (map f (take i xs)) + 1
-count_yes p f xs i d below is =
-    ap (count_by p) (map_more f xs i d below) ∙ sum_by-append _ (map f (take i xs)) (f (get_or xs i d) ∷ []) ∙ rw is refl
-
-pub count_no : {A B : Type 0} (p : B → Bool) (f : A → B) (xs : List A) (i : ℕ) (d : A) → i < length xs → p (f (get_or xs i d)) ≡ false
-    → count_by p (map f (take (i + 1) xs)) ≡ count_by p (map f (take i xs))
-count_no p f xs i d below is =
-    ap (count_by p) (map_more f xs i d below) ∙ sum_by-append _ (map f (take i xs)) (f (get_or xs i d) ∷ []) ∙ rw is (omega arith)
-
 pub find_no : {A B : Type 0} (p : B → Bool) (f : A → B) (xs : List A) (i : ℕ) (d : A) → i < length xs → find p (map f (take i xs)) ≡ None → p (f (get_or xs i d)) ≡ false
     → find p (map f (take (i + 1) xs)) ≡ None
 find_no p f xs i d below none is =
@@ -65,9 +55,6 @@ close_here v i at is = ap (list_any is_close) (split_at_comma v i at) ∙ rw is 
 
 pub close_later : (v : List ℕ) (i : ℕ) → position is_comma v ≡ Some i → is_close (take i v) ≡ false → has_close v ≡ has_close (drop (i + 1) v)
 close_later v i at is = ap (list_any is_close) (split_at_comma v i at) ∙ rw is refl
-
-pub comma_below : (v : List ℕ) (i : ℕ) → position is_comma v ≡ Some i → i < length v
-comma_below v i at = (position-Some is_comma v i 0 at).0
 
 pub any_true : (b : Bool) → (b || true) ≡ true
 any_true true = refl

@@ -40,9 +40,6 @@ length_of_head head h text_is = ap (λ (v : Head). v.length) text_is
 close_of_head : (head : Head) (h : RequestHead) → head ≡ head_of h → head.close ≡ closes h
 close_of_head head h text_is = ap (λ (v : Head). v.close) text_is
 
-pub body_length_is : (held : List ℕ) (head : Head) (start : ℕ) (text : List ℕ) (whole : IsCompleteRequest held head start) → text ≡ held → head.length ≡ length (take (length text - start) (drop start text))
-body_length_is held head start text whole same = sym whole.all ∙ sym (ap length (body_is held head start whole.body text whole.has_head same))
-
 pub fresh : (held : List ℕ) → held ≡ [] → IsPartialHead held Blank
 fresh held none = record {
   state_is = sym (ap (head_state_after Blank) none);
@@ -69,13 +66,6 @@ waiting text head start end h begins good text_is small start_is end_is some = r
   not_whole = omega (arith, start_is, end_is, some);
 }
 
-pub bodiless : (text : List ℕ) (head : Head) (start : ℕ) (h : RequestHead) → StartsWithHead text h [] → fault_of_head h ≡ None → head ≡ head_of h → start ≡ length text → head.length ≡ 0 → IsCompleteRequest text head start
-bodiless text head start h begins good text_is start_is none = record {
-  body = [];
-  has_head = found text head start h begins good text_is start_is;
-  all = sym none;
-}
-
 -- ---- more of the body
 
 begins_on : (held x : List ℕ) (h : RequestHead) (body : List ℕ) → StartsWithHead held h body → StartsWithHead (held ++ x) h (body ++ x)
@@ -98,16 +88,6 @@ waiting_more held x head start end wait short = record {
   small = wait.small;
   not_whole = short;
 }
-
-pub whole_now : (held x : List ℕ) (head : Head) (start end : ℕ) → IsPartialBody held head start end → length (held ++ x) ≡ end → IsCompleteRequest (held ++ x) head start
-whole_now held x head start end wait long =
-    let has = has_more held x head start wait.body wait.has_head in
-    let sized : length (held ++ x) ≡ length (print_request has.whole_head) + length (wait.body ++ x) = ap length has.begins.0.1 ∙ length-append (print_request has.whole_head) (wait.body ++ x) in
-    record {
-      body = wait.body ++ x;
-      has_head = has;
-      all = omega (arith, sized, long, has.start_is, wait.end_is);
-    }
 
 -- ---- what was scanned
 

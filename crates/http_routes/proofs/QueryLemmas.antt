@@ -111,20 +111,6 @@ number-is text some few all =
     let less : nat_le (length text) 15 ≡ true = grind arith in
     rw (more, less, all) refl
 
-pub number-empty : (text : List ℕ) → length text ≡ 0 → parse_number text ≡ Err BadQuery
-number-empty text none =
-    let more : nat_lt 0 (length text) ≡ false = grind arith in
-    rw more refl
-
-pub number-long : (text : List ℕ) → 15 < length text → parse_number text ≡ Err BadQuery
-number-long text long =
-    let less : nat_le (length text) 15 ≡ false = grind arith in
-    let more : nat_lt 0 (length text) ≡ true = grind arith in
-    rw (more, less) refl
-
-pub number-other : (text : List ℕ) → list_all is_ascii_digit text ≡ false → parse_number text ≡ Err BadQuery
-number-other text other = simp (other, and-false) refl
-
 pub not_empty : (n : ℕ) → (n == 0) ≡ false → 0 < n
 not_empty zero is = absurd (never is)
   where

@@ -29,15 +29,6 @@ text_is_none part none =
     by true never = absurd (never refl)
     by false never = refl
 
--- a target with no question mark is all path
-pub path_whole : (target : List ℕ) → path_len target ≡ length target → target ≡ path_in target
-path_whole target all =
-    sym (ap (λ n. take n target) all ∙ take_all (length target) target (omega arith))
-
-pub query_none : (target : List ℕ) → path_len target ≡ length target → [] ≡ query_in target
-query_none target all =
-    sym (ap (λ n. drop (n + 1) target) all ∙ drop_all (length target + 1) target (omega arith))
-
 -- a part of the path as the code sees it
 pub part-is : (place : ℕ) (part : List ℕ) (seen items : List (Bor (List ℕ))) (path target : List ℕ) → part ≡ get_or (map (λ one. one.now) seen) place [] → seen ≡ items → map (λ one. one.now) items ≡ parts_of path → path ≡ path_in target → part ≡ get_or (parts_of (path_in target)) place []
 part-is place part seen items path target at same parts cut =

@@ -55,10 +55,6 @@ pub sync_in_book : route_in_book (codes "/sync") ≡ Some route.Sync
 unfolding matchit_on_literals router_rows
 sync_in_book = refl
 
-pub tally-is : (b : ℕ) (part : List ℕ) → b < 256 → has_slash (b ∷ part) ≡ false → option_map (λ found. found.value) (first router_rows (codes "/books" ++ slash ∷ ((b ∷ part) ++ codes "/tally"))) ≡ Some route.Tally
-tally-is b part small none =
-    ap (λ found. option_map (λ row. row.value) found) (first-in_book b part (codes "tally") small none) ∙ tally_in_book
-
 pub export_in_book : route_in_book (codes "/export") ≡ Some route.Export
 unfolding matchit_on_literals router_rows
 export_in_book = refl

@@ -25,18 +25,6 @@ use Rattle.hub_server.proofs.SeatLemmas.{asleep_has_none}
 
 -- ---- room
 
-pub room_is_free : (connections : ℕ) (hub : HubValue) → has_room connections hub ≡ true → open_count hub ≡ length hub.slots → ⊥
-room_is_free connections hub room full =
-    let parts = and_parts (not (is_full hub)) (nat_lt hub.opened connections) room in
-    let tests = or_parts (nat_eq (open_count hub) (length hub.slots)) (nat_eq hub.opened most_opened) (not-true (is_full hub) parts.0) in
-    eqb-false (open_count hub) (length hub.slots) tests.0 full
-
-pub room_is_left : (connections : ℕ) (hub : HubValue) → has_room connections hub ≡ true → hub.opened < connections
-room_is_left connections hub room = ltb-true hub.opened connections (and_parts (not (is_full hub)) (nat_lt hub.opened connections) room).1
-
-pub accepts_has_room : (connections : ℕ) (server : ServerValue) (time : ℕ) → accepts_at connections server time ≡ true → has_room connections server.hub ≡ true
-accepts_has_room connections server time wanted = (and_parts (has_room connections server.hub) (is_listener_due server.listener time) wanted).0
-
 -- ---- the number of open connections
 
 pub fewer_free : (a b : ServerValue) (place : ℕ) (hub : HubValue) → OpensAt place a.hub a.time hub → b.hub ≡ hub → free_count b < free_count a

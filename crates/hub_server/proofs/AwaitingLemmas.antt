@@ -21,11 +21,6 @@ or_false : (b : Bool) → (b || false) ≡ b
 or_false true = refl
 or_false false = refl
 
--- a connection was cut off
-pub due_at_once : (connections patience : ℕ) (server : ServerValue) (is_left : Bool) → is_left ≡ true → IsFirstTime (λ time. is_due connections patience is_left server time) (Some 0)
-due_at_once connections patience server true is = λ now. sym (le-leb 0 now (omega arith))
-due_at_once connections patience server false is = absurd (cc is)
-
 due_with_room : (room : Bool) (a b : Bool) → room ≡ true → (a || (room && b)) ≡ (a || b)
 due_with_room true a b is = refl
 due_with_room false a b is = absurd (cc is)

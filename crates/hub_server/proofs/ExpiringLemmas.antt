@@ -29,17 +29,6 @@ expired_by_test limits server place test within open_there tells =
       λ expired. tells expired.slot expired.seated.at_slot ∙ expired.expired,
     )
 
--- there is no connection
-pub expired_unless_open : (limits : ServeLimits) (server : ServerValue) (place : ℕ) → (IsOpenAt server.hub place → ⊥) → (IsTrue false → HasExpiredAt limits server place) × (HasExpiredAt limits server place → IsTrue false)
-expired_unless_open limits server place free = (λ yes. absurd (cc yes), λ expired. absurd (free (expired.slot, expired.seated.at_slot)))
-
--- there is no place
-pub expired_past_end : (limits : ServeLimits) (server : ServerValue) (place : ℕ) → length server.seats ≤ place → (IsTrue false → HasExpiredAt limits server place) × (HasExpiredAt limits server place → IsTrue false)
-expired_past_end limits server place past = (
-  λ yes. absurd (cc yes),
-  λ expired. let within : place < length server.seats = found_within server.seats place expired.seat expired.seated.at_seat in absurd (omega (arith, within, past)),
-)
-
 module _ {Endpoint : Type 0} (calls : EndpointRelation Endpoint) where
   -- ---- one place
 

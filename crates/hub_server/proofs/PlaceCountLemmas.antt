@@ -32,9 +32,6 @@ unfolding ActRuns
 act_run_places limits [] a b same = ap (λ (s : ServerValue). length s.seats) (sym same)
 act_run_places limits (x ∷ xs) a b (between, done, rest) = act_run_places limits xs between b rest ∙ act_places limits x a between done
 
-pub acts_places : {Endpoint : Type 0} (calls : EndpointRelation Endpoint) (limits : ServeLimits) (a b : ServerValue) (s t : Endpoint) → ReachesByActs calls limits a s b t → length b.seats ≡ length a.seats
-acts_places calls limits a b s t reached = act_run_places limits reached.acts a b reached.runs
-
 module _ {S : Type 0} (does : HandlerRelation S) (fault_reply : FaultReplies) where
   step_places : (limits : ServeLimits) (x : ServerStep) (a b : ServerValue) (w v : S) → DoesServerStep does fault_reply limits a w x v b → length b.seats ≡ length a.seats
   step_places limits (Acts act) a b w v done = act_places limits act a b done.1

@@ -99,10 +99,6 @@ searched_more old new from is =
     let split : drop from (old ++ new) ≡ drop (length old - 15) old ++ new = ap (λ n. drop n (old ++ new)) is ∙ drop-append-le (length old - 15) old new (omega arith) in
     rw split (searched_by old new (has_colon old) refl)
 
--- the head of no octets
-pub searched_first : (octets : List ℕ) → searched (made false false false) octets ≡ head_of octets
-searched_first octets = refl
-
 -- ---- an equals sign at the end
 
 printable_ends : EndsOther (codes "QUOTED-PRINTABLE") equals

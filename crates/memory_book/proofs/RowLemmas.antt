@@ -106,7 +106,3 @@ room_over old new row uid change e =
 pub live_card_at : (o : Option Row) (card : List Line) (P : List Line → Type 0) → Some card ≡ option_and_then (λ row. row.card) o → P card → IfSome (option_and_then stored_in_row o) (λ (s : Stored). P s.card)
 live_card_at (Some row) card P e p = subst (λ (o : Option (List Line)). IfSome (option_map (λ c. let s : Stored = record { version = row.changed; card = c } in s) o) (λ (s : Stored). P s.card)) e p
 live_card_at None card P e p = tt
-
-pub row_of_live : (o : Option Row) → IsSome (option_and_then stored_in_row o) → IsSome o
-row_of_live (Some row) s = refl
-row_of_live None s = s

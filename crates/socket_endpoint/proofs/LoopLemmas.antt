@@ -24,10 +24,3 @@ maps_next f old now i x next found so_far next_is =
     let one_more : suc i ≡ i + 1 = omega arith in
     ap (λ t. slice_set t i next) so_far ∙ ap (λ v. slice_set (map f (take i old) ++ drop i old) i v) next_is ∙ map_more f old i x before
     ∙ ap (λ n. map f (take n old) ++ drop n old) one_more
-
--- all items were replaced
-pub maps_all : {A : Type 0} (f : A → A) (xs : List A) (i : ℕ) → length xs ≤ i → map f (take i xs) ++ drop i xs ≡ map f xs
-maps_all f [] zero past = refl
-maps_all f [] (suc i) past = refl
-maps_all f (y ∷ xs) zero past = absurd (omega (arith, past))
-maps_all f (y ∷ xs) (suc i) past = ap (λ t. f y ∷ t) (maps_all f xs i (omega (arith, past)))

@@ -35,15 +35,6 @@ pub error_searched : (db : Database) (fault : OpenFault) → IsErrorFault fault 
 error_searched db fault (inl h) = subst (IsSearchFault db) (sym h) tt
 error_searched db fault (inr h) = subst (IsSearchFault db) (sym h) tt
 
--- a fault of the search is one of the opening
-pub fault_opens : (limits : Bounds) (db : Database) (fault : OpenFault) → IsSearchFault db fault → IsOpenResult limits db (Err fault)
-fault_opens limits db Store h = tt
-fault_opens limits db NotOurs h = h
-fault_opens limits db (OtherSchema has) h = h
-fault_opens limits db Damaged h = absurd h
-fault_opens limits db NotEmpty h = absurd h
-fault_opens limits db Memory h = tt
-
 -- ---- reads
 
 -- one read after another that changed nothing

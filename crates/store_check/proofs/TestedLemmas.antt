@@ -82,9 +82,6 @@ module _ (limits : Bounds) (books members imports keeps : List Row) where
   pub last_decides : (passes : Bool) → PassBookTests limits books imports keeps → HaveMemberKeys members → (IsTrue passes ↔ PassMemberTests limits books members keeps) → IsTrue passes ↔ AreWellStored limits books members imports keeps
   last_decides passes own keys h = (λ t. tests_stored (record { own = own; keys = keys; passed = h.0 t }), λ w. h.1 (stored_tests w).passed)
 
-pub stored_pass_tests : StoredPassTests
-stored_pass_tests limits books members imports keeps = (tests_stored limits books members imports keeps, stored_tests limits books members imports keeps)
-
 -- ---- the tables
 
 module _ (limits : Bounds) (db : Database) (books imports keeps : List Row) (ours : IsCurrentSchema db) (listed : AreBookRows db books imports keeps) where

@@ -39,10 +39,6 @@ keep_there rows name header accept there none =
 
 -- ---- one call after another
 
--- a call that only reads
-pub read_faults : {A : Type 0} (old new : State) (r : Result A Denied) → FaultsFromOutside old new r → ChangeFaultsFromOutside old new r
-read_faults old new r fails rows clean holds accept free = fails rows clean holds accept.faultless
-
 -- a call that reads and then writes in the book that it found
 pub then_change_faults : {A : Type 0} (old mid new : State) (P Q : Trees → Type 0) (name : List ℕ) (header : HeaderRow) (r : Result A Denied) → Survives old mid P → GivenTables old mid (IsUnchanged old mid)
     → GivenSoundRows old mid (λ rows. Has rows.books (line_row name header)) → Survives mid new Q → ChangeFaultsFromOutsideInBook mid new header r → ChangeFaultsFromOutside old new r

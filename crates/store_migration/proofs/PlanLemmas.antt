@@ -103,10 +103,6 @@ module _ (db : Database) (books members imports : List Row) (listed : AreListedF
 
 -- ---- faults of the database
 
-pub error_due : (limits : Bounds) (db : Database) (fault : OpenFault) → IsErrorFault fault → IsMigrationRefusal limits db fault
-error_due limits db fault (inl h) = subst (IsMigrationRefusal limits db) (sym h) tt
-error_due limits db fault (inr h) = subst (IsMigrationRefusal limits db) (sym h) tt
-
 -- ---- the row of the table `meta`
 
 -- the one row, with its id

@@ -13,8 +13,8 @@ use Rattle.book_model.specs.Books.{Book, live_at, live_or_no_such_card}
 use Rattle.book_model.specs.BookQueries.{get_step}
 use Rattle.book_model.specs.CallOutcomes.{◌>>=◌}
 use Rattle.store_tables.specs.Books.{BookRow, has_name}
-use Rattle.store_joins.specs.NamedMembers.{FindsNamedMember}
-use Rattle.store_joins.proofs.HasLemmas.{has_passing}
+use Rattle.store_tables.specs.NamedMembers.{FindsNamedMember}
+use Rattle.store_tables.proofs.HasLemmas.{has_passing}
 use Rattle.store_rows.specs.ShownRows.{ShowsLive}
 use Rattle.store_rows.specs.SoundTables.{AreSoundRows}
 use Rattle.store_rows.specs.TableBooks.{books_of, row_book}
@@ -29,10 +29,6 @@ use Rattle.store_queries.specs.internal.QuerySteps.{missing_card_step}
 -- a step on a book that was looked up
 abbrev step_on : (Book → Result Stored Refusal) → Option Book → Result Stored Refusal
 step_on f found = option_map_or Ok found (Err NoSuchBook) >>= f
-
-same_steps : (f g : Book → Result Stored Refusal) (found : Option Book) → IfSome found (λ book. f book ≡ g book) → step_on f found ≡ step_on g found
-same_steps f g None h = refl
-same_steps f g (Some book) h = h
 
 module _ (rows : TableRows) (name uid : List ℕ) where
   -- the row with the name is that of the book with the name

@@ -36,8 +36,8 @@ use book_model::decisions::is_import_key;
 use book_model::{BookLine, Denied, ImportTally, Refusal, Stored, Tally};
 use sqlite::{Alter, Connection, Error};
 use std::alloc::Global;
-use store_joins::named_members::find_named_member;
 use store_lookups::{BookHeader, fault_of, fetch_keep, find_header, find_import_tally, remembered};
+use store_tables::named_members::find_named_member;
 use vcard_text::Text;
 
 fn line_with(alloc: Global, name: &str, header: BookHeader) -> Result<BookLine, Denied>

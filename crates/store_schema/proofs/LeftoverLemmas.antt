@@ -193,12 +193,6 @@ module _ {D : Type 0} {g : Ghosts D} (image : Image) (files : Files D) (old new 
   pub leftover_fault : (Classifies : Database → Result (Unit {0}) OpenFault → Type 0) (Are : Database → Type 0) (fault : OpenFault) → IsFaultOfLeftover Classifies old new fault → IsFileFault image new Classifies Are fault
   leftover_fault Classifies Are fault h = subst (λ i. IsFileFault i new Classifies Are fault) same (stricter_fault (image_of g files) new Classifies Are fault (h files is))
 
--- a fault of the database is possible in every case
-pub error_refusal : {D : Type 0} {g : Ghosts D} (image : Image) (rest : Option (Leftover D g)) (Classifies : Database → Result (Unit {0}) OpenFault → Type 0) (Are : Database → Type 0) (fault : OpenFault) → IsErrorFault fault → IsFileRefusal image Classifies Are fault rest
-error_refusal image None Classifies Are fault e = e
-error_refusal image (Some rest) Classifies Are fault (inl store) = subst (IsFileFault image rest Classifies Are) (sym store) (λ clean. tt)
-error_refusal image (Some rest) Classifies Are fault (inr memory) = subst (IsFileFault image rest Classifies Are) (sym memory) (λ clean. tt)
-
 -- ---- files that were just opened
 
 abbrev pub image_with : List ℕ → List ℕ → Image

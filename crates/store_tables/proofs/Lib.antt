@@ -37,3 +37,8 @@ pub mod AddLemmas
 pub mod AddFailures
 pub mod ChangeLemmas
 pub mod ChangeFailures
+pub mod JoinQueries
+pub mod JoinTexts
+pub mod HasLemmas
+pub mod JoinLemmas
+pub mod NamedMemberLemmas

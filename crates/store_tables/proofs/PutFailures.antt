@@ -76,10 +76,6 @@ use Rattle.store_tables.proofs.WriteFailures.{execute_fails}
 abbrev stored : ℤ → ℤ → List ℕ → ℤ → Option (List ℕ) → Row
 stored id book uid changed card = Int id ∷ Int book ∷ Text uid ∷ Int changed ∷ or_null Text card ∷ []
 
-card_is_number : (card : Option (List ℕ)) → NotNan (number (or_null Text card))
-card_is_number None = null_is_number
-card_is_number (Some text) = text_is_number text
-
 member_storable : (id book : ℤ) (uid : List ℕ) (changed : ℤ) (card : Option (List ℕ)) → length uid ≤ 2 ^ 20 → IfSome card (λ text. length text ≤ 2 ^ 20) → IsStorable 0 (stored id book uid changed card)
 member_storable id book uid changed None short slim =
     is_storable (stored id book uid changed None) (omega arith) (omega arith) (int_is_number id, (int_is_number book, (text_is_number uid, (int_is_number changed, (null_is_number, tt))))) (omega (arith, short))

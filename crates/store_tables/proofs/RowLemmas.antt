@@ -18,10 +18,6 @@ member_id m = m.id
 pub apart : (ms : List MemberRow) → AreMembers ms → Apart member_id member_row (λ _. refl) ms
 apart ms kept = ascending_weaker _ _ (λ a b h. h.0) ms kept
 
-pub rows_all : (P : Row → Type 0) (ms : List MemberRow) → AllByRecursion (λ m. P (member_row m)) ms → AllByRecursion P (map member_row ms)
-rows_all P [] h = tt
-rows_all P (m ∷ ms) h = (h.0, rows_all P ms h.1)
-
 put_new : (id book : ℤ) (uid : List ℕ) (changed : ℤ) (card : Option (List ℕ)) (ms : List MemberRow) → AllByRecursion (λ m. has_uid book uid m ≡ false) ms
     → upsert_member id book uid changed card ms ≡ ms ++ record { id = id; book = book; uid = uid; changed = changed; card = card } ∷ []
 put_new id book uid changed card [] h = refl

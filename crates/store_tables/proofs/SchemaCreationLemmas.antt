@@ -23,14 +23,6 @@ stays_then a b c on one two = record {
   survives = survives_then a b c _ _ (λ _. ⊥) (λ _ db none. none) (λ _ db none. none) one.survives two.survives;
 }
 
-pub first_tables_created : (a b c d : Database) → IsTableCreated empty_schema with_meta 0 a b → IsTableCreated with_meta with_books 2 b c → IsTableCreated with_books with_members 4 c d → HasFirstTables d
-first_tables_created a b c d one two three = record {
-  schema = three.schema;
-  meta_rows = three.others.0 ∙ two.others.0 ∙ one.empty;
-  books = three.others.1.0 ∙ two.empty;
-  members = three.empty;
-}
-
 pub schema_created : (a b c d : State) → HasFirstTables a.now → IsTableCreated with_members first_schema 7 a.now b.now → IsTableCreated first_schema book_schema 9 b.now c.now → AddsSchema schema_number (c.now.trees 0) d → WritesOnly 0 c d → IsEmptyStore schema_number d.now
 schema_created a b c d was one two added wrote = record {
   schema = wrote.schema;

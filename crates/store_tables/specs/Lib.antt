@@ -9,4 +9,5 @@ pub mod Keeps
 pub mod Acceptance
 pub mod Meta
 pub mod SchemaCreation
+pub mod NamedMembers
 pub mod OnConnections

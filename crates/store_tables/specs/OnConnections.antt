@@ -21,6 +21,7 @@ use Rattle.store_tables.specs.Imports as imports
 use Rattle.store_tables.specs.Keeps as keeps
 use Rattle.store_tables.specs.Members as members
 use Rattle.store_tables.specs.Meta as meta
+use Rattle.store_tables.specs.NamedMembers as named
 use Rattle.store_tables.specs.QueryResults.{IfAnswered}
 use Rattle.store_tables.specs.SchemaCreation as creation
 use Rattle.store_tables.specs.StatementEffects as effects
@@ -103,6 +104,9 @@ module _ {S : Type 0} (store : Ghosts S) (old new : Held S) where
 
   abbrev pub GivenMembersTx : (List members.MemberRow → Type 0) → Type 0
   GivenMembersTx = members.GivenMembersTx (state store old) (state store new)
+
+  abbrev pub GivenBooksAndMembers : (List books.BookRow → List members.MemberRow → Type 0) → Type 0
+  GivenBooksAndMembers = named.GivenBooksAndMembers (state store old) (state store new)
 
   abbrev pub GivenImports : (List imports.ImportRow → Type 0) → Type 0
   GivenImports = imports.GivenImports (state store old) (state store new)

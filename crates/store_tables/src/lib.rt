@@ -14,4 +14,5 @@ pub mod keeps;
 pub mod laws;
 pub mod members;
 pub mod meta;
+pub mod named_members;
 pub mod settled;

@@ -62,9 +62,6 @@ read_keeps_sound old new left order was =
 pub read_before : (old new : State) → OnlyReads old new → IsOpenOnHonestDisk new → IsOpenOnHonestDisk old
 read_before old new left order = (clean_before _ old new left.survives order.0, left.was_open order.0 order.1)
 
-pub read_commits : (old new : State) (P : Trees → Type 0) → OnlyReads old new → IsCommittedAndSound old → Survives old new P
-read_commits old new P left was = survives_weaker old new _ _ (λ _ db none. absurd (none was.sound.holds.schema)) left.survives
-
 -- crash statements hold only over a clean disk
 pub survives_if : (a b : State) (P : Trees → Type 0) → Survives a b (λ _. ⊤) → (HasCleanDisk b → Survives a b P) → Survives a b P
 survives_if a b P all some = record {

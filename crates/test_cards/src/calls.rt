@@ -11,7 +11,7 @@ use crate::values::run_cut;
 use base_types::NoMemory;
 use csv_cards::Form;
 use std::alloc::Global;
-use test_rows::{TestCalls, check_rows};
+use test_support::rows::{TestCalls, check_rows};
 use vcard_values::{escape, unescape};
 
 /// The calls of the rows. None of them keeps state.

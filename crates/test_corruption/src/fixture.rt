@@ -6,7 +6,7 @@ use book_store::SqlStore;
 use sqlite::{Connection, MemStore};
 use std::alloc::Global;
 use sync_core::Limits;
-use test_scripts::run_script;
+use test_support::scripts::run_script;
 
 /// A connection to a database in memory.
 pub(crate) type Memory = Connection<MemStore>;

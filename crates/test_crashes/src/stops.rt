@@ -13,9 +13,9 @@ use sqlite::Files;
 use sqlite_disk::{Fuse, Memory};
 use std::alloc::Global;
 use sync_core::Limits;
-use test_crash_plans::counts::push_piece;
-use test_crash_plans::expected_run::ExpectedRun;
-use test_crash_plans::mismatch::Mismatch;
+use test_support::crash_plans::counts::push_piece;
+use test_support::crash_plans::expected_run::ExpectedRun;
+use test_support::crash_plans::mismatch::Mismatch;
 use vcard_text::NoMemory;
 
 const PLACES: [Place; 2] = [Place::Database, Place::Log];

@@ -9,7 +9,7 @@ use crate::routes::route;
 use crate::values::{limits, name, token};
 use base_types::NoMemory;
 use std::alloc::Global;
-use test_rows::{TestCalls, check_rows};
+use test_support::rows::{TestCalls, check_rows};
 
 /// The calls, which keep no state.
 #[derive(Drop)]

@@ -9,7 +9,7 @@ use base_types::NoMemory;
 use book_http::Service;
 use std::alloc::Global;
 use sync_core::{Fault, Limits, PlainStore};
-use test_scripts::FailingStore;
+use test_support::scripts::FailingStore;
 
 /// Adds the replies over a store that returns the fault from each call.
 fn push_over_failing(

@@ -1,5 +1,5 @@
 //! The text of some files. Expected texts are written by hand.
-use exported_cards::{ExportText, is_export};
+use csv_cards::{ExportText, is_export};
 use std::alloc::Global;
 use std::io;
 use std::io::Read;

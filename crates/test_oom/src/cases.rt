@@ -6,7 +6,7 @@ use crate::opening::run_opening;
 use crate::paths::run_first_path;
 use crate::requests::run_feed;
 use crate::tables::OverTables;
-use test_oom_calls::{
+use test_support::oom::{
     Harness, InMemory, Stop, Stores, run_cards, run_commands, run_device, run_mirror, run_texts,
 };
 

@@ -4,10 +4,10 @@ use base_types::NoMemory;
 use book_service::{Event, Reply, drive};
 use std::alloc::Global;
 use sync_core::{BookStore, Device};
-use test_oom_calls::{
+use test_support::oom::{
     FEW_CARDS, FILLING, Harness, Stop, Stores, have_same_books, is_no_memory, store_filled_by,
 };
-use test_scripts::parse_event;
+use test_support::scripts::parse_event;
 
 /// Devices of a book ask among commands that change it, from its creation on: for pages of one
 /// entry, from an old token, and once more when nothing is due.

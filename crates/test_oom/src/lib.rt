@@ -13,8 +13,8 @@ mod tables;
 
 use crate::cases::run_cases;
 use crate::low_memory::run_low_memory;
-use test_oom_calls::Harness;
-pub use test_oom_calls::Stop;
+use test_support::oom::Harness;
+pub use test_support::oom::Stop;
 
 /// Runs the case of the name, or `all` of them. Allocations may be refused from outside.
 pub fn run_chosen(rt: &HostRuntime, chosen: &str) -> Result<(), Stop> {

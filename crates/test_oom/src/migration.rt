@@ -7,7 +7,7 @@ use book_store::OpenFault;
 use sqlite::{Error, params};
 use std::alloc::Global;
 use store_migration::migrate_connection;
-use test_oom_calls::{Harness, Stop, limits};
+use test_support::oom::{Harness, Stop, limits};
 
 /// The tables of the first schema, with two books.
 const FIRST: &str =

@@ -6,7 +6,7 @@ use book_service::Reply;
 use book_store::OpenFault;
 use std::alloc::Global;
 use sync_core::Limits;
-use test_oom_calls::{Harness, Stop, filled_store, limits, query_books};
+use test_support::oom::{Harness, Stop, filled_store, limits, query_books};
 
 /// A store, or why it wasn't opened.
 type Opened = Result<TableStore, OpenFault>;

@@ -2,7 +2,7 @@
 
 use cli_orders::first_path;
 use sync_core::{Denied, Fault};
-use test_oom_calls::{CARD, Harness};
+use test_support::oom::{CARD, Harness};
 
 /// Reads a card, puts it into an empty book, and asks for the report.
 pub(crate) fn run_first_path(harness: &mut Harness) {

@@ -7,7 +7,7 @@ use http_replies::reply_bytes;
 use http_requests::Session;
 use std::alloc::Global;
 use sync_core::{BookStore, Fault};
-use test_oom_calls::{Harness, Stop, Stores, have_same_books, limits};
+use test_support::oom::{Harness, Stop, Stores, have_same_books, limits};
 
 /// The requests of the piece: a book is created, a card is put into it, a device asks for its first
 /// report, and the card is removed. Each has a flag that says whether it was done.

@@ -4,7 +4,7 @@ use book_store::SqlStore;
 use sqlite::{Connection, MemStore};
 use std::alloc::Global;
 use sync_core::Limits;
-use test_oom_calls::{Stop, Stores};
+use test_support::oom::{Stop, Stores};
 
 /// A database in memory.
 pub(crate) type Tables = Connection<MemStore>;

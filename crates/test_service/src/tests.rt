@@ -11,7 +11,7 @@ use book_service::{Event, Reply, drive};
 use std::alloc::Global;
 use std::process::Abort;
 use sync_core::{BookStore, Device, Limits, PlainStore};
-use test_scripts::{format_reply, parse_event};
+use test_support::scripts::{format_reply, parse_event};
 use vcard_text::NoMemory;
 
 /// A new store with the standard limits.

@@ -5,7 +5,7 @@ use base_types::NoMemory;
 use book_service::{Command, Event, Mirrored, Reply, drive, mirror, perform};
 use std::alloc::Global;
 use sync_core::{BookStore, Denied, Device};
-use test_scripts::{format_device, format_reply, parse_event};
+use test_support::scripts::{format_device, format_reply, parse_event};
 
 /// `device BOOK` adds a new device of the book.
 fn add_device(alloc: Global, devices: &mut Vec<Device>, book: &str) -> Result<String, Stop> {

@@ -9,24 +9,9 @@ use Rattle.import_text.specs.Units.{units}
 use Rattle.text_reader.specs.Texts.{utf16_octets}
 use Rattle.text_reader.proofs.CutLemmas.{cut_all}
 
-abbrev pub given_then : List ℕ → (List ℕ → List ℕ) → Option (List ℕ) → Option (List ℕ)
-given_then unread f known = option_map (λ rest. unread ++ f rest) known
-
 pub keeps_same : (a : Option (List ℕ)) → Keeps a a
 keeps_same None = tt
 keeps_same (Some x) = refl
-
-pub keeps_both : (a b c : Option (List ℕ)) → Keeps a b → Keeps b c → Keeps a c
-keeps_both None b c p q = tt
-keeps_both (Some x) None c p q = absurd p
-keeps_both (Some x) (Some y) None p q = absurd q
-keeps_both (Some x) (Some y) (Some z) p q = q ∙ p
-
-pub keeps_consumes : (a b c : Option (List ℕ)) (octets : List ℕ) → Keeps a b → Consumes b c octets → Consumes a c octets
-keeps_consumes None b c octets p q = tt
-keeps_consumes (Some x) None c octets p q = absurd p
-keeps_consumes (Some x) (Some y) None octets p q = absurd q
-keeps_consumes (Some x) (Some y) (Some z) octets p q = sym p ∙ q
 
 -- what was read is after what was undecoded
 pub read_on : (big : Bool) (unread unread2 held held2 octets : List ℕ) (a b : Option (List ℕ)) → Consumes a b octets → held2 ≡ held ++ octets → unread2 ≡ unread
@@ -36,14 +21,6 @@ read_on big unread unread2 held held2 octets (Some x) None took is same = absurd
 read_on big unread unread2 held held2 octets (Some x) (Some y) took is same =
     ap (λ u. u ++ utf16_octets big (held2 ++ y)) same
     ∙ ap (λ os. unread ++ utf16_octets big os) (ap (λ h. h ++ y) is ∙ append_assoc held octets y ∙ ap (λ os. held ++ os) (sym took))
-
-pub read_nothing : (big : Bool) (unread unread2 held held2 : List ℕ) (a b : Option (List ℕ)) → Keeps a b → held2 ≡ held → unread2 ≡ unread
-    → Keeps (option_map (λ rest. unread ++ utf16_octets big (held ++ rest)) a) (option_map (λ rest. unread2 ++ utf16_octets big (held2 ++ rest)) b)
-read_nothing big unread unread2 held held2 None b keeps is same = tt
-read_nothing big unread unread2 held held2 (Some x) None keeps is same = absurd keeps
-read_nothing big unread unread2 held held2 (Some x) (Some y) keeps is same =
-    ap (λ u. u ++ utf16_octets big (held2 ++ y)) same
-    ∙ ap (λ os. unread ++ utf16_octets big os) (ap (λ h. h ++ y) is ∙ ap (λ os. held ++ os) keeps)
 
 -- octets were decoded
 pub decoded : (big : Bool) (unread text held front rest : List ℕ) (a : Option (List ℕ)) → unread ≡ [] → text ≡ utf16_octets big front
@@ -71,8 +48,3 @@ last_apart big held len (Some more) is at_end =
     ∙ cut_all big held
     ∙ ap (λ h. utf16_octets big h ++ utf16_octets big []) (sym (take_all len held (omega (arith, is))))
     ∙ ap (λ m. utf16_octets big (take len held) ++ utf16_octets big m) (sym (ap (λ d. d ++ more) (drop_all len held (omega (arith, is))) ∙ at_end))
-
--- what holds whatever comes holds of what comes
-pub of_each : (P : List ℕ → Type 0) (a : Option (List ℕ)) → ((more : List ℕ) → P more) → IfSome a P
-of_each P None each = tt
-of_each P (Some more) each = each more

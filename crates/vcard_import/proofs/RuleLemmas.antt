@@ -97,12 +97,6 @@ line_is_free lines line p e =
 abbrev rule_of : Seen → Reading → List ℕ → List ℕ → Bool
 rule_of seen reading name value = rule (bytes_eq name (codes "BEGIN")) (bytes_eq name (codes "END")) (bytes_eq name (codes "VERSION")) (bytes_eq name (codes "UID")) (bytes_eq name (codes "KIND")) (bytes_eq name (codes "MEMBER")) seen.uid reading.takes_uid (is_uid value) seen.kind reading.keeps_members
 
-pub aside_is_allowed : (seen : Seen) (reading : Reading) (line : Line) → breaks_rule seen reading (aside_line line) ≡ false
-aside_is_allowed seen reading line = refl
-
-pub agent_is_allowed : (seen : Seen) (reading : Reading) (line : Line) → line.name ≡ codes "X-AGENT" → breaks_rule seen reading line ≡ false
-agent_is_allowed seen reading line n = subst (λ name. rule_of seen reading name line.value ≡ false) (sym n) refl
-
 legal_uid : (su tk iu : Bool) → su ≡ false → tk ≡ true → iu ≡ true → (su || not tk || not iu) ≡ false
 legal_uid su tk iu a b c = rw (a, b, c) refl
 

@@ -95,24 +95,7 @@ skipped reading raw start d = record {
   members = λ t none. none;
 }
 
-pub extends_none : (reading : Reading) (start : CardLines) → Extends reading [] start start
-extends_none reading start = record {
-  makes = λ before m. subst (λ raws. Makes raws start) (sym (append-nil before)) m;
-  uid = λ t. refl;
-  members = λ t none. none;
-}
-
-pub extends_more : (reading : Reading) (raws more : List RawLine) (start middle end : CardLines) → Extends reading raws start middle → Extends reading more middle end → Extends reading (raws ++ more) start end
-extends_more reading raws more start middle end a b = record {
-  makes = λ before m. subst (λ all. Makes all end) (append_assoc before raws more) (b.makes (before ++ raws) (a.makes before m));
-  uid = λ t. b.uid t ∙ a.uid t;
-  members = λ t none. b.members t (a.members t none);
-}
-
 -- ---- the logical lines of a card
-
-pub loop_more : (reading : Reading) (raws : List RawLine) (start middle end : CardLines) (index : ℕ) (raw : RawLine) → index < length raws → raw ≡ get_or raws index raw → Extends reading (take index raws) start middle → Extends reading (raw ∷ []) middle end → Extends reading (take (index + 1) raws) start end
-loop_more reading raws start middle end index raw l is a b = subst (λ r. Extends reading r start end) (ap (λ x. take index raws ++ x ∷ []) is ∙ sym (take_more raws index raw l)) (extends_more reading (take index raws) (raw ∷ []) start middle end a b)
 
 split_whole : (raws : List RawLine) (index : ℕ) (raw : RawLine) → index < length raws → raw ≡ get_or raws index raw → take index raws ++ raw ∷ drop (index + 1) raws ≡ raws
 split_whole raws index raw l is = ap (λ r. take index raws ++ r) (ap (λ x. x ∷ drop (index + 1) raws) is ∙ sym (drop_more raws index raw l)) ∙ take-append-drop index raws

@@ -174,9 +174,6 @@ values_again (v ∷ vs) rest are b =
     begins [] = begins_value rest b
     begins (w ∷ ws) = refl
 
-values_reader : IsReaderOf parse_values values_text AreValues (Begins ends_param)
-values_reader = record { takes = values_takes; again = values_again }
-
 -- ---- parameters
 
 param_takes : (text : List ℕ) (param : Param) (rest : List ℕ) → parse_param text ≡ Ok (param, rest) → IsParam param × (text ≡ param_text param ++ rest)

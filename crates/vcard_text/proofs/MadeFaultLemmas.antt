@@ -29,10 +29,6 @@ or_true : (b : Bool) → (b || true) ≡ true
 or_true true = refl
 or_true false = refl
 
-true_unless : (b : Bool) → (b ≡ false → ⊥) → b ≡ true
-true_unless true h = refl
-true_unless false h = absurd (h refl)
-
 -- whether the line has the fault
 abbrev test : List Line → Line → CardFault → Bool
 test before line BadChar = not (list_all is_permitted (line_text line))

@@ -5,11 +5,11 @@ use crate::stops::run::{Ending, new_store, run_rest, store_over};
 use book_store::SqlStore;
 use sqlite::{Alter, Connection, Files};
 use sync_core::BookStore;
-use test_crash_plans::books::query_books;
-use test_crash_plans::counts::StateLeft;
-use test_crash_plans::expected_run::ExpectedRun;
-use test_crash_plans::followers::Followers;
-use test_crash_plans::mismatch::Mismatch;
+use test_support::crash_plans::books::query_books;
+use test_support::crash_plans::counts::StateLeft;
+use test_support::crash_plans::expected_run::ExpectedRun;
+use test_support::crash_plans::followers::Followers;
+use test_support::crash_plans::mismatch::Mismatch;
 
 /// The seed of the log's salts.
 const NEXT_SEED: u64 = 8;

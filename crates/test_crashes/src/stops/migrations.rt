@@ -11,10 +11,10 @@ use sqlite::{Alter, Connection, Error, Files, params};
 use std::alloc::Global;
 use store_migration::migrate_connection;
 use sync_core::{BookStore, Limits};
-use test_crash_plans::books::query_books;
-use test_crash_plans::commands::Kind;
-use test_crash_plans::counts::StateLeft;
-use test_crash_plans::mismatch::Mismatch;
+use test_support::crash_plans::books::query_books;
+use test_support::crash_plans::commands::Kind;
+use test_support::crash_plans::counts::StateLeft;
+use test_support::crash_plans::mismatch::Mismatch;
 use vcard_text::NoMemory;
 
 /// The tables of the first schema, with two books.

@@ -7,8 +7,8 @@ use sqlite::{Alter, Connection, Error, Files};
 use std::alloc::Global;
 use store_tables::creation::create_tables;
 use sync_core::{BookStore, Fault, Limits};
-use test_crash_plans::expected_run::{ExpectedRun, Step};
-use test_crash_plans::followers::Followers;
+use test_support::crash_plans::expected_run::{ExpectedRun, Step};
+use test_support::crash_plans::followers::Followers;
 use vcard_text::NoMemory;
 
 /// The seed of the log's salts: files that are opened again get other salts.

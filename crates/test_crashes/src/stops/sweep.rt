@@ -7,12 +7,12 @@ use crate::stops::disks::{
 use crate::stops::run::{Ending, Run, run_list};
 use sqlite::Files;
 use std::alloc::Global;
-use test_crash_plans::commands::Kind;
-use test_crash_plans::counts::{
+use test_support::crash_plans::commands::Kind;
+use test_support::crash_plans::counts::{
     NO_STATES, NO_STOPS, StateCounts, StateLeft, StopCounts, push_piece,
 };
-use test_crash_plans::expected_run::ExpectedRun;
-use test_crash_plans::mismatch::Mismatch;
+use test_support::crash_plans::expected_run::ExpectedRun;
+use test_support::crash_plans::mismatch::Mismatch;
 use vcard_text::NoMemory;
 
 /// A sweep ends after this number of calls, which none should reach.

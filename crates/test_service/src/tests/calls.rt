@@ -1,7 +1,7 @@
 //! Calls of a store that no command makes.
 use super::new_store;
 use sync_core::{BookStore, Denied, ImportTally, Mark, PlainStore, Refusal, Token, TokenCause};
-use test_scripts::run_script;
+use test_support::scripts::run_script;
 
 /// A book, and an import into it.
 const SETUP: &str = "create staff

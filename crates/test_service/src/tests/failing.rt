@@ -4,7 +4,7 @@ use book_service::mirror;
 use std::alloc::Global;
 use std::process::Abort;
 use sync_core::{Denied, Fault};
-use test_scripts::{FailingStore, run_script};
+use test_support::scripts::{FailingStore, run_script};
 
 /// A store with the book `staff` and the card `a`, which returns the fault from now on.
 fn failing_store(rt: &impl Abort, alloc: Global, fault: Fault) -> FailingStore {

@@ -5,7 +5,7 @@ use csv_cards::Form;
 use std::alloc::Global;
 use std::process::Abort;
 use sync_core::PlainStore;
-use test_scripts::{format_reply, run_script};
+use test_support::scripts::{format_reply, run_script};
 use vcard_text::{Items, NoMemory, Text};
 
 /// The number of cards, the greatest that a book may have.

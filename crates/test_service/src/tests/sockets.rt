@@ -8,7 +8,7 @@ use std::process::Abort;
 use std::rt::HostRuntime;
 use std::{io, str};
 use sync_core::{BookStore, PlainStore};
-use test_scripts::run_script;
+use test_support::scripts::run_script;
 
 const MAKE_STAFF: &str = "PUT /books/staff HTTP/1.1\r\nHost: office\r\n\r\n";
 

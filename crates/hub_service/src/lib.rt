@@ -1,4 +1,0 @@
-//! The law of many connections to a store of books.
-#![tactic(auto)]
-
-pub mod laws;

@@ -1,5 +1,0 @@
-pub mod JoinQueries
-pub mod JoinTexts
-pub mod HasLemmas
-pub mod JoinLemmas
-pub mod NamedMemberLemmas

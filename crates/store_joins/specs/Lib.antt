@@ -1,2 +1,0 @@
-pub mod NamedMembers
-pub mod OnConnections

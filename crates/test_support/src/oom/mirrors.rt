@@ -1,0 +1,47 @@
+//! Mirrors of whole books.
+
+use crate::oom::books::{FEW_CARDS, has_books, query_books};
+use crate::oom::harness::Harness;
+use crate::oom::stop::Stop;
+use crate::oom::stores::{Stores, store_filled_by};
+use book_service::{Mirrored, mirror};
+use std::alloc::Global;
+use sync_core::{BookStore, Denied, Fault};
+
+/// Mirrors the book `staff` in pages of one entry.
+fn mirror_book<S: BookStore>(alloc: Global, store: &mut S) -> Result<Mirrored, Denied> {
+    mirror(alloc, store, "staff", 1, 10)
+}
+
+/// Mirrors a book in a window, and reports the outcome. The twin store has the same books, which a
+/// mirror must not change.
+fn run_mirror_case<S: BookStore>(
+    harness: &mut Harness,
+    store: &mut S,
+    twin: &mut S,
+    over: &str,
+) -> Result<(), Stop> {
+    let alloc = harness.alloc();
+    let before = query_books(alloc, twin)?;
+    let expected = mirror_book(alloc, twin);
+    harness.open_window_over("mirror", over);
+    let answer = mirror_book(alloc, store);
+    harness.close_window();
+    let left = harness.checked(has_books(alloc, store, before.as_slice()));
+    let again = mirror_book(alloc, store);
+    let ran_out = matches!(&answer, Err(Denied::Fault(Fault::Memory)));
+    harness.report_read(left, expected, ran_out, answer, again);
+    Ok(())
+}
+
+/// Runs the case of `mirror`, if it is selected.
+pub fn run_mirror<K: Stores>(harness: &mut Harness, kind: &K) -> Result<(), Stop> {
+    let over = kind.over();
+    if !harness.is_selected_over("mirror", over) {
+        return Ok(());
+    }
+    let alloc = harness.alloc();
+    let mut store = store_filled_by(alloc, kind, FEW_CARDS)?;
+    let mut twin = store_filled_by(alloc, kind, FEW_CARDS)?;
+    run_mirror_case(harness, &mut store, &mut twin, over)
+}

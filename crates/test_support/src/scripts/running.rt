@@ -1,0 +1,44 @@
+//! Runs a list of commands over a store.
+
+use crate::scripts::commands::parse_command;
+use crate::scripts::replies::format_reply;
+use base_types::NoMemory;
+use book_service::perform;
+use std::alloc::Global;
+use sync_core::BookStore;
+
+/// The store's reply to the command of the line. (`Command` and `Reply` are large types. They are
+/// dropped by calls, so that the prover need not split on their variants at each exit.)
+fn reply_to_line<S: BookStore>(
+    alloc: Global,
+    store: &mut S,
+    line: &str,
+) -> Result<String, NoMemory> {
+    let command = parse_command(alloc, line)?;
+    let reply = perform(alloc, store, &command);
+    drop(command);
+    let output = format_reply(alloc, &reply);
+    drop(reply);
+    output
+}
+
+/// Adds the line and a line feed.
+fn push_line(output: &mut String, line: String) -> Result<(), NoMemory> {
+    let mut line = line;
+    line.push_str("\n")?;
+    output.push_str(line.as_str())?;
+    Ok(())
+}
+
+/// Performs the commands of the script's lines in turn, and returns the replies, one a line.
+pub fn run_script<S: BookStore>(
+    alloc: Global,
+    store: &mut S,
+    script: &str,
+) -> Result<String, NoMemory> {
+    let mut output = String::new(alloc);
+    for line in script.lines() {
+        push_line(&mut output, reply_to_line(alloc, store, line)?)?;
+    }
+    Ok(output)
+}
