@@ -12,6 +12,3 @@ pub use expiry::earlier;
 pub use hub::Hub;
 pub use link::Link;
 pub use slot::Slot;
-
-#[cfg(test)]
-mod tests;

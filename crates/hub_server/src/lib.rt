@@ -21,6 +21,3 @@ pub use endpoint_fault::EndpointFault;
 pub use limits::ServeLimits;
 pub use outcome::{Accepted, Received, Sent, WaitFailed, Woken};
 pub use serving::serve_endpoint;
-
-#[cfg(test)]
-mod tests;

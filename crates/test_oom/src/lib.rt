@@ -1,5 +1,5 @@
 //! Calls over stores of two kinds, each in a window in which allocations may be refused. Runs them
-//! and the calls of `test_oom_calls`, with all memory and with little.
+//! and the calls of `oom` in `test_support`, with all memory and with little.
 #![tactic(auto)]
 
 mod cases;

@@ -1,6 +1,6 @@
 //! Connections at a hub with two places.
-use crate::Hub;
 use base_types::NoMemory;
+use http_hub::Hub;
 use http_requests::{Handler, Head, HeadFault};
 use std::alloc::Global;
 use std::process::Abort;

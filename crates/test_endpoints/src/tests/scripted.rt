@@ -1,10 +1,10 @@
 //! Serves connections of a scripted endpoint, of which the time is a number.
-use crate::{
+use base_types::NoMemory;
+use http_requests::{Handler, Head, HeadFault};
+use hub_server::{
     Accepted, Endpoint, EndpointFault, Received, Sent, ServeLimits, WaitFailed, Woken,
     serve_endpoint,
 };
-use base_types::NoMemory;
-use http_requests::{Handler, Head, HeadFault};
 use std::alloc::Global;
 use std::process::Abort;
 use std::rt::HostRuntime;
