@@ -24,7 +24,7 @@ class Always503(unittest.TestCase):
             with self.subTest(module):
                 status, printed = self.run_over_503(module)
                 self.assertEqual(1, status, printed)
-                failed = re.search(r"^FAILED \(failures=(\d+)\)$", printed, re.MULTILINE)
+                failed = re.search(r"^FAILED \(failures=(\d+)(, skipped=\d+)?\)$", printed, re.MULTILINE)
                 self.assertIsNotNone(failed, printed[-2000:])
                 # Each of them failed for its 503.
                 reasons = re.findall(r"^AssertionError: .*\b503 Service", printed, re.MULTILINE)
