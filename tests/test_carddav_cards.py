@@ -12,6 +12,8 @@ from model.cards import read_card
 
 import vcard3
 from gateway import cards
+from gateway.books import Shelf
+from gateway.office import Offices
 from gateway.state import State
 from tosculai import lines_of, same
 
@@ -249,6 +251,50 @@ class States(unittest.TestCase):
         state.learn("iOS", ["X-A", "X-B"])
         self.assertEqual([True, True, False], [state.knows("iOS", "X-A"), state.knows("iOS", "X-B"),
                                                state.knows("DAVx5", "X-A")])
+
+
+class Following(GatewayTest):
+    """A copy of a book, within the test's own process."""
+
+    def setUp(self):
+        super().setUp()
+        offices = Offices(self.stack.url)
+        self.shelf = Shelf(offices, State(":memory:"), None, lambda text: None)
+        self.book, self.one, self.count = self.shelf.book("staff"), offices.one, 0
+
+    def test_a_change_between_the_requests_of_a_sync(self):
+        """An ETag never comes with a token that is newer than it: the change would be lost."""
+        self.staff.put(card("a", "Ann"))
+        token = self.book.changes("").token
+        self.staff.put(card("a", "Anna"))
+        for at in range(1, 5):
+            with self.subTest(at=at):
+                self.staff.put(card("a", f"Ann {at}"))
+                self.shelf.offices.one, self.count = self.edits_at(at), 0
+                changes = self.book.changes(token)
+                token, told = changes.token, {it.uid: it.version for it in changes.there}
+                # What isn't told now is told by the next sync.
+                later = {it.uid: it.version for it in self.book.changes(token).there}
+                now = self.staff.get("a").version
+                self.assertEqual(now, later.get("a", told.get("a")))
+                token = self.book.changes(token).token
+
+    def edits_at(self, at):
+        """The offices, with an edit of somebody else before the request of this number."""
+        def one():
+            self.count += 1
+            if self.count == at:
+                self.staff.put(card("a", f"Anna {at}"))
+            return self.one()
+        return one
+
+    def test_pages_up_to_a_limit(self):
+        for number in range(130):
+            self.staff.put(card(f"u{number:03}", "U", "NOTE:" + "x" * 50_000 * (number > 100)))
+        for limit in None, 1, 100, 101, 125:
+            pages = [len(page.members) for page in self.book.pages("", limit)]
+            self.assertEqual(limit or 130, sum(pages))
+            self.assertLessEqual(max(pages), 100)
 
 
 class Folds(unittest.TestCase):

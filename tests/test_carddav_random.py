@@ -24,7 +24,9 @@ from python_client import office
 
 from tosculai import Conflict, Error, NoSuchCard, lines_of
 
-SECONDS = 3.5  # for which the devices of a seed change the book
+EDITS = 12  # that each device of a seed has to get acknowledged
+KILLS = 6  # of processes, at least, and requests to forget
+PATIENCE = 60  # seconds that this may take on a busy machine
 OFFICE = ("X-ODD;X-P=\"a,b\":x", "LANG:fr", "RELATED;TYPE=spouse:urn:uuid:b", "KEY:https://k.test/")
 
 
@@ -66,7 +68,9 @@ class Ledger:
 
 
 class Device:
-    """One that changes cards at random. `edit` and the like return whether it was acknowledged."""
+    """One that changes cards at random. `put` and the like return whether it was acknowledged."""
+
+    pause = 0.0  # seconds between two changes
 
     def __init__(self, name, ledger, seed):
         self.name, self.ledger = name, ledger
@@ -190,7 +194,9 @@ class Phone(Device):
 
 
 class Api(Device):
-    """A device of the server's own API."""
+    """A device of the server's own API. It is faster than phones, so it waits for them."""
+
+    pause = 0.05
 
     def __init__(self, name, ledger, seed, server):
         super().__init__(name, ledger, seed)
@@ -247,28 +253,32 @@ class Random(unittest.TestCase):
         devices = [*phones, Api("api", ledger, seed, stack.server)]
         faults = self.run_devices(devices, stack, random.Random(f"killer {seed}"), ledger)
         self.assertEqual([], faults)
-        # Each device did something, or this tests nothing.
-        self.assertTrue(all(it.done >= 5 for it in devices), [it.done for it in devices])
+        self.assertTrue(all(it.done >= EDITS for it in devices), [it.done for it in devices])
         self.compare(phones, devices[2], stack, ledger)
 
     def run_devices(self, devices, stack, killer, ledger):
-        end, faults = time.monotonic() + SECONDS, []
+        end, faults, is_over = time.monotonic() + PATIENCE, [], threading.Event()
 
         def live(device):
-            while time.monotonic() < end and not faults:
+            while not is_over.is_set() and not faults:
                 try:
                     device.step()
                 except (OSError, Error):
                     time.sleep(0.02)  # a process is down
                 except Exception as fault:
                     faults.append(f"{device.name}: {fault!r}")
+                time.sleep(device.pause)
 
         threads = [threading.Thread(target=live, args=(it,)) for it in devices]
         for it in threads:
             it.start()
-        while time.monotonic() < end - 0.3:
-            time.sleep(killer.uniform(0.1, 0.4))
+        kills = 0
+        while time.monotonic() < end and not faults and (
+                kills < KILLS or any(it.done < EDITS for it in devices)):
+            time.sleep(killer.uniform(0.1, 0.5))
             killer.choice([stack.restart, stack.restart_server, lambda: self.forget(stack)])()
+            kills += 1
+        is_over.set()
         for it in threads:
             it.join()
         return faults

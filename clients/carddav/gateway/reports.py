@@ -104,15 +104,17 @@ class Answer(NamedTuple):
 
     def of(self, entry: Entry) -> str:
         """The response for a card. One that was changed meanwhile is read again."""
+        if self.wanted.has_data:
+            found = self.book.state.card(self.book.number, "cards.uid", entry.uid)
+            return self.full(*found) if found else self.gone(self.path(entry.name))
         it = Resource(self.request, self.card_place(entry.name), self.has4, entry)
-        if not self.wanted.has_data:
-            return respond(it, self.wanted.tags, self.wanted.minimal)
-        text, now = None, self.book.state.entry(self.book.number, entry.uid)
-        if now:
-            it, text = it._replace(entry=now), self.book.text(now)
-        if text is None:
-            return self.gone(it.path)
-        return respond(it, self.wanted.tags, self.wanted.minimal, escaped(self.data(text)))
+        return respond(it, self.wanted.tags, self.wanted.minimal)
+
+    def full(self, entry: Entry, text: str) -> str:
+        """The response for a card with its text."""
+        it = Resource(self.request, self.card_place(entry.name), self.has4, entry)
+        data = escaped(self.data(text)) if self.wanted.has_data else None
+        return respond(it, self.wanted.tags, self.wanted.minimal, data)
 
     def data(self, text: str) -> str:
         """The card as the client wants it."""
@@ -172,8 +174,10 @@ def _got(answer: Answer, shelf: Shelf, path: str) -> str:
         place = place_of(answer.request, shelf, path)
     except (Fault, Missing):
         return answer.gone(path)
-    entry = answer.book.named(place.name) if place.kind == "card" else None
-    return answer.of(entry) if entry and place.book is answer.book else answer.gone(path)
+    if place.kind != "card" or place.book is not answer.book:
+        return answer.gone(path)
+    found = answer.book.state.card(answer.book.number, "names.name", place.name)
+    return answer.full(*found) if found else answer.gone(path)
 
 
 def query(answer: Answer, wanted: Optional[ET.Element], limit: Optional[int]) -> Iterator[str]:

@@ -142,6 +142,12 @@ class State:
         found = self._rows(ENTRIES + " AND names.name = ?", book, name)
         return Entry(*found[0]) if found else None
 
+    def card(self, book: int, column: str, value: str) -> Optional[Tuple[Entry, str]]:
+        """The card of this `cards.uid` or present `names.name`, with its text."""
+        found = self._rows(ENTRIES.replace(" FROM", ", cards.card FROM", 1)
+                           + f" AND {column} = ?", book, value)
+        return (Entry(*found[0][:4]), str(found[0][4])) if found else None
+
     def text(self, book: int, uid: str) -> Optional[Tuple[str, str]]:
         """The ETag and the text of a card that is there."""
         found = self._rows("SELECT etag, card FROM cards WHERE book = ? AND uid = ?", book, uid)
