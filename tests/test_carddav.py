@@ -198,6 +198,8 @@ class Evolution(Program):
     content_type = 'text/vcard; charset="utf-8"'
 
     def spell(self, line):
+        """Evolution escapes commas, and notes the parts of numbers."""
+        line = line.replace("TEL;TYPE", 'TEL;X-EVOLUTION-E164=555,"+1";TYPE')
         return line.replace("NICKNAME:An,Annie", "NICKNAME:An\\,Annie")
 
 

@@ -105,6 +105,17 @@ class Bodies(GatewayTest):
                 self.assertEqual(status, reply[9:12])
                 self.assertEqual({"jo"} if status == b"201" else set(), self.members(self.staff))
 
+    def test_a_client_that_asks_before_its_body(self):
+        """curl waits for `100 Continue`, or a second (RFC 9110, 10.1.1)."""
+        text = card3("jo", "Jo").encode()
+        with socket.create_connection(self.stack.place, timeout=PATIENCE) as one:
+            head = [f"PUT {STAFF}jo.vcf HTTP/1.1", "Host: x", f"Content-Length: {len(text)}",
+                    "Expect: 100-continue", f"Authorization: {self.dav.fields['Authorization']}"]
+            one.sendall("".join(it + "\r\n" for it in [*head, ""]).encode())
+            self.assertEqual(b"HTTP/1.1 100 Continue\r\n\r\n", one.recv(1 << 16))
+            one.sendall(text)
+            self.assertTrue(one.recv(1 << 16).startswith(b"HTTP/1.1 201 "))
+
     def test_cards_that_are_refused(self):
         good = card3("jo", "Jo")
         for text, element in [

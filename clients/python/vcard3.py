@@ -43,6 +43,7 @@ PARAM = re.compile(r';([^=;:"]+)(?:=((?:"[^"]*"|[^";])*))?')
 PIECE = re.compile(r'"([^"]*)"|([^",]+)')
 DATA = re.compile(r"data:(\w+)/([\w.+-]+)(?:;[^,]*)?;base64,(.*)", re.IGNORECASE | re.DOTALL)
 DATE = re.compile(r"(\d{4}|--)-?(\d\d)-?(\d\d)(?:T(\d\d):?(\d\d):?(\d\d)(Z|[+-]\d\d:?\d\d)?)?")
+OWN_PARAMS = {"CHARSET", "X-EVOLUTION-E164"}  # what a program notes for itself
 NO_XML = re.compile("[\ufffe\uffff]")  # CardDAV can't carry them, and carries U+FFFD instead
 OMIT_YEAR = "X-APPLE-OMIT-YEAR"  # with the year 1604, as phones write a day without a year
 
@@ -241,7 +242,8 @@ def key_of(text: str) -> Hashable:
     for param, values in line.params:
         params.setdefault(param, set()).update(it.lower() for it in values)
     types = params.pop("TYPE", set()) - {"voice", "internet"}
-    params.pop("CHARSET", None)
+    for param in OWN_PARAMS:
+        params.pop(param, None)
     is_address = line.name in BINARY and "ENCODING" not in params
     if is_address:  # of a photo that is elsewhere; ez-vcard adds what its name says
         types = set()
@@ -274,7 +276,7 @@ def newer_line(line: Line) -> Line:
     types = [it for it in line.get("TYPE") if it.upper() not in ("INTERNET", "PREF")]
     kind = {it.lower() for it in line.get("VALUE")}
     has_plain = new_name in BINARY or kind <= PLAIN_VALUES.get(line.name, set())
-    dropped = ("TYPE", "ENCODING", "CHARSET", OMIT_YEAR, *(["VALUE"] if has_plain else []))
+    dropped = ("TYPE", "ENCODING", OMIT_YEAR, *OWN_PARAMS, *(["VALUE"] if has_plain else []))
     params = [it for it in line.params if it[0] not in dropped]
     if new_name in BINARY and line.get("ENCODING"):
         media = types.pop(0).lower() if types else "octet-stream"

@@ -51,6 +51,12 @@ class Handler(BaseHTTPRequestHandler):
         if self.connection.family != socket.AF_UNIX:
             self.connection.setsockopt(socket.IPPROTO_TCP, socket.TCP_NODELAY, 1)
 
+    def handle_expect_100(self) -> bool:
+        """Lets a client go on that asks before it sends its body, as curl does."""
+        done = super().handle_expect_100()
+        self.wfile.flush()
+        return done
+
     def answer(self) -> None:
         """One request, from its head to the end of its reply."""
         self._begun, self._user, self._sent = time.monotonic(), "-", 0

@@ -11,6 +11,7 @@
     /dav/photos/DIGEST/TYPE      a photo that is kept beside its card
 """
 
+import functools
 import re
 from typing import NamedTuple, Optional, Tuple
 from urllib.parse import quote, unquote, urlsplit
@@ -20,6 +21,8 @@ from gateway.messages import NO_RIGHT, Fault, Request
 
 PREFIX = "/dav"
 NAME_MAX = 255  # octets of a name
+SAFE = "@+=~"  # what isn't encoded in a path, besides letters, digits, "-", "." and "_"
+PLAIN = re.compile(r"[A-Za-z0-9._@+=~-]+")
 BAD_NAME = re.compile("[/\x00-\x1f\x7f]")
 
 
@@ -100,9 +103,10 @@ def check_name(name: str) -> None:
         raise Fault(403, "a card's name has at most 255 octets, and no slash or control character")
 
 
-def path_to(*parts: str, is_folder: bool = True) -> str:
-    """A path below the prefix, encoded."""
-    return "/".join([PREFIX, *(quote(it, safe="@+=~") for it in parts)]) + "/" * is_folder
+@functools.lru_cache(maxsize=1024)
+def path_to(*parts: str) -> str:
+    """The path of a collection below the prefix, encoded."""
+    return "/".join([PREFIX, *(quote(it, safe=SAFE) for it in parts), ""])
 
 
 def path_of(place: Place, user: str) -> str:
@@ -115,7 +119,8 @@ def path_of(place: Place, user: str) -> str:
     assert place.book
     if place.kind == "book":
         return path_to(*place.base, place.book.name)
-    return path_to(*place.base, place.book.name, place.name, is_folder=False)
+    name = place.name if PLAIN.fullmatch(place.name) else quote(place.name, safe=SAFE)
+    return path_to(*place.base, place.book.name) + name
 
 
 def principal_of(place: Place, user: str) -> str:
