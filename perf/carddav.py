@@ -20,7 +20,7 @@ from pathlib import Path
 from statistics import median
 
 from cards import card, uid
-from dav import HREF, PROPERTIES, TOKEN, XML, Peer, Radicale, free_port, xml
+from dav import HREF, PROPERTIES, TOKEN, XML, Peer, Radicale, xml
 from table import machine, octets
 from tosculai import ROOT, Tosculai, digest, find_program
 from wire import Failure, Wire, field

@@ -1,7 +1,7 @@
 """What each program sends to the CardDAV gateway, request by request, and what it must get.
 
-The requests are written after what iOS, macOS, DAVx5, Thunderbird, Evolution and CalDav Synchronizer
-send: their namespaces, properties, fields, and the way in which each respells the lines of a card.
+The requests are written after what iOS, macOS, DAVx5, Thunderbird, Evolution and CalDav
+Synchronizer send: their namespaces, properties, fields, and how each respells the lines of a card.
 What they must get is in RFC 4918, 6352 and 6578. Of an edit of one number, one line of the server's
 card may differ, and those that the program itself adds.
 """
@@ -17,8 +17,8 @@ from tosculai import lines_of
 
 ANN = card(
     "a", "Ann Lee", "N:Lee;Ann;;;", 'TEL;VALUE=uri;TYPE="voice,home";PREF=1;PID=1.1:tel:+1-555',
-    "TEL;TYPE=cell:+1-777", "EMAIL;PREF=2:ann@example.test", "PHOTO:data:image/jpeg;base64,/9j/AAAA",
-    "RELATED;TYPE=spouse:urn:uuid:b", "LANG:fr", "BDAY:--0412", "NICKNAME:An,Annie",
+    "TEL;TYPE=cell:+1-777", "EMAIL;PREF=2:ann@example.test",
+    "PHOTO:data:image/jpeg;base64,/9j/AAAA", "RELATED;TYPE=spouse:urn:uuid:b", "LANG:fr", "BDAY:--0412", "NICKNAME:An,Annie",
     "URL:https://e.test/a,b", "ORG:Office, Inc.;Desk", "TZ:+0100", "REV:20261101T100000Z",
     'ADR;LABEL="a, b";GEO="geo:1.5,2.5":;;Street 1;Town;;1;C', 'X-ODD;X-P="a,b":x,y;z',
     "NOTE:first\\nsecond, third; fourth", "IMPP:xmpp:ann@e.test", "CATEGORIES:Board,Paris")
@@ -187,7 +187,8 @@ class Thunderbird(Program):
     href = "<d:href xmlns:d='DAV:'>{path}</d:href>"
 
     def spell(self, line):
-        line = line.replace("BDAY;X-APPLE-OMIT-YEAR=1604:", "BDAY;X-APPLE-OMIT-YEAR=1604;VALUE=DATE:")
+        line = line.replace("BDAY;X-APPLE-OMIT-YEAR=1604:",
+                            "BDAY;X-APPLE-OMIT-YEAR=1604;VALUE=DATE:")
         line = line.replace("URL:", "URL;VALUE=uri:").replace("TEL;TYPE=", "TEL;VALUE=TEXT;TYPE=")
         return line.replace("X-P=\"a,b\"", 'X-P="a,b"')
 
@@ -210,9 +211,9 @@ class Synchronizer(Program):
     adds = ["PRODID:-//Outlook//EN", "REV:2026-11-27T10:00:00Z"]
     # Outlook's contact has no place for these.
     drops = ("X-ODD", "TZ")
-    find_books = ('<?xml version="1.0"?><D:propfind xmlns:D="DAV:" xmlns:C="urn:ietf:params:xml:ns:'
-                  'carddav"><D:prop><D:resourcetype/><D:displayname/><D:current-user-privilege-set/>'
-                  "</D:prop></D:propfind>")
+    find_books = ('<?xml version="1.0"?><D:propfind xmlns:D="DAV:" '
+                  'xmlns:C="urn:ietf:params:xml:ns:carddav"><D:prop><D:resourcetype/>'
+                  "<D:displayname/><D:current-user-privilege-set/></D:prop></D:propfind>")
 
 
 PROGRAMS = [Apple, Mac, Davx5, Thunderbird, Evolution, Synchronizer]
@@ -289,7 +290,8 @@ class Discovery(GatewayTest):
         for method, path in [("PROPFIND", "/dav/"), ("OPTIONS", STAFF), ("GET", STAFF)]:
             reply = anybody.ask(method, path)
             self.assertEqual(401, reply.status)
-            self.assertRegex(reply.fields["WWW-Authenticate"], '^Basic realm=".+", charset="UTF-8"$')
+            self.assertRegex(reply.fields["WWW-Authenticate"],
+                             '^Basic realm=".+", charset="UTF-8"$')
 
     def test_options(self):
         reply = self.dav.ask("OPTIONS", STAFF)

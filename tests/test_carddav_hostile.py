@@ -4,7 +4,7 @@ import socket
 import time
 import unittest
 
-from carddav_client import C, CLIENTS, D, PASSWORD, STAFF, Client, GatewayTest, card3
+from carddav_client import CLIENTS, D, PASSWORD, STAFF, Client, GatewayTest, card3
 from http_requests import card
 from program import PATIENCE
 
@@ -27,19 +27,19 @@ class Xml(GatewayTest):
 
     def test_what_is_refused(self):
         for body in [BOMB, BOMB.encode("utf-16"), OUTSIDE, "<!DOCTYPE a>" + PROPFIND, "<a", "x",
-                     "<a>" * 51 + "</a>" * 51, "<a>" * 100_000, "<a></b>", "<a/><b/>",
-                     '<D:propfind xmlns:D="DAV:">&y;</D:propfind>', '<x:a/>', "\x00", "<a>\x01</a>",
+                     "<a>" * 51 + "</a>" * 51, "<a>" * 100_000, "<a></b>", "<a/><b/>", "\x00",
+                     '<D:propfind xmlns:D="DAV:">&y;</D:propfind>', "<x:a/>", "<a>\x01</a>",
                      "<a>" + "<b/>" * 50_001 + "</a>", "<a " + "x" * 100_000, b"<a>\xff</a>",
                      '<?xml version="1.0" encoding="utf-7"?>' + PROPFIND,
                      '<?xml version="1.0" encoding="cp037"?>' + PROPFIND,
                      '<?xml version="1.0" encoding="big5"?>' + PROPFIND]:
             with self.subTest(body[:60]):
                 self.assertEqual(400, self.asked(body))
-        for kind in "text/xml; charset=utf-7", "text/xml; charset=x-none", "text/xml; charset=cp1252":
-            self.assertEqual(400, self.asked(PROPFIND, kind))
+        for charset in "utf-7", "x-none", "cp1252":
+            self.assertEqual(400, self.asked(PROPFIND, f"text/xml; charset={charset}"))
 
     def test_other_charsets(self):
-        """XML's own encodings are read (XML 1.0, 4.3.3), as some programs for Windows send them."""
+        """XML's own encodings are read (XML 1.0, 4.3.3), as programs for Windows send them."""
         for body, kind in [
             (PROPFIND.encode("utf-8-sig"), "text/xml"), (PROPFIND.encode("utf-16"), "text/xml"),
             (b'<?xml version="1.0" encoding="iso-8859-1"?><!-- \xe9 -->' + PROPFIND.encode(),
@@ -51,7 +51,8 @@ class Xml(GatewayTest):
 
     def test_what_xml_cannot_carry(self):
         """A card's U+FFFF would make each reply with it unreadable, and an edit must not lose it."""
-        text = card("odd", "a\uffffb\ufffec & <d> ]]> \U0001f600", "TEL:+1", "NOTE:\u0085\u2028\ufffe")
+        text = card("odd", "a\uffffb\ufffec & <d> ]]> \U0001f600", "TEL:+1",
+                    "NOTE:\u0085\u2028\ufffe")
         self.staff.put(text)
         path = STAFF + "odd.vcf"
         reply = self.dav.multiget(STAFF, [path])
@@ -136,7 +137,7 @@ class Bodies(GatewayTest):
         self.assertEqual(set(), self.members(self.staff))
 
     def test_odd_cards_that_are_taken(self):
-        """Lines that 4.0 doesn't allow live on under another name; a card needs no UID and no FN."""
+        """Lines that 4.0 doesn't allow live on under another name; UID and FN may be missing."""
         odd = ("begin:vcard\nVersion:3.0\nN:Lee;Ann\nTEL;HOME;VOICE:1\nX-BAD;P=a\"b:1\n"
                "NOTE:a\x07b\nno line\nend:vcard\n")
         self.assertEqual(201, self.dav.ask("PUT", STAFF + "odd.vcf", odd).status)

@@ -96,7 +96,7 @@ class Program(GatewayTest):
         self.assertIn("usage: carddav", run("--help")[1])
         for arguments, status, words in [
             (["--state", state], 2, "one of --port and --socket is needed"),
-            (["--state", state, "--port", "0", "--server", "ftp://x"], 3, "not the URL of a server"),
+            (["--state", state, "--port", "0", "--server", "ftp://x"], 3, "not the URL"),
             (["--state", state, "--port", "0"], 3, "another gateway uses it"),
             (["--state", state, "--port", "0", "--server", "unix:"], 3, "the path of a socket"),
             (["user", "add", "eve", "--state", state, "--book", "staff:x"], 3, "isn't BOOK:r"),
@@ -114,7 +114,8 @@ class Program(GatewayTest):
         server = self.stack.url
         status, out, _ = run("--server", server, "--state", self.stack.state, "--check")
         self.assertEqual(0, status)
-        for line in ("has 2 books: clients, staff", f"ann's phone\n  {CLIENTS}  0 cards, read, write",
+        for line in ("has 2 books: clients, staff",
+                     f"ann's phone\n  {CLIENTS}  0 cards, read, write",
                      f"hall's phone\n  {STAFF}  1 cards, read\n"):
             self.assertIn(line, out)
         status, out, _ = run("--server", "http://127.0.0.1:1", "--state", self.stack.state,
@@ -151,7 +152,7 @@ class Users(unittest.TestCase):
         self.assertEqual("hall *:r no password\n", self.user("list"))
 
     def test_the_hash_is_that_of_crypt(self):
-        """nginx checks the same hash by crypt(3). The first is one of libxcrypt's own tests' form."""
+        """nginx checks the same hash by crypt(3). The first is of RFC 7914, 12."""
         vector = "$7$C6..../....SodiumChloride$kBGj9fHznVYFQMEn/qDCfrDevf9YDtcDdKvEqHJLV8D"
         self.assertTrue(accounts.is_right("pleaseletmein", vector))
         try:
@@ -251,7 +252,8 @@ class States(unittest.TestCase):
                 dav = stack.client()
                 for uid in "ab":
                     photo = base64.b64encode(uid.encode() * 300_000).decode()
-                    dav.ask("PUT", f"{STAFF}{uid}.vcf", card3(uid, uid, f"PHOTO;ENCODING=b:{photo}"))
+                    text = card3(uid, uid, f"PHOTO;ENCODING=b:{photo}")
+                    dav.ask("PUT", f"{STAFF}{uid}.vcf", text)
                 dav.ask("DELETE", STAFF + "a.vcf")
                 dav.close()
                 photos = stack.state / "photos"

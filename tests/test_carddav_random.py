@@ -1,7 +1,7 @@
 """Phones and an office change one book at the same time, while both processes are killed.
 
-Two phones (one of vCard 3.0 that drops what it doesn't know, one of 4.0) and a device of the API add
-numbers to cards, take numbers away, and add and remove cards. Meanwhile the gateway and the server
+Two phones (one of vCard 3.0 that drops what it doesn't know, one of 4.0) and a device of the API
+add numbers to cards, take numbers away, and add and remove cards. Meanwhile the gateway and the server
 are killed and started again, and the book forgets removals. In the end all copies are equal, and
 each edit that got its 2xx is there, unless a later one took it away.
 
@@ -320,37 +320,36 @@ class OneCard(unittest.TestCase):
             finally:
                 stack.stop()
 
+    def phone(self, stack, name, done, faults):
+        dav = stack.client(program=f"phone{name}/1.0")
+        for number in range(self.EDITS):
+            status = 412
+            while status == 412:
+                got = dav.ask("GET", STAFF + "a.vcf")
+                line = f"TEL:+{name}-{number}\r\nEND:VCARD"
+                status = dav.ask("PUT", STAFF + "a.vcf", got.text.replace("END:VCARD", line),
+                                 If_Match=got.etag).status
+            (done if status == 204 else faults).append(f"+{name}-{number}")
+        dav.close()
+
+    def desk(self, stack, done):
+        book, number = office(stack.server).book("staff"), 0
+        while number < self.EDITS:
+            there = book.get("a")
+            line = f"TEL:+desk-{number}\r\nEND:VCARD"
+            try:
+                book.put(there.text.replace("END:VCARD", line), there.version)
+            except Conflict:
+                continue
+            done.append(f"+desk-{number}")
+            number += 1
+
     def run_phones(self, stack):
         staff, done, faults = stack.books[0], [], []
         staff.put(card("a", "Ann", *OFFICE))
-
-        def phone(name):
-            dav = stack.client(program=f"phone{name}/1.0")
-            for number in range(self.EDITS):
-                status = 412
-                while status == 412:
-                    got = dav.ask("GET", STAFF + "a.vcf")
-                    line = f"TEL:+{name}-{number}\r\nEND:VCARD"
-                    status = dav.ask("PUT", STAFF + "a.vcf", got.text.replace("END:VCARD", line),
-                                     If_Match=got.etag).status
-                (done if status == 204 else faults).append(f"+{name}-{number}")
-            dav.close()
-
-        def desk():
-            book = office(stack.server).book("staff")
-            for number in range(self.EDITS):
-                while True:
-                    there = book.get("a")
-                    line = f"TEL:+desk-{number}\r\nEND:VCARD"
-                    try:
-                        book.put(there.text.replace("END:VCARD", line), there.version)
-                        break
-                    except Conflict:
-                        pass
-                done.append(f"+desk-{number}")
-
-        threads = [threading.Thread(target=phone, args=(it,)) for it in range(5)]
-        threads.append(threading.Thread(target=desk))
+        threads = [threading.Thread(target=self.phone, args=(stack, it, done, faults))
+                   for it in range(5)]
+        threads.append(threading.Thread(target=self.desk, args=(stack, done)))
         for it in threads:
             it.start()
         for it in threads:

@@ -119,7 +119,7 @@ class Refusal(Exception):
 
 
 class Users:
-    """The file, read again when it changes. With `trusts_front` a front server has the passwords."""
+    """The file, read again when it changes. If it `trusts_front`, that has the passwords."""
 
     def __init__(self, path: str, trusts_front: bool) -> None:
         self.path, self.trusts_front = path, trusts_front
@@ -260,5 +260,5 @@ def nginx_passwords(users: Dict[str, Account]) -> str:
 
 def find_account(users: Dict[str, Account], name: str) -> Optional[Account]:
     if not NAME.fullmatch(name):
-        raise BadUsers(f"{name}: a user's name is 1 to 64 letters, digits, full stops, _, @, + or -")
+        raise BadUsers(f"{name}: a user's name has 1 to 64 letters, digits, full stops, _, @, +, -")
     return users.get(name)

@@ -98,7 +98,7 @@ def check(server: str, folder: str, trusts_front: bool) -> int:
         print(f"{server} has {len(names)} books: {', '.join(names)}")
         for name, account in sorted(users.items()):
             can_come = trusts_front or account.hash != accounts.NO_PASSWORD
-            print(f"{name}'s phone" + ("" if can_come else ", which has no password, and can't come"))
+            print(f"{name}'s phone" + ("" if can_come else ", which has no password: not served"))
             phone = Phone(Dav(shelf), name, account.rights)
             print(*phone.books(), sep="\n")
             for book in sorted(set(account.rights) - set(names) - {"*"}):

@@ -80,7 +80,7 @@ def run(made: argparse.ArgumentParser, arguments: List[str]) -> int:
         return check(given.server, given.state, given.trust_front)
     if given.nginx:
         users = accounts.read(users_of(given.state))
-        print({"map": accounts.nginx_map, "passwords": accounts.nginx_passwords}[given.nginx](users),
+        print((accounts.nginx_map if given.nginx == "map" else accounts.nginx_passwords)(users),
               end="")
         return 0
     if not (given.start_over or given.tidy) and (given.port is None) == (given.socket is None):
@@ -95,7 +95,8 @@ def run(made: argparse.ArgumentParser, arguments: List[str]) -> int:
         if given.start_over:
             state.start_over()
             return 0
-        shelf = Shelf(Offices(given.server), state, Photos(os.path.join(given.state, "photos")), say)
+        photos = Photos(os.path.join(given.state, "photos"))
+        shelf = Shelf(Offices(given.server), state, photos, say)
         return tidy(shelf) if given.tidy else serve(given, shelf)
 
 

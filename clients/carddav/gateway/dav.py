@@ -129,7 +129,6 @@ class Dav:
         names_only = root is not None and root.find(dav("propname")) is not None
         tags = [it.tag for it in wanted] if wanted is not None else \
             list(PROPERTIES) if names_only else ALL
-        named = wanted is not None
         minimal = is_minimal(request) or wanted is None
         own, entries = self.resource(request, place)
         found = [own, *self.below(own)] if depth != "0" else [own]
@@ -185,7 +184,8 @@ class Dav:
         except UidInUse as fault:
             raise self.conflict(place, fault) from None
         # RFC 6352, 6.3.2.3: an ETag only if what is read is what was sent.
-        return Reply(201 if stored.is_new else 204, {"ETag": stored.etag} if stored.etag else {}, b"")
+        fields = {"ETag": stored.etag} if stored.etag else {}
+        return Reply(201 if stored.is_new else 204, fields, b"")
 
     def delete(self, request: Request) -> Reply:
         place = self.writable(request, place_of(request, self.shelf))
@@ -228,9 +228,9 @@ class Dav:
     def proppatch(self, request: Request) -> Reply:
         """Refuses each property: books have none that a client may set."""
         place, root = place_of(request, self.shelf), read_body(request)
-        named = [it.tag for prop in (root.iter(dav("prop")) if root is not None else ())
+        tags = [it.tag for prop in (root.iter(dav("prop")) if root is not None else ())
                  for it in prop]
-        parts = prop_status(map(element, named), "403 Forbidden")
+        parts = prop_status(map(element, tags), "403 Forbidden")
         own = href(path_of(place, request.user))
         return Reply(207, {"Content-Type": XML},
                      multistatus([f"<D:response>{own}{parts}</D:response>"]))

@@ -109,7 +109,7 @@ def element(tag: str, inside: str = "", **attributes: str) -> str:
 
 
 def named(tag: str) -> List[str]:
-    """The name of an element in a document, and the declaration of its namespace, if it needs one."""
+    """The name of an element in a document, and the declaration of its namespace, if needed."""
     space, _, local = tag[1:].partition("}") if tag.startswith("{") else ("", "", tag)
     if space in PREFIXES:
         return [f"{PREFIXES[space]}:{local}", ""]

@@ -8,7 +8,7 @@ again over the new card.
 
 import re
 from contextlib import ExitStack
-from typing import List, NamedTuple, Optional
+from typing import NamedTuple, Optional
 
 from tosculai import Conflict, NoSuchCard, Refused, UidTaken, lines_of, uid_of
 
@@ -218,6 +218,3 @@ def _move_once(book: AddressBook, old: Entry, to: AddressBook, to_name: str,
         if isinstance(refusal, (Conflict, UidTaken, NoSuchCard)):
             return False
         raise
-
-
-__all__: List[str] = ["Conditions", "Failed", "Sent", "Stored", "UidInUse", "move", "put", "remove"]

@@ -44,7 +44,7 @@ class Handler(BaseHTTPRequestHandler):
     server_version, sys_version = "Tosculai-CardDAV", ""
     timeout = PATIENCE
     wbufsize = 65_536  # a head and its body in one packet
-    server: Any
+    server: "Server"
 
     def setup(self) -> None:
         super().setup()
@@ -190,7 +190,7 @@ class Handler(BaseHTTPRequestHandler):
         self.wfile.flush()
 
     def _write(self, first: bytes, rest: Optional[Iterator[bytes]], is_chunked: bool) -> None:
-        """The body. A fault in the middle of it ends the connection, so no client takes it whole."""
+        """The body. A fault within it ends the connection, so that no client takes it whole."""
         self._piece(first, is_chunked)
         while rest is not None:
             octets, is_last = gathered(rest)

@@ -8,7 +8,7 @@ import socket
 import time
 from contextlib import ExitStack, contextmanager
 from http.client import HTTPConnection
-from typing import Any, Iterator, List, NamedTuple
+from typing import Any, Dict, Iterator, List, NamedTuple
 
 from tosculai import Office
 
@@ -38,13 +38,13 @@ class UnixOffice(Office):
 
     def __init__(self, path: str, **options: Any) -> None:
         super().__init__("http://localhost", **options)
-        self._kind, self._place = UnixConnection, (path, None)  # type: ignore[assignment]
+        self._kind, self._place = UnixConnection, (path, None)
         self.url = "unix:" + path
 
 
 def new_office(server: str) -> Office:
     """The office at a URL, or at `unix:PATH`; a ValueError if it is neither."""
-    options = {"timeout": TIMEOUT, "attempts": ATTEMPTS, "pause": PAUSE}
+    options: Dict[str, Any] = {"timeout": TIMEOUT, "attempts": ATTEMPTS, "pause": PAUSE}
     if server.startswith("unix:"):
         if not server[5:]:
             raise ValueError("unix: needs the path of a socket")

@@ -54,10 +54,11 @@ def on(*kinds: str) -> Callable[[Made], Made]:
 
 
 def resource_type(it: Resource) -> Optional[str]:
-    kinds = {"card": [], "book": [dav("collection"), card("addressbook")],
-             "user": [dav("collection"), dav("principal")],
-             "only": [dav("collection"), dav("principal")]}
-    return "".join(map(element, kinds.get(it.place.kind, [dav("collection")])))
+    kinds: Dict[str, List[str]] = {
+        "card": [], "book": [dav("collection"), card("addressbook")],
+        "user": [dav("collection"), dav("principal")],
+        "only": [dav("collection"), dav("principal")]}
+    return "".join(element(kind) for kind in kinds.get(it.place.kind, [dav("collection")]))
 
 
 def display_name(it: Resource) -> Optional[str]:

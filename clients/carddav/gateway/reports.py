@@ -40,7 +40,8 @@ def report(request: Request, shelf: Shelf, has4: bool) -> Reply:
     if root.tag == REPORTS[0]:
         parts = sync(answer, root, limit)
     elif root.tag == REPORTS[1]:
-        parts = multiget(answer, shelf, [(it.text or "").strip() for it in root.findall(dav("href"))])
+        paths = [(it.text or "").strip() for it in root.findall(dav("href"))]
+        parts = multiget(answer, shelf, paths)
     else:
         parts = query(answer, root.find(card("filter")), limit)
     return Reply(207, {"Content-Type": XML}, multistatus(parts))

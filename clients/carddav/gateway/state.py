@@ -1,4 +1,4 @@
-"""What the gateway keeps, in one file of SQLite: names, a copy of each book, and what programs know.
+"""What the gateway keeps in one file of SQLite: names, copies of books, what programs know.
 
 - **Names.** A CardDAV client chooses the name of a card's resource, and the server knows only UIDs.
   A name is kept for good, also of a card that was removed: its removal is told under that name.
