@@ -142,7 +142,7 @@ class Groups(GatewayTest):
         self.assertEqual((["b"], []), self.staff.people("g"))
 
     def test_a_group_of_the_office(self):
-        members = ["MEMBER:a", "MEMBER:urn:uuid:b", "MEMBER:mailto:x@e.test"]
+        members = ["MEMBER:a", "MEMBER:urn:uuid:b", "MEMBER:mailto:x@e.test", "MEMBER:urn:uuid:a"]
         for kind in "3.0", "4.0":
             self.staff.put(card("og", "Office", "KIND:group", *members))
             accept = "text/vcard; version=4.0" if kind == "4.0" else None

@@ -219,13 +219,15 @@ def _long_member(uid: str) -> str:
 def _with_stored_members(lines: List[str], base: List[str],
                          has: Callable[[str], bool]) -> List[str]:
     """The lines with members as the base spells them; new ones by UID alone, if the book has it."""
-    found = [it for it in map(MEMBER.fullmatch, base) if it]
-    stored = {bare_uid(it.group(2)): it.group(2) for it in found}
+    stored: Dict[str, List[str]] = {}
+    for found in map(MEMBER.fullmatch, base):
+        if found:
+            stored.setdefault(bare_uid(found.group(2)), []).append(found.group(2))
 
     def change(member: str) -> str:
         bare = bare_uid(member)
-        if bare in stored:
-            return stored[bare]
+        if stored.get(bare):
+            return stored[bare].pop(0)
         return bare if not has(member) and has(bare) else member
 
     return [_with_member(it, change) for it in lines]
