@@ -3,6 +3,7 @@
 import base64
 import io
 import os
+import shutil
 import socket
 import sys
 import threading
@@ -16,6 +17,7 @@ from http_requests import card
 from program import ROOT, Folder
 
 from gateway import accounts, cli
+from tosculai import lines_of
 
 
 def run(*arguments, line=""):
@@ -243,6 +245,40 @@ class States(unittest.TestCase):
         dav.close()
         self.assertEqual(("valid-sync-token", True), dav.sync(STAFF, token).reason)
         self.assertEqual([STAFF + "a.vcf"], list(dav.sync(STAFF).etags()))
+        dav.close()
+
+    def test_a_restored_server(self):
+        """An older file was put back, and changed since: the copy isn't its book any more."""
+        with Folder(in_memory=True) as folder:
+            stack = Stack(folder)
+            try:
+                self.restore(stack)
+            finally:
+                stack.stop()
+
+    def restore(self, stack):
+        dav, staff, files = stack.client(), stack.books[0], ("office.db", "office.db-wal")
+        staff.put(card("a", "Ann"))
+        stack.server.kill()
+        for name in files:
+            shutil.copy(stack.folder / name, stack.folder / f"old-{name}")
+        stack.start_server()
+        staff.put(card("a", "Anna"))
+        got = dav.ask("GET", STAFF + "a.vcf")
+        stack.server.kill()
+        for name in files:
+            shutil.copy(stack.folder / f"old-{name}", stack.folder / name)
+        stack.start_server()
+        staff.put(card("b", "Bob"))  # now the book has as many changes as before
+        self.assertEqual([STAFF + "a.vcf"], list(dav.sync(STAFF).etags()))
+        edited = got.text.replace("FN:Anna", "FN:Annie")
+        self.assertEqual(412, dav.ask("PUT", STAFF + "a.vcf", edited, If_Match=got.etag).status)
+        self.assertIn("the copy isn't the server's", stack.logged())
+        self.assertEqual({STAFF + "a.vcf", STAFF + "b.vcf"}, set(dav.sync(STAFF).etags()))
+        self.assertIn("FN:Ann\r\n", dav.ask("GET", STAFF + "a.vcf").text)
+        # Before the user runs --start-over, a card that is in the way is found in the same way.
+        self.assertEqual("Ann", next(it[3:] for it in lines_of(staff.get("a").text)
+                                     if it.startswith("FN:")))
         dav.close()
 
     def test_photos_that_no_card_names(self):

@@ -124,11 +124,11 @@ class AddressBook:
             size = max(5, min(PAGE_MAX, PAGE_OCTETS // max(1, octets)))
             left = None if left is None else left - len(page.members)
 
-    def suspect(self, old: Optional[Entry]) -> None:
-        """After a conflict: a copy that still has the same card is that of another file."""
+    def suspect(self, uid: str, old: Optional[Entry]) -> None:
+        """After a conflict: a copy in which nothing has changed is that of another file."""
         with self.lock:
             self.refresh()
-            if old and self.state.entry(self.number, old.uid) == old:
+            if self.state.entry(self.number, uid) == old:
                 self.shelf.say(f"{self.name}: the copy isn't the server's; all cards anew")
                 self.state.clear(self.number)
                 self.refresh()

@@ -83,10 +83,11 @@ def put(book: AddressBook, name: str, sent: Sent, conditions: Conditions) -> Sto
                 if old and conditions.match is not None and is_same(book, base, sent.text):
                     return Stored(False, old.etag)  # it was done, and its reply was lost
                 raise
-            stored = _put_once(book, name, sent, old, base)
+            whole = _merged(book, name, sent, old, base)
+            stored = _put_once(book, name, sent, old, base, whole)
             if stored:
                 return stored
-            book.suspect(old)
+            book.suspect(uid_of(whole), old)
             if conditions.any:
                 raise Failed("somebody else changed the card at the same moment")
     raise Failed("others change the card all the time")
@@ -103,10 +104,9 @@ def is_version4(text: str) -> bool:
     return re.search(r"^VERSION:4\.0\r?$", text, re.MULTILINE | re.IGNORECASE) is not None
 
 
-def _put_once(book: AddressBook, name: str, sent: Sent, old: Optional[Entry],
-              base: str) -> Optional[Stored]:
+def _put_once(book: AddressBook, name: str, sent: Sent, old: Optional[Entry], base: str,
+              whole: str) -> Optional[Stored]:
     """One attempt; None if somebody else was faster."""
-    whole = _merged(book, name, sent, old, base)
     uid = uid_of(whole)
     _check_uid(book, name, old, uid)
     if old and lines_of(whole) == lines_of(base):
@@ -162,7 +162,7 @@ def remove(book: AddressBook, name: str, conditions: Conditions) -> None:
             except NoSuchCard:
                 return None
             except Conflict:
-                book.suspect(old)
+                book.suspect(old.uid, old)
                 if conditions.any:
                     raise Failed("somebody else changed the card at the same moment") from None
     raise Failed("others change the card all the time")
@@ -184,7 +184,7 @@ def move(book: AddressBook, name: str, to: AddressBook, to_name: str, overwrite:
             _check_target(old, there, to, to_name, overwrite)
             if _move_once(book, old, to, to_name, there):
                 return there is None
-            book.suspect(old)
+            book.suspect(old.uid, old)
     raise Failed("others change the card all the time")
 
 

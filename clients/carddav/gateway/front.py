@@ -6,6 +6,7 @@ import socketserver
 import sys
 import threading
 import time
+from contextlib import nullcontext
 from http.server import BaseHTTPRequestHandler
 from typing import Any, Dict, Iterator, Optional, Tuple, Type
 
@@ -18,6 +19,7 @@ from gateway.places import PREFIX
 PUT_MAX = 25_165_824  # octets of a card that is sent: its photo may be kept beside
 PATIENCE = 30.0  # seconds for which a connection may be silent
 CONNECTIONS = 200  # that are served at once; others wait
+LARGE, LARGE_AT_ONCE = 1_000_000, 2  # octets of a body that few requests may have at once
 WHOLE = 262_144  # octets of a reply up to which it is sent with its length
 CHALLENGE = 'Basic realm="contacts", charset="UTF-8"'
 
@@ -83,9 +85,17 @@ class Handler(BaseHTTPRequestHandler):
             self._drop_body(fields)
             raise
         self._user = who.user
-        body = self._body(fields, PUT_MAX if self.command == "PUT" else davxml.BODY_MAX)
-        return self.server.dav.reply(Request(self.command, self.path, fields, body, who.user,
-                                             who.rights, self._address(fields)))
+        most = PUT_MAX if self.command == "PUT" else davxml.BODY_MAX
+        place: Any = self.server.large if self._is_large(fields) else nullcontext()
+        with place:
+            body = self._body(fields, most)
+            return self.server.dav.reply(Request(self.command, self.path, fields, body, who.user,
+                                                 who.rights, self._address(fields)))
+
+    def _is_large(self, fields: Dict[str, str]) -> bool:
+        """Whether the body takes much memory; few such are held at once."""
+        text = fields.get("content-length", "0")
+        return not text.isdigit() or int(text[:15]) > LARGE or "transfer-encoding" in fields
 
     def _fault(self, fault: Exception) -> Reply:
         """The reply to a request that is refused before it is a request of DAV, or that fails."""
@@ -250,6 +260,7 @@ class Server(socketserver.ThreadingMixIn, socketserver.TCPServer):
                  url: str = "") -> None:
         self.address_family = socket.AF_UNIX if isinstance(place, str) else socket.AF_INET
         self.dav, self.users, self.logs_all, self.url = dav, users, logs_all, url
+        self.large = threading.Semaphore(LARGE_AT_ONCE)
         self._places = threading.BoundedSemaphore(CONNECTIONS)
         if isinstance(place, str):
             clear_socket(place)

@@ -165,9 +165,9 @@ def _synced(answer: Answer, there: List[Entry], gone: List[str], token: str,
 
 
 def multiget(answer: Answer, shelf: Shelf, paths: List[str]) -> Iterator[str]:
-    """The cards at these paths: at most as many as the body has elements."""
+    """The cards at these paths, each once: at most as many as the book has."""
     answer.book.refresh()
-    return (_got(answer, shelf, it) for it in paths)
+    return (_got(answer, shelf, it) for it in dict.fromkeys(paths))
 
 
 def _got(answer: Answer, shelf: Shelf, path: str) -> str:
