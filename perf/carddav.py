@@ -250,6 +250,7 @@ def measure(count, few, folder):
                 if kind is Gateway:
                     more = photos(peer)
                 days.append(day)
+                print(f"measured {peer.name}", file=sys.stderr, flush=True)
             finally:
                 peer.end()
     return report(count, days, more)

@@ -22,6 +22,8 @@ PROGRAM = os.environ.get("CONTACTS") or str(ROOT / "crates/contacts/out/contacts
 BUGS = [
     ("a put whose ETag is old is made", "carddav/gateway/edits.py",
      "not (old and matches(self.match, old.etag))", "not old", "carddav_rules"),
+    ("a put that is sent again is refused", "carddav/gateway/edits.py",
+     "if fault and lines_of(whole) != lines_of(base):", "if fault:", "carddav_rules"),
     ("a conflict at the server is overwritten", "carddav/gateway/edits.py",
      "office.book(book.name).put(whole, old.version if old else 0, uid)",
      "office.book(book.name).put(whole, None, uid)", "carddav_random"),

@@ -130,17 +130,18 @@ class Dav:
         tags = [it.tag for it in wanted] if wanted is not None else \
             list(PROPERTIES) if names_only else ALL
         minimal = is_minimal(request) or wanted is None
-        own, entries = self.resource(request, place)
+        own, entries = self.resource(request, place, depth != "0")
         found = [own, *self.below(own)] if depth != "0" else [own]
         # What asks the server is made before the reply begins; cards are made as they are sent.
         first = [respond(it, tags, minimal, None, names_only) for it in found]
         cards_below = (respond(self.card(own, it), tags, minimal, None, names_only)
-                       for it in (entries if depth != "0" else []))
+                       for it in entries)
         return Reply(207, {"Content-Type": XML, "DAV": CLASSES},
                      multistatus(itertools.chain(first, cards_below)))
 
-    def resource(self, request: Request, place: Place) -> Tuple[Resource, List[Entry]]:
-        """The resource; of a book also its cards, as of the token that is its property."""
+    def resource(self, request: Request, place: Place,
+                 is_deep: bool) -> Tuple[Resource, List[Entry]]:
+        """The resource, and the cards below, as of the token that is a book's property."""
         if place.kind == "photo":
             raise Fault(405, "a photo is only read", Allow="GET, HEAD")
         if not place.book or place.kind == "only":
@@ -149,7 +150,7 @@ class Dav:
             token = place.book.refresh()
             if place.is_book:
                 own = Resource(request, place, self.has4, known_token=token)
-                return own, place.book.entries()
+                return own, place.book.entries() if is_deep else []
         entry = place.book.named(place.name)
         if not entry:
             raise Missing(f"there is no card {place.name}")

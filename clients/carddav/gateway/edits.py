@@ -37,12 +37,19 @@ class Conditions(NamedTuple):
     match: Optional[str]
     none_match: Optional[str]
 
-    def check(self, old: Optional[Entry]) -> None:
+    def fault(self, old: Optional[Entry]) -> Optional[Failed]:
+        """Which condition fails for the card that is there, if any."""
         if self.match is not None and not (old and matches(self.match, old.etag)):
-            raise Failed("the card was changed since it was read" if old else
-                         "there is no such card any more")
+            return Failed("the card was changed since it was read" if old else
+                          "there is no such card any more")
         if self.none_match is not None and old and matches(self.none_match, old.etag):
-            raise Failed("there is such a card already")
+            return Failed("there is such a card already")
+        return None
+
+    def check(self, old: Optional[Entry]) -> None:
+        fault = self.fault(old)
+        if fault:
+            raise fault
 
     @property
     def any(self) -> bool:
@@ -77,13 +84,12 @@ def put(book: AddressBook, name: str, sent: Sent, conditions: Conditions) -> Sto
             book.refresh()
             old = book.named(name)
             base = (book.text(old) or "") if old else ""
-            try:
-                conditions.check(old)
-            except Failed:
-                if old and conditions.match is not None and is_same(book, base, sent.text):
-                    return Stored(False, old.etag)  # it was done, and its reply was lost
-                raise
+            fault = conditions.fault(old)
+            if fault and not (old and conditions.match):
+                raise fault
             whole = _merged(book, name, sent, old, base)
+            if fault and lines_of(whole) != lines_of(base):
+                raise fault  # else the edit was made before, and its reply was lost
             stored = _put_once(book, name, sent, old, base, whole)
             if stored:
                 return stored
