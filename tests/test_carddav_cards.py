@@ -3,6 +3,7 @@
 import base64
 import hashlib
 import random
+import time
 import unittest
 
 from carddav_client import STAFF, Client, GatewayTest, card3
@@ -79,6 +80,20 @@ class Merges(unittest.TestCase):
             text = "\r\n".join(lines).replace("FN:Ann", "FN:Anna") + "\r\n"
             with self.subTest(uid):
                 self.assertEqual(lines_of(card(uid, "Anna")), lines_of(self.newer(text, base)))
+
+    def test_lines_that_are_slow_to_read(self):
+        """The cost of a line is in proportion to its length, whatever it holds."""
+        many = 10_000
+        for line in ["N:" + ";" * many + "x", "ORG:" + "\\;" * many, "X" * many, "a." * many + ":x",
+                     "X;" + "a=b;" * many + ":x", 'X;a="' + '"a"' * many, "NOTE:" + "\\" * many,
+                     "TZ:" + ":" * many, "PHOTO:" + "/photos/" * many, "BDAY:" + "1" * many,
+                     "X:" + "\\," * many, "PHOTO:data:image/a" + ";" * many, "REV:" + "-" * many,
+                     "MEMBER;" + "x" * many, "TEL;TYPE=" + "a," * many + ":1", "UID;" + "x" * many]:
+            with self.subTest(line[:20]):
+                begun = time.process_time()
+                base = self.newer(card3("jo", "Jo", line), "")
+                self.newer(card3("jo", "Jo", line, "TEL:+1"), base)
+                self.assertLess(time.process_time() - begun, 3)
 
     def test_two_lines_that_say_the_same(self):
         base = card("a", "Ann", "TEL:1", "TEL:1")

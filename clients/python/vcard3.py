@@ -260,7 +260,8 @@ def plain_value(line: Line) -> str:
     value = NO_XML.sub("\ufffd", line.value)
     escaped = ",;:"
     if line.name in STRUCTURED:
-        value, escaped = re.sub(r"(?<!\\);+$", "", value), ",:"  # a bare semicolon parts it
+        bare, escaped = value.rstrip(";"), ",:"  # a bare semicolon parts it
+        value = bare + ";" if bare.endswith("\\") and bare != value else bare
     value = re.sub(rf"\\([{escaped}])", r"\1", value).replace("\\N", "\\n").strip()
     if line.name == "TZ":
         return value.replace(":", "")
