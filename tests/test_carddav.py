@@ -333,6 +333,21 @@ class Discovery(GatewayTest):
         self.assertEqual([path], list(self.dav.multiget(start + "staff/", [path]).cards()))
         self.assertEqual(404, self.dav.ask("GET", start + "clients/a.vcf").status)
 
+    def test_what_is_on_the_way(self):
+        """Each collection names itself, and what is in it."""
+        for path, below in [("/dav/", ["/dav/users/ann/", "/dav/books/"]),
+                            ("/dav/users/", ["/dav/users/ann/"]), ("/dav/users/ann/", []),
+                            ("/dav/books/", [CLIENTS, STAFF]), (STAFF, [])]:
+            found = self.dav.propfind(path, "<D:resourcetype/>", "1").all()
+            self.assertEqual([path, *below], list(found))
+            for _, props in found.values():
+                self.assertIsNotNone(props[D + "resourcetype"].find(D + "collection"))
+            self.assertEqual([path], list(self.dav.propfind(path, "<D:resourcetype/>").all()))
+        for body in ("", '<D:propfind xmlns:D="DAV:"><D:allprop/></D:propfind>',
+                     '<D:propfind xmlns:D="DAV:"><D:propname/></D:propfind>'):
+            found = self.dav.ask("PROPFIND", STAFF, body, Depth="0").all()[STAFF][1]
+            self.assertLessEqual({D + "resourcetype", D + "displayname"}, set(found))
+
     def test_a_browser_is_told_the_address(self):
         self.assertIn(f"http://127.0.0.1:{self.stack.place[1]}/dav/",
                       self.dav.ask("GET", "/dav/").text)

@@ -164,6 +164,8 @@ class Dav:
         place, rights = own.place, own.request.right
         if place.kind == "root":
             found = [Place("user"), Place("home")]
+        elif place.kind == "users":
+            found = [Place("user")]
         elif place.kind == "home":
             found = [Place("book", place.base, self.shelf.book(it))
                      for it in self.shelf.names() if rights(it)]

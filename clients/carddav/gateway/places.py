@@ -1,6 +1,7 @@
 """What a path names, and the paths of things.
 
     /dav/                        the root
+    /dav/users/                  the users, of whom each sees only itself
     /dav/users/USER/             the user (a principal)
     /dav/books/                  the home of the books that the user may read
     /dav/books/BOOK/             a book
@@ -27,7 +28,7 @@ BAD_NAME = re.compile("[/\x00-\x1f\x7f]")
 
 
 class Place(NamedTuple):
-    """What a path names: "root", "user", "home", "only", "book", "card" or "photo"."""
+    """What a path names: "root", "users", "user", "home", "only", "book", "card" or "photo"."""
 
     kind: str
     base: Tuple[str, ...] = ("books",)  # the parts of the home's path
@@ -45,8 +46,8 @@ def place_of(request: Request, shelf: Shelf, path: Optional[str] = None) -> Plac
     if not parts:
         return Place("root")
     first, rest = parts[0], parts[1:]
-    if first == "users" and rest == (request.user,):
-        return Place("user")
+    if first == "users" and rest in ((), (request.user,)):
+        return Place("user" if rest else "users")
     if first == "photos" and len(rest) == 3:
         return Place("photo", name="/".join(rest))
     if first == "only" and rest:
@@ -112,8 +113,8 @@ def path_to(*parts: str) -> str:
 def path_of(place: Place, user: str) -> str:
     if place.kind == "root":
         return path_to()
-    if place.kind == "user":
-        return path_to("users", user)
+    if place.kind in ("users", "user"):
+        return path_to("users", user) if place.kind == "user" else path_to("users")
     if place.kind in ("home", "only"):
         return path_to(*place.base)
     assert place.book
