@@ -203,6 +203,10 @@ class Front(GatewayTest):
                                ({"Authorization": self.dav.fields["Authorization"]}, 403)]:
             front.fields = fields
             self.assertEqual(status, front.propfind(STAFF, "<D:displayname/>").status)
+        with socket.create_connection(self.stack.place, timeout=PATIENCE) as one:
+            one.sendall(f"GET {STAFF} HTTP/1.1\r\nHost: x\r\nX-Remote-User: ann\r\n"
+                        "X-Remote-User: bob\r\n\r\n".encode())
+            self.assertTrue(one.recv(1 << 16).startswith(b"HTTP/1.1 403 "))
         front.fields = {"X-Remote-User": "bob"}
         self.assertEqual(403, front.propfind(CLIENTS, "<D:displayname/>").status)
         self.assertEqual("/dav/users/bob/", front.propfind(

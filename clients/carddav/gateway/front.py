@@ -1,6 +1,7 @@
 """HTTP/1.1: connections, bodies, passwords, and the log. A thread serves a connection."""
 
 import os
+import re
 import socket
 import socketserver
 import sys
@@ -21,6 +22,7 @@ PATIENCE = 30.0  # seconds for which a connection may be silent
 CONNECTIONS = 200  # that are served at once; others wait
 LARGE, LARGE_AT_ONCE = 1_000_000, 2  # octets of a body that few requests may have at once
 WHOLE = 262_144  # octets of a reply up to which it is sent with its length
+HOST = re.compile(r"[A-Za-z0-9._:\[\]-]+")
 CHALLENGE = 'Basic realm="contacts", charset="UTF-8"'
 
 
@@ -62,7 +64,9 @@ class Handler(BaseHTTPRequestHandler):
     def answer(self) -> None:
         """One request, from its head to the end of its reply."""
         self._begun, self._user, self._sent = time.monotonic(), "-", 0
-        fields = {name.lower(): value for name, value in self.headers.items()}
+        fields: Dict[str, str] = {}
+        for key, value in ((name.lower(), it) for name, it in self.headers.items()):
+            fields[key] = f"{fields[key]}, {value}" if key in fields else value  # RFC 9110, 5.3
         try:
             reply = self._reply(fields)
             pieces = iter([reply.body]) if isinstance(reply.body, bytes) else reply.body
@@ -77,7 +81,7 @@ class Handler(BaseHTTPRequestHandler):
     def _reply(self, fields: Dict[str, str]) -> Reply:
         # The password is checked before the body is read: a stranger can't fill the memory.
         if is_discovery(self.path):
-            self._body(fields, davxml.BODY_MAX)
+            self._body(fields, WHOLE)
             return self.server.dav.reply(Request(self.command, self.path, fields, b"", "", {}))
         try:
             who = self.server.users.find(fields, self._client(fields))
@@ -104,7 +108,7 @@ class Handler(BaseHTTPRequestHandler):
             return text_reply(fault.status, fault.words)
         if isinstance(fault, Refusal):
             return self._refused(fault)
-        if isinstance(fault, ConnectionError):
+        if isinstance(fault, (ConnectionError, socket.timeout)):
             raise fault
         say(f"fault {type(fault).__name__}: {fault}")
         return text_reply(500, "the gateway failed; its log says why")
@@ -116,8 +120,9 @@ class Handler(BaseHTTPRequestHandler):
     def _address(self, fields: Dict[str, str]) -> str:
         if self.server.url:
             return str(self.server.url) + PREFIX
-        scheme = fields.get("x-forwarded-proto", "http")
-        return f"{scheme}://{fields.get('host', 'localhost')}{PREFIX}"
+        scheme = "https" if fields.get("x-forwarded-proto") == "https" else "http"
+        host = fields.get("host", "")
+        return f"{scheme}://{host if HOST.fullmatch(host) else 'localhost'}{PREFIX}"
 
     def _refused(self, refusal: Refusal) -> Reply:
         reply = text_reply(refusal.status, refusal.words)
@@ -138,8 +143,7 @@ class Handler(BaseHTTPRequestHandler):
                 raise BadBody(501, "a body comes with a Content-Length, or chunked")
             return self._chunked(most)
         text = fields.get("content-length", "0")
-        is_one = len(self.headers.get_all("content-length", [])) < 2
-        if not (text.isascii() and text.isdigit()) or len(text) > 15 or not is_one:
+        if not (text.isascii() and text.isdigit()) or len(text) > 15:
             raise BadBody(400, "the Content-Length isn't a number")
         if int(text) > most:
             raise BadBody(413, f"a body has at most {most:,} octets")
