@@ -44,7 +44,7 @@ BUGS = [
      "carddav_cards"),
     ("a refused token of the copy is taken for an empty page", "carddav/gateway/books.py",
      "            self.state.clear(self.number)\n            yield from self.pages(\"\")",
-     "            yield from self.pages(\"\")", "carddav_random"),
+     "            yield from self.pages(\"\")", "carddav_rules"),
     ("a token without the epoch is accepted", "carddav/gateway/books.py",
      "if wrapped and (epoch != self.state.epoch or not token):", "if wrapped and not token:",
      "carddav_program"),

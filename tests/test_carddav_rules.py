@@ -357,6 +357,7 @@ class Away(GatewayTest):
         reply = self.dav.sync("/dav/books/full/", props="<D:getetag/><C:address-data/>")
         self.assertEqual(("chunked", 10_000),
                          (reply.fields["Transfer-Encoding"], len(reply.cards())))
+        self.assertRegex(self.stack.logged(), r"full: 10,000 changes read in \d+\.\d s")
 
 
 class Rights(GatewayTest):

@@ -45,7 +45,7 @@ class BadBody(Exception):
 
 class Handler(BaseHTTPRequestHandler):
     protocol_version = "HTTP/1.1"
-    server_version, sys_version = "Tosculai-CardDAV", ""
+    server_version = "Tosculai-CardDAV"
     timeout = PATIENCE
     wbufsize = 65_536  # a head and its body in one packet
     server: "Server"
@@ -230,6 +230,9 @@ class Handler(BaseHTTPRequestHandler):
 
     def log_message(self, format: str, *arguments: object) -> None:
         """What http.server would say: faults of a head, which are a client's."""
+
+    def version_string(self) -> str:
+        return self.server_version
 
     def address_string(self) -> str:
         return "-"
