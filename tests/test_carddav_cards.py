@@ -254,11 +254,13 @@ class States(unittest.TestCase):
         state = State(":memory:")
         state.assign(1, ["a", "b"])
         undo = state.give(1, "b.vcf", "a")
-        self.assertEqual(("b.vcf", ["a.vcf"], None),
-                         (state.name(1, "a"), state.old_names(1, "a"), state.name(1, "b")))
+        self.assertEqual(("b.vcf", ["a.vcf", "b.vcf"], None, ["b.vcf"]),
+                         (state.name(1, "a"), sorted(state.names(1, "a")), state.name(1, "b"),
+                          state.names(1, "b")))
         state.take_back(1, undo)
-        self.assertEqual(("a.vcf", [], "b.vcf"),
-                         (state.name(1, "a"), state.old_names(1, "a"), state.name(1, "b")))
+        self.assertEqual(("a.vcf", ["a.vcf"], "b.vcf", ["b.vcf"]),
+                         (state.name(1, "a"), state.names(1, "a"), state.name(1, "b"),
+                          state.names(1, "b")))
 
     def test_what_programs_know(self):
         state = State(":memory:")
@@ -293,6 +295,18 @@ class Following(GatewayTest):
                 now = self.staff.get("a").version
                 self.assertEqual(now, later.get("a", told.get("a")))
                 token = self.book.changes(token).token
+
+    def test_a_stop_before_a_put_under_the_name_of_a_removed_card(self):
+        """The name was kept, and its card never came: the removed card's removal is still told."""
+        self.staff.put(card("a", "Ann"))
+        token = self.book.changes("").token
+        self.staff.remove("a")
+        self.book.refresh()
+        self.book.state.give(self.book.number, "a.vcf", "new")
+        self.assertEqual(["a.vcf"], self.book.changes(token).gone)
+        self.staff.put(card("new", "New"))
+        changes = self.book.changes(token)
+        self.assertEqual((["a.vcf"], []), ([it.name for it in changes.there], changes.gone))
 
     def edits_at(self, at):
         """The offices, with an edit of somebody else before the request of this number."""

@@ -7,7 +7,7 @@ sent with the version that the client saw, so nobody's edit is overwritten unsee
 
 import threading
 import time
-from typing import Callable, Dict, Iterator, List, NamedTuple, Optional, Set
+from typing import Callable, Dict, Iterator, List, NamedTuple, Optional
 
 from tosculai import Card, InvalidToken, NoSuchBook, Page
 
@@ -191,10 +191,10 @@ class AddressBook:
             if entry:
                 there.append(entry)
             if has_token:
-                gone += self.state.old_names(self.number, uid)
-                gone += [] if entry else [self.state.name(self.number, uid) or ""]
-        present: Set[str] = {it.name for it in there}
-        return Changes(there, [it for it in gone if it and it not in present], token, truncated)
+                gone += self.state.names(self.number, uid)
+        # A name that a card has now isn't gone, whichever card had it before.
+        gone = [it for it in dict.fromkeys(gone) if not self.named(it)]
+        return Changes(there, gone, token, truncated)
 
 
 class Loading:

@@ -17,14 +17,14 @@ import secrets
 import sqlite3
 import threading
 from contextlib import contextmanager
-from typing import Dict, Iterable, Iterator, List, NamedTuple, Optional, Tuple
+from typing import Iterable, Iterator, List, NamedTuple, Optional, Tuple
 
 SCHEMA_NUMBER = "1"
 SCHEMA = """
 CREATE TABLE IF NOT EXISTS facts (name TEXT PRIMARY KEY, value TEXT NOT NULL) WITHOUT ROWID;
 CREATE TABLE IF NOT EXISTS books (book INTEGER PRIMARY KEY, token TEXT NOT NULL);
 CREATE TABLE IF NOT EXISTS names (book INTEGER NOT NULL, name TEXT NOT NULL, uid TEXT NOT NULL,
-    old INTEGER NOT NULL, PRIMARY KEY (book, name)) WITHOUT ROWID;
+    old INTEGER NOT NULL, PRIMARY KEY (book, name, uid)) WITHOUT ROWID;
 CREATE INDEX IF NOT EXISTS names_of_cards ON names (book, uid, old, name);
 CREATE TABLE IF NOT EXISTS cards (book INTEGER NOT NULL, uid TEXT NOT NULL,
     version INTEGER NOT NULL, etag TEXT NOT NULL, card TEXT NOT NULL, UNIQUE (book, uid));
@@ -161,9 +161,9 @@ class State:
                            book, uid)
         return str(found[0][0]) if found else None
 
-    def old_names(self, book: int, uid: str) -> List[str]:
-        found = self._rows("SELECT name FROM names WHERE book = ? AND uid = ? AND old = 1",
-                           book, uid)
+    def names(self, book: int, uid: str) -> List[str]:
+        """All names that the card has ever had, its present one among them."""
+        found = self._rows("SELECT name FROM names WHERE book = ? AND uid = ?", book, uid)
         return [str(name) for name, in found]
 
     def assign(self, book: int, uids: Iterable[str]) -> None:
@@ -173,40 +173,38 @@ class State:
             return
         with self.changing(durably=True):
             for uid in new:
-                name = next(it for it in names_for(uid) if self._owner(book, it) is None)
+                name = next(it for it in names_for(uid) if self._is_free(book, it))
                 self._db.execute("INSERT INTO names VALUES (?, ?, ?, 0)", (book, name, uid))
 
-    def _owner(self, book: int, name: str) -> Optional[Tuple[str, int]]:
-        found = self._rows("SELECT uid, old FROM names WHERE book = ? AND name = ?", book, name)
-        return (str(found[0][0]), int(found[0][1])) if found else None
+    def _is_free(self, book: int, name: str) -> bool:
+        return not self._rows("SELECT 1 FROM names WHERE book = ? AND name = ?", book, name)
 
     def give(self, book: int, name: str, uid: str) -> "Undo":
-        """Makes this the name of the card. Its former name becomes an old one.
+        """Makes this the present name of the card. It is on the disk when this returns.
 
-        A removed card that had the name has it no more. It is on the disk when this returns.
+        Its former name becomes an old one, and so does this name for a removed card that had it.
         """
-        before, owner = self.name(book, uid), self._owner(book, name)
-        if before == name:
+        if self.name(book, uid) == name:
             return []
-        rows: Dict[str, Optional[Tuple[str, int]]] = {name: owner}
         with self.changing(durably=True):
-            if before is not None:
-                rows[before] = (uid, 0)
-                self._set(book, before, (uid, 1))
-            self._set(book, name, (uid, 0))
-        return list(rows.items())
+            rows = self._rows("SELECT name, uid, old FROM names WHERE book = ? AND"
+                              " (uid = ? OR name = ?)", book, uid, name)
+            self._db.execute("UPDATE names SET old = 1 WHERE book = ? AND (uid = ? OR name = ?)",
+                             (book, uid, name))
+            self._db.execute("INSERT OR REPLACE INTO names VALUES (?, ?, ?, 0)", (book, name, uid))
+        undo: Undo = [(name, uid, None)]
+        return undo + [(str(it[0]), str(it[1]), int(it[2])) for it in rows]
 
     def take_back(self, book: int, undo: "Undo") -> None:
         """Undoes a `give` whose card the server didn't take."""
         if undo:
             with self.changing(durably=True):
-                for name, row in undo:
-                    self._set(book, name, row)
-
-    def _set(self, book: int, name: str, row: Optional[Tuple[str, int]]) -> None:
-        self._db.execute("DELETE FROM names WHERE book = ? AND name = ?", (book, name))
-        if row:
-            self._db.execute("INSERT INTO names VALUES (?, ?, ?, ?)", (book, name, *row))
+                for name, uid, old in undo:
+                    self._db.execute("DELETE FROM names WHERE book = ? AND name = ? AND uid = ?",
+                                     (book, name, uid))
+                    if old is not None:
+                        self._db.execute("INSERT INTO names VALUES (?, ?, ?, ?)",
+                                         (book, name, uid, old))
 
     # What programs know.
 
@@ -222,7 +220,7 @@ class State:
             self._known |= new
 
 
-Undo = List[Tuple[str, Optional[Tuple[str, int]]]]  # names, each with the row that it had
+Undo = List[Tuple[str, str, Optional[int]]]  # rows of names as they were; None was no row
 
 
 def names_for(uid: str) -> Iterator[str]:
