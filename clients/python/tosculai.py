@@ -113,7 +113,7 @@ START = re.compile(rf"^((?:{NAME}\.)?)((?:BEGIN|END):VCARD$|{NAME}(?=[;:]))", re
 
 def lines_of(text: str) -> List[str]:
     """The lines of a card, unfolded, with the names of their properties in upper case."""
-    lines = re.split(r"\r?\n", re.sub(r"\r?\n[ \t]", "", text.lstrip("\ufeff")))
+    lines = re.sub("\n[ \t]", "", text.lstrip("\ufeff").replace("\r\n", "\n")).split("\n")
     lines = [START.sub(lambda it: it.group(1) + it.group(2).upper(), line) for line in lines]
     return [line for line in lines if line]
 

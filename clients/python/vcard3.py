@@ -31,6 +31,11 @@ KEPT_PARAMS = ("PID", "ALTID", "PREF")
 ONCE = {"FN", "N", "BDAY", "KIND", "ANNIVERSARY", "GENDER", "GEO", "REV", "TZ", "UID"}
 BINARY = {"PHOTO": "image", "LOGO": "image", "SOUND": "audio", "KEY": "application"}
 DATES = ("BDAY", "ANNIVERSARY")
+STRUCTURED = {"N", "ADR", "ORG", "X-GENDER", "GENDER"}  # empty parts at the end may be left out
+# What a VALUE may say and say nothing, since it is so anyway. Thunderbird writes it.
+PLAIN_VALUES = {"BDAY": {"date"}, "X-ANNIVERSARY": {"date"}, "REV": {"date-time"}, "URL": {"uri"},
+                "IMPP": {"uri"}, "UID": {"text"}, "TEL": {"text"},
+                "TZ": {"text", "utc-offset"}}
 FRAME = ("BEGIN:", "VERSION:", "END:")  # lines of the text, not of the card
 
 LINE = re.compile(r'(?:([\w-]+)\.)?([\w-]+)((?:;(?:"[^"]*"|[^":])*)?):(.*)', re.DOTALL)
@@ -38,6 +43,8 @@ PARAM = re.compile(r';([^=;:"]+)(?:=((?:"[^"]*"|[^";])*))?')
 PIECE = re.compile(r'"([^"]*)"|([^",]+)')
 DATA = re.compile(r"data:(\w+)/([\w.+-]+)(?:;[^,]*)?;base64,(.*)", re.IGNORECASE | re.DOTALL)
 DATE = re.compile(r"(\d{4}|--)-?(\d\d)-?(\d\d)(?:T(\d\d):?(\d\d):?(\d\d)(Z|[+-]\d\d:?\d\d)?)?")
+OWN_PARAMS = {"CHARSET", "X-EVOLUTION-E164"}  # what a program notes for itself
+NO_XML = re.compile("[\ufffe\uffff]")  # CardDAV can't carry them, and carries U+FFFD instead
 OMIT_YEAR = "X-APPLE-OMIT-YEAR"  # with the year 1604, as phones write a day without a year
 
 
@@ -154,6 +161,9 @@ def older_binary(line: Line, params: List[Tuple[str, List[str]]]) -> Line:
 
 def folded(line: str) -> str:
     """The line with its end, folded within no character."""
+    if line.isascii():  # also a photo: fast
+        rest = range(LINE_MAX, len(line), LINE_MAX - 1)
+        return "\r\n ".join([line[:LINE_MAX], *(line[it:it + LINE_MAX - 1] for it in rest)]) + "\r\n"
     pieces, size = [""], 0
     for char in line:
         if size + len(char.encode()) > LINE_MAX:
@@ -220,27 +230,54 @@ def types_of(text: str) -> Set[str]:
 
 
 def key_of(text: str) -> Hashable:
-    """What two lines of 3.0 have in common if they say the same."""
+    """What two lines of 3.0 have in common if they say the same.
+
+    Programs respell the lines that they read: other parameters, case, escapes and dates. A line
+    that says the same as before is no edit, and stays as the server has it.
+    """
     line = read_line(text)
     if not line:
-        return text
+        return NO_XML.sub("\ufffd", text)
     params: Dict[str, Set[str]] = {}
     for param, values in line.params:
         params.setdefault(param, set()).update(it.lower() for it in values)
     types = params.pop("TYPE", set()) - {"voice", "internet"}
-    params.pop("CHARSET", None)
+    for param in OWN_PARAMS:
+        params.pop(param, None)
+    is_address = line.name in BINARY and "ENCODING" not in params
+    if is_address:  # of a photo that is elsewhere; ez-vcard adds what its name says
+        types = set()
+        params.pop("MEDIATYPE", None)
+    if params.get("VALUE", set()) <= PLAIN_VALUES.get(line.name, set()):
+        params.pop("VALUE", None)
     others = sorted((param, *sorted(values)) for param, values in params.items())
-    value = re.sub(r"\\([,;:])", r"\1", line.value).replace("\\N", "\\n").strip()
-    if "ENCODING" in params:
-        value = value.replace(" ", "")
+    value = line.value.replace(" ", "") if "ENCODING" in params else plain_value(line)
     return line.group.lower(), line.name, tuple(sorted(types)), tuple(others), value
+
+
+def plain_value(line: Line) -> str:
+    """The value in one spelling of those that say the same."""
+    value = NO_XML.sub("\ufffd", line.value)
+    escaped = ",;:"
+    if line.name in STRUCTURED:
+        bare, escaped = value.rstrip(";"), ",:"  # a bare semicolon parts it
+        value = bare + ";" if bare.endswith("\\") and bare != value else bare
+    value = re.sub(rf"\\([{escaped}])", r"\1", value).replace("\\N", "\\n").strip()
+    if line.name == "TZ":
+        return value.replace(":", "")
+    if DATE.fullmatch(value) and NAMES_BACK.get(line.name, line.name) in (*DATES, "REV"):
+        value = re.sub(r"(?<!-)-(?!-)(?=\d\d(?:-|T|$))|:", "", value)
+        return re.sub(r"(?<=T\d{6})[+-]0000$", "Z", value)
+    return value
 
 
 def newer_line(line: Line) -> Line:
     """The line in 4.0."""
     new_name, value = NAMES_BACK.get(line.name, line.name), line.value
     types = [it for it in line.get("TYPE") if it.upper() not in ("INTERNET", "PREF")]
-    dropped = ("TYPE", "ENCODING", "CHARSET", OMIT_YEAR, *(["VALUE"] if new_name in BINARY else []))
+    kind = {it.lower() for it in line.get("VALUE")}
+    has_plain = new_name in BINARY or kind <= PLAIN_VALUES.get(line.name, set())
+    dropped = ("TYPE", "ENCODING", OMIT_YEAR, *OWN_PARAMS, *(["VALUE"] if has_plain else []))
     params = [it for it in line.params if it[0] not in dropped]
     if new_name in BINARY and line.get("ENCODING"):
         media = types.pop(0).lower() if types else "octet-stream"
@@ -256,9 +293,13 @@ def newer_line(line: Line) -> Line:
 
 
 def with_kept_params(line: Line, old: str) -> Line:
-    """The line with the parameters of the old one that 3.0 can't say."""
+    """The line with the parameters of the old one that 3.0 can't say, and its types.
+
+    The types are alike; a phone adds VOICE and INTERNET to those of the lines that it writes.
+    """
     before = read_line(old)
-    names = {param for param, _ in line.params}
-    more = [it for it in (before.params if before else []) if it[0] in KEPT_PARAMS]
+    own = [it for it in line.params if it[0] != "TYPE"]
+    names = {param for param, _ in own}
+    more = [it for it in (before.params if before else []) if it[0] in (*KEPT_PARAMS, "TYPE")]
     more = [it for it in more if it[0] not in names and it != ("PREF", ["1"])]
-    return line._replace(params=line.params + more)
+    return line._replace(params=more + own)

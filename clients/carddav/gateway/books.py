@@ -1,0 +1,220 @@
+"""The books of an office as address books: followed by the server's tokens, changed by versions.
+
+Each book has a copy in the State, which is brought up to date before each request as any device
+does it (docs/API.md, "Syncing a device"): one request to the server if nothing is new. A change is
+sent with the version that the client saw, so nobody's edit is overwritten unseen.
+"""
+
+import threading
+import time
+from typing import Callable, Dict, Iterator, List, NamedTuple, Optional
+
+from tosculai import Card, InvalidToken, NoSuchBook, Page
+
+from gateway import cards
+from gateway.office import Offices
+from gateway.photos import Photos
+from gateway.state import Entry, Row, State
+
+PAGE_MAX = 100  # members of a page, of the server
+PAGE_OCTETS = 4_000_000  # a page is asked to have about this size at most
+PROGRESS = 2.0  # seconds between two lines of progress
+
+Say = Callable[[str], None]
+
+
+class Missing(Exception):
+    """There is no such book or card; the message says which."""
+
+
+class Changes(NamedTuple):
+    """What changed since a token: cards that are there, names that are gone, the new token."""
+
+    there: List[Entry]
+    gone: List[str]
+    token: str
+    truncated: bool
+
+
+class Shelf:
+    """The books of an office."""
+
+    def __init__(self, offices: Offices, state: State, photos: Photos, say: Say) -> None:
+        self.offices, self.state, self.photos, self.say = offices, state, photos, say
+        self._books: Dict[str, "AddressBook"] = {}
+        self._lock = threading.Lock()
+
+    def names(self) -> List[str]:
+        """The names of all books, as the server has them now."""
+        with self.offices.one() as office:
+            found = {str(it["name"]): int(it["id"]) for it in office.books()}
+        with self._lock:
+            for name, number in found.items():
+                if name not in self._books or self._books[name].number != number:
+                    self._books[name] = AddressBook(self, name, number)
+            for name in set(self._books) - set(found):
+                del self._books[name]
+        return sorted(found)
+
+    def book(self, name: str) -> "AddressBook":
+        if name not in self._books:
+            self.names()
+        try:
+            return self._books[name]
+        except KeyError:
+            raise Missing(f"there is no book {name}") from None
+
+    def load(self) -> None:
+        """Brings all copies up to date, as the start does it aside."""
+        for name in self.names():
+            self.book(name).refresh()
+
+
+class AddressBook:
+    """A book and its copy."""
+
+    def __init__(self, shelf: Shelf, name: str, number: int) -> None:
+        self.shelf, self.name, self.number = shelf, name, number
+        self.state = shelf.state
+        self.lock = threading.RLock()  # for a refresh, and for a change from its test to its end
+
+    # Following the server.
+
+    def refresh(self) -> str:
+        """Brings the copy to what the server has, and returns the token of that for clients."""
+        with self.lock:
+            token, loading = self.state.token(self.number), None
+            for page in self._pages(token):
+                loading = loading or (Loading(self) if page.truncated else None)
+                if loading:
+                    loading.tell(len(page.members))
+                if page.members or page.token != token:
+                    self.state.apply(self.number, [row_of(it) for it in page.members], page.token)
+                token = page.token
+            if loading:
+                loading.end()
+            return self._wrapped(token)
+
+    def _pages(self, token: str) -> Iterator[Page]:
+        """All pages since the token; since ever if it is refused, after the copy was cleared."""
+        try:
+            yield from self.pages(token)
+        except InvalidToken:
+            if not token:
+                raise
+            self.shelf.say(f"{self.name}: the server refuses the copy's token; all cards anew")
+            self.state.clear(self.number)
+            yield from self.pages("")
+
+    def pages(self, token: str, limit: Optional[int] = None) -> Iterator[Page]:
+        """Pages of the server, up to `limit` members. With large cards a page has fewer."""
+        size, left = PAGE_MAX, limit
+        while left is None or left > 0:
+            with self.shelf.offices.one() as office:
+                try:
+                    page = office.book(self.name).page(token, size if left is None
+                                                       else min(size, left))
+                except NoSuchBook:
+                    raise Missing(f"there is no book {self.name}") from None
+            yield page
+            if not page.truncated:
+                return
+            token = page.token
+            octets = sum(len(it.text) for it in page.members) // max(1, len(page.members))
+            size = max(5, min(PAGE_MAX, PAGE_OCTETS // max(1, octets)))
+            left = None if left is None else left - len(page.members)
+
+    def suspect(self, uid: str, old: Optional[Entry]) -> None:
+        """After a conflict: a copy in which nothing has changed is that of another file."""
+        with self.lock:
+            self.refresh()
+            if self.state.entry(self.number, uid) == old:
+                self.shelf.say(f"{self.name}: the copy isn't the server's; all cards anew")
+                self.state.clear(self.number)
+                self.refresh()
+
+    # Reading.
+
+    def entries(self) -> List[Entry]:
+        return self.state.entries(self.number)
+
+    def named(self, name: str) -> Optional[Entry]:
+        return self.state.named(self.number, name)
+
+    def has(self, uid: str) -> bool:
+        return self.state.entry(self.number, uid) is not None
+
+    def text(self, entry: Entry) -> Optional[str]:
+        """The stored text of exactly this card; None if it was changed meanwhile."""
+        found = self.state.text(self.number, entry.uid)
+        return found[1] if found and found[0] == entry.etag else None
+
+    def whole(self, text: str) -> str:
+        """A stored text with the files that are kept beside."""
+        return self.shelf.photos.filled(text)
+
+    # Tokens of clients.
+
+    def _wrapped(self, token: str) -> str:
+        """A token for clients: that of the server, and the epoch of the names."""
+        return f"{token}?names={self.state.epoch}"
+
+    def _unwrapped(self, wrapped: str) -> str:
+        token, _, epoch = wrapped.rpartition("?names=")
+        if wrapped and (epoch != self.state.epoch or not token):
+            raise InvalidToken(403, {"fault": "valid-sync-token", "number": 10, "cause": 1})
+        return token
+
+    def changes(self, wrapped: str, limit: Optional[int] = None) -> Changes:
+        """What changed since a client's token, or since ever. Raises InvalidToken."""
+        token = self._unwrapped(wrapped)
+        with self.lock:
+            now = self.refresh()
+            if not wrapped and limit is None:
+                return Changes(self.entries(), [], now, False)
+        if wrapped == now:  # the refresh has asked with this token
+            return Changes([], [], now, False)
+        members: Dict[str, bool] = {}  # whether it is there, by UID
+        truncated = False
+        for page in self.pages(token, limit):
+            members.update((it.uid, bool(it.version)) for it in page.members)
+            token, truncated = page.token, page.truncated
+        self.refresh()  # so the copy is as new as the pages, or newer
+        return self._told(members, bool(wrapped), self._wrapped(token), truncated)
+
+    def _told(self, members: Dict[str, bool], has_token: bool, token: str,
+              truncated: bool) -> Changes:
+        """The changes under the names that clients know."""
+        there, gone = [], []
+        for uid, is_there in members.items():
+            entry = self.state.entry(self.number, uid) if is_there else None
+            if entry:
+                there.append(entry)
+            if has_token:
+                gone += self.state.names(self.number, uid)
+        # A name that a card has now isn't gone, whichever card had it before.
+        gone = [it for it in dict.fromkeys(gone) if not self.named(it)]
+        return Changes(there, gone, token, truncated)
+
+
+class Loading:
+    """What is said of a load that takes some time."""
+
+    def __init__(self, book: AddressBook) -> None:
+        self._book, self._count = book, 0
+        self._begun = self._said = time.monotonic()
+
+    def tell(self, count: int) -> None:
+        self._count += count
+        if time.monotonic() - self._said >= PROGRESS:
+            self._said = time.monotonic()
+            self._book.shelf.say(f"{self._book.name}: {self._count:,} changes read so far")
+
+    def end(self) -> None:
+        seconds = time.monotonic() - self._begun
+        self._book.shelf.say(f"{self._book.name}: {self._count:,} changes read in {seconds:.1f} s")
+
+
+def row_of(card: Card) -> Row:
+    etag = cards.etag_of(card.version, card.text) if card.version else ""
+    return Row(card.uid, card.version, etag, card.text if card.version else "")

@@ -1,0 +1,207 @@
+"""The command line: `carddav`, and `carddav user`."""
+
+import argparse
+import fcntl
+import getpass
+import os
+import secrets
+import signal
+import sys
+import threading
+from typing import Any, Dict, List, Optional
+
+from tosculai import Error
+
+from gateway import accounts
+from gateway.books import Shelf
+from gateway.check import check
+from gateway.dav import Dav
+from gateway.front import Server, say
+from gateway.office import Offices, new_office
+from gateway.photos import Photos
+from gateway.state import State
+
+USAGE = """Phones and mail programs use the books of Tosculai as address books, by CardDAV.
+
+  carddav --server URL --state DIR --port P      serves at 127.0.0.1:P
+  carddav --server unix:PATH --state DIR --socket PATH
+  carddav user add NAME --book BOOK:rw --state DIR    then enter the password
+  carddav user remove NAME --state DIR
+  carddav user list --state DIR
+"""
+STATE = "/var/lib/tosculai-carddav"
+DAYS = 30  # for which a photo is kept that no card names
+
+
+def main(arguments: List[str]) -> int:
+    os.umask(0o077)
+    try:
+        if arguments[:1] == ["user"]:
+            return change_users(user_parser().parse_args(arguments[1:]))
+        return run(parser(), arguments)
+    except (accounts.BadUsers, OSError, ValueError, Error) as fault:
+        print(f"carddav: {fault}", file=sys.stderr)
+        return 3
+
+
+def parser() -> argparse.ArgumentParser:
+    made = argparse.ArgumentParser(prog="carddav", description=USAGE,
+                                   formatter_class=argparse.RawDescriptionHelpFormatter)
+    made.add_argument("--server", default="http://127.0.0.1:8080", metavar="URL|unix:PATH",
+                      help="the contact server (%(default)s)")
+    made.add_argument("--state", default=STATE, metavar="DIR",
+                      help="users, names and photos (%(default)s)")
+    made.add_argument("--port", type=int, metavar="P", help="listen at 127.0.0.1:P; 0 chooses one")
+    made.add_argument("--socket", metavar="PATH", help="listen at this socket instead")
+    made.add_argument("--url", default="", help="the address before which a front server stands, "
+                      "as https://office.example; else that of each request")
+    made.add_argument("--trust-front", action="store_true",
+                      help="believe X-Remote-User of a front server, which has the passwords")
+    made.add_argument("--only-3", action="store_true", help="don't offer vCard 4.0")
+    made.add_argument("--left-out", choices=["keep", "remove"], default="keep",
+                      help="what becomes of lines that a program leaves out and has never sent "
+                      "(%(default)s)")
+    made.add_argument("--log", action="store_true", help="a line for each request")
+    made.add_argument("--check", action="store_true", help="say what a phone would see, and end")
+    made.add_argument("--nginx", choices=["map", "passwords"],
+                      help="print the users for nginx, and end")
+    made.add_argument("--start-over", action="store_true",
+                      help="let all programs list all names again, as after this state was "
+                      "restored from a backup; and end")
+    made.add_argument("--tidy", action="store_true",
+                      help=f"remove photos that no card has named for {DAYS} days, and end")
+    return made
+
+
+def run(made: argparse.ArgumentParser, arguments: List[str]) -> int:
+    given = made.parse_args(arguments)
+    new_office(given.server)
+    if given.check:
+        return check(given.server, given.state, given.trust_front)
+    if given.nginx:
+        users = accounts.read(users_of(given.state))
+        print((accounts.nginx_map if given.nginx == "map" else accounts.nginx_passwords)(users),
+              end="")
+        return 0
+    if not (given.start_over or given.tidy) and (given.port is None) == (given.socket is None):
+        made.error("one of --port and --socket is needed")
+    os.makedirs(given.state, exist_ok=True)
+    with open(os.path.join(given.state, "lock"), "w", encoding="ascii") as lock:
+        try:
+            fcntl.flock(lock, fcntl.LOCK_EX | fcntl.LOCK_NB)
+        except OSError:
+            raise OSError(f"{given.state}: another gateway uses it") from None
+        state = State(os.path.join(given.state, "names.db"))
+        if given.start_over:
+            state.start_over()
+            return 0
+        photos = Photos(os.path.join(given.state, "photos"))
+        shelf = Shelf(Offices(given.server), state, photos, say)
+        return tidy(shelf) if given.tidy else serve(given, shelf)
+
+
+def serve(given: argparse.Namespace, shelf: Shelf) -> int:
+    dav = Dav(shelf, has4=not given.only_3, keeps_unknown=given.left_out == "keep")
+    users = accounts.Users(users_of(given.state), given.trust_front)
+    if not given.trust_front and not users.accounts():
+        say(accounts.how_to_begin(users.path))
+    place: Any = given.socket or ("127.0.0.1", given.port)
+    server = Server(place, dav, users, given.log, given.url.rstrip("/"))
+    where = given.socket or f"127.0.0.1:{server.server_address[1]}"
+    print(f"listening {where}", flush=True)
+    threading.Thread(target=load, args=(shelf,), daemon=True).start()
+    signal.signal(signal.SIGTERM, lambda *_: os._exit(0))  # all that was replied to is kept
+    try:
+        server.serve_forever()
+    except KeyboardInterrupt:
+        pass
+    return 0
+
+
+def load(shelf: Shelf) -> None:
+    """Reads all books aside, so that no phone waits for that."""
+    try:
+        shelf.load()
+    except Exception as fault:
+        say(f"the books aren't read yet: {fault}")
+
+
+def tidy(shelf: Shelf) -> int:
+    shelf.load()
+    books = [shelf.book(name) for name in shelf.names()]
+    texts = (book.text(entry) or "" for book in books for entry in book.entries())
+    for name in shelf.photos.unused(texts, DAYS):
+        os.unlink(os.path.join(shelf.photos.path, name))
+        print(f"removed {name}")
+    return 0
+
+
+# Users.
+
+def users_of(folder: str) -> str:
+    return os.path.join(folder, "users")
+
+
+def user_parser() -> argparse.ArgumentParser:
+    made = argparse.ArgumentParser(prog="carddav user")
+    orders = made.add_subparsers(dest="order", required=True)
+    for order, words in [("add", "add a user, or change rights and password"),
+                         ("remove", "remove a user"), ("list", "list all users")]:
+        one = orders.add_parser(order, help=words)
+        one.add_argument("--state", default=STATE, metavar="DIR")
+        if order != "list":
+            one.add_argument("name")
+        if order == "add":
+            one.add_argument("--book", action="append", metavar="BOOK:r|rw", dest="books",
+                             help="a right; * is all other books")
+            one.add_argument("--no-password", action="store_true",
+                             help="for a user whom a front server checks (--trust-front)")
+    return made
+
+
+def change_users(given: argparse.Namespace) -> int:
+    path = users_of(given.state)
+    users = accounts.read(path)
+    if given.order == "list":
+        for name, account in sorted(users.items()):
+            rights = " ".join(f"{book}:{right}" for book, right in sorted(account.rights.items()))
+            print(f"{name} {rights}" + (" no password" if account.hash == "-" else ""))
+        return 0
+    old = accounts.find_account(users, given.name)
+    if given.order == "remove":
+        if not old:
+            raise accounts.BadUsers(f"there is no user {given.name}")
+        del users[given.name]
+    else:
+        users[given.name] = new_account(given, old)
+    os.makedirs(given.state, exist_ok=True)
+    accounts.write(path, users)
+    return 0
+
+
+def new_account(given: argparse.Namespace, old: Optional[accounts.Account]) -> accounts.Account:
+    """The account; what isn't given stays as it was."""
+    rights: Dict[str, str] = dict(old.rights) if old else {}
+    if given.books:
+        rights = accounts.rights_of(given.books)
+    if not rights:
+        raise accounts.BadUsers("a user needs a right: --book BOOK:rw")
+    if given.no_password:
+        return accounts.Account(accounts.NO_PASSWORD, rights)
+    password = new_password(given.name, bool(old))
+    if not password and old:
+        return accounts.Account(old.hash, rights)
+    if not password:
+        raise accounts.BadUsers("an empty password isn't taken")
+    return accounts.Account(accounts.hashed(password, secrets.token_hex(8)), rights)
+
+
+def new_password(name: str, has_old: bool) -> str:
+    """The password from the terminal, twice, or a line of standard input."""
+    if not sys.stdin.isatty():
+        return sys.stdin.readline().rstrip("\r\n")
+    hint = " (empty: as it is)" if has_old else ""
+    password = getpass.getpass(f"Password of {name}{hint}: ")
+    if password and getpass.getpass("Again: ") != password:
+        raise accounts.BadUsers("the two passwords differ")
+    return password

@@ -1,0 +1,226 @@
+"""Changes of cards: PUT, DELETE and MOVE, each made on the server under the version that was seen.
+
+All of a change of one book happens under its lock: the test of its conditions, the name, and the
+server's reply. Another program may still change the card on the server in between. Then the server
+refuses the version; a client with a condition gets a 412, and for one without the change is tried
+again over the new card.
+"""
+
+import re
+from contextlib import ExitStack
+from typing import NamedTuple, Optional
+
+from tosculai import Conflict, NoSuchCard, Refused, UidTaken, lines_of, uid_of
+
+from gateway import cards
+from gateway.books import AddressBook, Missing
+from gateway.state import Entry
+
+ROUNDS = 5  # attempts of a change without a condition, if others change the card meanwhile
+
+
+class Failed(Exception):
+    """A condition failed: the card isn't the one that the client saw."""
+
+
+class UidInUse(Exception):
+    """The UID is another name's, or the name has another UID; `name` has what is in the way."""
+
+    def __init__(self, message: str, name: str) -> None:
+        super().__init__(message)
+        self.name = name
+
+
+class Conditions(NamedTuple):
+    """The fields If-Match and If-None-Match of a request."""
+
+    match: Optional[str]
+    none_match: Optional[str]
+
+    def fault(self, old: Optional[Entry]) -> Optional[Failed]:
+        """Which condition fails for the card that is there, if any."""
+        if self.match is not None and not (old and matches(self.match, old.etag)):
+            return Failed("the card was changed since it was read" if old else
+                          "there is no such card any more")
+        if self.none_match is not None and old and matches(self.none_match, old.etag):
+            return Failed("there is such a card already")
+        return None
+
+    def check(self, old: Optional[Entry]) -> None:
+        fault = self.fault(old)
+        if fault:
+            raise fault
+
+    @property
+    def any(self) -> bool:
+        return self.match is not None or self.none_match is not None
+
+
+def matches(field: str, etag: str) -> bool:
+    """Whether a field names the ETag. nginx makes ETags weak when it compresses."""
+    return field.strip() == "*" or etag in re.findall(r'"[^"]*"', field)
+
+
+class Sent(NamedTuple):
+    """A card that a client sends, the program that sends it, and the gateway's own address."""
+
+    text: str
+    program: str
+    address: str
+    keeps_unknown: bool
+
+
+class Stored(NamedTuple):
+    """What became of a PUT: whether the card is new, and the ETag of what was sent, if it is."""
+
+    is_new: bool
+    etag: str
+
+
+def put(book: AddressBook, name: str, sent: Sent, conditions: Conditions) -> Stored:
+    """Stores the card that a client sends."""
+    with book.lock:
+        for _ in range(ROUNDS):
+            book.refresh()
+            old = book.named(name)
+            base = (book.text(old) or "") if old else ""
+            fault = conditions.fault(old)
+            if fault and not (old and conditions.match):
+                raise fault
+            whole = _merged(book, name, sent, old, base)
+            if fault and lines_of(whole) != lines_of(base):
+                raise fault  # else the edit was made before, and its reply was lost
+            stored = _put_once(book, name, sent, old, base, whole)
+            if stored:
+                return stored
+            book.suspect(uid_of(whole), old)
+            if conditions.any:
+                raise Failed("somebody else changed the card at the same moment")
+    raise Failed("others change the card all the time")
+
+
+def is_same(book: AddressBook, stored: str, text: str) -> bool:
+    """Whether a client that reads the stored card gets what was sent (RFC 6352, 6.3.2.3)."""
+    if not stored:
+        return False
+    return lines_of(cards.written(book.whole(stored), is_version4(text))) == lines_of(text)
+
+
+def is_version4(text: str) -> bool:
+    return re.search(r"^VERSION:4\.0\r?$", text, re.MULTILINE | re.IGNORECASE) is not None
+
+
+def _put_once(book: AddressBook, name: str, sent: Sent, old: Optional[Entry], base: str,
+              whole: str) -> Optional[Stored]:
+    """One attempt; None if somebody else was faster."""
+    uid = uid_of(whole)
+    _check_uid(book, name, old, uid)
+    if old and lines_of(whole) == lines_of(base):
+        return Stored(False, old.etag if is_same(book, base, sent.text) else "")
+    # The name is kept first: if a stop comes in between, the card has the client's name.
+    undo = book.state.give(book.number, name, uid)
+    try:
+        with book.shelf.offices.one() as office:
+            version = office.book(book.name).put(whole, old.version if old else 0, uid)
+    except Refused as refusal:
+        book.state.take_back(book.number, undo)
+        if isinstance(refusal, Conflict):
+            return None
+        raise
+    book.refresh()
+    book.state.learn(sent.program, cards.uncommon(sent.text))
+    new = book.named(name)
+    is_read = new and new.version == version and is_same(book, book.text(new) or "", sent.text)
+    return Stored(old is None, new.etag if new and is_read else "")
+
+
+def _merged(book: AddressBook, name: str, sent: Sent, old: Optional[Entry], base: str) -> str:
+    """The card for the server. Large files stay beside it."""
+
+    def knows(line_name: str) -> bool:
+        return not sent.keeps_unknown or book.state.knows(sent.program, line_name)
+
+    uid = old.uid if old else re.sub(r"\.vcf$", "", name)
+    whole = cards.newer(sent.text, book.whole(base), book.has, uid, knows)
+    return book.shelf.photos.fitted(whole, base, sent.address)
+
+
+def _check_uid(book: AddressBook, name: str, old: Optional[Entry], uid: str) -> None:
+    """A UID has one name in a book, and a name one UID (RFC 6352, 5.1 and 6.3.2.1)."""
+    if old and uid != old.uid:
+        raise UidInUse("the card of this name has another UID", name)
+    other = None if old else book.state.entry(book.number, uid)
+    if other:
+        raise UidInUse("a card of another name has this UID", other.name)
+
+
+def remove(book: AddressBook, name: str, conditions: Conditions) -> None:
+    with book.lock:
+        for _ in range(ROUNDS):
+            book.refresh()
+            old = book.named(name)
+            if not old:
+                raise Missing(f"there is no card {name}")
+            conditions.check(old)
+            try:
+                with book.shelf.offices.one() as office:
+                    return office.book(book.name).remove(old.uid, old.version)
+            except NoSuchCard:
+                return None
+            except Conflict:
+                book.suspect(old.uid, old)
+                if conditions.any:
+                    raise Failed("somebody else changed the card at the same moment") from None
+    raise Failed("others change the card all the time")
+
+
+def move(book: AddressBook, name: str, to: AddressBook, to_name: str, overwrite: bool,
+         conditions: Conditions) -> bool:
+    """Moves a card to another book; returns whether its name is new there."""
+    with ExitStack() as locks:
+        for it in sorted((book, to), key=lambda it: it.number):  # always in this order
+            locks.enter_context(it.lock)
+        for _ in range(ROUNDS):
+            book.refresh()
+            to.refresh()
+            old, there = book.named(name), to.named(to_name)
+            if not old:
+                raise Missing(f"there is no card {name}")
+            conditions.check(old)
+            _check_target(old, there, to, to_name, overwrite)
+            if _move_once(book, old, to, to_name, there):
+                return there is None
+            book.suspect(old.uid, old)
+    raise Failed("others change the card all the time")
+
+
+def _check_target(old: Entry, there: Optional[Entry], to: AddressBook, to_name: str,
+                  overwrite: bool) -> None:
+    if there and not overwrite:
+        raise Failed("there is such a card already, and Overwrite is F")
+    if there and there.uid != old.uid:
+        raise UidInUse("the card of this name has another UID", to_name)
+    other = None if there else to.state.entry(to.number, old.uid)
+    if other:
+        raise UidInUse("the other book has a card of this UID", other.name)
+
+
+def _move_once(book: AddressBook, old: Entry, to: AddressBook, to_name: str,
+               there: Optional[Entry]) -> bool:
+    """One attempt; False if somebody else was faster.
+
+    The server has no move that overwrites. A stop between the two steps loses the copy that was
+    to be overwritten, and never the card.
+    """
+    undo = to.state.give(to.number, to_name, old.uid)
+    try:
+        with book.shelf.offices.one() as office:
+            if there:
+                office.book(to.name).remove(there.uid, there.version)
+            office.book(book.name).move(old.uid, to.name, old.version)
+        return True
+    except Refused as refusal:
+        to.state.take_back(to.number, undo)
+        if isinstance(refusal, (Conflict, UidTaken, NoSuchCard)):
+            return False
+        raise

@@ -1,0 +1,338 @@
+"""Cards between programs and the server: merges, groups, photos, and what a program leaves out."""
+
+import base64
+import hashlib
+import random
+import time
+import unittest
+
+from carddav_client import STAFF, Client, GatewayTest, card3
+from histories import UIDS, Drawing
+from http_requests import card
+from model.cards import read_card
+
+import vcard3
+from gateway import cards
+from gateway.books import Shelf
+from gateway.office import Offices
+from gateway.state import State
+from tosculai import lines_of, same
+
+LARGE = bytes(random.Random(1).getrandbits(8) for _ in range(400_000))
+
+
+def nobody(name):
+    return False
+
+
+class Merges(unittest.TestCase):
+    """An edit of one line changes one line, in 3.0 and in 4.0, for any card."""
+
+    def newer(self, text, base):
+        return cards.newer(text, base, nobody, "new", nobody)
+
+    def test_what_was_not_edited_stays(self):
+        for form in "3.0", "4.0":
+            drawing = Drawing("carddav " + form)
+            for drawing.drawn in range(120):
+                uid = drawing.random.choice(UIDS)
+                base = read_card(drawing.text(uid)).text.decode()
+                read = cards.written(base, form == "4.0")
+                with self.subTest(form=form, base=base):
+                    self.assertIn(f"VERSION:{form}", lines_of(read))
+                    self.assertTrue(same(base, self.newer(read, base)))
+                    more = read.replace("\r\nEND:", "\r\nTEL:+99\r\nEND:")
+                    wanted = base.replace("\r\nEND:", "\r\nTEL:+99\r\nEND:")
+                    self.assertTrue(same(wanted, self.newer(more, base)))
+                    read_card(self.newer(more, base).encode())
+
+    # The same line in two spellings; ez-vcard, Thunderbird and Apple write the second.
+    SPELLINGS = [
+        ("TEL;TYPE=home:1", "TEL;TYPE=HOME,VOICE:1"), ("EMAIL:a@b", "EMAIL;type=INTERNET:a@b"),
+        ("BDAY:1985-04-12", "BDAY;VALUE=date:19850412"), ("TZ:+01:00", "TZ;VALUE=utc-offset:+0100"),
+        ("N:Lee;Ann;;;", "N:Lee;Ann"), ("URL:https://x/a,b", "URL;VALUE=uri:https://x/a\\,b"),
+        ("REV:2026-11-27T10:00:00Z", "REV:20261127T100000+0000"), ("NOTE:a\\nb", "NOTE:a\\Nb"),
+        ("PHOTO;VALUE=uri:https://x/a.jpg", "PHOTO;VALUE=uri;TYPE=JPEG:https://x/a.jpg"),
+        ("NICKNAME:a\\,b", "NICKNAME:a,b"), ("item1.TEL:1", "ITEM1.TEL:1"),
+    ]
+    # Two lines that don't say the same, although they look alike.
+    OTHERS = [
+        ("N:Lee\\;Ann;;;;", "N:Lee;Ann;;;"), ("TEL;TYPE=home:1", "TEL;TYPE=work:1"),
+        ("NOTE:a", "NOTE:A"), ("ADR;LABEL=a:;;1;;;;", "ADR;LABEL=b:;;1;;;;"), ("TEL:1", "TEL:1 "
+         "2"), ("BDAY:1985-04-12", "BDAY:1985-04-13"), ("item1.TEL:1", "item2.TEL:1"),
+        ("X-A:1", "X-B:1"), ("ORG:a;b", "ORG:a\\;b"),
+    ]
+
+    def test_spellings(self):
+        for one, other in self.SPELLINGS:
+            with self.subTest(other):
+                self.assertEqual(cards.key_of(one), cards.key_of(other))
+        for one, other in self.OTHERS:
+            with self.subTest(other):
+                self.assertNotEqual(cards.key_of(one), cards.key_of(other))
+
+    def test_a_uid_in_another_spelling(self):
+        for uid, spelled in [("a,b;c", "a\\,b\\;c"), ("urn:uuid:7-7", "7-7"),
+                             ("7-7", "urn:uuid:7-7"), ("a", None)]:
+            base = card(uid, "Ann")
+            lines = [it for it in lines_of(cards.written(base, False)) if not it.startswith("UID")]
+            lines[2:2] = [f"UID:{spelled}"] if spelled else []
+            text = "\r\n".join(lines).replace("FN:Ann", "FN:Anna") + "\r\n"
+            with self.subTest(uid):
+                self.assertEqual(lines_of(card(uid, "Anna")), lines_of(self.newer(text, base)))
+
+    def test_lines_that_are_slow_to_read(self):
+        """The cost of a line is in proportion to its length, whatever it holds."""
+        many = 10_000
+        for line in ["N:" + ";" * many + "x", "ORG:" + "\\;" * many, "X" * many, "a." * many + ":x",
+                     "X;" + "a=b;" * many + ":x", 'X;a="' + '"a"' * many, "NOTE:" + "\\" * many,
+                     "TZ:" + ":" * many, "PHOTO:" + "/photos/" * many, "BDAY:" + "1" * many,
+                     "X:" + "\\," * many, "PHOTO:data:image/a" + ";" * many, "REV:" + "-" * many,
+                     "MEMBER;" + "x" * many, "TEL;TYPE=" + "a," * many + ":1", "UID;" + "x" * many]:
+            with self.subTest(line[:20]):
+                begun = time.process_time()
+                base = self.newer(card3("jo", "Jo", line), "")
+                self.newer(card3("jo", "Jo", line, "TEL:+1"), base)
+                self.assertLess(time.process_time() - begun, 3)
+
+    def test_two_lines_that_say_the_same(self):
+        base = card("a", "Ann", "TEL:1", "TEL:1")
+        once = cards.written(base, False).replace("TEL:1\r\n", "", 1)
+        self.assertEqual(1, self.newer(once, base).count("TEL:1"))
+
+
+class LeftOut(unittest.TestCase):
+    """Whether a program sends back lines that it doesn't know is its own matter."""
+
+    BASE = card("a", "Ann", "TEL:+1", "X-ODD:1", "KEY:https://k.test/", "item1.URL:https://x/",
+                "item1.X-ABLABEL:Home page", "item2.EMAIL:a@b", "item2.X-ABLABEL:Work", "NOTE:n")
+
+    def edited(self, gone, knows=nobody, form="3.0"):
+        lines = [it for it in lines_of(cards.written(self.BASE, form == "4.0"))
+                 if not it.startswith(gone)]
+        text = "\r\n".join([*lines[:-1], "TEL:+2", "END:VCARD", ""])
+        return lines_of(cards.newer(text, self.BASE, nobody, "a", knows))
+
+    def test_lines_that_a_program_does_not_know_stay(self):
+        for form in "3.0", "4.0":
+            lines = self.edited(("X-ODD", "KEY", "item1.X-AB", "item2.X-AB"), form=form)
+            self.assertEqual([*lines_of(self.BASE)[:-1], "TEL:+2", "END:VCARD"], lines)
+
+    def test_lines_that_every_program_knows_go(self):
+        lines = self.edited(("NOTE", "TEL:+1"))
+        self.assertNotIn("NOTE:n", lines)
+        self.assertNotIn("TEL:+1", lines)
+
+    def test_lines_that_the_program_has_sent_before_go(self):
+        lines = self.edited("X-ODD", {"X-ODD"}.__contains__)
+        self.assertNotIn("X-ODD:1", lines)
+
+    def test_a_label_goes_with_its_line(self):
+        lines = self.edited(("item1.",))
+        self.assertNotIn("item1.X-ABLABEL:Home page", lines)
+        self.assertIn("item2.X-ABLABEL:Work", lines)
+
+
+class Groups(GatewayTest):
+    """Groups of Apple's in 3.0, and of 4.0; members by UID, as the office writes them."""
+
+    APPLE = card3("g", "All", "X-ADDRESSBOOKSERVER-KIND:group",
+                  "X-ADDRESSBOOKSERVER-MEMBER:urn:uuid:a", "X-ADDRESSBOOKSERVER-MEMBER:urn:uuid:b")
+
+    def setUp(self):
+        super().setUp()
+        for uid in "ab":
+            self.staff.put(card(uid, uid))
+
+    def stored(self, uid):
+        return [it for it in lines_of(self.staff.get(uid).text) if "MEMBER" in it]
+
+    def test_a_group_of_a_phone(self):
+        self.assertEqual(201, self.dav.ask("PUT", STAFF + "g.vcf", self.APPLE).status)
+        self.assertEqual((["a", "b"], []), self.staff.people("g"))
+        text = self.dav.ask("GET", STAFF + "g.vcf").text
+        self.assertIn("X-ADDRESSBOOKSERVER-MEMBER:urn:uuid:a\r\n", text)
+        fewer = text.replace("X-ADDRESSBOOKSERVER-MEMBER:urn:uuid:a\r\n", "")
+        self.assertEqual(204, self.dav.ask("PUT", STAFF + "g.vcf", fewer).status)
+        self.assertEqual((["b"], []), self.staff.people("g"))
+
+    def test_a_group_of_the_office(self):
+        members = ["MEMBER:a", "MEMBER:urn:uuid:b", "MEMBER:mailto:x@e.test", "MEMBER:urn:uuid:a"]
+        for kind in "3.0", "4.0":
+            self.staff.put(card("og", "Office", "KIND:group", *members))
+            accept = "text/vcard; version=4.0" if kind == "4.0" else None
+            text = self.dav.ask("GET", STAFF + "og.vcf", Accept=accept).text
+            self.assertIn("MEMBER:urn:uuid:a\r\n", text)
+            self.assertIn("MEMBER:mailto:x@e.test\r\n", text)
+            edited = text.replace("FN:Office", "FN:Everybody")
+            self.assertEqual(204, self.dav.ask("PUT", STAFF + "og.vcf", edited).status)
+            self.assertEqual(members, self.stored("og"))
+            self.assertIn("FN:Everybody", lines_of(self.staff.get("og").text))
+
+    def test_categories_stay_lines(self):
+        text = card3("c", "C", "CATEGORIES:Board,Paris")
+        self.dav.ask("PUT", STAFF + "c.vcf", text)
+        self.assertIn("CATEGORIES:Board,Paris", lines_of(self.staff.get("c").text))
+
+
+class Photos(GatewayTest):
+    """A photo that no card can hold is kept beside, and given back in full."""
+
+    def photo(self, octets):
+        return "PHOTO;ENCODING=b;TYPE=JPEG:" + base64.b64encode(octets).decode()
+
+    def test_a_large_photo(self):
+        path, digest = STAFF + "p.vcf", hashlib.sha256(LARGE).hexdigest()
+        text = card3("p", "Pat", "TEL;TYPE=CELL:1", self.photo(LARGE))
+        self.assertEqual(201, self.dav.ask("PUT", path, text, If_None_Match="*").status)
+        address = f"http://127.0.0.1:{self.stack.place[1]}/dav/photos/{digest}/image/jpeg"
+        self.assertIn("PHOTO:" + address, lines_of(self.staff.get("p").text))
+        self.stack.restart()
+        self.dav.close()
+        got = self.dav.ask("GET", path)
+        self.assertIn(self.photo(LARGE), lines_of(got.text))
+        four = self.dav.multiget(STAFF, [path], '<C:address-data content-type="text/vcard" '
+                                 'version="4.0"/>').cards()[path]
+        self.assertIn("PHOTO:data:image/jpeg;base64," + base64.b64encode(LARGE).decode(),
+                      lines_of(four))
+        shown = self.dav.ask("GET", address[address.index("/dav"):])
+        self.assertEqual((200, "image/jpeg", LARGE),
+                         (shown.status, shown.fields["Content-Type"], shown.body))
+        self.edit(path, got, address)
+
+    def edit(self, path, got, address):
+        """An edit of a number leaves the photo, also under another name of the front server."""
+        edited = got.text.replace("TEL;TYPE=cell:1", "TEL;TYPE=cell:2")
+        reply = self.dav.ask("PUT", path, edited, If_Match=got.etag, Host="other.example")
+        self.assertEqual(204, reply.status)
+        lines = lines_of(self.staff.get("p").text)
+        self.assertIn("PHOTO:" + address, lines)
+        self.assertIn("TEL;TYPE=cell:2", lines)
+        small = self.dav.ask("GET", path).text.replace("\r\n ", "").replace(
+            self.photo(LARGE), self.photo(b"small"))
+        self.assertEqual(204, self.dav.ask("PUT", path, small).status)
+        self.assertIn("PHOTO:data:image/jpeg;base64,c21hbGw=", lines_of(self.staff.get("p").text))
+
+    def test_what_is_within_the_limit_stays_within(self):
+        octets = LARGE[:150_000]
+        self.dav.ask("PUT", STAFF + "q.vcf", card3("q", "Q", self.photo(octets)))
+        self.assertIn("PHOTO:data:image/jpeg;base64," + base64.b64encode(octets).decode(),
+                      lines_of(self.staff.get("q").text))
+
+    def test_a_photo_is_no_page(self):
+        """Octets of a client are never shown by a browser as anything but a picture."""
+        text = card3("s", "S", "PHOTO;ENCODING=b;TYPE=SVG+XML:" + base64.b64encode(
+            b"<script>" + LARGE).decode())
+        self.assertEqual(201, self.dav.ask("PUT", STAFF + "s.vcf", text).status)
+        line = next(it for it in lines_of(self.staff.get("s").text) if it.startswith("PHOTO"))
+        path = line[line.index("/dav"):]
+        for kind in path, path.replace("image/svg+xml", "text/html"):
+            shown = self.dav.ask("GET", kind)
+            self.assertEqual(("application/octet-stream", "attachment", "nosniff"), tuple(
+                shown.fields[it] for it in ("Content-Type", "Content-Disposition",
+                                            "X-Content-Type-Options")))
+        self.assertEqual(404, self.dav.ask("GET", "/dav/photos/" + "0" * 64 + "/image/png").status)
+        self.assertEqual(404, self.dav.ask("GET", "/dav/photos/../users/x").status)
+        stranger = Client(self.stack.place, "ann", "no")
+        self.addCleanup(stranger.close)
+        self.assertEqual(401, stranger.ask("GET", path).status)
+
+
+class States(unittest.TestCase):
+    """Names in the state's file."""
+
+    def test_names(self):
+        state = State(":memory:")
+        state.assign(1, ["a", "../x", "urn:uuid:7-7", "a.vcf"])
+        names = [state.name(1, it) for it in ("a", "../x", "urn:uuid:7-7", "a.vcf")]
+        self.assertEqual(["a.vcf", "7-7.vcf", "a.vcf.vcf"], [names[0], *names[2:]])
+        self.assertRegex(names[1], r"^[0-9a-f]{32}\.vcf$")
+        state.assign(1, ["A", "a"])
+        self.assertEqual("a.vcf", state.name(1, "a"))
+
+    def test_a_name_is_given_and_taken_back(self):
+        state = State(":memory:")
+        state.assign(1, ["a", "b"])
+        undo = state.give(1, "b.vcf", "a")
+        self.assertEqual(("b.vcf", ["a.vcf", "b.vcf"], None, ["b.vcf"]),
+                         (state.name(1, "a"), sorted(state.names(1, "a")), state.name(1, "b"),
+                          state.names(1, "b")))
+        state.take_back(1, undo)
+        self.assertEqual(("a.vcf", ["a.vcf"], "b.vcf", ["b.vcf"]),
+                         (state.name(1, "a"), state.names(1, "a"), state.name(1, "b"),
+                          state.names(1, "b")))
+
+    def test_what_programs_know(self):
+        state = State(":memory:")
+        state.learn("iOS", ["X-A"])
+        state.learn("iOS", ["X-A", "X-B"])
+        self.assertEqual([True, True, False], [state.knows("iOS", "X-A"), state.knows("iOS", "X-B"),
+                                               state.knows("DAVx5", "X-A")])
+
+
+class Following(GatewayTest):
+    """A copy of a book, within the test's own process."""
+
+    def setUp(self):
+        super().setUp()
+        offices = Offices(self.stack.url)
+        self.shelf = Shelf(offices, State(":memory:"), None, lambda text: None)
+        self.book, self.one, self.count = self.shelf.book("staff"), offices.one, 0
+
+    def test_a_change_between_the_requests_of_a_sync(self):
+        """An ETag never comes with a token that is newer than it: the change would be lost."""
+        self.staff.put(card("a", "Ann"))
+        token = self.book.changes("").token
+        self.staff.put(card("a", "Anna"))
+        for at in range(1, 5):
+            with self.subTest(at=at):
+                self.staff.put(card("a", f"Ann {at}"))
+                self.shelf.offices.one, self.count = self.edits_at(at), 0
+                changes = self.book.changes(token)
+                token, told = changes.token, {it.uid: it.version for it in changes.there}
+                # What isn't told now is told by the next sync.
+                later = {it.uid: it.version for it in self.book.changes(token).there}
+                now = self.staff.get("a").version
+                self.assertEqual(now, later.get("a", told.get("a")))
+                token = self.book.changes(token).token
+
+    def test_a_stop_before_a_put_under_the_name_of_a_removed_card(self):
+        """The name was kept, and its card never came: the removed card's removal is still told."""
+        self.staff.put(card("a", "Ann"))
+        token = self.book.changes("").token
+        self.staff.remove("a")
+        self.book.refresh()
+        self.book.state.give(self.book.number, "a.vcf", "new")
+        self.assertEqual(["a.vcf"], self.book.changes(token).gone)
+        self.staff.put(card("new", "New"))
+        changes = self.book.changes(token)
+        self.assertEqual((["a.vcf"], []), ([it.name for it in changes.there], changes.gone))
+
+    def edits_at(self, at):
+        """The offices, with an edit of somebody else before the request of this number."""
+        def one():
+            self.count += 1
+            if self.count == at:
+                self.staff.put(card("a", f"Anna {at}"))
+            return self.one()
+        return one
+
+    def test_pages_up_to_a_limit(self):
+        for number in range(130):
+            self.staff.put(card(f"u{number:03}", "U", "NOTE:" + "x" * 50_000 * (number > 100)))
+        for limit in None, 1, 100, 101, 125:
+            pages = [len(page.members) for page in self.book.pages("", limit)]
+            self.assertEqual(limit or 130, sum(pages))
+            self.assertLessEqual(max(pages), 100)
+
+
+class Folds(unittest.TestCase):
+    def test_folded_lines(self):
+        for text in "NOTE:" + "x" * 300, "NOTE:" + "é" * 100, "NOTE:" + "x" * 70, "N:" + "😀" * 50:
+            whole = vcard3.folded(text)
+            self.assertEqual(text, whole.replace("\r\n ", "")[:-2])
+            self.assertTrue(all(len(it.encode()) <= 75 for it in whole.split("\r\n")))
+
+
+if __name__ == "__main__":
+    unittest.main()

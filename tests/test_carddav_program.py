@@ -1,0 +1,313 @@
+"""The program `carddav`: its arguments, users, sockets, `--check`, `--nginx`, and its state."""
+
+import base64
+import io
+import os
+import shutil
+import socket
+import sys
+import threading
+import unittest
+import warnings
+from contextlib import redirect_stderr, redirect_stdout
+from unittest import mock
+
+from carddav_client import CLIENTS, PASSWORD, STAFF, Client, GatewayTest, Stack, card3
+from http_requests import card
+from program import ROOT, Folder
+
+from gateway import accounts, cli
+from tosculai import lines_of
+
+
+def run(*arguments, line=""):
+    """What the program does with these arguments: its status, and what it printed."""
+    out, err = io.StringIO(), io.StringIO()
+    with redirect_stdout(out), redirect_stderr(err), mock.patch.object(sys, "stdin",
+                                                                       io.StringIO(line)):
+        try:
+            status = cli.main([*map(str, arguments)])
+        except SystemExit as end:
+            status = end.code
+    return status, out.getvalue(), err.getvalue()
+
+
+class Forwarder:
+    """A socket of the file system whose connections go on to a server."""
+
+    def __init__(self, path, address):
+        self.address = address
+        self.listener = socket.socket(socket.AF_UNIX, socket.SOCK_STREAM)
+        self.listener.bind(path)
+        self.listener.listen(16)
+        threading.Thread(target=self.run, daemon=True).start()
+
+    def run(self):
+        while True:
+            try:
+                one, _ = self.listener.accept()
+            except OSError:
+                return
+            other = socket.create_connection(self.address)
+            for pair in (one, other), (other, one):
+                threading.Thread(target=self.carry, args=pair, daemon=True).start()
+
+    def carry(self, one, other):
+        try:
+            while True:
+                octets = one.recv(1 << 16)
+                if not octets:
+                    break
+                other.sendall(octets)
+            other.shutdown(socket.SHUT_WR)
+        except OSError:
+            pass
+
+
+class Sockets(GatewayTest):
+    """The server is at a socket of the file system, and so is the gateway."""
+
+    socket = True
+
+    def test_both_sockets(self):
+        path = str(self.stack.folder / "server.sock")
+        forwarder = Forwarder(path, self.stack.server.address)
+        self.addCleanup(forwarder.listener.close)
+        self.stack.kill_gateway()
+        self.stack.url = "unix:" + path
+        self.stack.start()
+        reply = self.dav.ask("PUT", STAFF + "a.vcf", card3("a", "Ann"), If_None_Match="*")
+        self.assertEqual(201, reply.status)
+        self.assertEqual([STAFF + "a.vcf"], list(self.dav.sync(STAFF).etags()))
+        self.assertEqual({"a"}, self.members(self.staff))
+        self.assertEqual(0o660, os.stat(self.stack.place).st_mode & 0o777)
+        status, out, _ = run("--server", "unix:" + path, "--state", self.stack.state, "--check")
+        self.assertEqual(0, status)
+        self.assertIn(f"{STAFF}  1 cards, read, write", out)
+        # A socket in use stays; one that nobody has is replaced, as `start` did after the kill.
+        other = self.stack.folder / "other"
+        status, _, err = run("--server", "unix:" + path, "--state", other, "--socket",
+                             self.stack.place)
+        self.assertEqual(3, status)
+        self.assertIn("another program listens there", err)
+
+
+class Program(GatewayTest):
+    def test_arguments(self):
+        state = self.stack.state
+        self.assertIn("usage: carddav", run("--help")[1])
+        for arguments, status, words in [
+            (["--state", state], 2, "one of --port and --socket is needed"),
+            (["--state", state, "--port", "0", "--server", "ftp://x"], 3, "not the URL"),
+            (["--state", state, "--port", "0"], 3, "another gateway uses it"),
+            (["--state", state, "--port", "0", "--server", "unix:"], 3, "the path of a socket"),
+            (["user", "add", "eve", "--state", state, "--book", "staff:x"], 3, "isn't BOOK:r"),
+            (["user", "add", "a b", "--state", state, "--book", "staff:r"], 3, "a user's name"),
+            (["user", "add", "eve", "--state", state], 3, "a user needs a right"),
+            (["user", "remove", "eve", "--state", state], 3, "there is no user eve"),
+        ]:
+            with self.subTest(arguments):
+                got = run(*arguments)
+                self.assertEqual(status, got[0])
+                self.assertIn(words, got[2])
+
+    def test_what_a_phone_would_see(self):
+        self.staff.put(card("a", "Ann"))
+        server = self.stack.url
+        status, out, _ = run("--server", server, "--state", self.stack.state, "--check")
+        self.assertEqual(0, status)
+        for line in ("has 2 books: clients, staff",
+                     f"ann's phone\n  {CLIENTS}  0 cards, read, write",
+                     f"hall's phone\n  {STAFF}  1 cards, read\n"):
+            self.assertIn(line, out)
+        status, out, _ = run("--server", "http://127.0.0.1:1", "--state", self.stack.state,
+                             "--check")
+        self.assertEqual(1, status)
+        self.assertIn("no phone sees anything", out)
+
+
+class Users(unittest.TestCase):
+    def setUp(self):
+        self.folder = Folder()
+        self.state = self.folder.__enter__()
+        self.addCleanup(self.folder.__exit__)
+
+    def user(self, *arguments, line=""):
+        status, out, err = run("user", *arguments, "--state", self.state, line=line)
+        self.assertEqual((0, ""), (status, err))
+        return out
+
+    def test_users(self):
+        self.user("add", "ann", "--book", "staff:rw", "--book", "clients:r", line="secret\n")
+        self.user("add", "hall", "--book", "*:r", "--no-password")
+        self.assertEqual("ann clients:r staff:rw\nhall *:r no password\n", self.user("list"))
+        self.assertEqual(0o600, os.stat(self.state / "users").st_mode & 0o777)
+        users = accounts.read(str(self.state / "users"))
+        self.assertTrue(accounts.is_right("secret", users["ann"].hash))
+        self.assertFalse(accounts.is_right("Secret", users["ann"].hash))
+        for nobody in "", "-", "$7$x":
+            self.assertFalse(accounts.is_right("", nobody))
+        self.user("add", "ann", "--book", "staff:r", line="\n")
+        new = accounts.read(str(self.state / "users"))["ann"]
+        self.assertEqual((users["ann"].hash, {"staff": "r"}), new)
+        self.user("remove", "ann")
+        self.assertEqual("hall *:r no password\n", self.user("list"))
+
+    def test_the_hash_is_that_of_crypt(self):
+        """nginx checks the same hash by crypt(3). The first is of RFC 7914, 12."""
+        vector = "$7$C6..../....SodiumChloride$kBGj9fHznVYFQMEn/qDCfrDevf9YDtcDdKvEqHJLV8D"
+        self.assertTrue(accounts.is_right("pleaseletmein", vector))
+        try:
+            with warnings.catch_warnings():
+                warnings.simplefilter("ignore")
+                from crypt import crypt
+        except ImportError:
+            self.skipTest("this Python has no crypt")
+        own = accounts.hashed(PASSWORD, "0123abcd")
+        try:
+            theirs = crypt(PASSWORD, own)
+        except OSError:
+            theirs = None
+        if not theirs or not theirs.startswith("$7$"):
+            self.skipTest("this system's crypt(3) has no scrypt")
+        self.assertEqual(theirs, own)
+
+    def test_lines_for_nginx(self):
+        """The map is that of examples/nginx.conf."""
+        users = [("admin", "*:rw"), ("ann", "staff:rw clients:rw"), ("bob", "staff:rw clients:r"),
+                 ("hall.x", "staff:r")]
+        accounts.write(str(self.state / "users"), {
+            name: accounts.Account("hash", accounts.rights_of(rights.split()))
+            for name, rights in users})
+        status, out, _ = run("--state", self.state, "--nginx", "map")
+        self.assertEqual(0, status)
+        self.assertEqual([
+            '"~^admin \\S+ \\S* \\S+$" 1;',
+            '"~^ann \\S+ (clients|staff) (clients|staff|_)$" 1;',
+            '"~^bob \\S+ (staff) (staff|_)$" 1;', '"~^bob GET (clients|staff) _$" 1;',
+            '"~^hall\\.x GET (staff) _$" 1;'], out.splitlines())
+        self.assertIn('"~^hall GET staff _$"', (ROOT / "examples/nginx.conf").read_text())
+        self.assertEqual("admin:hash\nann:hash\nbob:hash\nhall.x:hash\n",
+                         run("--state", self.state, "--nginx", "passwords")[1])
+
+    def test_a_wrong_file(self):
+        for text in "ann\n", "a:b hash staff:r\n", "ann hash staff\n", "ann hash staff:w\n":
+            (self.state / "users").write_text("# ok\n" + text)
+            status, _, err = run("user", "list", "--state", self.state)
+            self.assertEqual(3, status)
+            self.assertIn("users, line 2", err)
+
+
+class States(unittest.TestCase):
+    def test_nobody_is_served_without_users(self):
+        with Folder(in_memory=True) as folder:
+            stack = Stack(folder, users={})
+            try:
+                dav = stack.client()
+                reply = dav.ask("PROPFIND", STAFF)
+                self.assertEqual(401, reply.status)
+                self.assertIn("carddav user add NAME --book BOOK:rw", reply.text)
+                self.assertIn("carddav user add", stack.logged())
+                # A user who is added now is served at once.
+                self.assertEqual(0, run("user", "add", "ann", "--book", "*:rw", "--state",
+                                        stack.state, line=PASSWORD + "\n")[0])
+                self.assertEqual(207, dav.propfind(STAFF, "<D:displayname/>").status)
+                dav.close()
+            finally:
+                stack.stop()
+
+    def test_a_lost_and_a_restored_state(self):
+        """Without its names the gateway refuses each token once; so it does if it starts over."""
+        with Folder(in_memory=True) as folder:
+            stack = Stack(folder, more=["--log"])
+            try:
+                self.lose(stack)
+            finally:
+                stack.stop()
+
+    def lose(self, stack):
+        dav = stack.client()
+        dav.ask("PUT", STAFF + "mine.vcf", card3("a", "Ann"))
+        token = dav.sync(STAFF).token
+        self.assertIn("ann PUT /dav/books/staff/mine.vcf 201", stack.logged())
+        stack.kill_gateway()
+        self.assertEqual((0, "", ""), run("--state", stack.state, "--start-over"))
+        stack.start()
+        dav.close()
+        self.assertEqual(("valid-sync-token", True), dav.sync(STAFF, token).reason)
+        self.assertEqual([STAFF + "mine.vcf"], list(dav.sync(STAFF).etags()))
+        token = dav.sync(STAFF).token
+        stack.kill_gateway()
+        for name in os.listdir(stack.state):
+            if name.startswith("names.db"):
+                os.unlink(stack.state / name)
+        stack.start()
+        dav.close()
+        self.assertEqual(("valid-sync-token", True), dav.sync(STAFF, token).reason)
+        self.assertEqual([STAFF + "a.vcf"], list(dav.sync(STAFF).etags()))
+        dav.close()
+
+    def test_a_restored_server(self):
+        """An older file was put back, and changed since: the copy isn't its book any more."""
+        with Folder(in_memory=True) as folder:
+            stack = Stack(folder)
+            try:
+                self.restore(stack)
+            finally:
+                stack.stop()
+
+    def restore(self, stack):
+        dav, staff, files = stack.client(), stack.books[0], ("office.db", "office.db-wal")
+        staff.put(card("a", "Ann"))
+        stack.server.kill()
+        for name in files:
+            shutil.copy(stack.folder / name, stack.folder / f"old-{name}")
+        stack.start_server()
+        staff.put(card("a", "Anna"))
+        got = dav.ask("GET", STAFF + "a.vcf")
+        stack.server.kill()
+        for name in files:
+            shutil.copy(stack.folder / f"old-{name}", stack.folder / name)
+        stack.start_server()
+        staff.put(card("b", "Bob"))  # now the book has as many changes as before
+        self.assertEqual([STAFF + "a.vcf"], list(dav.sync(STAFF).etags()))
+        edited = got.text.replace("FN:Anna", "FN:Annie")
+        self.assertEqual(412, dav.ask("PUT", STAFF + "a.vcf", edited, If_Match=got.etag).status)
+        self.assertIn("the copy isn't the server's", stack.logged())
+        self.assertEqual({STAFF + "a.vcf", STAFF + "b.vcf"}, set(dav.sync(STAFF).etags()))
+        self.assertIn("FN:Ann\r\n", dav.ask("GET", STAFF + "a.vcf").text)
+        # Before the user runs --start-over, a card that is in the way is found in the same way.
+        self.assertEqual("Ann", next(it[3:] for it in lines_of(staff.get("a").text)
+                                     if it.startswith("FN:")))
+        dav.close()
+
+    def test_photos_that_no_card_names(self):
+        with Folder(in_memory=True) as folder:
+            stack = Stack(folder)
+            try:
+                dav = stack.client()
+                for uid in "ab":
+                    photo = base64.b64encode(uid.encode() * 300_000).decode()
+                    text = card3(uid, uid, f"PHOTO;ENCODING=b:{photo}")
+                    dav.ask("PUT", f"{STAFF}{uid}.vcf", text)
+                dav.ask("DELETE", STAFF + "a.vcf")
+                dav.close()
+                photos = stack.state / "photos"
+                self.assertEqual(2, len(os.listdir(photos)))
+                stack.kill_gateway()
+                arguments = ["--server", stack.url, "--state", stack.state, "--tidy"]
+                self.assertEqual("", run(*arguments)[1])  # they aren't old enough
+                for name in os.listdir(photos):
+                    os.utime(photos / name, (0, 0))
+                self.assertIn("removed ", run(*arguments)[1])
+                self.assertEqual(1, len(os.listdir(photos)))
+                stack.start()
+                dav = Client(stack.place)
+                self.assertIn("PHOTO;ENCODING=b", dav.ask("GET", STAFF + "b.vcf").text)
+                dav.close()
+            finally:
+                stack.stop()
+
+
+if __name__ == "__main__":
+    unittest.main()
