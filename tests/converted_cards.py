@@ -4,11 +4,19 @@ The lines are worked out by hand from the standards: RFC 2426 and the vCard 2.1 
 what is read, RFC 6350 and RFC 6868 for what is written. No value comes from the program.
 """
 
+import hashlib
+import uuid
 from collections import namedtuple
 
 # A card's title, its text without line ends, the lines of the converted card between VERSION and
-# END, and the report without `card 1, `.
+# END, and the report without `card 1, `. In the text a surrogate U+DC80 to U+DCFF is an octet from
+# 128 on.
 Converted = namedtuple("Converted", "title text lines report")
+
+# In place of the line of a UID that is added, which depends on the card's octets.
+ADDED_UID = "UID:added"
+# The namespace of object identifiers (RFC 4122, appendix C).
+NAMESPACE = uuid.UUID("6ba7b812-9dad-11d1-80b4-00c04fd430c8")
 
 PNG = "iVBORw0KGgoAAAANSUhEUgAAAAEAAAABCAQAAAC1HAwCAAAAC0lEQVR42mNk+A8AAQUBAScY42YAAAAASUVORK5CYII="
 
@@ -17,11 +25,19 @@ def card(version, *lines):
     return ["BEGIN:VCARD", f"VERSION:{version}", *lines, "END:VCARD"]
 
 
+def added_uid(octets):
+    """The UID that a card of these octets gets if it has none: their UUID of version 5."""
+    digest = hashlib.sha1(NAMESPACE.bytes + octets).digest()
+    return uuid.UUID(bytes=digest[:16], version=5).urn
+
+
 CARDS = [
     Converted(
         "vCard 4.0 stays as it is",
-        card("4.0", "UID:a", "FN:Ann", "TEL;VALUE=uri;TYPE=\"voice,home\":tel:+1-555-555-5555"),
-        ["UID:a", "FN:Ann", "TEL;VALUE=uri;TYPE=\"voice,home\":tel:+1-555-555-5555"],
+        card("4.0", "UID:a", "FN:Ann", "TEL;VALUE=uri;TYPE=\"voice,home\":tel:+1-555-555-5555",
+             "KEY;X-A=\"b\":1"),
+        ["UID:a", "FN:Ann", "TEL;VALUE=uri;TYPE=\"voice,home\":tel:+1-555-555-5555",
+         "KEY;X-A=\"b\":1"],
         [],
     ),
     Converted(
@@ -112,9 +128,227 @@ CARDS = [
         ["line 5: BDAY rewritten", "line 6: GEO rewritten"],
     ),
     Converted(
+        "only a date of the year that stands for none loses it; a place is two numbers",
+        card("3.0", "UID:a", "FN:Bo", "X-ANNIVERSARY;x-apple-omit-year=1604:16040501",
+             "ANNIVERSARY;X-APPLE-OMIT-YEAR=1604:2004-05-01", "GEO:37.386013,-122.082932"),
+        ["UID:a", "FN:Bo", "X-ANNIVERSARY:--0501",
+         "ANNIVERSARY;X-APPLE-OMIT-YEAR=1604:20040501", "GEO:37.386013,-122.082932"],
+        ["line 5: X-ANNIVERSARY rewritten", "line 6: ANNIVERSARY rewritten"],
+    ),
+    Converted(
         "vCard 2.1 has the longitude first",
-        card("2.1", "UID:a", "FN:Ann", "GEO:37.24,-17.87"),
-        ["UID:a", "FN:Ann", "GEO:geo:-17.87,37.24"],
+        card("2.1", "UID:a", "FN:Ann", "GEO:37.24,-17.87", "GEO:geo:-17.87,37.24"),
+        ["UID:a", "FN:Ann", "GEO:geo:-17.87,37.24", "GEO:geo:-17.87,37.24"],
         ["line 5: GEO rewritten"],
+    ),
+    Converted(
+        "a telephone of vCard 2.1, without FN",
+        card(
+            "2.1",
+            "N;CHARSET=UTF-8;ENCODING=QUOTED-PRINTABLE:M=C3=BCller;J=",
+            "=C3=BCrgen;;;",
+            "TEL;HOME;VOICE;PREF:+49 30 1",
+            "MAILER:Phone",
+            "PHOTO;TYPE=JPEG;ENCODING=BASE64:",
+            " /9j/",
+            "",
+            "UID:a",
+        ),
+        ["N:Müller;Jürgen;;;", "TEL;TYPE=home,voice;PREF=1:+49 30 1", "X-MAILER:Phone",
+         "PHOTO:data:image/jpeg;base64,/9j/", "UID:a", "FN:Jürgen Müller"],
+        ["line 3: N rewritten", "line 5: TEL rewritten", "line 6: MAILER kept as X-MAILER",
+         "line 7: PHOTO rewritten", "line 1: FN added"],
+    ),
+    Converted(
+        "an old telephone: a photograph in lines without white space, and = at the end of a text",
+        card(
+            "2.1",
+            "ADR;HOME;encoding=quoted-printable:;;Schlo=C3=9F=",
+            "stra=C3=9Fe 1=",
+            ";Bonn;;;",
+            "PHOTO;TYPE=JPEG;ENCODING=BASE64:",
+            "/9j/4AAQSkZJRgAB",
+            "AQAAAQABAAD/2wBD",
+            "",
+            "X_URL:a=",
+            "TEL;CELL:1",
+            "UID:a",
+            "FN:Ann",
+        ),
+        ["ADR;TYPE=home:;;Schloßstraße 1;Bonn;;;",
+         "PHOTO:data:image/jpeg;base64,/9j/4AAQSkZJRgABAQAAAQABAAD/2wBD", "X-URL:a=",
+         "TEL;TYPE=cell:1", "UID:a", "FN:Ann"],
+        ["line 3: ADR rewritten", "line 6: PHOTO rewritten", "line 10: X-URL rewritten",
+         "line 11: TEL rewritten"],
+    ),
+    Converted(
+        "iOS in vCard 3.0, without UID",
+        card(
+            "3.0",
+            "N:Ohlsen;Ann;;;",
+            "FN:Ann Ohlsen",
+            "item1.TEL;type=CELL;type=pref:1",
+            "item1.X-ABLabel:_$!<Home>!$_",
+            "item2.URL;type=pref:http\\://a.test",
+            "BDAY;value=date:1996-04-15",
+            "REV:2008-04-24T19:52:43Z",
+            "X_NAME:x",
+            "nonsense",
+        ),
+        ["N:Ohlsen;Ann;;;", "FN:Ann Ohlsen", "item1.TEL;TYPE=cell;PREF=1:1",
+         "item1.X-ABLABEL:_$!<Home>!$_", "item2.URL;PREF=1:http://a.test", "BDAY:19960415",
+         "REV:20080424T195243Z", "X-NAME:x", "X-UNREADABLE:nonsense", ADDED_UID],
+        ["line 5: TEL rewritten", "line 7: URL rewritten", "line 8: BDAY rewritten",
+         "line 9: REV rewritten", "line 10: X-NAME rewritten", "line 11: kept as X-UNREADABLE",
+         "line 1: UID added"],
+    ),
+    Converted(
+        "a mail program of vCard 2.1 in Latin-1; a label has carets (RFC 6868, section 3.2)",
+        card(
+            "2.1",
+            "N:Kim;Bo",
+            "ADR;WORK;PREF:;;1 Park Lane;London;;;UK",
+            "LABEL;WORK;ENCODING=QUOTED-PRINTABLE:1 Park Lane=0D=0A\"London\"",
+            "ORG;CHARSET=ISO-8859-1:M\udcfcller, Ltd",
+            "NOTE:C:\\temp",
+            "X-ANDROID-CUSTOM:vnd.android.cursor.item/nickname;Bo;1;;",
+            "UID:a",
+        ),
+        ["N:Kim;Bo", "ADR;TYPE=work;PREF=1:;;1 Park Lane;London;;;UK",
+         "ADR;TYPE=work;LABEL=\"1 Park Lane^n^'London^'\":;;;;;;", "ORG:Müller\\, Ltd",
+         "NOTE:C:\\\\temp", "X-ANDROID-CUSTOM:vnd.android.cursor.item/nickname;Bo;1;;", "UID:a",
+         "FN:Bo Kim"],
+        ["line 4: ADR rewritten", "line 5: LABEL renamed", "line 6: ORG rewritten",
+         "line 7: NOTE rewritten", "line 1: FN added"],
+    ),
+    Converted(
+        "properties that vCard 4.0 hasn't (RFC 6350, appendix A.2)",
+        card(
+            "3.0",
+            "FN:Bo",
+            "UID:a",
+            "NAME:Bo",
+            "PROFILE:VCARD",
+            "CLASS:PUBLIC",
+            "SORT-STRING:Kim",
+            "AGENT;VALUE=uri:http://a.test/ann",
+            "AGENT:BEGIN:VCARD\\nFN:Ann\\nEND:VCARD\\n",
+            "VERSION;X-A=1:3.0",
+        ),
+        ["FN:Bo", "UID:a", "X-NAME:Bo", "X-PROFILE:VCARD", "X-CLASS:PUBLIC", "X-SORT-STRING:Kim",
+         "RELATED;TYPE=agent;VALUE=uri:http://a.test/ann",
+         "X-AGENT:BEGIN:VCARD\\nFN:Ann\\nEND:VCARD\\n", "X-VERSION;X-A=1:3.0"],
+        ["line 5: NAME kept as X-NAME", "line 6: PROFILE kept as X-PROFILE",
+         "line 7: CLASS kept as X-CLASS", "line 8: SORT-STRING kept as X-SORT-STRING",
+         "line 9: AGENT renamed", "line 10: AGENT kept as X-AGENT",
+         "line 11: VERSION kept as X-VERSION"],
+    ),
+    Converted(
+        "the card of an agent in vCard 2.1: its lines are texts",
+        card("2.1", "FN:Bo", "AGENT:", "BEGIN:VCARD", "FN:Ann", "END:VCARD", "UID:a"),
+        ["FN:Bo", "X-AGENT:", "X-AGENT:BEGIN:VCARD", "X-AGENT:FN:Ann", "X-AGENT:END:VCARD",
+         "UID:a"],
+        ["line 4: AGENT kept as X-AGENT", "line 5: BEGIN kept as X-AGENT",
+         "line 6: FN kept as X-AGENT", "line 7: END kept as X-AGENT"],
+    ),
+    Converted(
+        "the same with its BEGIN in the line of the AGENT",
+        card("2.1", "FN:Bo", "AGENT:BEGIN:VCARD", "FN:Ann", "END:VCARD", "UID:a"),
+        ["FN:Bo", "X-AGENT:AGENT:BEGIN:VCARD", "X-AGENT:FN:Ann", "X-AGENT:END:VCARD", "UID:a"],
+        ["line 4: AGENT kept as X-AGENT", "line 5: FN kept as X-AGENT",
+         "line 6: END kept as X-AGENT"],
+    ),
+    Converted(
+        "a group of macOS, with UIDs that vCard 4.0 doesn't allow and a second KIND",
+        card(
+            "3.0",
+            "FN:Team",
+            "UID:",
+            "UID:urn:a",
+            "UID:b",
+            "X-ADDRESSBOOKSERVER-KIND:group",
+            "X-ADDRESSBOOKSERVER-MEMBER:urn:uuid:c",
+            "KIND:org",
+        ),
+        ["FN:Team", "X-UID:", "UID:urn:a", "X-UID:b", "KIND:group", "MEMBER:urn:uuid:c",
+         "X-KIND:org"],
+        ["line 4: UID kept as X-UID", "line 6: UID kept as X-UID",
+         "line 7: X-ADDRESSBOOKSERVER-KIND renamed", "line 8: X-ADDRESSBOOKSERVER-MEMBER renamed",
+         "line 9: KIND kept as X-KIND"],
+    ),
+    Converted(
+        "Windows-1252, a path, images without a TYPE, and encodings that can't be undone",
+        card(
+            "2.1",
+            "FN:Bo",
+            "NOTE:\udc80 5",
+            "NOTE;ENCODING=QUOTED-PRINTABLE;CHARSET=windows-1252:=93a=94",
+            "TITLE:C:\\new",
+            "PHOTO;ENCODING=b:R0lGODlh",
+            "LOGO;ENCODING=b:iVBORw",
+            "ROLE;CHARSET=KOI8-R:a",
+            "SOUND;ENCODING=b:*",
+            "UID:a",
+        ),
+        ["FN:Bo", "NOTE:€ 5", "NOTE:\u201ca\u201d", "TITLE:C:\\\\new",
+         "PHOTO:data:image/gif;base64,R0lGODlh", "LOGO:data:image/png;base64,iVBORw==",
+         "ROLE;X-CHARSET=KOI8-R:a", "SOUND;ENCODING=b:*", "UID:a"],
+        ["line 4: NOTE rewritten", "line 5: NOTE rewritten", "line 6: TITLE rewritten",
+         "line 7: PHOTO rewritten", "line 8: LOGO rewritten", "line 9: ROLE rewritten"],
+    ),
+    Converted(
+        "images whose TYPE names no format, by their first octets; one that does decides",
+        card("3.0", "FN:Bo", "UID:a", "PHOTO;ENCODING=b;TYPE=x-evolution-unknown:R0lGODlh",
+             "PHOTO;ENCODING=b:UklGRhoAAABXRUJQ", "PHOTO;ENCODING=b;TYPE=PNG:R0lGODlh"),
+        ["FN:Bo", "UID:a", "PHOTO;TYPE=x-evolution-unknown:data:image/gif;base64,R0lGODlh",
+         "PHOTO:data:image/webp;base64,UklGRhoAAABXRUJQ", "PHOTO:data:image/png;base64,R0lGODlh"],
+        ["line 5: PHOTO rewritten", "line 6: PHOTO rewritten", "line 7: PHOTO rewritten"],
+    ),
+    Converted(
+        "a UID that a line spells stays, also after one that an encoding hides",
+        card("2.1", "FN:Bo", "UID;ENCODING=QUOTED-PRINTABLE:a=3Db", "item1.UID:c"),
+        ["FN:Bo", "X-UID:a=b", "item1.UID:c"],
+        ["line 4: UID kept as X-UID"],
+    ),
+    Converted(
+        "a UID that only an encoding hides",
+        card("2.1", "FN:Bo", "UID;ENCODING=QUOTED-PRINTABLE:a=3Db"),
+        ["FN:Bo", "UID:a=b"],
+        ["line 4: UID rewritten"],
+    ),
+    Converted(
+        "vCard 4.0 after a byte order mark, without FN and UID, with a MEMBER and an END too many",
+        ["\ufeffBEGIN:VCARD", *card("4.0", "MEMBER:urn:uuid:c", "N:Kim;Bo;;;",
+                                    "TEL;TYPE=\"home,voice\":1", "END:x")[1:]],
+        ["X-MEMBER:urn:uuid:c", "N:Kim;Bo;;;", "TEL;TYPE=\"home,voice\":1", "X-END:x", "FN:Bo Kim",
+         ADDED_UID],
+        ["line 3: MEMBER kept as X-MEMBER", "line 6: END kept as X-END", "line 1: FN added",
+         "line 1: UID added"],
+    ),
+    Converted(
+        "quoted-printable (RFC 2045, section 6.7, rules 1 and 5, notes 1 and 2); a form feed, "
+        "which no card may have, is a space",
+        card(
+            "2.1",
+            "UID:a",
+            "FN:Ann",
+            "NOTE;QUOTED-PRINTABLE:Now's the time =",
+            "for all folk to come=",
+            " to the aid of their country.",
+            "NOTE;QUOTED-PRINTABLE:=0C=3D",
+            "NOTE;QUOTED-PRINTABLE:=4g=C3=bc=4",
+        ),
+        ["UID:a", "FN:Ann",
+         "NOTE:Now's the time for all folk to come to the aid of their country.", "NOTE: =",
+         "NOTE:=4gü=4"],
+        ["line 5: NOTE rewritten", "line 8: NOTE rewritten", "line 9: NOTE rewritten"],
+    ),
+    Converted(
+        "the folded line of RFC 6350, section 3.2, and a word that a fold cuts",
+        card("3.0", "UID:a", "FN:Ann", "NOTE:This is a long description",
+             "  that exists on a long line.", "NOTE;QUOTED-", " PRINTABLE:a=", "b"),
+        ["UID:a", "FN:Ann", "NOTE:This is a long description that exists on a long line.",
+         "NOTE:ab"],
+        ["line 7: NOTE rewritten"],
     ),
 ]

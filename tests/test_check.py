@@ -58,6 +58,9 @@ GOOD_ROWS = [
 BAD_CARDS = [
     ("too long", ANN + " " * 262_144, 1, None, "the text is too long"),
     ("a control character", ANN.replace("Ann", "A\x01n"), 3, 4, "a line has a control character"),
+    ("a control character in a folded line after one",
+     "BEGIN:VCARD\nVERSION:4.0\nFN;X\n =1:A\nN\x01:A\n B\nEND:VCARD\n", 3, 5,
+     "a line has a control character"),
     ("two cards", ANN + ANN, 4, 6, "a line isn't a property line"),
     ("a line without a colon", ANN.replace("UID:a", "NOTE\n one\nUID:a"), 4, 3,
      "a line isn't a property line"),
@@ -141,9 +144,13 @@ class Check(OrderTest):
                                  run("try", input=text.encode()))
 
     def test_a_card_in_another_encoding(self):
-        octets = ANN.replace("Ann", "Änn").encode("latin-1")
-        self.assertEqual(Ended(1, b"card: line 4: the text isn't UTF-8\n", b"refused bad-card 5\n"),
-                         self.check("a.vcf", octets))
+        ended = Ended(1, b"card: line 4: the text isn't UTF-8\n", b"refused bad-card 5\n")
+        for octets in [
+            ANN.replace("Ann", "Änn").encode("latin-1"),
+            b"BEGIN:VCARD\nVERSION:4.0\n\nFN:\xff\nEND:VCARD\n",
+        ]:
+            with self.subTest(octets):
+                self.assertEqual(ended, self.check("a.vcf", octets))
 
     def test_other_names_are_of_rows(self):
         for name in "a.vcard", "vcf", "a.vcf.csv", "a.Vcf":

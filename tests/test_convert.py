@@ -11,13 +11,27 @@ import re
 import unittest
 import uuid
 
-from converted_cards import CARDS, card
+from card_rows import octets as octets_of
+from converted_cards import ADDED_UID, CARDS, added_uid, card
 from order_trials import OrderTest
 from program import Ended, run
 
 HEAD = b"uid,vcard\n"
-# The namespace of object identifiers (RFC 4122, appendix C).
-NAMESPACE = uuid.UUID("6ba7b812-9dad-11d1-80b4-00c04fd430c8")
+
+# Files, each in the pieces into which it is cut: a title, the cards and what is between them, and
+# the report. No card has a UID, so those that are added show the octets of each piece.
+PIECES = [
+    ("a card within a card, a blank line, and a card without an end",
+     [b"\xef\xbb\xbfBEGIN:VCARD\nFN:A\nAGENT:\nBEGIN:VCARD\nEND:VCARD\nEND:VCARD\n", b"\n",
+      b"begin:vcard\n"],
+     ["card 1, line 3: AGENT kept as X-AGENT", "card 1, line 4: BEGIN kept as X-AGENT",
+      "card 1, line 5: END kept as X-AGENT", "card 1, line 1: UID added",
+      "card 2, line 8: FN added", "card 2, line 8: UID added"]),
+    ("joined files, without line feeds at their ends",
+     [b"BEGIN:VCARD\r\nFN:Ann\r\nEND:VCARD", b"BEGIN:VCARD\r\nFN:Bob\r\nend:vcard ",
+      b"\xef\xbb\xbfBegin:vCard\nFN:Cy\nEND:VCARD"],
+     ["card 1, line 1: UID added", "card 2, line 3: UID added", "card 3, line 5: UID added"]),
+]
 
 
 def text(lines, end="\r\n"):
@@ -62,11 +76,13 @@ class Convert(OrderTest):
         for title, lines, wanted, report in CARDS:
             for end in "\r\n", "\n":
                 with self.subTest(title, end=end):
-                    octets = text(lines, end).encode()
+                    octets = octets_of(text(lines, end))
                     ended = self.convert(octets)
                     rows = rows_of(ended.out)
                     self.assertEqual(1, len(rows), ended)
-                    self.assertEqual(card("4.0", *wanted), unfolded(rows[0][1].encode()))
+                    uid = "UID:" + added_uid(octets)
+                    made = card("4.0", *(uid if it == ADDED_UID else it for it in wanted))
+                    self.assertEqual(made, unfolded(rows[0][1].encode()))
                     lines_of_report = [f"card 1, {line}\n" for line in report]
                     due = "".join(lines_of_report).encode() + summary(1, bool(report), 0)
                     self.assertEqual((0, due), (ended.status, ended.err))
@@ -87,6 +103,38 @@ class Convert(OrderTest):
                 wanted = card("4.0", "UID:a", "FN:Zoë Ångström")
                 self.assertEqual(wanted, unfolded(rows_of(ended.out)[0][1].encode()))
 
+    def test_a_character_of_two_units(self):
+        """RFC 2781, section 5: the Egyptian god Ra as a character, an equals sign, and his name."""
+        before, after = text(card("3.0", "UID:a", "FN:|")).split("|")
+        for mark, name, encoding in [
+            (b"\xfe\xff", b"\xd8\x08\xdf\x45\x00\x3d\x00\x52\x00\x61", "utf-16-be"),
+            (b"\xff\xfe", b"\x08\xd8\x45\xdf\x3d\x00\x52\x00\x61\x00", "utf-16-le"),
+        ]:
+            with self.subTest(encoding):
+                ended = self.convert(mark + before.encode(encoding) + name + after.encode(encoding))
+                wanted = card("4.0", "UID:a", "FN:\U00012345=Ra")
+                self.assertEqual(wanted, unfolded(rows_of(ended.out)[0][1].encode()))
+
+    def test_a_head_of_many_folds(self):
+        """A head of 50,000 folds before 50,000 lines of base64 is one line."""
+        folded = ["X", *50_000 * [" ="], " ;BASE64", *50_000 * ["A"]]
+        ended = self.convert(text(card("3.0", "UID:a", "FN:Ann", *folded), "\n").encode())
+        report = b"card 1, line 5: kept as X-UNREADABLE\n" + summary(1, 1, 0)
+        self.assertEqual((0, report), (ended.status, ended.err))
+        kept = "X-UNREADABLE:X" + 50_000 * "=" + "\\;BASE64" + 50_000 * "A"
+        wanted = card("4.0", "UID:a", "FN:Ann", kept)
+        self.assertEqual(wanted, unfolded(rows_of(ended.out)[0][1].encode()))
+
+    def test_pieces(self):
+        for title, pieces, report in PIECES:
+            with self.subTest(title):
+                ended = self.convert(b"".join(pieces))
+                uids = [added_uid(piece) for piece in pieces if piece.strip()]
+                self.assertEqual(uids, [row[0] for row in rows_of(ended.out)])
+                lines = "".join(line + "\n" for line in report).encode()
+                self.assertEqual(lines + summary(len(uids), len(uids), 0), ended.err)
+                self.assertEqual(0, ended.status)
+
     def test_joined_files(self):
         """The first of two joined files has no line feed at its end."""
         first, second = text(card("3.0", "UID:a", "FN:Ann")), text(card("3.0", "UID:b", "FN:Bob"))
@@ -105,6 +153,7 @@ class Convert(OrderTest):
         self.assertEqual(2, len(set(uids)), uids)
         for uid in uids:
             self.assertEqual(5, uuid.UUID(uid).version)
+        self.assertEqual(added_uid(octets), uids[0])
         self.assertEqual(uids[0], rows_of(self.convert(octets).out)[0][0])
         report = b"card 1, line 1: UID added\ncard 2, line 5: UID added\n" + summary(2, 2, 0)
         self.assertEqual(report, ended.err)
@@ -119,6 +168,8 @@ class Convert(OrderTest):
             ("a UID twice", ann + ann, 1,
              "card 2, line 6: not carried: an earlier card has the same UID\n"),
             ("too long", ann.replace("Ann", "x" * 270_000), 0,
+             "card 1, line 1: not carried: the text is too long\n"),
+            ("too long in vCard 3.0", "BEGIN:VCARD\nVERSION:3.0\nNOTE:" + "a" * 262_144, 0,
              "card 1, line 1: not carried: the text is too long\n"),
             ("no card", "x", 0, "line 1: not carried: no card begins here\n"),
         ]:
@@ -204,7 +255,7 @@ class Convert(OrderTest):
     def test_any_octets(self):
         """Whatever the file has, the order ends with a summary, and what it writes is imported."""
         drawn = random.Random(6350)
-        whole = "".join(text(it.text) for it in CARDS).encode()
+        whole = octets_of("".join(text(it.text) for it in CARDS))
         for number in range(60):
             octets = bytearray(whole)
             for _ in range(drawn.randrange(1, 40)):

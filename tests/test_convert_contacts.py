@@ -5,17 +5,15 @@ the same file gives the same octets.
 """
 
 import csv
-import hashlib
 import io
 import unittest
 import uuid
 
+from converted_cards import added_uid
 from order_trials import OrderTest
 from program import ROOT, Ended, run
 
 HEAD = b"uid,vcard\n"
-# The namespace of object identifiers (RFC 4122, appendix C).
-NAMESPACE = uuid.UUID("6ba7b812-9dad-11d1-80b4-00c04fd430c8")
 
 # The cards of examples/google.csv, without UID and VERSION, their lines in order of the alphabet.
 GOOGLE = [
@@ -115,9 +113,7 @@ def rows_of(octets):
 
 def row_uid(cells):
     """The UUID of version 5 of the cells, each with ASCII's unit separator after it."""
-    octets = "".join(cell + "\x1f" for cell in cells).encode()
-    digest = hashlib.sha1(NAMESPACE.bytes + octets).digest()
-    return uuid.UUID(bytes=digest[:16], version=5).urn
+    return added_uid("".join(cell + "\x1f" for cell in cells).encode())
 
 
 class ConvertContacts(OrderTest):
@@ -228,6 +224,38 @@ class ConvertContacts(OrderTest):
         self.assertEqual(Ended(0, b"", report), self.convert(octets, "--to", "to"))
         for uid, card in zip("abc", cards):
             self.assertEqual(card.encode(), (self.folder / "to" / (uid + ".vcf")).read_bytes())
+
+    def test_rows_of_an_export(self):
+        """Each row is its second field, or its first one if that is empty, and a line feed."""
+        first = 'BEGIN:VCARD\r\nFN:A\r\nNOTE:"x"\r\nEND:VCARD\r\n'
+        more = [f"BEGIN:VCARD\nFN:{name}\nEND:VCARD" for name in "BCD"]
+        rows = [["a", first], ["b", "two"], [more[0]], [more[1], ""], ["", more[2], "e"]]
+        ended = self.convert(csv_text([["uid", "vcard"], *rows]).encode(), name="export.csv")
+        report = """\
+card 1, line 1: UID added
+line 5: not carried: no card begins here
+card 2, line 7: UID added
+card 3, line 10: UID added
+card 4, line 13: UID added
+4 cards written, 4 changed, 1 not carried
+"""
+        self.assertEqual((1, report), (ended.status, ended.err.decode()))
+        made = rows_of(ended.out)
+        self.assertEqual([["FN:A", 'NOTE:"x"'], ["FN:B"], ["FN:C"], ["FN:D"]],
+                         [self.lines(row) for row in made])
+        texts = [first, *(card + "\n" for card in more)]
+        self.assertEqual([added_uid(it.encode()) for it in texts], [row[0] for row in made])
+
+    def test_headers_of_an_export(self):
+        for title, octets, refused in [
+            ("a row that is no card", b"uid,vcard\na,b\n", 1),
+            ("a byte order mark", b"\xef\xbb\xbfuid,vcard\r\n", 0),
+        ]:
+            with self.subTest(title):
+                ended = self.convert(octets)
+                report = refused * b"line 1: not carried: no card begins here\n"
+                report += b"0 cards written, 0 changed, %d not carried\n" % refused
+                self.assertEqual(Ended(refused, HEAD, report), ended)
 
     def test_unknown_headers(self):
         words = "has no header of Google's or Outlook's contacts in English"
