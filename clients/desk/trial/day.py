@@ -87,6 +87,33 @@ def toast(page, text):
     page.wait(f"document.querySelector('#toast').textContent.includes({json.dumps(text)})")
 
 
+def until(condition, seconds=60):
+    """Waits until a function answers something. Returns that."""
+    end = time.monotonic() + seconds
+    while True:
+        value = condition()
+        if value:
+            return value
+        assert time.monotonic() < end, "it never came to be"
+        time.sleep(0.1)
+
+
+def status(day, book, uid):
+    return day.office.request("GET", f"/books/{book}/cards/{uid}")[0]
+
+
+def stored(day, book, uid, *lines):
+    """Waits until the server's card has the lines. Returns all of its lines."""
+
+    def found():
+        if status(day, book, uid) != 200:
+            return None
+        text = logical(day.office.card(book, uid)["card"])
+        return text if all(it in text for it in lines) else None
+
+    return until(found)
+
+
 def update(page):
     """Asks the server now, from wherever the focus is."""
     is_before = page.run("document.activeElement.id === 'search'")
@@ -168,11 +195,9 @@ def add(day):
     shows(page, "Zoë O'Brien")
     toast(page, "Saved: Zoë O'Brien")
     uid = page.run("decodeURIComponent(location.hash.split('/')[3])")
-    text = logical(day.office.card("staff", uid)["card"])
-    for line in ("N:O'Brien;Zoë;;;", "TEL;TYPE=work:020 7946 0101",
-                 "TEL;TYPE=work:+44 7700 900102", "EMAIL;TYPE=work:zoe@example.test",
-                 "ORG:Brien & Co\\; Ltd"):
-        assert line in text, (line, text)
+    stored(day, "staff", uid, "N:O'Brien;Zoë;;;", "TEL;TYPE=work:020 7946 0101",
+           "TEL;TYPE=work:+44 7700 900102", "EMAIL;TYPE=work:zoe@example.test",
+           "ORG:Brien & Co\\; Ltd")
 
 
 @step
@@ -191,9 +216,8 @@ def edit(day):
     audit(page, "the form")
     hands.press("Save")
     page.wait(f"({CARD}).includes('Quin Cars')")
-    text = logical(day.office.card("clients", "q")["card"])
-    for line in ("X-ACCOUNT:4711", "TZ:Europe/London", "ORG:Quin Cars", "NOTE:Rings on Fridays."):
-        assert line in text, (line, text)
+    stored(day, "clients", "q", "X-ACCOUNT:4711", "TZ:Europe/London", "ORG:Quin Cars",
+           "NOTE:Rings on Fridays.")
 
 
 @step
@@ -220,10 +244,7 @@ def conflict(day):
     day.picture(page, "conflict")
     page.key(" ")
     hands.press("Save what is chosen")
-    toast(page, "Saved: Anna")
-    text = logical(day.office.card("clients", "a")["card"])
-    for line in ("TITLE:Head of sales", "TEL:020 7946 0177"):
-        assert line in text, (line, text)
+    text = stored(day, "clients", "a", "TITLE:Head of sales", "TEL:020 7946 0177")
     assert ("FN:Anna Marie" in text) != ("FN:Anna Maria" in text), text
 
 
@@ -241,8 +262,7 @@ def move(day):
     hands.press("clients")
     toast(page, "Moved to clients: Cy")
     assert "FN:Cy" in day.office.card("clients", "c")["card"]
-    status, _, _ = day.office.request("GET", "/books/staff/cards/c")
-    assert status == 404, status
+    assert status(day, "staff", "c") == 404
     page.wait("location.hash === '#/card/clients/c'")
 
 
@@ -259,17 +279,16 @@ def delete(day):
         page.wait("document.querySelector('dialog')")
         hands.press("Delete")
         toast(page, "Deleted: Bob")
-        status, _, _ = day.office.request("GET", "/books/staff/cards/b")
-        assert status == 404, status
+        until(lambda: status(day, "staff", "b") == 404)
         if is_undone:
             day.picture(page, "deleted")
             before = hands.stops
             hands.press("Undo")
             assert hands.stops - before <= 3, "Undo is far away"
             shows(page, "Bob")
-            assert "FN:Bob" in day.office.card("staff", "b")["card"]
+            stored(day, "staff", "b", "FN:Bob")
     page.wait(f"!({ROWS}).includes('Bob')")
-    page.wait("document.querySelector('#pane .keys')")
+    page.wait("!document.querySelector('#card-name')")
 
 
 # The name of a file, its text, and what the desk says of it.

@@ -5,7 +5,7 @@ import time
 
 from cards import EVIL, MARK, hostile_cards, many_cards
 from office import card
-from steps import ROWS, STATE, TITLE, fill, search, step, toast, up_to_date
+from steps import ROWS, STATE, TITLE, fill, search, step, stored, toast, up_to_date
 
 
 @step
@@ -55,12 +55,13 @@ def hostile(trial):
         fill(admin, "Position", "edited")
         admin.press("Save")
         admin.wait("!document.querySelector('.form')")
-        assert "TITLE:edited" in trial.office.card("staff", uid)["card"]
+        stored(trial.office, uid, "TITLE:edited", "staff")
     admin.run("location.hash = '#/edit/staff/..'")
     fill(admin, "Position", "edited")
     admin.press("Save")
-    toast(admin, "No browser can ask")
-    admin.press("Cancel", "document.querySelector('.form')")
+    admin.wait("document.querySelector('#pane .unsent')?.innerText.includes('No browser can ask')")
+    admin.press("Drop this change", "document.querySelector('#pane')")
+    admin.wait("document.querySelector('#waiting').hidden")
 
 
 @step
@@ -98,8 +99,8 @@ def offline(trial):
     ann.picture(trial.pictures / "offline.png")
     ann.key("F2")
     fill(ann, "Position", "Treasurer")
-    ann.press("Save")
-    toast(ann, "kept here")
+    ann.wait("document.querySelector('.form')")
+    ann.run("new Promise((done) => setTimeout(done, 700))")
     ann.go("about:blank")
     office.open()
     ann.go(office.front)
@@ -110,7 +111,7 @@ def offline(trial):
     ann.wait("document.querySelector('.draft')")
     ann.press("Save")
     toast(ann, "Saved: Miriam")
-    assert "TITLE:Treasurer" in office.card("clients", "c12")["card"]
+    stored(office, "c12", "TITLE:Treasurer")
 
 
 @step
@@ -201,7 +202,7 @@ def ten_thousand(trial):
     office = trial.office
     office.order_book("large")
     office.fill("large", many_cards())
-    page = trial.desk("admin", width=1280, height=800)
+    page = trial.desk("admin", "full", width=1280, height=800)
     page.wait(f"{STATE}.startsWith('Up to date') && {LARGE} === '10,000'", 300)
     page.press("⋯", f"{LARGE_BOOK}")
     page.press("Remove the copy", "document.querySelector('dialog')")

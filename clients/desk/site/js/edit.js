@@ -1,7 +1,7 @@
 // The fields of the form, and the card after an edit. Lines whose fields are as they were are kept
 // as they are, and so is every line that the form doesn't know.
 import {
-  firstNamed, kindOf, linesNamed, makeLine, newUid, param, typesOf, uidOf, withParams, withValue,
+  firstNamed, kindOf, linesNamed, makeLine, param, typesOf, uidOf, withParams, withValue,
 } from "./vcard.js";
 import {
   clean, componentOfList, componentText, dateField, dateParts, dateValue, escapeText, partsOf,
@@ -12,8 +12,8 @@ import { useOf } from "./person.js";
 const USES = ["work", "home", "cell", "fax", "pager"];
 
 /** A card for a new form. */
-export function newCard(kind) {
-  const lines = [makeLine("UID", "", newUid())];
+export function newCard(kind, uid) {
+  const lines = [makeLine("UID", "", uid)];
   if (kind !== "individual") lines.push(makeLine("KIND", "", kind));
   return { lines };
 }
@@ -27,7 +27,7 @@ export function asKind(card, kind) {
   const others = ["KIND", ...(kind === "individual" ? [] : OF_PERSONS),
     ...(kind === "group" ? [] : OF_GROUPS)];
   const kept = card.lines.filter((line) => !others.includes(line.name));
-  const own = newCard(kind).lines.filter((line) => line.name === "KIND");
+  const own = newCard(kind, uidOf(card)).lines.filter((line) => line.name === "KIND");
   return { lines: [...kept, ...own] };
 }
 

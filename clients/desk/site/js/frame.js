@@ -31,6 +31,7 @@ export class Frame {
     add.textContent = t("newCard");
     add.title = t("newCardKey");
     add.addEventListener("click", run.newCard);
+    by("waiting").addEventListener("click", run.waiting);
     fill(by("state"), el("span"), button(t("update"), run.update, { class: "quiet" }));
     by("skip").addEventListener("click", (event) => {
       event.preventDefault();
@@ -85,6 +86,25 @@ export class Frame {
     });
   }
 
+  /** The button for a new card is there if there is a book for one. */
+  showNew(isThere) {
+    by("new").hidden = !isThere;
+  }
+
+  /** Says in the list how many changes wait, and how many forms aren't finished. */
+  showWaiting(entries, drafts) {
+    const sure = entries.filter((it) => it.state === "waits").length;
+    const parts = [
+      sure ? count("waitsCount", sure) : "",
+      entries.length > sure ? count("needsCount", entries.length - sure) : "",
+      drafts.length ? count("draftsCount", drafts.length) : "",
+    ].filter(Boolean);
+    const node = by("waiting");
+    node.hidden = !parts.length;
+    node.classList.toggle("needs", entries.length > sure);
+    if (node.textContent !== parts.join(" · ")) node.textContent = parts.join(" · ");
+  }
+
   showCount(rows, isSearch) {
     by("count").textContent = isSearch ? count("resultsCount", rows) : count("cardsCount", rows);
     const empty = by("empty");
@@ -108,15 +128,15 @@ export class Frame {
     if (progress) by("bar").value = Math.min(1, progress.done / Math.max(1, progress.total));
   }
 
-  showState(books) {
-    const [text, kind] = this.stateOf(books);
+  showState(books, entries) {
+    const [text, kind] = this.stateOf(books, entries);
     by("state").className = `state ${kind}`;
     const words = by("state").firstElementChild;
     // It is read out when it changes, so it is left alone when it doesn't.
     if (words.textContent !== text) words.textContent = text;
   }
 
-  stateOf(books) {
+  stateOf(books, entries) {
     const states = [...this.states.entries()];
     const oldest = Math.min(...books.map((it) => it.synced));
     const time = timeText(Number.isFinite(oldest) ? oldest : 0);

@@ -5,6 +5,13 @@ const LETTERS = {
   ß: "ss", ø: "o", đ: "d", ð: "d", ł: "l", æ: "ae", œ: "oe", þ: "th", ı: "i",
 };
 
+const SPELT = { ä: "ae", ö: "oe", ü: "ue", ø: "oe", å: "aa" };
+
+/** The text with umlauts as two letters, as many type them: Müller is Mueller then. */
+export function spellOut(text) {
+  return text.normalize("NFC").replace(/[äöüøå]/gi, (it) => SPELT[it.toLowerCase()]);
+}
+
 /** The text in small letters without accents and apostrophes, and with one space between words. */
 export function fold(text) {
   return text
@@ -26,16 +33,18 @@ export function readQuery(text) {
 
 /** 0 for the best match, higher for a lesser one, -1 for none. */
 export function rank(row, query) {
-  if (query.digits && hasNumber(row, query)) return 0;
+  if (query.digits && hasNumber(row.digits ?? "", query)) return 0;
   let worst = 0;
   for (const word of query.words) {
     const begin = ` ${word}`;
+    const { names = "", words = "", more = "" } = row;
     let found;
-    if (row.names.startsWith(begin)) found = 0;
-    else if (row.names.includes(begin)) found = 1;
-    else if (row.words.includes(begin)) found = 2;
-    else if (row.names.includes(word)) found = 3;
-    else if (row.words.includes(word)) found = 4;
+    if (names.startsWith(begin)) found = 0;
+    else if (names.includes(begin)) found = 1;
+    else if (words.includes(begin)) found = 2;
+    else if (names.includes(word)) found = 3;
+    else if (words.includes(word)) found = 4;
+    else if (more.includes(begin)) found = 5;
     else return -1;
     if (found > worst) worst = found;
   }
@@ -44,21 +53,19 @@ export function rank(row, query) {
 
 // A number may be stored as +353 20 911 0177 and typed as 020 911 0177, or the other way round: so
 // leading zeros don't count, and of long numbers the last eight digits are enough.
-function hasNumber(row, query) {
-  const end = query.trunk.length >= 8 ? query.trunk.slice(-8) : null;
-  return row.digits.some(
-    (it) =>
-      it.includes(query.digits) ||
-      (query.trunk !== "" && it.includes(query.trunk)) ||
-      (end !== null && it.length >= 8 && end.endsWith(it.slice(-8))),
-  );
+function hasNumber(digits, query) {
+  if (digits.includes(query.digits)) return true;
+  if (query.trunk !== "" && digits.includes(query.trunk)) return true;
+  if (query.trunk.length < 8) return false;
+  const end = query.trunk.slice(-8);
+  return digits.split(" ").some((it) => it.length >= 8 && end.endsWith(it.slice(-8)));
 }
 
 /** The rows that match, the best first, and in their own order where they match alike. */
 export function search(rows, text) {
   const query = readQuery(text);
-  if (!query.words.length && !query.digits) return rows;
-  const ranked = [[], [], [], [], []];
+  if (!query.words.length && !query.digits) return text.trim() === "" ? rows : [];
+  const ranked = [[], [], [], [], [], []];
   for (const row of rows) {
     const found = rank(row, query);
     if (found >= 0) ranked[found].push(row);
@@ -66,11 +73,25 @@ export function search(rows, text) {
   return ranked.flat();
 }
 
-/** Sorts rows by name as the language does, then by book and UID. */
-export function sortRows(rows, language) {
+/**
+ * Sorts rows by name as the language does, then by book and UID; `by` is "name", or "family" for
+ * the family name first.
+ */
+export function sortRows(rows, language, by = "name") {
   const { compare } = new Intl.Collator(language, { sensitivity: "base", numeric: true });
   const order = (a, b) => (a < b ? -1 : Number(a > b));
-  return rows.sort(
-    (a, b) => compare(a.name, b.name) || order(a.book, b.book) || order(a.uid, b.uid),
+  const name = by === "family" ? familyFirst : (row) => row.name;
+  const keyed = rows.map((row) => [name(row), row]);
+  keyed.sort(
+    (a, b) => compare(a[0], b[0]) || order(a[1].book, b[1].book) || order(a[1].uid, b[1].uid),
   );
+  return keyed.map((it) => it[1]);
+}
+
+/** The name by which a row is sorted if family names come first. */
+export function familyFirst(row) {
+  if (row.family) return `${row.family} ${row.given ?? ""}`;
+  if (row.kind !== "individual") return row.name;
+  const words = row.name.split(" ");
+  return words.length > 1 ? `${words[words.length - 1]} ${row.name}` : row.name;
 }

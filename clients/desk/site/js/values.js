@@ -13,6 +13,11 @@ export function escapeText(text) {
     .replace(/[,;]/g, (it) => `\\${it}`);
 }
 
+/** The text without marks that turn its direction or can't be seen: a number is read as it is. */
+export function plainText(text) {
+  return text.replace(/[\u061c\u200b-\u200f\u202a-\u202e\u2060-\u2069\ufeff]/g, "");
+}
+
 /** The text with line ends as \n, and without other control characters. */
 export function clean(text) {
   // eslint-disable-next-line no-control-regex

@@ -2,16 +2,18 @@
 import { bdi, button, el } from "../dom.js";
 import { initials } from "../person.js";
 import { count, dateText, t, usesText } from "../texts.js";
+import { entryButtons, whyText } from "./waiting.js";
 
 /**
  * The view of a card: `seen` of `describe`, its `row`, its text, the members and groups that the
  * copy has. `act` has the actions.
  */
-export function cardView({ seen, row, text, members, groups, act }) {
+export function cardView({ seen, row, text, entry, members, groups, mayChange, act }) {
   return el(
     "article",
     { class: "card", "aria-labelledby": "card-name" },
-    head(seen, row, act),
+    head(seen, mayChange, act),
+    entry && notSent(entry, act),
     phones(seen, act),
     section(t("mail"), seen.mails.map((it) => line(it, act))),
     section(t("chat"), seen.chats.map((it) => line(it, act))),
@@ -27,11 +29,20 @@ export function cardView({ seen, row, text, members, groups, act }) {
     seen.kind === "group" ? group(members, act) : null,
     section(t("inGroups"), [tags(groups.map((it) => link(it, act)))]),
     more(seen, text),
-    el("footer", {}, t("cardFooter", { book: row.book, version: row.version })),
+    el("footer", {}, t("cardFooter", { book: row.book })),
   );
 }
 
-function head(seen, row, act) {
+/** A change of this card that the server doesn't have yet. */
+function notSent(entry, act) {
+  const run = { decide: act.decide, again: act.again, drop: act.drop };
+  const buttons = entryButtons(entry, run);
+  return el("div", { class: `unsent ${entry.state}`, role: "status" },
+    el("p", {}, el("strong", {}, t("notSentMark")), " ", whyText(entry)),
+    buttons.length ? el("div", { class: "bar" }, buttons) : null);
+}
+
+function head(seen, mayChange, act) {
   const roles = [...seen.titles, ...seen.orgs].join(" · ");
   const nick = seen.nicknames.join(", ");
   return el(
@@ -48,10 +59,11 @@ function head(seen, row, act) {
     el(
       "div",
       { class: "actions", role: "group", "aria-label": t("actions") },
-      button(t("edit"), act.edit, { class: "main", title: t("editKey") }),
-      act.move && button(t("move"), act.move),
+      mayChange && button(t("edit"), act.edit, { class: "main", title: t("editKey") }),
+      mayChange && button(t("move"), act.move),
       button(t("saveVcf"), act.download),
-      button(t("remove"), act.remove, { class: "danger" }),
+      mayChange && button(t("remove"), act.remove, { class: "danger" }),
+      mayChange ? null : el("span", { class: "hint" }, t("readOnly")),
     ),
   );
 }

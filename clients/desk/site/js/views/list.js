@@ -2,6 +2,7 @@
 import { bdi, el } from "../dom.js";
 import { keyOf } from "../shelf.js";
 import { count, t, usesText } from "../texts.js";
+import { plainText } from "../values.js";
 
 const AROUND = 6;
 
@@ -58,10 +59,9 @@ export class CardList {
 
   option(at) {
     const row = this.rows[at];
-    const phone = row.phones[0];
-    const under = [row.title, row.org].filter(Boolean).join(" · ") || row.mail;
+    const under = [row.title, row.org].filter(Boolean).join(" · ") || (row.mail ?? "");
     const isGroup = row.kind === "group";
-    const side = isGroup ? count("membersCount", row.members.length) : (phone?.text ?? "");
+    const side = isGroup ? count("membersCount", row.members?.length ?? 0) : (row.phone ?? "");
     const option = el(
       "div",
       {
@@ -76,8 +76,9 @@ export class CardList {
       el(
         "div",
         { class: "side" },
-        bdi(side, isGroup ? "members" : "number"),
-        el("span", { class: "under" }, this.withBooks ? row.book : usesText(phone?.label)),
+        bdi(plainText(side), isGroup ? "members" : "number"),
+        row.mark ? el("span", { class: `mark ${row.mark}` }, t(`mark_${row.mark}`))
+          : el("span", { class: "under" }, this.withBooks ? row.book : usesText(row.label)),
       ),
     );
     option.style.top = `${at * this.height}px`;
