@@ -4,14 +4,15 @@
 const CACHE = "desk-files";
 const PATIENCE = 2500;
 const FILES = [
-  "./", "icon.svg", "js/actions.js", "js/api.js", "js/bookfiles.js", "js/desk.js", "js/dom.js",
-  "js/drafts.js", "js/edit.js", "js/files.js", "js/forming.js", "js/frame.js", "js/main.js",
-  "js/merge.js", "js/outbox.js", "js/pane.js", "js/person.js", "js/photo.js", "js/policy.js",
-  "js/push.js", "js/questions.js", "js/queue.js", "js/search.js", "js/shelf.js", "js/shown.js",
-  "js/store.js", "js/sync.js", "js/tables.js", "js/texts.js", "js/trash.js", "js/values.js",
-  "js/vcard.js", "js/views/books.js", "js/views/card.js", "js/views/conflict.js",
-  "js/views/dialogs.js", "js/views/form.js", "js/views/list.js", "js/views/waiting.js",
-  "manifest.json", "style/base.css", "style/card.css", "style/frame.css", "style/narrow.css",
+  "./", "icon.svg", "js/actions.js", "js/api.js", "js/bookfiles.js", "js/dates.js",
+  "js/desk.js", "js/dom.js", "js/drafts.js", "js/edit.js", "js/files.js", "js/forming.js",
+  "js/frame.js", "js/main.js", "js/merge.js", "js/outbox.js", "js/pane.js", "js/person.js",
+  "js/photo.js", "js/policy.js", "js/push.js", "js/questions.js", "js/queue.js", "js/search.js",
+  "js/shelf.js", "js/shown.js", "js/store.js", "js/sync.js", "js/tables.js", "js/texts.js",
+  "js/trash.js", "js/values.js", "js/vcard.js", "js/views/books.js", "js/views/card.js",
+  "js/views/conflict.js", "js/views/dialogs.js", "js/views/fields.js", "js/views/form.js",
+  "js/views/list.js", "js/views/menu.js", "js/views/waiting.js", "manifest.json",
+  "style/base.css", "style/card.css", "style/frame.css", "style/narrow.css",
 ];
 const OWN = new Set(FILES.map((file) => new URL(file, self.registration.scope).href));
 let slowUntil = 0;

@@ -87,6 +87,7 @@ class Browser:
             self.program, "--headless=new", "--no-sandbox", "--disable-gpu", "--hide-scrollbars",
             "--no-first-run", "--disable-background-networking", "--disable-component-update",
             "--disable-dev-shm-usage", "--remote-debugging-port=0", "--lang=en-GB",
+            "--accept-lang=en-GB",
             f"--user-data-dir={self.folder}", *self.arguments, "about:blank",
         ]
         port_file = self.folder / "DevToolsActivePort"

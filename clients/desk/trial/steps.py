@@ -65,7 +65,7 @@ def search(page, text):
 def fill(page, label, text):
     """Types into the field with this label, in place of what it has."""
     page.wait(f"""(() => {{
-        const label = [...document.querySelectorAll('.form label, dialog label')]
+        const label = [...document.querySelectorAll('form label, dialog label')]
             .find((it) => it.textContent.trim() === {json.dumps(label)});
         const field = label && document.getElementById(label.htmlFor);
         if (!field) return false;

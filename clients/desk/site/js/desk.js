@@ -166,8 +166,9 @@ export class Desk {
 
   /** Draws the card in the pane again if it changed. A form is left alone. */
   refresh(keys) {
-    const { shown } = this.pane;
+    const { shown, missing } = this.pane;
     if (shown?.kind === "card" && keys.has(keyOf(shown))) this.pane.again();
+    else if (missing && keys.has(missing)) this.pane.route();
   }
 
   drawSoon() {

@@ -17,6 +17,7 @@ export class Pane {
     this.node = desk.frame.pane;
     this.shown = null; // {kind: "card" or "form", book, uid}
     this.form = null;
+    this.missing = ""; // the key of a card that was asked for and isn't here
     this.asked = {}; // what is on its way into the pane; a later one takes its place
   }
 
@@ -79,6 +80,7 @@ export class Pane {
     const { form } = this;
     this.form = null;
     this.shown = shown;
+    this.missing = "";
     form?.left();
   }
 
@@ -142,13 +144,15 @@ export class Pane {
     const place = this.node.scrollTop;
     const wasHere = this.node.contains(document.activeElement);
     if (seen) this.fillCard(shown.book, shown.uid, seen);
-    else this.gone();
+    else this.gone(shown.book, shown.uid);
     this.node.scrollTop = place;
     if (wasHere) this.node.querySelector("#card-name")?.focus();
   }
 
-  gone() {
+  /** The card isn't here. If it comes, it is shown. */
+  gone(book, uid) {
     this.set(null);
+    this.missing = `${book}/${uid}`;
     fill(this.node, this.back(), el("p", { class: "welcome" }, t("goneCard")));
   }
 
@@ -161,7 +165,7 @@ export class Pane {
       this.set({ kind: "card", book, uid });
       this.fillCard(book, uid, seen);
     } else {
-      this.gone();
+      this.gone(book, uid);
     }
     this.node.scrollTop = 0;
     if (!isFinal) return;

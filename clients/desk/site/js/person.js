@@ -3,8 +3,8 @@ import {
   firstNamed, kindOf, lineText, linesNamed, param, readCard, typesOf, uidOf,
 } from "./vcard.js";
 import {
-  componentText, dateParts, digitsOf, mailLink, partsOf, photoOf, safeLink, telLink, telText,
-  unescapeText,
+  componentText, dateParts, digitsOf, mailLink, partsOf, photoOf, plainText, safeLink, telLink,
+  telText, unescapeText,
 } from "./values.js";
 import { fold, spellOut } from "./search.js";
 
@@ -60,8 +60,9 @@ export function addressOf(line) {
   return [box, flat, street, place, region, country].filter(Boolean);
 }
 
+/** A value with its link. What a link shows is what it does: no mark may turn it around. */
 function linkRow(card, line, text, href) {
-  return { label: labelOf(card, line), text, href };
+  return { label: labelOf(card, line), text: href ? plainText(text) : text, href };
 }
 
 /** All that the view of a card shows. Texts are plain; each `href` is of a harmless scheme. */

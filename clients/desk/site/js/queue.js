@@ -51,7 +51,8 @@ export class Queue {
   async seen(book, uid) {
     const tx = this.db.transaction(["cards", "queue"]);
     const [card, entry] = await Promise.all([
-      done(tx.objectStore("cards").get([book, uid])), done(tx.objectStore("queue").get([book, uid])),
+      done(tx.objectStore("cards").get([book, uid])),
+      done(tx.objectStore("queue").get([book, uid])),
     ]);
     if (entry) return entry.kind === "remove" ? null : { ...entry, entry };
     return card ? { text: card.text, base: card.text, version: card.version, entry: null } : null;
@@ -71,7 +72,7 @@ export class Queue {
       let { text } = edit;
       let [base, version, order] = [edit.base, edit.version, 0];
       if (entry?.kind === "save") {
-        // Another change of this card waits. The new one is based on it, or is put together with it.
+        // Another change of this card waits: this one is based on it, or they are put together.
         if (!sameCard(entry.text, edit.base) && !sameCard(entry.text, text)) {
           const both = merge3(edit.base, text, entry.text);
           if (both.clashes.length) return { clash: entry.text };

@@ -110,10 +110,16 @@ const TEXTS = {
   city: "Town",
   region: "Region",
   country: "Country",
-  dateHint: "Year-month-day, or --month-day without a year.",
+  dateHint: "As you write it, with or without a year.",
+  dateRead: "That is {date}.",
+  dateBad: "This can’t be read as a date. Write it as 12 April 1980, or keep it as it is typed.",
+  dateKeep: "Keep it as it is typed",
+  dateKept: "Kept as it is typed.",
+  mailBad: "This doesn’t look like a mail address.",
+  phoneBad: "This doesn’t look like a phone number.",
   commaHint: "Separate several with commas.",
   choosePhoto: "Choose a photo",
-  moreFields: "More about this card",
+  addField: "Add field",
   useOf: "Kind of {title}",
   noUse: "–",
   add: "Add",
@@ -338,7 +344,7 @@ const COUNTS = {
 };
 
 // Numbers and times are written as in the user's country, if the user's language is this one.
-const locale = navigator.languages?.find((it) => it.split("-")[0] === language) ?? language;
+export const locale = navigator.languages?.find((it) => it.split("-")[0] === language) ?? language;
 const plurals = new Intl.PluralRules(language);
 const numbers = new Intl.NumberFormat(locale);
 const times = new Intl.DateTimeFormat(locale, { hour: "2-digit", minute: "2-digit" });

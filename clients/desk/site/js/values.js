@@ -95,17 +95,34 @@ export function safeLink(text) {
   return SAFE.includes(url.protocol) ? url.href : null;
 }
 
+/**
+ * The address that calls the number, or null. Stars and hashes are orders to the telephone network,
+ * as to send all calls elsewhere, so a text with them is no link.
+ */
 export function telLink(line) {
-  if (/^tel:/i.test(line.value)) return safeLink(line.value);
-  const number = telText(line).replace(/(?:ext\.?|x)\s*[0-9]+\s*$/i, "");
-  const dialled = number.replace(/[^0-9+*#]/g, "");
-  return dialled.length >= 3 ? safeLink(`tel:${dialled.replace(/#/g, "%23")}`) : null;
+  const text = plainText(telText(line)).trim();
+  const [, number, ext] = /^(.*?)(?:\s*(?:ext\.?|x)\s*([0-9]{1,10}))?$/is.exec(text);
+  if (!/^\+?[0-9\s().\-/\u2010-\u2015\u00a0]+$/.test(number)) return null;
+  const dialled = number.replace(/[^0-9+]/g, "");
+  if (dialled.length < 3 || dialled.length > 40) return null;
+  return safeLink(`tel:${dialled}${ext ? `;ext=${ext}` : ""}`);
 }
 
 export function mailLink(text) {
-  return /^[^\s@<>"]+@[^\s@<>"]+$/.test(text)
-    ? safeLink(`mailto:${encodeURIComponent(text).replace(/%40/g, "@")}`)
+  const address = plainText(text);
+  return /^[^\s@<>"]+@[^\s@<>"]+$/.test(address)
+    ? safeLink(`mailto:${encodeURIComponent(address).replace(/%40/g, "@")}`)
     : null;
+}
+
+/** Whether a text may be a mail address: something, an at sign, and a place with a dot. */
+export function isMail(text) {
+  return /^[^\s@<>",;]+@[^\s@<>",;.]+(\.[^\s@<>",;.]+)+$/.test(text.trim());
+}
+
+/** Whether a text may be a phone number. */
+export function isPhone(text) {
+  return /^\+?[0-9 ().\-/*#]{2,}(\s*(ext\.?|x)\s*[0-9]+)?$/i.test(text.trim());
 }
 
 /** The photo as a data: address of a type that can't have scripts, or null. */
@@ -130,21 +147,4 @@ export function dateParts(value) {
 
 function whole(parts) {
   return parts.month <= 12 && parts.day <= 31 ? parts : null;
-}
-
-/** What a form shows of a date: 1980-04-12, --04-12, or the value as it is. */
-export function dateField(value) {
-  const parts = dateParts(value);
-  if (!parts || value.includes("T")) return value;
-  const two = (number) => String(number).padStart(2, "0");
-  const year = parts.year ? String(parts.year).padStart(4, "0") : "-";
-  const given = [parts.month, parts.day].filter(Boolean).map(two);
-  return [year, ...given].join("-");
-}
-
-/** A value for what the form has, or null if it isn't a date of these forms. */
-export function dateValue(text) {
-  const typed = text.trim();
-  if (!dateParts(typed)) return null;
-  return /^\d{4}-\d{2}$/.test(typed) ? typed : typed.replace(/^(--)|-/g, "$1");
 }
