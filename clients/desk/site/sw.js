@@ -4,15 +4,19 @@
 const CACHE = "desk-files";
 const PATIENCE = 2500;
 const FILES = [
-  "./", "icon.svg", "js/actions.js", "js/api.js", "js/bookfiles.js", "js/dates.js",
-  "js/desk.js", "js/dom.js", "js/drafts.js", "js/edit.js", "js/files.js", "js/forming.js",
-  "js/frame.js", "js/main.js", "js/merge.js", "js/outbox.js", "js/pane.js", "js/person.js",
-  "js/photo.js", "js/policy.js", "js/push.js", "js/questions.js", "js/queue.js", "js/search.js",
-  "js/shelf.js", "js/shown.js", "js/store.js", "js/sync.js", "js/tables.js", "js/texts.js",
-  "js/trash.js", "js/values.js", "js/vcard.js", "js/views/books.js", "js/views/card.js",
-  "js/views/conflict.js", "js/views/dialogs.js", "js/views/fields.js", "js/views/form.js",
-  "js/views/list.js", "js/views/menu.js", "js/views/waiting.js", "manifest.json",
-  "style/base.css", "style/card.css", "style/frame.css", "style/narrow.css",
+  "./", "icon-180.png", "icon-192.png", "icon-512.png", "icon-mask-512.png", "icon.svg",
+  "js/actions.js", "js/api.js", "js/bookfiles.js", "js/bulk.js", "js/dates.js", "js/desk.js",
+  "js/dom.js", "js/drafts.js", "js/edit.js", "js/faces.js", "js/files.js", "js/forming.js",
+  "js/frame.js", "js/groups.js", "js/icons.js", "js/lists.js", "js/main.js", "js/merge.js",
+  "js/older.js", "js/outbox.js", "js/pane.js", "js/person.js", "js/photo.js", "js/policy.js",
+  "js/push.js", "js/questions.js", "js/queue.js", "js/search.js", "js/shelf.js", "js/shown.js",
+  "js/store.js", "js/sync.js", "js/tables.js", "js/texts.js", "js/trash.js", "js/values.js",
+  "js/vcard.js", "js/views/books.js", "js/views/card.js", "js/views/conflict.js",
+  "js/views/dialogs.js", "js/views/fields.js", "js/views/form.js", "js/views/letters.js",
+  "js/views/list.js", "js/views/listhead.js", "js/views/menu.js", "js/views/print.js",
+  "js/views/sidebar.js", "js/views/waiting.js", "manifest.json", "style/base.css",
+  "style/card.css", "style/form.css", "style/frame.css", "style/list.css", "style/narrow.css",
+  "style/print.css",
 ];
 const OWN = new Set(FILES.map((file) => new URL(file, self.registration.scope).href));
 let slowUntil = 0;

@@ -126,7 +126,10 @@ def menu(page, book):
     """Opens the dialog of a book, from the search on."""
     if page.run("document.activeElement.id !== 'search'"):
         page.key("Escape")
-    Hands(page).press(f"Book {book}: ")
+    hands = Hands(page)
+    if page.run("document.querySelector('#places').checkVisibility()"):
+        hands.press("Books and groups", back=True)
+    hands.press(f"Book {book}: ")
     page.wait(f"{CAPTION}?.includes('card')")
 
 
@@ -135,14 +138,16 @@ def morning(day):
     """The desk opens with all books and cards that the tour left."""
     page = day.desk("admin")
     page.wait(f"{STATE}.startsWith('Up to date')")
-    equals(page, BOOKS, ["All books\n5", "clients\n3", "staff\n2"])
+    equals(page, BOOKS, ["All books\n5", "clients\n3", "staff\n2", "Favourites",
+                         "Recently opened"])
     equals(page, ROWS, ["Anna", "Bob", "Cy", "Pat Lee", "Quin"])
     hands = Hands(page)
     hands.at("search")
-    assert hands.order(9) == [
+    assert hands.order(12) == [
         "button New card", "button Update now", "button All books5", "button clients3",
         "button Book clients: numbers, import,", "button staff2",
-        "button Book staff: numbers, import, e", "button Add a book", "listbox Cards",
+        "button Book staff: numbers, import, e", "button Add a book", "button Favourites",
+        "button Recently opened", "button Sort and select", "listbox Cards",
     ]
     page.key("Escape")
     hands.at("search")
@@ -166,8 +171,9 @@ def search(day):
     shows(page, "Pat Lee")
     page.key("Enter")
     hands.at("card-name")
-    stops = hands.order(3)
-    assert stops == ["button Edit", "button Move…", "button Save as vCard"], stops
+    stops = hands.order(4)
+    assert stops == ["button Edit", "button More actions", "a Mail: pat@example.test",
+                     "button Share"], stops
     assert page.run("document.querySelector('.card a').href") == "mailto:pat@example.test"
     day.picture(page, "card")
     audit(page, "a card")
@@ -256,7 +262,7 @@ def move(day):
     shows(page, "Cy")
     page.key("Enter")
     hands.at("card-name")
-    hands.press("Move…")
+    hands.choose("More actions", "Move…")
     page.wait("document.querySelector('dialog')")
     audit(page, "a question")
     hands.press("clients")
@@ -275,7 +281,7 @@ def delete(day):
     for is_undone in (True, False):
         page.key("Enter")
         hands.at("card-name")
-        hands.press("Delete")
+        hands.choose("More actions", "Delete")
         page.wait("document.querySelector('dialog')")
         hands.press("Delete")
         toast(page, "Deleted: Bob")

@@ -110,7 +110,7 @@ def phone(day):
         hands.at("card-name")
         day.picture(page, f"phone-{width}-card")
         audit(page, f"a card, {width} wide")
-        hands.press("Move…")
+        hands.choose("More actions", "Move…")
         page.wait("document.querySelector('dialog')")
         audit(page, f"a question, {width} wide")
         page.key("Escape")

@@ -27,7 +27,8 @@ def hostile(trial):
             const names = [...pane.querySelectorAll('*')].map((it) => it.localName);
             const known = new Set([
                 'article', 'header', 'div', 'h2', 'h3', 'h4', 'p', 'bdi', 'button', 'section', 'a',
-                'img', 'span', 'ul', 'li', 'details', 'summary', 'pre', 'footer',
+                'img', 'span', 'ul', 'li', 'details', 'summary', 'pre', 'footer', 'svg',
+                'path',
             ]);
             return {
                 odd: names.filter((it) => !known.has(it)),

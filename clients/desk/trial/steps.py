@@ -76,6 +76,13 @@ def fill(page, label, text):
     page.type(text)
 
 
+def more(page, text):
+    """Takes something of the menu of the card that is shown."""
+    page.wait("document.querySelector('#pane .actions .round')")
+    page.run("document.querySelector('#pane .actions .round').click()")
+    page.press(text, "document.querySelector('#pane .menu-list')")
+
+
 def up_to_date(page):
     page.press("Update now")
     page.wait(f"{STATE}.startsWith('Up to date')")
@@ -114,7 +121,7 @@ def start(trial):
     trial.office.put("staff", "s1", card("s1", "FN:Ann Keeper", "TEL;TYPE=work:020 7946 0001"))
     admin = trial.desk("admin")
     admin.wait(f"{STATE}.startsWith('Up to date')")
-    admin.wait("document.querySelectorAll('#books li').length === 3")
+    admin.wait("document.querySelectorAll('#books .book-count').length === 3")
     admin.wait(f"{ROWS}.length > 10")
     ann = trial.desk("ann")
     for book in ("staff", "clients"):
@@ -288,7 +295,7 @@ def delete_move_undo(trial):
     text = office.card("clients", "c23")["card"]
     search(admin, "xanthe")
     admin.wait(f"{TITLE} === 'Xanthe Papadaki'")
-    admin.press("Delete")
+    more(admin, "Delete")
     admin.press("Delete", "document.querySelector('dialog')")
     until(lambda: office.request("GET", "/books/clients/cards/c23")[0] == 404)
     admin.press("Undo")
@@ -297,13 +304,13 @@ def delete_move_undo(trial):
     assert office.card("clients", "c23")["card"] == text
     admin.wait("document.querySelector('#waiting').hidden")
     office.put("clients", "c23", text.replace("Potter", "Tile maker"))
-    admin.press("Delete")
+    more(admin, "Delete")
     admin.press("Delete", "document.querySelector('dialog')")
     admin.wait("document.querySelector('dialog h2')?.textContent.includes('changed')")
     admin.press("Keep it")
     search(admin, "xanthe")
     admin.wait("document.querySelector('.roles').textContent.includes('Tile maker')")
-    admin.press("Move")
+    more(admin, "Move")
     admin.press("staff", "document.querySelector('dialog')")
     toast(admin, "Moved to staff")
     assert "Tile maker" in office.card("staff", "c23")["card"]
@@ -320,7 +327,7 @@ def groups(trial):
     people = admin.run("document.querySelector('.people').innerText")
     assert "Rosa Delgado" in people and "nobody" in people, people
     admin.picture(trial.pictures / "group.png")
-    admin.press("Accounts and law")
+    admin.press("Accounts and law", "document.querySelector('.card')")
     admin.wait(f"{TITLE} === 'Accounts and law'")
     admin.press("Hugo Petit", "document.querySelector('.card')")
     admin.wait(f"{TITLE} === 'Hugo Petit'")

@@ -2,14 +2,18 @@
 import { Fault } from "./api.js";
 import { BookFiles } from "./bookfiles.js";
 import { saveFile } from "./files.js";
+import { mailsOf } from "./groups.js";
+import { olderCard } from "./older.js";
 import { nameOf } from "./person.js";
 import * as push from "./push.js";
 import { decide, giveUp } from "./questions.js";
-import { faultText, t } from "./texts.js";
+import { count, faultText, t } from "./texts.js";
+import { mailLink, mailsLink } from "./values.js";
 import { readCard } from "./vcard.js";
 import { peopleView } from "./views/card.js";
 import { bookNameFault, showBook } from "./views/books.js";
 import { ask, askText } from "./views/dialogs.js";
+import { printSheet } from "./views/print.js";
 import { fill } from "./dom.js";
 
 /** What went wrong, in words. A fault that isn't of a request is thrown on. */
@@ -52,8 +56,12 @@ export class Actions {
       move: () => this.move(book, uid),
       remove: () => this.remove(book, uid),
       download: () => saveFile(file, "text/vcard", text),
+      download3: () => saveFile(file, "text/vcard", olderCard(text)),
+      isFavourite: () => desk.lists.isFavourite(book, uid),
+      favourite: () => desk.lists.turnFavourite(book, uid),
+      mailAll: seen.kind === "group" ? () => this.mailAll(book, seen.members) : null,
       share: () => this.share(seen, file, text),
-      print: () => window.print(),
+      print: () => this.print("card"),
       copy: (value) => this.copy(value),
       search: (value) => {
         desk.frame.search.value = value;
@@ -72,9 +80,41 @@ export class Actions {
     };
   }
 
+  /** A mail to all people of a group, with groups in groups, by the device's mail program. */
+  mailAll(book, members) {
+    const { toast } = this.desk.frame;
+    const { mails, without } = mailsOf(this.desk.shelf, book, members);
+    const href = mailLink(mails[0] ?? "") && mailsLink(mails);
+    const said = without ? ` ${count("withoutMail", without)}` : "";
+    if (!mails.length) {
+      toast.call(this.desk.frame, t("mailNobody"));
+    } else if (!href) {
+      this.copy(mails.join(", "));
+      toast.call(this.desk.frame, t("mailTooMany", { n: mails.length }) + said);
+    } else {
+      location.href = href;
+      toast.call(this.desk.frame, count("mailOpened", mails.length) + said);
+    }
+  }
+
   async copy(value) {
     await navigator.clipboard.writeText(value);
     this.desk.frame.toast(t("copied", { text: value }));
+  }
+
+  /** Prints the card that is shown. */
+  print(what) {
+    document.body.dataset.print = what;
+    window.print();
+  }
+
+  /** Prints the whole list, of which the page has only the rows in sight. */
+  printList() {
+    const sheet = printSheet(this.desk.found(), this.desk.withBooks);
+    document.body.append(sheet);
+    this.print("list");
+    // Some browsers go on while the dialog is open.
+    addEventListener("afterprint", () => sheet.remove(), { once: true });
   }
 
   /** Gives the card to another program, as the device does that; or as a file. */

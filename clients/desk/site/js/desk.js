@@ -1,8 +1,11 @@
 // The desk: the copy and what isn't sent, the list, and what the user chooses in it.
 import { Actions } from "./actions.js";
+import { Bulk } from "./bulk.js";
 import { Api, Fault } from "./api.js";
 import { Drafts } from "./drafts.js";
+import { Faces } from "./faces.js";
 import { Frame } from "./frame.js";
+import { Lists } from "./lists.js";
 import { Outbox } from "./outbox.js";
 import { Pane } from "./pane.js";
 import { ASKS, Queue } from "./queue.js";
@@ -11,7 +14,10 @@ import { keyOf, Shelf } from "./shelf.js";
 import { Follower } from "./sync.js";
 import { language, t } from "./texts.js";
 import { Trash } from "./trash.js";
+import { Letters } from "./views/letters.js";
 import { CardList } from "./views/list.js";
+import { ListHead } from "./views/listhead.js";
+import { SideBar } from "./views/sidebar.js";
 
 export class Desk {
   constructor(store) {
@@ -25,8 +31,18 @@ export class Desk {
     this.frame = new Frame();
     this.actions = new Actions(this);
     this.pane = new Pane(this);
-    this.list = new CardList(this.frame.listRoot, (row, isFinal) => this.picked(row, isFinal));
+    this.bulk = new Bulk(this);
+    this.lists = new Lists(store);
+    this.list = new CardList(this.frame.listRoot, {
+      faces: new Faces((book, uid) => this.queue.seen(book, uid)),
+      pick: (row, isFinal) => this.picked(row, isFinal),
+      marked: (rows) => this.head.showMarked(rows),
+    });
+    this.letters = new Letters(document.getElementById("letters"), (at) => this.list.scrollTo(at));
+    this.side = new SideBar(this);
+    this.head = new ListHead(this);
     this.books = [];
+    this.filter = null; // a list in place of a book: favourites, recent, or a group
     this.entries = [];
     this.chosen = "";
     this.mayList = true;
@@ -55,9 +71,11 @@ export class Desk {
       waiting: () => showWaiting(this),
     });
     this.listen();
-    const [rows, entries, books, chosen] = await Promise.all([
+    const [rows, entries, books, chosen, by] = await Promise.all([
       this.store.rows(), this.queue.all(), this.store.books(), this.store.setting("book"),
+      this.store.setting("sort"), this.lists.load(),
     ]);
+    this.shelf.sortBy(by ?? "name");
     this.entries = entries;
     this.shelf.load(rows);
     this.shelf.cover(entries);
@@ -187,12 +205,30 @@ export class Desk {
     }, 100);
   }
 
+  /** The rows of the chosen book or list that match what is typed. */
+  found() {
+    const { filter } = this;
+    const text = this.frame.search.value.trim();
+    const rows = this.shelf.find(text, filter ? filter.book ?? "" : this.chosen);
+    return filter ? this.lists.pick(filter, rows, this.shelf) : rows;
+  }
+
+  showRows(rows, keep) {
+    const text = this.frame.search.value.trim();
+    this.list.show(rows, { withBooks: this.withBooks, keep });
+    const words = this.filter && t({
+      favourites: "noFavourites", recent: "noRecent", group: "noMembers",
+    }[this.filter.kind]);
+    this.frame.showCount(rows.length, text !== "", words ?? undefined);
+    const isSorted = text === "" && this.filter?.kind !== "recent";
+    this.letters.show(isSorted ? rows : [], this.shelf.by);
+  }
+
   draw() {
-    const { frame, shelf, pane } = this;
+    const { frame, pane } = this;
     const text = frame.search.value.trim();
-    const rows = shelf.find(text, this.chosen);
-    this.list.show(rows, { withBooks: this.withBooks, keep: pane.cardKey });
-    frame.showCount(rows.length, text !== "");
+    const rows = this.found();
+    this.showRows(rows, pane.cardKey);
     this.drawState();
     // What was searched for may come later than the search.
     if (text !== "" && rows.length && !pane.shown && !frame.isNarrow) this.list.select(0);
@@ -200,12 +236,8 @@ export class Desk {
   }
 
   drawState() {
-    this.frame.showBooks(this.books, this.chosen, this.shelf, {
-      choose: (name) => this.choose(name),
-      menu: (name) => this.actions.book(name),
-      add: () => this.addBook(),
-    });
-    this.frame.showNew(!this.books.length || this.books.some((it) => it.rights !== "read"));
+    this.side.show();
+    this.frame.showNew(this.books.some((it) => it.rights !== "read"));
     this.frame.showState(this.books, this.entries);
   }
 
@@ -216,7 +248,7 @@ export class Desk {
   }
 
   get withBooks() {
-    return !this.chosen && this.books.length > 1;
+    return !this.chosen && this.books.length > 1 && this.filter?.kind !== "group";
   }
 
   mark() {
@@ -231,20 +263,39 @@ export class Desk {
 
   async choose(name) {
     this.chosen = name;
+    this.turnTo(null);
+    await this.store.keepSetting("book", name);
+    this.follow(name || undefined);
+  }
+
+  /** Shows a list in place of a book: favourites, what was opened lately, or a group. */
+  turnTo(filter) {
+    this.filter = filter;
+    this.frame.showNav(false);
+    this.frame.showPane("list");
+    this.clearMarks();
     this.list.top();
     this.settle();
     this.draw();
     if (!this.frame.isNarrow) this.frame.search.focus();
-    await this.store.keepSetting("book", name);
-    this.follow(name || undefined);
+  }
+
+  sortBy(by) {
+    this.shelf.sortBy(by);
+    this.store.keepSetting("sort", by);
+    this.list.top();
+    this.draw();
+  }
+
+  clearMarks() {
+    this.list.marking(false);
   }
 
   /** Takes a card out of the pane that isn't in the list: nobody may call a wrong person. */
   settle() {
     const { shown } = this.pane;
     if (shown?.kind !== "card") return;
-    const rows = this.shelf.find(this.frame.search.value.trim(), this.chosen);
-    if (!rows.some((row) => keyOf(row) === keyOf(shown))) this.pane.clear();
+    if (!this.found().some((row) => keyOf(row) === keyOf(shown))) this.pane.clear();
   }
 
   async addBook(name) {
@@ -272,12 +323,10 @@ export class Desk {
 
   typed() {
     const text = this.frame.search.value.trim();
-    const rows = this.shelf.find(text, this.chosen);
+    const rows = this.found();
     const { shown } = this.pane;
-    const keep = text === "" ? this.pane.cardKey : null;
-    this.list.show(rows, { withBooks: this.withBooks, keep });
+    this.showRows(rows, text === "" ? this.pane.cardKey : null);
     this.list.top();
-    this.frame.showCount(rows.length, text !== "");
     // The first card is shown at once, as this is most often the one; not in place of a form.
     if (shown?.kind !== "form") {
       if (text !== "" && rows.length) this.list.select(0);
@@ -345,7 +394,14 @@ export class Desk {
   key(event) {
     if (document.querySelector("dialog[open]") || event.defaultPrevented) return;
     const { pane, frame } = this;
-    if (event.key === "Escape" && !event.isComposing && pane.shown?.kind !== "form") {
+    if (event.key === "Escape" && document.body.dataset.nav === "open") {
+      event.preventDefault();
+      frame.showNav(false);
+      frame.search.focus();
+    } else if (event.key === "Escape" && this.list.marks.size) {
+      event.preventDefault();
+      this.clearMarks();
+    } else if (event.key === "Escape" && !event.isComposing && pane.shown?.kind !== "form") {
       event.preventDefault();
       const { search } = frame;
       const isThere = document.activeElement === search;

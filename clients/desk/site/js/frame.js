@@ -1,5 +1,6 @@
 // What is around the cards: the search, the books, how the copy is, and short messages.
 import { button, el, fill } from "./dom.js";
+import { icon } from "./icons.js";
 import { count, faultText, number, t, timeText } from "./texts.js";
 
 const by = (id) => document.getElementById(id);
@@ -11,7 +12,6 @@ export class Frame {
     this.listRoot = by("list");
     this.states = new Map();
     this.progress = null;
-    this.drawn = "";
     this.saying = 0;
     this.showing = 0;
   }
@@ -28,7 +28,11 @@ export class Frame {
     by("cards").setAttribute("aria-label", t("listLabel"));
     this.listRoot.setAttribute("aria-label", t("listLabel"));
     const add = by("new");
-    add.textContent = t("newCard");
+    fill(add, icon("add"), el("span", {}, t("newCard")));
+    const places = by("places");
+    fill(places, icon("books"));
+    places.setAttribute("aria-label", t("showBooks"));
+    places.addEventListener("click", () => this.showNav(document.body.dataset.nav !== "open"));
     add.title = t("newCardKey");
     add.addEventListener("click", run.newCard);
     by("waiting").addEventListener("click", run.waiting);
@@ -44,46 +48,15 @@ export class Frame {
     document.body.dataset.pane = name;
   }
 
+  /** Opens or closes the books and groups on a narrow page, where they cover the list. */
+  showNav(isOpen) {
+    document.body.dataset.nav = isOpen ? "open" : "";
+    by("places").setAttribute("aria-expanded", String(isOpen));
+    if (isOpen) by("books").querySelector("button")?.focus();
+  }
+
   get isNarrow() {
     return matchMedia("(max-width: 47.99rem)").matches;
-  }
-
-  /** The books, with the chosen one ("" for all) and what they hold. */
-  showBooks(books, chosen, shelf, run) {
-    const one = (name, text) => {
-      const isChosen = name === chosen;
-      const state = this.states.get(name)?.state ?? "";
-      return el(
-        "li",
-        { class: `book ${state}` },
-        button([el("span", { class: "book-name" }, text),
-          el("span", { class: "book-count" }, number(shelf.count(name)))],
-        () => run.choose(name), { class: "choose", "aria-pressed": isChosen ? "true" : "false" }),
-        name && this.menu(name, run),
-      );
-    };
-    const states = books.map((it) => [it.name, this.states.get(it.name)?.state]);
-    const drawn = JSON.stringify([chosen, states, books.map((it) => shelf.count(it.name))]);
-    if (drawn === this.drawn) return;
-    this.drawn = drawn;
-    // Who has come to one of the buttons by keyboard stays there.
-    const place = [...by("books").querySelectorAll("button")].indexOf(document.activeElement);
-    fill(
-      by("books"),
-      el("h2", {}, t("books")),
-      el("ul", {},
-        books.length > 1 ? one("", t("allBooks")) : null,
-        books.map((it) => one(it.name, it.name))),
-      button(t("addBook"), run.add, { class: "quiet add" }),
-    );
-    if (place >= 0) by("books").querySelectorAll("button")[place]?.focus();
-  }
-
-  menu(name, run) {
-    const text = t("bookMenu", { book: name });
-    return button("⋯", () => run.menu(name), {
-      class: "quiet menu", "aria-label": text, title: text,
-    });
   }
 
   /** The button for a new card is there if there is a book for one. */
@@ -105,11 +78,12 @@ export class Frame {
     if (node.textContent !== parts.join(" · ")) node.textContent = parts.join(" · ");
   }
 
-  showCount(rows, isSearch) {
+  /** How many cards are in the list, and what is said if there is none. */
+  showCount(rows, isSearch, words = t("emptyBook")) {
     by("count").textContent = isSearch ? count("resultsCount", rows) : count("cardsCount", rows);
     const empty = by("empty");
     empty.hidden = rows > 0;
-    empty.textContent = isSearch ? t("noCards") : t("emptyBook");
+    empty.textContent = isSearch ? t("noCards") : words;
     if (isSearch) this.sayLater(count("resultsCount", rows));
   }
 

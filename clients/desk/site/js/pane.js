@@ -2,6 +2,7 @@
 // Back works.
 import { button, el, fill } from "./dom.js";
 import { Forming } from "./forming.js";
+import { icon } from "./icons.js";
 import { describe, rowOf } from "./person.js";
 import { keyOf } from "./shelf.js";
 import { t } from "./texts.js";
@@ -169,6 +170,7 @@ export class Pane {
     }
     this.node.scrollTop = 0;
     if (!isFinal) return;
+    if (seen) this.desk.lists.opened(book, uid);
     this.desk.frame.showPane("card");
     this.desk.draw();
     this.node.querySelector("#card-name")?.focus();
@@ -189,7 +191,9 @@ export class Pane {
   }
 
   back() {
-    return button(`← ${t("back")}`, () => this.leave(), { class: "quiet back" });
+    return button([icon("back"), el("span", {}, t("back"))], () => this.leave(), {
+      class: "quiet back",
+    });
   }
 
   /** Opens a form: for a card, or for a new one of a kind. */

@@ -108,11 +108,32 @@ export function telLink(line) {
   return safeLink(`tel:${dialled}${ext ? `;ext=${ext}` : ""}`);
 }
 
+/** The first number of a mobile phone that a message can go to: `{text, href}`, or null. */
+export function messageLink(phones) {
+  const it = phones.find((phone) => phone.href && phone.label.uses?.includes("cell"));
+  return it ? { text: it.text, href: it.href.replace(/^tel:/, "sms:").replace(/;.*$/, "") } : null;
+}
+
+/** A map of an address. It is another server's, so it is opened only by a press. */
+export function mapLink(lines) {
+  const text = plainText(lines.join(", ")).slice(0, 500);
+  return `https://www.openstreetmap.org/search?query=${encodeURIComponent(text)}`;
+}
+
 export function mailLink(text) {
   const address = plainText(text);
   return /^[^\s@<>"]+@[^\s@<>"]+$/.test(address)
     ? safeLink(`mailto:${encodeURIComponent(address).replace(/%40/g, "@")}`)
     : null;
+}
+
+// Mail programs take an address line of about this length.
+const LONGEST_LINK = 1900;
+
+/** The address of a mail that several get without seeing each other; null if they are too many. */
+export function mailsLink(mails) {
+  const to = mails.map((it) => encodeURIComponent(plainText(it)).replace(/%40/g, "@")).join(",");
+  return to.length > LONGEST_LINK ? null : safeLink(`mailto:?bcc=${to}`);
 }
 
 /** Whether a text may be a mail address: something, an at sign, and a place with a dot. */

@@ -54,3 +54,19 @@ export function askText(title, label, hint, test) {
     );
   });
 }
+
+/** Asks for one of several things, `[text, answer]` each. Answers null if it is left. */
+export function askChoice(title, label, choices) {
+  return dialog(title, (close) => {
+    const id = newId("field");
+    const box = el("select", { id }, choices.map(([text, value]) => el("option", { value }, text)));
+    const submit = (event) => {
+      event.preventDefault();
+      close(box.value);
+    };
+    return el("form", { on: { submit } },
+      el("div", { class: "field" }, el("label", { for: id }, label), box),
+      el("div", { class: "bar" }, el("button", { type: "submit", class: "main" }, t("ok")),
+        button(t("cancel"), () => close(null))));
+  });
+}

@@ -151,12 +151,12 @@ export function dateField(fields, key, title, act) {
 
 export function photoField(fields, act) {
   const shown = el("div", { class: "photo-field" });
-  const file = el("input", { type: "file", accept: "image/*", "aria-label": t("choosePhoto") });
+  const file = el("input", { type: "file", accept: "image/*" });
   const draw = () => {
     fill(
       shown,
       fields.photo ? el("img", { class: "photo", src: fields.photo, alt: t("photo") }) : null,
-      el("label", { class: "file" }, el("span", {}, t("photo")), file),
+      el("label", { class: "pick-file" }, t(fields.photo ? "otherPhoto" : "choosePhoto"), file),
       fields.photo
         ? button(t("removeRow"), () => {
           fields.photo = null;
