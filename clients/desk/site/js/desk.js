@@ -194,7 +194,7 @@ export class Desk {
       this.drawing = 0;
       this.books = await this.store.books();
       this.draw();
-    }, 150);
+    }, this.frame.progress ? 400 : 150);
   }
 
   drawStateSoon() {
@@ -347,6 +347,11 @@ export class Desk {
     this.showing = setTimeout(() => {
       if (!this.frame.isNarrow && !isForm()) this.pane.show(row.book, row.uid);
     }, 40);
+  }
+
+  /** The server has newer files of this page. */
+  isNew() {
+    this.frame.toast(t("newDesk"), { text: t("loadAgain"), run: () => location.reload() });
   }
 
   // Keys, the network, other tabs

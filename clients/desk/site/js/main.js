@@ -14,7 +14,11 @@ async function keepFiles() {
 document.documentElement.lang = language;
 keepFiles().catch(() => {});
 try {
-  await new Desk(await openStore()).start();
+  const desk = new Desk(await openStore());
+  navigator.serviceWorker?.addEventListener("message", ({ data }) => {
+    if (data === "new files") desk.isNew();
+  });
+  await desk.start();
 } catch (error) {
   fill(document.getElementById("pane"), el("p", { class: "welcome error", role: "alert" },
     t("stateBroken", { why: error.message })));

@@ -109,14 +109,15 @@ const clip = (text, most = LONG) => (text.length > most ? `${text.slice(0, most)
 function searched(texts, most) {
   const text = texts.filter(Boolean).join(" ");
   const folded = fold(text);
-  const spelt = fold(spellOut(text));
+  const spelt = /[^\x00-\x7f]/.test(text) ? fold(spellOut(text)) : folded;
   return ` ${folded}${spelt === folded ? "" : ` ${spelt}`}`.slice(0, most);
 }
 
 /** The row of a card: what the list shows, and folded texts for the search. */
 export function rowOf(book, uid, version, text) {
   const card = readCard(text);
-  const lines = (name) => linesNamed(card, name);
+  const names = new Set(card.lines.map((it) => it.name));
+  const lines = (name) => (names.has(name) ? linesNamed(card, name) : []);
   const plain = (line) => unescapeText(line.value).trim();
   const n = firstNamed(card, "N");
   const parts = n ? partsOf(n.value, ";").map(componentText) : [];
@@ -135,7 +136,7 @@ export function rowOf(book, uid, version, text) {
     mail: clip(mails[0] ?? ""),
     phone: phones.length ? clip(telText(phones[0])) : "",
     label: phones.length ? labelOf(card, phones[0]) : null,
-    face: photoOf(firstNamed(card, "PHOTO")) ? 1 : 0,
+    face: photoOf(lines("PHOTO")[0] ?? null) ? 1 : 0,
     names: searched([name, ...nicks, ...parts.slice(0, 3)], 2000),
     words: searched([...orgs, ...titles, ...mails, ...categoriesOf(card)], 2000),
     more: searched([...lines("ADR").flatMap(addressOf), ...textsOf(card, "NOTE")], 600),

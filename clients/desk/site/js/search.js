@@ -14,6 +14,9 @@ export function spellOut(text) {
 
 /** The text in small letters without accents and apostrophes, and with one space between words. */
 export function fold(text) {
+  if (/^[\x00-\x7f]*$/.test(text)) {
+    return text.toLowerCase().replace(/'/g, "").replace(/[^a-z0-9@.+]+/g, " ").trim();
+  }
   return text
     .normalize("NFKD")
     .replace(/[\p{M}'’ʼ]+/gu, "")

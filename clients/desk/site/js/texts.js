@@ -41,6 +41,8 @@ const TEXTS = {
   stateBroken: "This browser can't keep the copy: {why}",
   update: "Update now",
   waiting: "Waiting for the server…",
+  newDesk: "There is a new version of this page.",
+  loadAgain: "Load it",
   progress: "Cards that have come",
   never: "never",
 
