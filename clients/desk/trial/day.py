@@ -139,15 +139,15 @@ def morning(day):
     page = day.desk("admin")
     page.wait(f"{STATE}.startsWith('Up to date')")
     equals(page, BOOKS, ["All books\n5", "clients\n3", "staff\n2", "Favourites",
-                         "Recently opened"])
+                         "Recently opened", "Trash"])
     equals(page, ROWS, ["Anna", "Bob", "Cy", "Pat Lee", "Quin"])
     hands = Hands(page)
     hands.at("search")
-    assert hands.order(12) == [
+    assert hands.order(13) == [
         "button New card", "button Update now", "button All books5", "button clients3",
         "button Book clients: numbers, import,", "button staff2",
         "button Book staff: numbers, import, e", "button Add a book", "button Favourites",
-        "button Recently opened", "button Sort and select", "listbox Cards",
+        "button Recently opened", "button Trash", "button Sort and select", "listbox Cards",
     ]
     page.key("Escape")
     hands.at("search")

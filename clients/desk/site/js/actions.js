@@ -7,13 +7,15 @@ import { olderCard } from "./older.js";
 import { nameOf } from "./person.js";
 import * as push from "./push.js";
 import { decide, giveUp } from "./questions.js";
-import { count, faultText, t } from "./texts.js";
+import { count, faultText, t } from "./say.js";
 import { mailLink, mailsLink } from "./values.js";
 import { readCard } from "./vcard.js";
 import { peopleView } from "./views/card.js";
 import { bookNameFault, showBook } from "./views/books.js";
 import { ask, askText } from "./views/dialogs.js";
 import { printSheet } from "./views/print.js";
+import { askTicks } from "./views/ticks.js";
+import { trashView } from "./views/trash.js";
 import { fill } from "./dom.js";
 
 /** What went wrong, in words. A fault that isn't of a request is thrown on. */
@@ -59,6 +61,9 @@ export class Actions {
       download3: () => saveFile(file, "text/vcard", olderCard(text)),
       isFavourite: () => desk.lists.isFavourite(book, uid),
       favourite: () => desk.lists.turnFavourite(book, uid),
+      groups: () => this.groupsOf(book, uid, seen.name),
+      earlier: () => this.trash(t("earlierTitle", { name: seen.name }),
+        (it) => it.book === book && it.uid === uid),
       mailAll: seen.kind === "group" ? () => this.mailAll(book, seen.members) : null,
       share: () => this.share(seen, file, text),
       print: () => this.print("card"),
@@ -78,6 +83,47 @@ export class Actions {
       },
       drop: () => giveUp(desk, entry),
     };
+  }
+
+  /** Which groups of its book a card is in: boxes to tick. */
+  async groupsOf(book, uid, name) {
+    const { desk } = this;
+    const groups = desk.shelf.groups(book).filter((it) => it.uid !== uid);
+    if (!groups.length) {
+      desk.frame.toast(t("groupNone"));
+      return;
+    }
+    const before = new Set(desk.shelf.groupsOf(book, uid).map((it) => it.uid));
+    const wanted = await askTicks(t("groupsOfTitle", { name }),
+      groups.map((it) => [it.name || t("nameless"), it.uid, before.has(it.uid)]));
+    if (!wanted) return;
+    const changed = groups.filter((it) => wanted.has(it.uid) !== before.has(it.uid));
+    for (const it of changed) await desk.setMember(book, it.uid, uid, wanted.has(it.uid));
+    if (!changed.length) return;
+    await desk.changed();
+    desk.pane.again();
+    desk.frame.toast(t("groupsSaved", { name }), {
+      text: t("undo"),
+      run: async () => {
+        for (const it of changed) await desk.setMember(book, it.uid, uid, before.has(it.uid));
+        await desk.changed();
+        desk.pane.again();
+      },
+    });
+  }
+
+  /** What this desk keeps of what was deleted, overwritten or dropped; some of it put back. */
+  async trash(title = t("trashTitle"), isWanted = () => true) {
+    const { desk } = this;
+    const kept = (await desk.trash.all()).filter(isWanted);
+    const it = await trashView(title, kept);
+    if (!it) return;
+    const now = await desk.queue.seen(it.book, it.uid);
+    await desk.queue.restore(it.book, it.uid, it.text);
+    if (now) await desk.trash.keep(it.book, it.uid, now.text, "changed");
+    await desk.changed();
+    desk.pane.open(it.book, it.uid);
+    desk.frame.toast(t("isBack", { name: nameIn(it.text) }));
   }
 
   /** A mail to all people of a group, with groups in groups, by the device's mail program. */

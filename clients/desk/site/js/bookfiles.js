@@ -2,8 +2,9 @@
 import { Fault, newKey } from "./api.js";
 import { el } from "./dom.js";
 import { FileFault, readFile, saveFile } from "./files.js";
-import { count, faultText, importFaultText, t } from "./texts.js";
+import { count, faultText, importFaultText, t } from "./say.js";
 import { askFile } from "./views/books.js";
+import { ask } from "./views/dialogs.js";
 
 export class BookFiles {
   constructor(desk, actions) {
@@ -34,7 +35,18 @@ export class BookFiles {
     this.saved(`${name}.vcf`, "text/vcard", cards.map((it) => it.text).join(""));
   }
 
-  import(name) {
+  /** A file was dropped on the page: it goes into the chosen book, or the user says which. */
+  async dropped(files) {
+    const { desk } = this;
+    if (document.querySelector("dialog[open]")) return;
+    const books = desk.books.filter((it) => it.rights !== "read").map((it) => it.name);
+    const name = books.includes(desk.chosen) && !desk.filter
+      ? desk.chosen
+      : await ask(t("dropTitle"), [], [...books.map((it) => [it, it]), [t("cancel"), null]]);
+    if (name) await this.import(name, files);
+  }
+
+  import(name, files = null) {
     // The key is of the file: if no reply comes, the same import is sent again under the same key.
     let key = newKey();
     const read = (fileName, bytes) => {
@@ -57,7 +69,7 @@ export class BookFiles {
         return [el("p", { class: "error" }, text), fault.isPassing];
       }
     };
-    return askFile(name, { read, send });
+    return askFile(name, { read, send }, files);
   }
 
   /** A file that was chosen, and what is said of it. */

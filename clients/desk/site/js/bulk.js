@@ -5,7 +5,7 @@ import { columnsOf, saveFile } from "./files.js";
 import { olderCard } from "./older.js";
 import * as push from "./push.js";
 import { keyOf } from "./shelf.js";
-import { count, faultText, t } from "./texts.js";
+import { count, faultText, t } from "./say.js";
 import { readCard, writeCard } from "./vcard.js";
 import { ask, askChoice } from "./views/dialogs.js";
 

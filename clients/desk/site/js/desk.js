@@ -3,6 +3,8 @@ import { Actions } from "./actions.js";
 import { Bulk } from "./bulk.js";
 import { Api, Fault } from "./api.js";
 import { Drafts } from "./drafts.js";
+import { Duplicates } from "./duplicates.js";
+import { editCard, fieldsOf, memberValue } from "./edit.js";
 import { Faces } from "./faces.js";
 import { Frame } from "./frame.js";
 import { Lists } from "./lists.js";
@@ -12,8 +14,10 @@ import { ASKS, Queue } from "./queue.js";
 import { askNext, showWaiting } from "./questions.js";
 import { keyOf, Shelf } from "./shelf.js";
 import { Follower } from "./sync.js";
-import { language, t } from "./texts.js";
+import { t } from "./say.js";
+import { language } from "./texts.js";
 import { Trash } from "./trash.js";
+import { readCard, writeCard } from "./vcard.js";
 import { Letters } from "./views/letters.js";
 import { CardList } from "./views/list.js";
 import { ListHead } from "./views/listhead.js";
@@ -39,6 +43,8 @@ export class Desk {
       marked: (rows) => this.head.showMarked(rows),
     });
     this.letters = new Letters(document.getElementById("letters"), (at) => this.list.scrollTo(at));
+    this.duplicates = new Duplicates(this);
+    this.notSame = new Set(); // pairs that somebody said are different people
     this.side = new SideBar(this);
     this.head = new ListHead(this);
     this.books = [];
@@ -75,6 +81,7 @@ export class Desk {
       this.store.rows(), this.queue.all(), this.store.books(), this.store.setting("book"),
       this.store.setting("sort"), this.lists.load(),
     ]);
+    this.notSame = new Set((await this.store.setting("notSame")) ?? []);
     this.shelf.sortBy(by ?? "name");
     this.entries = entries;
     this.shelf.load(rows);
@@ -225,6 +232,10 @@ export class Desk {
   }
 
   draw() {
+    if (this.isHeld) {
+      this.drawSoon();
+      return;
+    }
     const { frame, pane } = this;
     const text = frame.search.value.trim();
     const rows = this.found();
@@ -236,6 +247,10 @@ export class Desk {
   }
 
   drawState() {
+    if (this.isHeld) {
+      this.drawStateSoon();
+      return;
+    }
     this.side.show();
     this.frame.showNew(this.books.some((it) => it.rights !== "read"));
     this.frame.showState(this.books, this.entries);
@@ -278,6 +293,24 @@ export class Desk {
     this.settle();
     this.draw();
     if (!this.frame.isNarrow) this.frame.search.focus();
+  }
+
+  /** Two cards are of different people, whatever they have in common. */
+  keepDifferent(key) {
+    this.notSame.add(key);
+    return this.store.keepSetting("notSame", [...this.notSame]);
+  }
+
+  /** Puts a card into a group of its book, or takes it out. */
+  async setMember(book, group, uid, isIn) {
+    const seen = await this.queue.seen(book, group);
+    if (!seen) return;
+    const card = readCard(seen.text);
+    const fields = fieldsOf(card);
+    const others = fields.members.filter((it) => it !== uid && it !== memberValue(uid));
+    const members = isIn ? [...others, memberValue(uid)] : others;
+    const text = writeCard(editCard(card, fields, { ...fields, members }));
+    await this.queue.save({ book, uid: group, base: seen.text, version: seen.version, text });
   }
 
   sortBy(by) {
@@ -365,6 +398,16 @@ export class Desk {
     frame.search.addEventListener("keydown", keys);
     frame.listRoot.addEventListener("keydown", keys);
     document.addEventListener("keydown", (event) => this.key(event));
+    // What is pressed stays until it is let go: a press of what is drawn anew would be lost.
+    addEventListener("pointerdown", () => { this.isHeld = true; }, true);
+    for (const end of ["pointerup", "pointercancel", "blur", "dragend"]) {
+      addEventListener(end, () => { this.isHeld = false; }, true);
+    }
+    addEventListener("dragover", (event) => event.preventDefault());
+    addEventListener("drop", (event) => {
+      event.preventDefault();
+      if (event.dataTransfer.files.length) this.actions.files.dropped(event.dataTransfer.files);
+    });
     addEventListener("hashchange", () => this.pane.route());
     addEventListener("online", () => this.wake());
     addEventListener("offline", () => this.drawState());

@@ -8,7 +8,7 @@ import {
   unescapeText,
 } from "./values.js";
 import { dateOf, readDate } from "./dates.js";
-import { dateText, locale } from "./texts.js";
+import { dateText, locale } from "./say.js";
 import { useOf } from "./person.js";
 
 const USES = ["work", "home", "cell", "fax", "pager"];

@@ -5,7 +5,7 @@ import { takeSlot } from "./drafts.js";
 import { asKind, editCard, fieldsOf, newCard } from "./edit.js";
 import { nameOf } from "./person.js";
 import { chooseBoth } from "./questions.js";
-import { t } from "./texts.js";
+import { t } from "./say.js";
 import { readCard, writeCard } from "./vcard.js";
 import { choicesView, formView } from "./views/form.js";
 

@@ -1,7 +1,7 @@
 // What is around the cards: the search, the books, how the copy is, and short messages.
 import { button, el, fill } from "./dom.js";
 import { icon } from "./icons.js";
-import { count, faultText, number, t, timeText } from "./texts.js";
+import { count, faultText, number, t, timeText } from "./say.js";
 
 const by = (id) => document.getElementById(id);
 

@@ -3,7 +3,8 @@ import { Desk } from "./desk.js";
 import { el, fill } from "./dom.js";
 import { scriptAddress } from "./policy.js";
 import { openStore } from "./store.js";
-import { language, t } from "./texts.js";
+import { t } from "./say.js";
+import { language } from "./texts.js";
 
 /** Keeps the desk's own files, so that it opens without the network. */
 async function keepFiles() {

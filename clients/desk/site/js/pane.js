@@ -5,7 +5,7 @@ import { Forming } from "./forming.js";
 import { icon } from "./icons.js";
 import { describe, rowOf } from "./person.js";
 import { keyOf } from "./shelf.js";
-import { t } from "./texts.js";
+import { t } from "./say.js";
 import { newUid, readCard } from "./vcard.js";
 import { cardView } from "./views/card.js";
 import { bookQuestion } from "./views/books.js";
@@ -142,12 +142,25 @@ export class Pane {
     if (shown?.kind !== "card") return;
     const seen = await this.desk.queue.seen(shown.book, shown.uid);
     if (this.shown !== shown) return;
+    // Not while something of it is pressed, or while its menu is open.
+    if (this.desk.isHeld || this.node.querySelector(".menu-list:not([hidden])")) {
+      setTimeout(() => this.again(), 150);
+      return;
+    }
     const place = this.node.scrollTop;
-    const wasHere = this.node.contains(document.activeElement);
+    const focused = this.node.contains(document.activeElement) ? document.activeElement : null;
     if (seen) this.fillCard(shown.book, shown.uid, seen);
     else this.gone(shown.book, shown.uid);
     this.node.scrollTop = place;
-    if (wasHere) this.node.querySelector("#card-name")?.focus();
+    if (focused) this.focusLike(focused);
+  }
+
+  /** Brings the focus back to what was drawn in place of an element. */
+  focusLike(old) {
+    const nameOf = (it) => it.getAttribute("aria-label") ?? it.textContent;
+    const like = [...this.node.querySelectorAll(old.localName)]
+      .find((it) => nameOf(it) === nameOf(old) && it.tabIndex === old.tabIndex);
+    (like ?? this.node.querySelector("#card-name"))?.focus();
   }
 
   /** The card isn't here. If it comes, it is shown. */

@@ -3,7 +3,7 @@ import { merge3 } from "./merge.js";
 import { nameOf } from "./person.js";
 import { ASKS } from "./queue.js";
 import { keyOf } from "./shelf.js";
-import { t } from "./texts.js";
+import { t } from "./say.js";
 import { readCard, sameCard } from "./vcard.js";
 import { askBoth } from "./views/conflict.js";
 import { ask } from "./views/dialogs.js";

@@ -1,7 +1,7 @@
 // One line of a card as people read it, for questions about it.
 import { bdi, el } from "./dom.js";
 import { addressOf, useOf } from "./person.js";
-import { dateText, number, t, usesText } from "./texts.js";
+import { dateText, number, t, usesText } from "./say.js";
 import {
   componentText, dateParts, partsOf, plainText, telText, unescapeText,
 } from "./values.js";

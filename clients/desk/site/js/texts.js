@@ -4,7 +4,7 @@
 
 export const language = "en";
 
-const TEXTS = {
+export const TEXTS = {
   // The page
   title: "Contacts",
   skip: "Go to the search",
@@ -106,6 +106,40 @@ const TEXTS = {
     work: "work", home: "home", cell: "mobile", fax: "fax", pager: "pager", video: "video",
     textphone: "text phone",
   },
+
+  // Duplicates, the trash, groups of a card
+  duplicates: "Find duplicates",
+  pairsTitle: "Cards that may be one person",
+  pairsNone: "No two cards of this list look like one person.",
+  pairsSame_name: "the same name",
+  pairsSame_mail: "the same mail address",
+  pairsSame_number: "the same number",
+  join: "Put together…",
+  notSame: "Different people",
+  joinTitle: "Put two cards of {name} together",
+  joinText: "These differ. Choose for each which to keep. The other card is deleted.",
+  joinFirst: "First card",
+  joinOther: "Other card",
+  joinByFirst: "of the first card",
+  joinByOther: "of the other card",
+  joined: "Put together: {name}",
+  trash: "Trash",
+  trashTitle: "Deleted, changed or dropped here",
+  trashText:
+    "For 30 days this browser keeps what was deleted, overwritten or dropped in it. Putting it " +
+    "back takes nothing else away.",
+  trashNone: "Nothing was deleted, changed or dropped here in the last 30 days.",
+  trash_removed: "deleted",
+  trash_changed: "before a change",
+  trash_dropped: "a change that wasn’t sent",
+  trash_cancelled: "typed, and not saved",
+  putBack: "Put back",
+  isBack: "Put back: {name}",
+  earlier: "Earlier versions…",
+  earlierTitle: "Earlier versions of {name}",
+  groupsOf: "Groups…",
+  groupsOfTitle: "Groups of {name}",
+  groupsSaved: "Groups saved: {name}",
 
   // Several at once
   select: "Select",
@@ -233,7 +267,7 @@ const TEXTS = {
   changedBy_theirs: "by them",
   chooseAll: "Choose one for each.",
   saveChosen: "Save what is chosen",
-  keepTheirs: "Keep theirs, drop mine",
+  keepTheirs: "Take theirs",
   goneTitle: "Somebody deleted or moved {name}",
   goneText: "It isn't in the book any more. You can store it again with your edit, or let it go.",
   storeAgain: "Store it again",
@@ -287,6 +321,7 @@ const TEXTS = {
   importTitle: "Import into {book}",
   importText:
     "All cards of the file are imported, or none. You can choose a CSV file or vCards (.vcf).",
+  dropTitle: "Which book shall this file go into?",
   importFile: "File",
   importNow: "Import",
   importing: "Importing…",
@@ -366,7 +401,7 @@ const TEXTS = {
 };
 
 // Texts with a number.
-const COUNTS = {
+export const COUNTS = {
   cardsCount: { one: "{n} card", other: "{n} cards" },
   resultsCount: { one: "{n} card found", other: "{n} cards found" },
   waitsCount: { one: "{n} change not sent yet", other: "{n} changes not sent yet" },
@@ -400,85 +435,3 @@ const COUNTS = {
   importEdited: { one: "{n} changed", other: "{n} changed" },
   importSame: { one: "{n} as it was", other: "{n} as they were" },
 };
-
-// Numbers and times are written as in the user's country, if the user's language is this one.
-export const locale = navigator.languages?.find((it) => it.split("-")[0] === language) ?? language;
-const plurals = new Intl.PluralRules(language);
-const numbers = new Intl.NumberFormat(locale);
-const times = new Intl.DateTimeFormat(locale, { hour: "2-digit", minute: "2-digit" });
-const days = new Intl.DateTimeFormat(locale, {
-  day: "numeric", month: "short", hour: "2-digit", minute: "2-digit",
-});
-
-function filled(text, values) {
-  return text.replace(/\{(\w+)\}/g, (_, key) => String(values[key] ?? ""));
-}
-
-/** The text of a name, with its braces filled. Lists are given as they are. */
-export function t(name, values = {}) {
-  const text = TEXTS[name];
-  if (text === undefined) throw new Error(`no text ${name}`);
-  return typeof text === "string" ? filled(text, values) : text;
-}
-
-/** A text with a number in the plural that the number has. */
-export function count(name, n) {
-  const forms = COUNTS[name];
-  return filled(forms[plurals.select(n)] ?? forms.other, { n: number(n) });
-}
-
-export function number(n) {
-  return numbers.format(n);
-}
-
-/** A time of today, or a day with its time. */
-export function timeText(ms) {
-  if (!ms) return t("never");
-  const isToday = new Date(ms).toDateString() === new Date().toDateString();
-  return (isToday ? times : days).format(ms);
-}
-
-/** A date of a card: with or without its year, its month and its day. */
-export function dateText({ year, month, day }) {
-  const form = { timeZone: "UTC" };
-  if (year) form.year = "numeric";
-  if (month) form.month = "long";
-  if (day) form.day = "numeric";
-  const date = new Date(Date.UTC(2000, Math.max(0, month - 1), day || 1));
-  if (year) date.setUTCFullYear(year);
-  return new Intl.DateTimeFormat(locale, form).format(date);
-}
-
-/** What a number or an address is for, as "work, mobile", or its own label. */
-export function usesText(label) {
-  if (!label) return "";
-  return label.text ?? label.uses.map((it) => TEXTS.uses[it] ?? it).join(", ");
-}
-
-export function propertyText(name) {
-  return TEXTS.properties[name] ?? name;
-}
-
-/** A fault in words. */
-export function faultText(fault) {
-  if (fault.from === "none") return t(navigator.onLine ? "faultNone" : "faultOffline");
-  if (fault.from === "front") {
-    if (fault.fault === "no-address") return t("faultNoAddress");
-    const known = TEXTS[`fault${fault.status}`];
-    return known ?? t("faultFront", { status: fault.status });
-  }
-  const known = fault.fault === "bad-card"
-    ? TEXTS.badCard[fault.cause]
-    : TEXTS.faults[fault.fault];
-  return known ?? t("faultOther", { fault: fault.fault });
-}
-
-/** The first fault of an import in words; `names` has the name of each row of the file. */
-export function importFaultText(fault, { names, form }) {
-  const { row, cause } = fault;
-  const why = cause > 20 && cause < 40 ? TEXTS.badCard[cause - 20] : TEXTS.badRow[cause];
-  const name = names[row - 1]?.slice(0, 80);
-  const kind = form === "vcf" ? "importCard" : "importRow";
-  const place = row === 0 ? t("importHeader") : t(name ? `${kind}Named` : kind, { row, name });
-  return t("importBadRow", { place, why: why ?? fault.fault });
-}

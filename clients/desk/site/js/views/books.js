@@ -1,6 +1,6 @@
 // Books: the question for a name, a book with its numbers, a file to import.
 import { button, el, fill, newId } from "../dom.js";
-import { count, number, t, timeText } from "../texts.js";
+import { count, number, t, timeText } from "../say.js";
 import { dialog } from "./dialogs.js";
 
 const NAME = /^[a-z0-9-]{1,40}$/;
@@ -32,7 +32,7 @@ export function bookQuestion(add) {
 }
 
 /** Asks what to import. Answers the file's name and octets, or null. */
-export function askFile(book, run) {
+export function askFile(book, run, files = null) {
   return dialog(t("importTitle", { book }), (close) => {
     const accept = ".csv,.vcf,text/csv,text/vcard";
     const file = el("input", { type: "file", accept, id: newId("file") });
@@ -49,6 +49,10 @@ export function askFile(book, run) {
       fill(said, ready.words);
       go.disabled = !ready.file;
     });
+    if (files) {
+      file.files = files;
+      file.dispatchEvent(new Event("change"));
+    }
     const work = async () => {
       // While it is at work the button keeps the focus, which a disabled one would lose.
       if (file.disabled) return;

@@ -2,7 +2,7 @@
 import { bdi, button, el } from "../dom.js";
 import { letters } from "../faces.js";
 import { icon } from "../icons.js";
-import { count, dateText, t, usesText } from "../texts.js";
+import { count, dateText, t, usesText } from "../say.js";
 import { mapLink, messageLink } from "../values.js";
 import { menuButton } from "./menu.js";
 import { entryButtons, whyText } from "./waiting.js";
@@ -67,7 +67,9 @@ function head(seen, mayChange, act) {
       mayChange && button(t("edit"), act.edit, { class: "main", title: t("editKey") }),
       menuButton(icon("more"), () => [
         [t(act.isFavourite() ? "unfavourite" : "favourite"), act.favourite],
+        mayChange && [t("groupsOf"), act.groups],
         mayChange && [t("move"), act.move],
+        mayChange && [t("earlier"), act.earlier],
         [t("saveVcf"), act.download],
         [t("saveVcf3"), act.download3],
         [t("print"), act.print],

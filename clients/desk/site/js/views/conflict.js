@@ -2,17 +2,26 @@
 // said.
 import { bdi, button, el, fill, newId } from "../dom.js";
 import { lineShown } from "../shown.js";
-import { propertyText, t } from "../texts.js";
+import { propertyText, t } from "../say.js";
 import { dialog } from "./dialogs.js";
+
+/** The words for two edits of one card by two people. */
+function ofTwo(name) {
+  return {
+    title: t("conflictTitle", { name }), text: t("conflictText"), mine: t("yours"),
+    theirs: t("theirs"), leave: t("later"), all: t("keepTheirs"),
+    by: ["changedBy_mine", "changedBy_theirs"],
+  };
+}
 
 /**
  * Asks about the clashes of two edits (`merge3`). Answers a list with "mine" or "theirs" for each,
- * or null to decide later. `nameOf` gives the name of a member.
+ * or null to decide later. `nameOf` gives the name of a member; `words` are others for two cards.
  */
-export function askBoth(name, both, nameOf) {
+export function askBoth(name, both, nameOf, words = ofTwo(name)) {
   const choices = both.clashes.map(() => null);
   const error = el("p", { class: "error", role: "alert" });
-  return dialog(t("conflictTitle", { name }), (close, box) => {
+  return dialog(words.title, (close, box) => {
     const save = () => {
       if (choices.includes(null)) {
         fill(error, t("chooseAll"));
@@ -22,17 +31,17 @@ export function askBoth(name, both, nameOf) {
       close(choices);
     };
     return [
-      el("p", {}, t("conflictText")),
-      el("div", { class: "scroll" }, el("table", { class: "conflict" },
+      both.clashes.length ? el("p", {}, words.text) : null,
+      both.clashes.length ? el("div", { class: "scroll" }, el("table", { class: "conflict" },
         el("thead", {}, el("tr", {}, el("td", {}),
-          el("th", { scope: "col" }, t("yours")), el("th", { scope: "col" }, t("theirs")))),
-        el("tbody", {}, both.clashes.map((it, at) => row(it, at, choices, nameOf))))),
-      taken(both.changes, nameOf),
+          el("th", { scope: "col" }, words.mine), el("th", { scope: "col" }, words.theirs))),
+        el("tbody", {}, both.clashes.map((it, at) => row(it, at, choices, nameOf))))) : null,
+      taken(both.changes, nameOf, words.by),
       error,
       el("div", { class: "bar" },
         button(t("saveChosen"), save, { class: "main" }),
-        button(t("keepTheirs"), () => close(choices.map(() => "theirs"))),
-        button(t("later"), () => close(null))),
+        words.all && button(words.all, () => close(choices.map(() => "theirs"))),
+        button(words.leave, () => close(null))),
     ];
   }, "wide");
 }
@@ -61,7 +70,7 @@ function side(item, nameOf) {
 }
 
 /** What only one side changed: it is in the card in any case. */
-function taken(changes, nameOf) {
+function taken(changes, nameOf, [mine, theirs]) {
   const named = changes.filter((it) => it.now || it.was);
   if (!named.length) return null;
   return el("div", { class: "taken" }, el("h3", {}, t("takenTitle")), el("ul", {},
@@ -69,6 +78,6 @@ function taken(changes, nameOf) {
       const gone = it.now ? null : [" ", el("small", {}, t("takenGone"))];
       return el("li", {}, el("strong", {}, propertyText(it.name)), " ",
         lineShown((it.now ?? it.was).line, nameOf), gone, " ",
-        el("small", {}, bdi(t(`changedBy_${it.by}`))));
+        el("small", {}, bdi(t(it.by === "mine" ? mine : theirs))));
     })));
 }

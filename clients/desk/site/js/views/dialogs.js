@@ -1,6 +1,6 @@
 // Dialogs with a question.
 import { button, el, fill, newId } from "../dom.js";
-import { t } from "../texts.js";
+import { t } from "../say.js";
 
 /** Shows a dialog and waits. `make(close)` gives its content; a dialog that is left gives null. */
 export function dialog(title, make, kind = "") {

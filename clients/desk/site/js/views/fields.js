@@ -1,7 +1,7 @@
 // Fields of the form: one text, rows that can be added and removed, dates, a photo.
 import { button, el, fill, labelled, newId } from "../dom.js";
 import { readDate } from "../dates.js";
-import { dateText, locale, t, usesText } from "../texts.js";
+import { dateText, locale, t, usesText } from "../say.js";
 import { isMail, isPhone } from "../values.js";
 import { readPhoto } from "../photo.js";
 

@@ -2,7 +2,7 @@
 import { bdi, button, el, fill, labelled, newId } from "../dom.js";
 import { memberValue } from "../edit.js";
 import { search } from "../search.js";
-import { t } from "../texts.js";
+import { t } from "../say.js";
 import { clean } from "../values.js";
 import { addressFields, dateField, input, photoField, rowsField } from "./fields.js";
 import { menuButton } from "./menu.js";

@@ -1,7 +1,7 @@
 // The list of cards. Only the rows in sight are elements, so that 10,000 cards scroll like ten.
 import { bdi, el } from "../dom.js";
 import { keyOf } from "../shelf.js";
-import { count, t, usesText } from "../texts.js";
+import { count, t, usesText } from "../say.js";
 import { plainText } from "../values.js";
 
 const AROUND = 6;

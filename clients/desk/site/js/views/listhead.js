@@ -1,7 +1,7 @@
 // The head of the list: how it is sorted, and what can be done with several cards at once.
 import { button, el, fill } from "../dom.js";
 import { icon } from "../icons.js";
-import { count, t } from "../texts.js";
+import { count, t } from "../say.js";
 import { menuButton } from "./menu.js";
 
 export class ListHead {
@@ -19,6 +19,7 @@ export class ListHead {
     fill(this.root, menuButton(icon("more"), () => [
       sort("name"), sort("family"),
       [t("select"), () => desk.list.marking(true)],
+      [t("duplicates"), () => desk.duplicates.show()],
       [t("print"), () => desk.actions.printList()],
     ], { class: "quiet round", "aria-label": t("listMenu"), title: t("listMenu") }));
   }

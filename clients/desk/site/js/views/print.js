@@ -1,6 +1,6 @@
 // A list on paper: a line for each card, in columns that are as narrow as can be read.
 import { bdi, el } from "../dom.js";
-import { count, t } from "../texts.js";
+import { count, t } from "../say.js";
 import { plainText } from "../values.js";
 
 export function printSheet(rows, withBooks) {

@@ -1,7 +1,7 @@
 // The side bar: books, lists of one's own, groups.
 import { bdi, button, el, fill } from "../dom.js";
 import { icon } from "../icons.js";
-import { number, t } from "../texts.js";
+import { number, t } from "../say.js";
 
 const MOST_GROUPS = 60;
 
@@ -35,7 +35,9 @@ export class SideBar {
       button(t("addBook"), () => desk.addBook(), { class: "quiet add" }),
       books.length ? [el("h2", {}, t("lists")), el("ul", {},
         this.list({ kind: "favourites" }, t("favourites"), "star"),
-        this.list({ kind: "recent" }, t("recent"), "recent"))] : null,
+        this.list({ kind: "recent" }, t("recent"), "recent"),
+        el("li", { class: "book" }, button([icon("trash"), el("span", { class: "book-name" },
+          t("trash"))], () => this.trash(), { class: "choose" })))] : null,
       groups.length ? [el("h2", {}, t("groupsTitle")), el("ul", {}, groups.map((it) => this.list(
         { kind: "group", book: it.book, uid: it.uid }, it.name || t("nameless"), "people",
       )))] : null,
@@ -65,6 +67,11 @@ export class SideBar {
     }, {
       class: "quiet menu", "aria-label": text, title: text,
     });
+  }
+
+  trash() {
+    this.desk.frame.showNav(false);
+    this.desk.actions.trash();
   }
 
   list(filter, text, sign) {

@@ -1,7 +1,7 @@
 // What isn't sent yet, and which forms aren't finished.
 import { bdi, button, el } from "../dom.js";
 import { ASKS, REFUSED } from "../queue.js";
-import { faultText, t, timeText } from "../texts.js";
+import { faultText, t, timeText } from "../say.js";
 import { Fault } from "../api.js";
 import { dialog } from "./dialogs.js";
 
