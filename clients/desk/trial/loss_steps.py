@@ -345,3 +345,78 @@ def refusals_kept(trial):
         page.press("Try again", "document.querySelector('#pane')")
         stored(office, "c08", f"TITLE:Refused with {status}")
         page.wait(f"{WAITING} === ''")
+
+
+OLD_TABLES = """(async () => {
+    const old = await new Promise((resolve) => {
+        const request = indexedDB.open('desk', 1);
+        request.onupgradeneeded = () => {
+            const db = request.result;
+            db.createObjectStore('books', { keyPath: 'name' });
+            for (const name of ['cards', 'rows', 'drafts']) {
+                db.createObjectStore(name, { keyPath: ['book', 'uid'] });
+            }
+            db.createObjectStore('settings');
+        };
+        request.onsuccess = () => resolve(request.result);
+    });
+    const tx = old.transaction(['books', 'drafts', 'settings'], 'readwrite');
+    tx.objectStore('books').put({ name: 'clients', token: 't', round: 1, whole: true, synced: 1 });
+    const text = (uid, fn) => ['BEGIN:VCARD', 'VERSION:4.0', 'UID:' + uid, 'FN:' + fn, 'END:VCARD',
+        ''].join('\\r\\n');
+    tx.objectStore('drafts').put({
+        book: 'clients', uid: '', version: 0, base: text('old-new', ''),
+        text: text('old-new', 'Typed Long Ago'),
+    });
+    tx.objectStore('drafts').put({
+        book: 'clients', uid: 'c17', version: 18, base: text('c17', 'Rosa Delgado'),
+        text: text('c17', 'Rosa Delgado-Long'),
+    });
+    tx.objectStore('settings').put('clients', 'book');
+    await new Promise((resolve) => { tx.oncomplete = resolve; });
+    old.close();
+})()"""
+
+
+@step
+def older_desk(trial):
+    """A browser with the copy of an older desk: names of books and drafts are taken over."""
+    office = trial.office
+    page = trial.browser.page(trial.browser.context())
+    trial.desks["older"] = page
+    scheme, rest = office.front.split("://")
+    page.go(f"{scheme}://ann:ann-pw@{rest}manifest.json")
+    page.run(OLD_TABLES)
+    page.go(office.front)
+    page.wait(f"{STATE}.startsWith('Up to date')")
+    page.wait("document.querySelector('#books').textContent.includes('clients')")
+    page.press("2 not saved yet")
+    page.wait("document.querySelector('dialog').innerText.includes('Rosa Delgado-Long')")
+    row = ("[...document.querySelectorAll('dialog li')]"
+           ".find((it) => it.innerText.includes('Typed Long Ago'))")
+    page.press("Go on", row)
+    page.wait(f"{FORM} && {FIELDS}.includes('Typed Long Ago')")
+    page.press("Save")
+    until(lambda: "Typed Long Ago" in names(office))
+
+
+@step
+def no_room(trial):
+    """The browser can't keep what is saved: the form stays, and says so."""
+    page, office = at_desk(trial), trial.office
+    open_form(page, "tamsin", "Tamsin Pell")
+    fill(page, "Organisation", "No Room Print")
+    page.run("""(() => {
+        const real = IDBObjectStore.prototype.put;
+        IDBObjectStore.prototype.put = function () {
+            throw new DOMException('full', 'QuotaExceededError');
+        };
+        window.room = () => { IDBObjectStore.prototype.put = real; };
+    })()""")
+    page.press("Save")
+    page.wait("document.querySelector('#toast').textContent.includes('couldn’t keep it')")
+    assert "No Room Print" in page.run(FIELDS)
+    page.run("window.room()")
+    page.press("Save")
+    stored(office, "c19", "ORG:No Room Print")
+    page.said[:] = [it for it in page.said if "QuotaExceededError" not in it]

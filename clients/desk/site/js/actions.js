@@ -144,8 +144,12 @@ export class Actions {
   }
 
   async copy(value) {
-    await navigator.clipboard.writeText(value);
-    this.desk.frame.toast(t("copied", { text: value }));
+    try {
+      await navigator.clipboard.writeText(value);
+      this.desk.frame.toast(t("copied", { text: value }));
+    } catch {
+      this.desk.frame.toast(t("copyBad"));
+    }
   }
 
   /** Prints the card that is shown. */

@@ -185,6 +185,7 @@ export class Desk {
   /** A change couldn't be sent. */
   unsent(entry, fault) {
     if (fault.isPassing) this.frame.setState(entry.book, "waiting", fault);
+    else if (fault.status === 401) this.frame.setState(entry.book, "refused", fault);
     else if (fault.from === "front" && fault.status === 403) this.setRights(entry.book, "read");
     this.drawStateSoon();
   }

@@ -93,8 +93,15 @@ export class Duplicates {
     if (!choices) return true;
     const text = both.text(choices);
     const edit = { book, uid: first.uid, base: one.text, version: one.version, text };
+    const groups = desk.shelf.groupsOf(book, other.uid);
+    const inBoth = new Set(desk.shelf.groupsOf(book, first.uid).map((it) => it.uid));
     await desk.queue.save(edit);
     await desk.queue.remove([[book, other.uid]]);
+    // Who was in a group stays in it.
+    for (const it of groups) {
+      await desk.setMember(book, it.uid, other.uid, false);
+      await desk.setMember(book, it.uid, first.uid, true);
+    }
     await desk.changed();
     desk.pane.open(book, first.uid);
     desk.frame.toast(t("joined", { name: nameOf(readCard(text)) }), {
@@ -102,6 +109,10 @@ export class Duplicates {
       run: async () => {
         await desk.queue.restore(book, other.uid, two.text);
         await desk.queue.save({ ...edit, base: text, text: one.text });
+        for (const it of groups) {
+          await desk.setMember(book, it.uid, other.uid, true);
+          await desk.setMember(book, it.uid, first.uid, inBoth.has(it.uid));
+        }
         await desk.changed();
       },
     });

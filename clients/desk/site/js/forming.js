@@ -77,7 +77,11 @@ export class Forming {
     if (!this.keeping) return;
     clearTimeout(this.keeping);
     this.keeping = 0;
-    await this.desk.drafts.keep(this.draft());
+    try {
+      await this.desk.drafts.keep(this.draft());
+    } catch (fault) {
+      this.desk.frame.toast(t("saveFailed", { why: fault.message }));
+    }
   }
 
   /** Another thing is shown in place of the form. */
@@ -100,19 +104,36 @@ export class Forming {
     this.isDone = true;
   }
 
-  /** Saves what the form has now. What is typed after this is another edit, and stays. */
+  /** Saves what the form has now. If the browser can't keep it, the form stays and says so. */
   async save() {
-    const { desk, edit } = this;
     const sent = JSON.stringify(this.fields);
+    if (this.saving === sent) return; // Save was pressed twice
+    this.saving = sent;
+    try {
+      await this.saveNow(sent);
+    } catch (fault) {
+      this.desk.frame.toast(t("saveFailed", { why: fault.message }));
+      throw fault;
+    } finally {
+      this.saving = null;
+    }
+  }
+
+  /** What is typed after this is another edit, and stays. */
+  async saveNow(sent) {
+    const { desk, edit } = this;
     if (!edit.isNew && !this.isDraft && sent === this.begun) {
       this.end();
       desk.frame.toast(t("nothingChanged"));
       desk.pane.open(edit.book, edit.uid, true);
       return;
     }
-    let { text } = this.draft();
-    const kept = text;
-    await desk.drafts.keep({ ...this.draft(), text });
+    // Browsers may drop what pages keep if the disk is full, unless they are asked not to.
+    navigator.storage?.persist?.();
+    const draft = this.draft();
+    const kept = draft.text;
+    let { text } = draft;
+    await desk.drafts.keep(draft);
     let { base } = edit;
     for (;;) {
       const done = await desk.queue.save({ ...edit, base, text });

@@ -31,27 +31,30 @@ export function readQuery(text) {
   const words = fold(text).split(" ").filter(Boolean);
   const isNumber = /^[\s+\d().\-/]+$/.test(text) && /\d/.test(text);
   const digits = isNumber ? text.replace(/\D/g, "") : "";
-  return { words, digits, trunk: digits.replace(/^0+/, "") };
+  const begins = words.map((it) => ` ${it}`);
+  return { words, begins, digits, trunk: digits.replace(/^0+/, "") };
 }
 
 /** 0 for the best match, higher for a lesser one, -1 for none. */
 export function rank(row, query) {
-  if (query.digits && hasNumber(row.digits ?? "", query)) return 0;
+  if (query.digits && row.digits && hasNumber(row.digits, query)) return 0;
+  if (!query.words.length) return -1;
+  const { names } = row;
   let worst = 0;
-  for (const word of query.words) {
-    const begin = ` ${word}`;
-    const { names = "", words = "", more = "" } = row;
-    let found;
-    if (names.startsWith(begin)) found = 0;
-    else if (names.includes(begin)) found = 1;
-    else if (words.includes(begin)) found = 2;
-    else if (names.includes(word)) found = 3;
-    else if (words.includes(word)) found = 4;
-    else if (more.includes(begin)) found = 5;
-    else return -1;
+  for (let at = 0; at < query.words.length; at += 1) {
+    const word = query.words[at];
+    const begin = query.begins[at];
+    const place = names ? names.indexOf(begin) : -1;
+    let found = 5;
+    if (place === 0) found = 0;
+    else if (place > 0) found = 1;
+    else if (row.words?.includes(begin)) found = 2;
+    else if (names?.includes(word)) found = 3;
+    else if (row.words?.includes(word)) found = 4;
+    else if (!row.more?.includes(begin)) return -1;
     if (found > worst) worst = found;
   }
-  return query.words.length ? worst : -1;
+  return worst;
 }
 
 // A number may be stored as +353 20 911 0177 and typed as 020 911 0177, or the other way round: so
@@ -64,16 +67,40 @@ function hasNumber(digits, query) {
   return digits.split(" ").some((it) => it.length >= 8 && end.endsWith(it.slice(-8)));
 }
 
-/** The rows that match, the best first, and in their own order where they match alike. */
-export function search(rows, text) {
-  const query = readQuery(text);
-  if (!query.words.length && !query.digits) return text.trim() === "" ? rows : [];
-  const ranked = [[], [], [], [], [], []];
-  for (const row of rows) {
-    const found = rank(row, query);
-    if (found >= 0) ranked[found].push(row);
+/**
+ * A search that goes on from the one before it: what matches a longer text matched the shorter one,
+ * unless it is a number.
+ */
+export class Searcher {
+  constructor() {
+    this.rows = null; // all rows of the last search
+    this.typed = "";
+    this.matches = []; // those that matched, in their own order
   }
-  return ranked.flat();
+
+  /** The rows that match, the best first, and in their own order where they match alike. */
+  find(rows, text) {
+    const query = readQuery(text);
+    if (!query.words.length && !query.digits) return text.trim() === "" ? rows : [];
+    const typed = query.words.join(" ");
+    const goesOn = rows === this.rows && this.typed !== "" && !query.digits
+      && typed.startsWith(this.typed);
+    const ranked = [[], [], [], [], [], []];
+    const matches = [];
+    for (const row of goesOn ? this.matches : rows) {
+      const found = rank(row, query);
+      if (found < 0) continue;
+      ranked[found].push(row);
+      matches.push(row);
+    }
+    Object.assign(this, { rows, typed: query.digits ? "" : typed, matches });
+    return ranked.flat();
+  }
+}
+
+/** One search by itself. */
+export function search(rows, text) {
+  return new Searcher().find(rows, text);
 }
 
 /**

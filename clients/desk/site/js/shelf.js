@@ -1,7 +1,7 @@
 // The rows of all cards in memory, in the order of the list: as the server has them, and over them
 // the changes that it doesn't have yet.
 import { memberUid, rowOf } from "./person.js";
-import { search, sortRows } from "./search.js";
+import { Searcher, sortRows } from "./search.js";
 
 export function keyOf(row) {
   return `${row.book}/${row.uid}`;
@@ -14,6 +14,7 @@ export class Shelf {
     this.local = new Map(); // the rows of what isn't sent, null where a card is removed
     this.rows = new Map(); // what is seen
     this.by = "name";
+    this.searcher = new Searcher();
     this.sorted = [];
     this.isSorted = true;
   }
@@ -90,8 +91,16 @@ export class Shelf {
 
   /** The rows of a book ("" for all books) that match. */
   find(text, book) {
+    return this.searcher.find(this.ofBook(book), text);
+  }
+
+  ofBook(book) {
     const rows = this.all();
-    return search(book ? rows.filter((row) => row.book === book) : rows, text);
+    if (!book) return rows;
+    if (this.part?.rows !== rows || this.part.book !== book) {
+      this.part = { rows, book, of: rows.filter((row) => row.book === book) };
+    }
+    return this.part.of;
   }
 
   count(book) {

@@ -216,6 +216,8 @@ export const TEXTS = {
   draftDrop: "Drop it and start from the card",
   nothingChanged: "Nothing was changed.",
   saved: "Saved: {name}",
+  saveFailed: "This browser couldn’t keep it ({why}). The form stays open: try again.",
+  copyBad: "This browser doesn’t let the page copy.",
   leftForm: "Not saved, but kept: {name}",
   goBack: "Go on with it",
   cancelled: "What you typed was dropped.",

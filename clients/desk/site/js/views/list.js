@@ -38,12 +38,17 @@ export class CardList {
     this.at = at;
     if (isSame && this.drawn) return;
     this.drawn = "";
-    this.measure();
+    if (this.height) this.stretch();
+    else this.measure();
   }
 
   measure() {
     this.height = Number.parseFloat(getComputedStyle(this.root).getPropertyValue("--row")) *
       Number.parseFloat(getComputedStyle(document.documentElement).fontSize);
+    this.stretch();
+  }
+
+  stretch() {
     this.space.style.height = `${this.rows.length * this.height}px`;
     this.draw();
   }
