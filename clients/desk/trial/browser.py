@@ -11,7 +11,7 @@ import tempfile
 import time
 from pathlib import Path
 
-SECONDS = 60  # that a page has for each thing, on a machine that is busy with others
+SECONDS = 90  # that a page has for each thing, on a machine that is busy with others
 KEYS = {
     "Enter": (13, "\r"),
     "Escape": (27, None),
