@@ -74,6 +74,11 @@ class Desk(unittest.TestCase):
         styles = {f"style/{it.name}" for it in (SITE / "style").iterdir()}
         self.assertEqual(styles, set(re.findall(r'href="(style/[^"]+)"', page)))
 
+    def test_page_asks_for_all_scripts_at_once(self):
+        named = re.findall(r'<link rel="modulepreload" href="([^"]+)">', text(SITE / "index.html"))
+        there = {str(it.relative_to(SITE)) for it in (SITE / "js").rglob("*.js")}
+        self.assertEqual(sorted(there - {"js/main.js"}), named)
+
     def test_imports(self):
         """Each name that a script imports is one that the other exports."""
         for path in SCRIPTS:

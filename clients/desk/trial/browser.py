@@ -76,16 +76,24 @@ class Socket:
 
 class Browser:
     def __init__(self, program, arguments=()):
+        self.program = program
+        self.arguments = arguments
         self.folder = Path(tempfile.mkdtemp(prefix="desk-chromium-"))
+        self.again()
+
+    def again(self):
+        """Starts the browser, with what it kept before it was closed or killed."""
         command = [
-            program, "--headless=new", "--no-sandbox", "--disable-gpu", "--hide-scrollbars",
+            self.program, "--headless=new", "--no-sandbox", "--disable-gpu", "--hide-scrollbars",
             "--no-first-run", "--disable-background-networking", "--disable-component-update",
             "--disable-dev-shm-usage", "--remote-debugging-port=0", "--lang=en-GB",
-            f"--user-data-dir={self.folder}", *arguments, "about:blank",
+            "--accept-lang=en-GB",
+            f"--user-data-dir={self.folder}", *self.arguments, "about:blank",
         ]
-        log = open(self.folder / "log", "wb")
-        self.process = subprocess.Popen(command, stdout=log, stderr=log)
         port_file = self.folder / "DevToolsActivePort"
+        port_file.unlink(missing_ok=True)
+        log = open(self.folder / "log", "ab")
+        self.process = subprocess.Popen(command, stdout=log, stderr=log)
         for _ in range(900):
             if port_file.exists() and port_file.read_text().count("\n"):
                 break
@@ -119,8 +127,9 @@ class Browser:
         return self.call("Target.createBrowserContext")["browserContextId"]
 
     def page(self, context, width=1280, height=800):
+        where = {"browserContextId": context} if context else {}
         target = self.call(
-            "Target.createTarget", url="about:blank", browserContextId=context, newWindow=True,
+            "Target.createTarget", url="about:blank", newWindow=True, **where,
         )["targetId"]
         session = self.call("Target.attachToTarget", targetId=target, flatten=True)["sessionId"]
         page = Page(self, session, context)
@@ -130,13 +139,21 @@ class Browser:
         page.size(width, height)
         return page
 
-    def desk(self, address, user, **size):
-        """A page of a user, with storage of its own. The password goes in by the address."""
-        page = self.page(self.context(), **size)
+    def desk(self, address, user, isolated=True, **size):
+        """
+        A page of a user, with storage of its own unless `isolated` is false. The password goes in
+        by the address.
+        """
+        page = self.page(self.context() if isolated else None, **size)
         scheme, rest = address.split("://")
         page.go(f"{scheme}://{user}:{user}-pw@{rest}")
         page.go(address)
         return page
+
+    def kill(self):
+        """Ends the browser at once, as a crash does."""
+        self.process.kill()
+        self.process.wait()
 
     def close(self):
         try:

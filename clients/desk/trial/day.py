@@ -87,6 +87,33 @@ def toast(page, text):
     page.wait(f"document.querySelector('#toast').textContent.includes({json.dumps(text)})")
 
 
+def until(condition, seconds=60):
+    """Waits until a function answers something. Returns that."""
+    end = time.monotonic() + seconds
+    while True:
+        value = condition()
+        if value:
+            return value
+        assert time.monotonic() < end, "it never came to be"
+        time.sleep(0.1)
+
+
+def status(day, book, uid):
+    return day.office.request("GET", f"/books/{book}/cards/{uid}")[0]
+
+
+def stored(day, book, uid, *lines):
+    """Waits until the server's card has the lines. Returns all of its lines."""
+
+    def found():
+        if status(day, book, uid) != 200:
+            return None
+        text = logical(day.office.card(book, uid)["card"])
+        return text if all(it in text for it in lines) else None
+
+    return until(found)
+
+
 def update(page):
     """Asks the server now, from wherever the focus is."""
     is_before = page.run("document.activeElement.id === 'search'")
@@ -99,7 +126,10 @@ def menu(page, book):
     """Opens the dialog of a book, from the search on."""
     if page.run("document.activeElement.id !== 'search'"):
         page.key("Escape")
-    Hands(page).press(f"Book {book}: ")
+    hands = Hands(page)
+    if page.run("document.querySelector('#places').checkVisibility()"):
+        hands.press("Books and groups", back=True)
+    hands.press(f"Book {book}: ")
     page.wait(f"{CAPTION}?.includes('card')")
 
 
@@ -108,14 +138,16 @@ def morning(day):
     """The desk opens with all books and cards that the tour left."""
     page = day.desk("admin")
     page.wait(f"{STATE}.startsWith('Up to date')")
-    equals(page, BOOKS, ["All books\n5", "clients\n3", "staff\n2"])
+    equals(page, BOOKS, ["All books\n5", "clients\n3", "staff\n2", "Favourites",
+                         "Recently opened", "Trash"])
     equals(page, ROWS, ["Anna", "Bob", "Cy", "Pat Lee", "Quin"])
     hands = Hands(page)
     hands.at("search")
-    assert hands.order(9) == [
+    assert hands.order(13) == [
         "button New card", "button Update now", "button All books5", "button clients3",
         "button Book clients: numbers, import,", "button staff2",
-        "button Book staff: numbers, import, e", "button Add a book", "listbox Cards",
+        "button Book staff: numbers, import, e", "button Add a book", "button Favourites",
+        "button Recently opened", "button Trash", "button Sort and select", "listbox Cards",
     ]
     page.key("Escape")
     hands.at("search")
@@ -139,8 +171,9 @@ def search(day):
     shows(page, "Pat Lee")
     page.key("Enter")
     hands.at("card-name")
-    stops = hands.order(3)
-    assert stops == ["button Edit", "button Move…", "button Save as vCard"], stops
+    stops = hands.order(4)
+    assert stops == ["button Edit", "button More actions", "a Mail: pat@example.test",
+                     "button Share"], stops
     assert page.run("document.querySelector('.card a').href") == "mailto:pat@example.test"
     day.picture(page, "card")
     audit(page, "a card")
@@ -168,11 +201,9 @@ def add(day):
     shows(page, "Zoë O'Brien")
     toast(page, "Saved: Zoë O'Brien")
     uid = page.run("decodeURIComponent(location.hash.split('/')[3])")
-    text = logical(day.office.card("staff", uid)["card"])
-    for line in ("N:O'Brien;Zoë;;;", "TEL;TYPE=work:020 7946 0101",
-                 "TEL;TYPE=work:+44 7700 900102", "EMAIL;TYPE=work:zoe@example.test",
-                 "ORG:Brien & Co\\; Ltd"):
-        assert line in text, (line, text)
+    stored(day, "staff", uid, "N:O'Brien;Zoë;;;", "TEL;TYPE=work:020 7946 0101",
+           "TEL;TYPE=work:+44 7700 900102", "EMAIL;TYPE=work:zoe@example.test",
+           "ORG:Brien & Co\\; Ltd")
 
 
 @step
@@ -191,9 +222,8 @@ def edit(day):
     audit(page, "the form")
     hands.press("Save")
     page.wait(f"({CARD}).includes('Quin Cars')")
-    text = logical(day.office.card("clients", "q")["card"])
-    for line in ("X-ACCOUNT:4711", "TZ:Europe/London", "ORG:Quin Cars", "NOTE:Rings on Fridays."):
-        assert line in text, (line, text)
+    stored(day, "clients", "q", "X-ACCOUNT:4711", "TZ:Europe/London", "ORG:Quin Cars",
+           "NOTE:Rings on Fridays.")
 
 
 @step
@@ -220,10 +250,7 @@ def conflict(day):
     day.picture(page, "conflict")
     page.key(" ")
     hands.press("Save what is chosen")
-    toast(page, "Saved: Anna")
-    text = logical(day.office.card("clients", "a")["card"])
-    for line in ("TITLE:Head of sales", "TEL:020 7946 0177"):
-        assert line in text, (line, text)
+    text = stored(day, "clients", "a", "TITLE:Head of sales", "TEL:020 7946 0177")
     assert ("FN:Anna Marie" in text) != ("FN:Anna Maria" in text), text
 
 
@@ -235,14 +262,13 @@ def move(day):
     shows(page, "Cy")
     page.key("Enter")
     hands.at("card-name")
-    hands.press("Move…")
+    hands.choose("More actions", "Move…")
     page.wait("document.querySelector('dialog')")
     audit(page, "a question")
     hands.press("clients")
     toast(page, "Moved to clients: Cy")
     assert "FN:Cy" in day.office.card("clients", "c")["card"]
-    status, _, _ = day.office.request("GET", "/books/staff/cards/c")
-    assert status == 404, status
+    assert status(day, "staff", "c") == 404
     page.wait("location.hash === '#/card/clients/c'")
 
 
@@ -255,21 +281,20 @@ def delete(day):
     for is_undone in (True, False):
         page.key("Enter")
         hands.at("card-name")
-        hands.press("Delete")
+        hands.choose("More actions", "Delete")
         page.wait("document.querySelector('dialog')")
         hands.press("Delete")
         toast(page, "Deleted: Bob")
-        status, _, _ = day.office.request("GET", "/books/staff/cards/b")
-        assert status == 404, status
+        until(lambda: status(day, "staff", "b") == 404)
         if is_undone:
             day.picture(page, "deleted")
             before = hands.stops
             hands.press("Undo")
             assert hands.stops - before <= 3, "Undo is far away"
             shows(page, "Bob")
-            assert "FN:Bob" in day.office.card("staff", "b")["card"]
+            stored(day, "staff", "b", "FN:Bob")
     page.wait(f"!({ROWS}).includes('Bob')")
-    page.wait("document.querySelector('#pane .keys')")
+    page.wait("!document.querySelector('#card-name')")
 
 
 # The name of a file, its text, and what the desk says of it.

@@ -4,8 +4,8 @@ import json
 
 from access import audit
 from browser import ALT
-from day import BOOKS, CARD, DIALOG, ROWS, STATE, TITLE
-from day import equals, find, menu, shows, step, toast, update
+from day import BOOKS, CARD, ROWS, STATE, TITLE
+from day import equals, find, menu, shows, step, stored, toast, update
 from hands import Hands
 
 
@@ -24,14 +24,28 @@ def offline(day):
     page.key("F2")
     hands.fill("Position", "Treasurer")
     page.key("Enter")
-    toast(page, "Waiting for the server")
-    toast(page, "Your edit is kept here")
+    shows(page, "Pat Lee")
+    page.wait(f"({CARD}).includes('Treasurer') && ({CARD}).includes('Not sent yet')")
+    page.wait("document.querySelector('#waiting').textContent === '1 change not sent yet'")
     day.picture(page, "offline")
-    audit(page, "the form, offline")
+    audit(page, "a card that isn't sent")
+    page.key("F2")
+    hands.fill("Nickname" if page.run("Boolean(document.querySelector('details[open]'))")
+               else "Organisation", "Half typed")
+    page.run("new Promise((done) => setTimeout(done, 800))")
+    page.go("about:blank")
     page.go(day.office.front)
     page.wait(f"{STATE}.startsWith('Offline')")
+    page.wait("document.querySelector('#waiting').textContent.includes('1 not saved yet')")
+    hands.press("1 change not sent yet")
+    page.wait("document.querySelector('dialog .entries')")
+    day.picture(page, "waiting")
+    audit(page, "what waits")
+    page.key("Escape")
+    page.wait("!document.querySelector('dialog')")
     day.office.open()
     update(page)
+    stored(day, "clients", "p", "TITLE:Treasurer")
     find(page, "pat")
     shows(page, "Pat Lee")
     page.key("F2")
@@ -41,7 +55,7 @@ def offline(day):
     audit(page, "a draft")
     hands.press("Save")
     toast(page, "Saved: Pat Lee")
-    assert "TITLE:Treasurer" in day.office.card("clients", "p")["card"]
+    stored(day, "clients", "p", "TITLE:Treasurer", "ORG:Half typed")
 
 
 @step
@@ -70,13 +84,11 @@ def second_desk(day):
     toast(page, "Saved: Ned Stone")
     ann.front()
     ann.key("Enter")
-    ann.wait("document.querySelector('dialog table.conflict')")
-    assert "Mason" in ann.run(DIALOG) and "020 7946 0199" in ann.run(DIALOG)
+    stored(day, "clients", "n1", "TITLE:Mason")
+    ann.wait(f"({CARD}).includes('020 7946 0199') && ({CARD}).includes('Mason')")
+    assert not ann.run("Boolean(document.querySelector('dialog'))"), "nothing is to be asked"
     day.picture(ann, "second-desk")
-    theirs.press("Save what is chosen")
-    toast(ann, "Saved: Ned Stone")
     page.front()
-    update(page)
     find(page, "ned")
     page.wait(f"({CARD}).includes('020 7946 0199') && ({CARD}).includes('Mason')")
 
@@ -98,7 +110,7 @@ def phone(day):
         hands.at("card-name")
         day.picture(page, f"phone-{width}-card")
         audit(page, f"a card, {width} wide")
-        hands.press("Move…")
+        hands.choose("More actions", "Move…")
         page.wait("document.querySelector('dialog')")
         audit(page, f"a question, {width} wide")
         page.key("Escape")
@@ -172,7 +184,6 @@ def new_group(day):
     hands.press("Save")
     shows(page, "Drivers")
     uid = page.run("decodeURIComponent(location.hash.split('/')[3])")
-    text = day.office.card("clients", uid)["card"]
-    assert "MEMBER:q" in text and "MEMBER:n1" in text and "KIND:group" in text, text
+    stored(day, "clients", uid, "MEMBER:q", "MEMBER:n1", "KIND:group")
     assert page.run(TITLE) == "Drivers"
     equals(page, "document.querySelectorAll('ul.members li').length", 2)

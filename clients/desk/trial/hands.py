@@ -66,6 +66,18 @@ class Hands:
         self.to(name, back, "button")
         self.page.key("Enter")
 
+    def choose(self, name, item):
+        """Opens a menu by its button, and takes one of its items."""
+        self.press(name)
+        for _ in range(20):
+            stop = self.page.run(FOCUS)
+            assert stop["kind"] == "menuitem", stop
+            if stop["name"].startswith(item):
+                self.page.key("Enter")
+                return
+            self.page.key("ArrowDown")
+        raise AssertionError(f"the menu has no {item}")
+
     def fill(self, name, text, back=False):
         """Tabs to a field and types in place of what it has."""
         stop = self.to(name, back)

@@ -171,6 +171,20 @@ class Office:
         name = urllib.parse.quote(uid, safe="")
         return self.ask("PUT", f"/{book}/cards/{name}", text)
 
+    def put_aside(self, book, uid, change):
+        """Changes a card behind nginx's back: as from a place where the network is there."""
+        path = f"/books/{book}/cards/{urllib.parse.quote(uid, safe='')}"
+        for method, body in (("GET", None), ("PUT", change)):
+            connection = http.client.HTTPConnection("127.0.0.1", self.port, timeout=70)
+            data = None if body is None else body(text).encode()
+            connection.request(method, path, data)
+            reply = connection.getresponse()
+            text = reply.read().decode()
+            connection.close()
+            if reply.status >= 400:
+                raise AssertionError(f"{method} {path}: {reply.status} {text[:300]}")
+            text = json.loads(text).get("card")
+
     def order_book(self, book):
         self.ask("PUT", f"/{book}")
 

@@ -27,11 +27,11 @@ class Trial:
         self.pictures = pictures
         self.desks = {}
 
-    def desk(self, user, **size):
+    def desk(self, user, name=None, **size):
         """A desk of a user, with a profile of its own."""
         page = self.browser.desk(self.office.front, user, **size)
         page.wait("document.querySelector('#books button')")
-        self.desks[user] = page
+        self.desks[name or user] = page
         return page
 
     def quiet(self):
@@ -65,7 +65,7 @@ def search(page, text):
 def fill(page, label, text):
     """Types into the field with this label, in place of what it has."""
     page.wait(f"""(() => {{
-        const label = [...document.querySelectorAll('.form label, dialog label')]
+        const label = [...document.querySelectorAll('form label, dialog label')]
             .find((it) => it.textContent.trim() === {json.dumps(label)});
         const field = label && document.getElementById(label.htmlFor);
         if (!field) return false;
@@ -76,10 +76,38 @@ def fill(page, label, text):
     page.type(text)
 
 
+def more(page, text):
+    """Takes something of the menu of the card that is shown."""
+    page.wait("document.querySelector('#pane .actions .round')")
+    page.run("document.querySelector('#pane .actions .round').click()")
+    page.press(text, "document.querySelector('#pane .menu-list')")
+
+
 def up_to_date(page):
     page.press("Update now")
     page.wait(f"{STATE}.startsWith('Up to date')")
     time.sleep(0.4)
+
+
+def until(condition, seconds=60):
+    """Waits until a function answers something. Returns that."""
+    end = time.monotonic() + seconds
+    while True:
+        value = condition()
+        if value:
+            return value
+        assert time.monotonic() < end, "it never came to be"
+        time.sleep(0.1)
+
+
+def stored(office, uid, line, book="clients"):
+    """Waits until the server's card has the line. Returns the card's lines."""
+
+    def found():
+        lines = logical(office.card(book, uid)["card"])
+        return lines if line in lines else None
+
+    return until(found)
 
 
 def toast(page, text):
@@ -93,7 +121,7 @@ def start(trial):
     trial.office.put("staff", "s1", card("s1", "FN:Ann Keeper", "TEL;TYPE=work:020 7946 0001"))
     admin = trial.desk("admin")
     admin.wait(f"{STATE}.startsWith('Up to date')")
-    admin.wait("document.querySelectorAll('#books li').length === 3")
+    admin.wait("document.querySelectorAll('#books .book-count').length === 3")
     admin.wait(f"{ROWS}.length > 10")
     ann = trial.desk("ann")
     for book in ("staff", "clients"):
@@ -149,7 +177,7 @@ def edit(trial):
     admin.picture(trial.pictures / "form.png")
     admin.press("Save")
     admin.wait(f"{TITLE} === 'Miriam O’Hara' && {ROLES}.includes('Finance')")
-    after = logical(trial.office.card("clients", "c12")["card"])
+    after = stored(trial.office, "c12", "TITLE:Finance director")
     changed = [it for it in zip(before, after) if it[0] != it[1]]
     assert changed == [("TITLE:Head of accounts", "TITLE:Finance director")], changed
     up_to_date(ann)
@@ -175,6 +203,7 @@ def new_card(trial):
     admin.key("Enter")
     admin.wait(f"{TITLE} === 'Petra van Dijk'")
     uid = admin.run("decodeURIComponent(location.hash.split('/')[3])")
+    until(lambda: trial.office.request("GET", f"/books/clients/cards/{uid}")[0] == 200)
     text = logical(trial.office.card("clients", uid)["card"])
     assert "ORG:Dijk\\, Zoon\\; Co" in text and "TEL;TYPE=work:+31 20 555 0101" in text, text
     assert "TEL;TYPE=work:+31 6 5550 0102" in text, text
@@ -198,6 +227,7 @@ def conflict(trial):
     ann.press("Save")
     ann.wait("document.querySelector('dialog table.conflict')")
     shown = ann.run("document.querySelector('dialog').innerText")
+    assert ann.run("document.querySelectorAll('dialog .clash').length") == 1, shown
     for text in ("Head dispatcher", "Night dispatcher", "07700 900999", "Rings before nine"):
         assert text in shown, (text, shown)
     ann.press("Save what is chosen")
@@ -207,9 +237,8 @@ def conflict(trial):
     office.put("clients", "c18", theirs.replace("Aziz Couriers", "Aziz & Sons"))
     ann.run("document.querySelector('.clash td:last-child label').click()")
     ann.press("Save what is chosen")
-    ann.wait("document.querySelector('dialog')?.innerText.includes('Aziz & Sons')")
-    ann.press("Save what is chosen")
     ann.wait(f"{TITLE} === 'Samir Aziz'")
+    stored(office, "c18", "NOTE:Rings before nine")
     text = office.card("clients", "c18")["card"]
     for part in ("TITLE:Night dispatcher", "07700 900999", "NOTE:Rings before nine", "Aziz & Sons"):
         assert part in text, text
@@ -230,6 +259,7 @@ def removed_meanwhile(trial):
     ann.press("Save")
     ann.press("Store it again")
     ann.wait(f"{TITLE} === 'Quentin Marsh'")
+    until(lambda: office.request("GET", "/books/clients/cards/c16")[0] == 200)
     assert "Master glazier" in office.card("clients", "c16")["card"]
 
 
@@ -253,7 +283,8 @@ def lost_reply(trial):
     })()""")
     admin.press("Save")
     toast(admin, "Saved: Jonas Weber")
-    assert "Chief of scales" in office.card("clients", "c09")["card"]
+    stored(office, "c09", "TITLE:Chief of scales")
+    admin.wait("document.querySelector('#waiting').hidden")
     assert office.ask("GET", "/clients/tally")["number"] == was + 1
 
 
@@ -264,18 +295,22 @@ def delete_move_undo(trial):
     text = office.card("clients", "c23")["card"]
     search(admin, "xanthe")
     admin.wait(f"{TITLE} === 'Xanthe Papadaki'")
-    admin.press("Delete")
+    more(admin, "Delete")
     admin.press("Delete", "document.querySelector('dialog')")
+    until(lambda: office.request("GET", "/books/clients/cards/c23")[0] == 404)
     admin.press("Undo")
     admin.wait(f"{TITLE} === 'Xanthe Papadaki'")
+    until(lambda: office.request("GET", "/books/clients/cards/c23")[0] == 200)
     assert office.card("clients", "c23")["card"] == text
+    admin.wait("document.querySelector('#waiting').hidden")
     office.put("clients", "c23", text.replace("Potter", "Tile maker"))
-    admin.press("Delete")
+    more(admin, "Delete")
     admin.press("Delete", "document.querySelector('dialog')")
     admin.wait("document.querySelector('dialog h2')?.textContent.includes('changed')")
-    admin.press("Look at it")
+    admin.press("Keep it")
+    search(admin, "xanthe")
     admin.wait("document.querySelector('.roles').textContent.includes('Tile maker')")
-    admin.press("Move")
+    more(admin, "Move")
     admin.press("staff", "document.querySelector('dialog')")
     toast(admin, "Moved to staff")
     assert "Tile maker" in office.card("staff", "c23")["card"]
@@ -292,7 +327,7 @@ def groups(trial):
     people = admin.run("document.querySelector('.people').innerText")
     assert "Rosa Delgado" in people and "nobody" in people, people
     admin.picture(trial.pictures / "group.png")
-    admin.press("Accounts and law")
+    admin.press("Accounts and law", "document.querySelector('.card')")
     admin.wait(f"{TITLE} === 'Accounts and law'")
     admin.press("Hugo Petit", "document.querySelector('.card')")
     admin.wait(f"{TITLE} === 'Hugo Petit'")

@@ -1,16 +1,22 @@
-// What a user does to cards and books: edit, delete, move, import, export.
-import { Fault, newKey } from "./api.js";
-import { el } from "./dom.js";
-import { editCard, newCard } from "./edit.js";
-import { FileFault, readFile, saveFile } from "./files.js";
-import { differences, merged, OF_PROGRAMS } from "./merge.js";
+// What a user does to a card or a book, but for the form: delete, move, share, groups, files.
+import { Fault } from "./api.js";
+import { BookFiles } from "./bookfiles.js";
+import { saveFile } from "./files.js";
+import { mailsOf } from "./groups.js";
+import { olderCard } from "./older.js";
 import { nameOf } from "./person.js";
 import * as push from "./push.js";
-import { readCard, uidOf, writeCard } from "./vcard.js";
-import { ask, askConflict, askFile, askText, showBook } from "./views/dialogs.js";
-import { count, faultText, importFaultText, t } from "./texts.js";
-
-const NAME = /^[a-z0-9-]{1,40}$/;
+import { decide, giveUp } from "./questions.js";
+import { count, faultText, t } from "./say.js";
+import { mailLink, mailsLink } from "./values.js";
+import { readCard } from "./vcard.js";
+import { peopleView } from "./views/card.js";
+import { bookNameFault, showBook } from "./views/books.js";
+import { ask, askText } from "./views/dialogs.js";
+import { printSheet } from "./views/print.js";
+import { askTicks } from "./views/ticks.js";
+import { trashView } from "./views/trash.js";
+import { fill } from "./dom.js";
 
 /** What went wrong, in words. A fault that isn't of a request is thrown on. */
 function words(fault) {
@@ -26,14 +32,11 @@ export class Actions {
   /** `desk` has the copy, the API, and what is on the screen. */
   constructor(desk) {
     this.desk = desk;
+    this.files = new BookFiles(desk, this);
   }
 
   get api() {
     return this.desk.api;
-  }
-
-  get store() {
-    return this.desk.store;
   }
 
   /** Waits for a reply, and says so if it takes a while. */
@@ -46,278 +49,273 @@ export class Actions {
     }
   }
 
-  /**
-   * Starts an edit: the card of the copy with its version, or a new card of a kind. `base` is the
-   * card that the edit is of, and `start` what the form begins with: the base, or a draft.
-   */
-  async begin(book, uid, kind = "individual") {
-    const draft = await this.store.draft(book, uid);
-    const kept = uid ? await this.store.card(book, uid) : null;
-    if (uid && !kept) return null;
-    if (draft) return { ...draft, start: draft.text, isDraft: true };
-    const text = kept?.text ?? writeCard(newCard(kind));
-    const version = kept?.version ?? 0;
-    return { book, uid, version, base: text, text, start: text, isDraft: false };
+  /** What can be done with a card that is shown. */
+  ofCard(book, uid, seen, text, entry) {
+    const { desk } = this;
+    const file = `${seen.name.replace(/[^\p{L}\p{N}]+/gu, "-").slice(0, 60) || "card"}.vcf`;
+    return {
+      edit: () => desk.pane.goEdit(book, uid),
+      move: () => this.move(book, uid),
+      remove: () => this.remove(book, uid),
+      download: () => saveFile(file, "text/vcard", text),
+      download3: () => saveFile(file, "text/vcard", olderCard(text)),
+      isFavourite: () => desk.lists.isFavourite(book, uid),
+      favourite: () => desk.lists.turnFavourite(book, uid),
+      groups: () => this.groupsOf(book, uid, seen.name),
+      earlier: () => this.trash(t("earlierTitle", { name: seen.name }),
+        (it) => it.book === book && it.uid === uid),
+      mailAll: seen.kind === "group" ? () => this.mailAll(book, seen.members) : null,
+      share: () => this.share(seen, file, text),
+      print: () => this.print("card"),
+      copy: (value) => this.copy(value),
+      search: (value) => {
+        desk.frame.search.value = value;
+        desk.frame.showPane("list");
+        desk.typed();
+        desk.frame.search.focus();
+      },
+      open: (row) => desk.pane.open(row.book, row.uid),
+      people: (node) => this.people(book, uid, node),
+      decide: () => decide(desk, entry),
+      again: async () => {
+        await desk.queue.again(book, uid);
+        await desk.changed();
+      },
+      drop: () => giveUp(desk, entry),
+    };
   }
 
-  /** The edit with what the form has now: `fields` in place of `before`, both of the same card. */
-  edited(edit, card, before, fields) {
-    return { ...edit, text: writeCard(editCard(card, before, fields)) };
+  /** Which groups of its book a card is in: boxes to tick. */
+  async groupsOf(book, uid, name) {
+    const { desk } = this;
+    const groups = desk.shelf.groups(book).filter((it) => it.uid !== uid);
+    if (!groups.length) {
+      desk.frame.toast(t("groupNone"));
+      return;
+    }
+    const before = new Set(desk.shelf.groupsOf(book, uid).map((it) => it.uid));
+    const wanted = await askTicks(t("groupsOfTitle", { name }),
+      groups.map((it) => [it.name || t("nameless"), it.uid, before.has(it.uid)]));
+    if (!wanted) return;
+    const changed = groups.filter((it) => wanted.has(it.uid) !== before.has(it.uid));
+    for (const it of changed) await desk.setMember(book, it.uid, uid, wanted.has(it.uid));
+    if (!changed.length) return;
+    await desk.changed();
+    desk.pane.again();
+    desk.frame.toast(t("groupsSaved", { name }), {
+      text: t("undo"),
+      run: async () => {
+        for (const it of changed) await desk.setMember(book, it.uid, uid, before.has(it.uid));
+        await desk.changed();
+        desk.pane.again();
+      },
+    });
   }
 
-  keep(edit) {
-    const { book, uid, version, base, text } = edit;
-    return this.store.keepDraft({ book, uid, version, base, text });
+  /** What this desk keeps of what was deleted, overwritten or dropped; some of it put back. */
+  async trash(title = t("trashTitle"), isWanted = () => true) {
+    const { desk } = this;
+    const kept = (await desk.trash.all()).filter(isWanted);
+    const it = await trashView(title, kept);
+    if (!it) return;
+    const now = await desk.queue.seen(it.book, it.uid);
+    await desk.queue.restore(it.book, it.uid, it.text);
+    if (now) await desk.trash.keep(it.book, it.uid, now.text, "changed");
+    await desk.changed();
+    desk.pane.open(it.book, it.uid);
+    desk.frame.toast(t("isBack", { name: nameIn(it.text) }));
   }
 
-  drop(edit) {
-    return this.store.dropDraft(edit.book, edit.uid);
-  }
-
-  /** Sends an edit. Answers where the card is now, or null if the form stays open. */
-  async save(edit) {
-    const uid = edit.uid || uidOf(readCard(edit.text));
-    const place = { book: edit.book, uid };
-    let { version, text } = edit;
-    for (;;) {
-      let done;
-      try {
-        done = await this.reply(push.save(this.api, this.store, edit.book, uid, version, text));
-      } catch (fault) {
-        this.desk.frame.toast(`${words(fault)} ${t("kept")}`);
-        return null;
-      }
-      if (done.change) {
-        await this.drop(edit);
-        await this.desk.changed(edit.book, done.change);
-        this.desk.frame.toast(t("saved", { name: nameIn(text) }));
-        return place;
-      }
-      if (done.theirs === null) {
-        const choice = await ask(t("goneTitle", { name: nameIn(text) }), [t("goneText")], [
-          [t("storeAgain"), "store", "main"], [t("letGo"), "go"], [t("editOn"), null],
-        ]);
-        if (choice === null) return null;
-        if (choice === "go") {
-          await this.drop(edit);
-          await this.desk.changed(edit.book, await this.store.dropCard(edit.book, uid));
-          return { book: edit.book, uid: null };
-        }
-        version = 0;
-        continue;
-      }
-      const choice = await this.choose(edit.base, text, done.theirs.text);
-      if (choice === null) return null;
-      if (choice === "theirs") {
-        await this.drop(edit);
-        const { theirs } = done;
-        await this.desk.changed(
-          edit.book,
-          await this.store.keepCard(edit.book, uid, theirs.version, theirs.text),
-        );
-        return place;
-      }
-      ({ version } = done.theirs);
-      text = merged(text, done.theirs.text, choice);
+  /** A mail to all people of a group, with groups in groups, by the device's mail program. */
+  mailAll(book, members) {
+    const { toast } = this.desk.frame;
+    const { mails, without } = mailsOf(this.desk.shelf, book, members);
+    const href = mailLink(mails[0] ?? "") && mailsLink(mails);
+    const said = without ? ` ${count("withoutMail", without)}` : "";
+    if (!mails.length) {
+      toast.call(this.desk.frame, t("mailNobody"));
+    } else if (!href) {
+      this.copy(mails.join(", "));
+      toast.call(this.desk.frame, t("mailTooMany", { n: mails.length }) + said);
+    } else {
+      location.href = href;
+      toast.call(this.desk.frame, count("mailOpened", mails.length) + said);
     }
   }
 
-  /** Asks which of two edits to keep, unless they differ only in what programs write. */
-  async choose(base, mine, theirs) {
-    const found = differences(base, mine, theirs);
-    if (found.every((it) => OF_PROGRAMS.has(it.name))) return "theirs";
-    const choice = await askConflict(nameIn(theirs), base, mine, theirs);
-    if (!(choice instanceof Map)) return choice;
-    return [...choice.values()].every((it) => it === "theirs") ? "theirs" : choice;
+  async copy(value) {
+    try {
+      await navigator.clipboard.writeText(value);
+      this.desk.frame.toast(t("copied", { text: value }));
+    } catch {
+      this.desk.frame.toast(t("copyBad"));
+    }
   }
 
-  /** Deletes a card after a question. Answers whether it is gone. */
+  /** Prints the card that is shown. */
+  print(what) {
+    document.body.dataset.print = what;
+    window.print();
+  }
+
+  /** Prints the whole list, of which the page has only the rows in sight. */
+  printList() {
+    const sheet = printSheet(this.desk.found(), this.desk.withBooks);
+    document.body.append(sheet);
+    this.print("list");
+    // Some browsers go on while the dialog is open.
+    addEventListener("afterprint", () => sheet.remove(), { once: true });
+  }
+
+  /** Gives the card to another program, as the device does that; or as a file. */
+  async share(seen, name, text) {
+    const file = new File([text], name, { type: "text/vcard" });
+    const data = { files: [file], title: seen.name };
+    if (!navigator.canShare?.(data)) {
+      saveFile(name, "text/vcard", text);
+      this.desk.frame.toast(t("exported", { file: name }));
+      return;
+    }
+    try {
+      await navigator.share(data);
+    } catch {
+      // Somebody closed the device's own dialog.
+    }
+  }
+
+  /** Deletes a card after a question. */
   async remove(book, uid) {
-    const kept = await this.store.card(book, uid);
-    if (!kept) return true;
+    const { desk } = this;
+    const kept = await desk.queue.seen(book, uid);
+    if (!kept) return;
     const name = nameIn(kept.text);
     const sure = await ask(t("removeTitle", { name }), [t("removeText", { book })], [
       [t("remove"), true, "danger"], [t("cancel"), null],
     ]);
-    if (!sure) return false;
-    let { version, text } = kept;
-    try {
-      for (;;) {
-        const done = await this.reply(push.remove(this.api, this.store, book, uid, version));
-        if (done.change) {
-          await this.desk.changed(book, done.change);
-          break;
-        }
-        ({ version, text } = done.theirs);
-        await this.desk.changed(book, await this.store.keepCard(book, uid, version, text));
-        const choice = await ask(t("removeChangedTitle", { name }), [t("removeChangedText")], [
-          [t("look"), null, "main"], [t("removeAnyway"), true, "danger"],
-        ]);
-        if (!choice) return false;
-      }
-    } catch (fault) {
-      this.desk.frame.toast(words(fault));
-      return false;
-    }
-    this.desk.frame.toast(t("removed", { name }), {
-      text: t("undo"), run: () => this.restore(book, uid, text),
+    if (!sure) return;
+    await desk.queue.remove([[book, uid]]);
+    desk.pane.leave();
+    await desk.changed();
+    desk.frame.toast(t("removed", { name }), {
+      text: t("undo"), run: () => this.restore(book, uid, kept.text),
     });
-    return true;
   }
 
-  /** Stores a deleted card again. */
+  /** Puts a deleted card back. */
   async restore(book, uid, text) {
-    try {
-      const done = await push.save(this.api, this.store, book, uid, 0, text);
-      if (done.change) await this.desk.changed(book, done.change);
-      this.desk.open(book, uid);
-    } catch (fault) {
-      this.desk.frame.toast(words(fault));
-    }
+    await this.desk.queue.restore(book, uid, text);
+    await this.desk.changed();
+    this.desk.pane.open(book, uid);
   }
 
-  /** Moves a card to a book that the user chooses. Answers that book, or null. */
+  /** Moves a card to a book that the user chooses. */
   async move(book, uid) {
-    const kept = await this.store.card(book, uid);
-    const others = this.desk.books.map((it) => it.name).filter((it) => it !== book);
-    if (!kept) return null;
+    const { desk } = this;
+    const kept = await desk.queue.seen(book, uid);
+    const others = desk.books.map((it) => it.name)
+      .filter((it) => it !== book && desk.mayChange(it));
+    if (!kept) return;
     const name = nameIn(kept.text);
+    if (!others.length) {
+      desk.frame.toast(t("moveNowhere"));
+      return;
+    }
     const to = await ask(t("moveTitle", { name }), [t("moveText", { book })], [
       ...others.map((it) => [it, it]), [t("cancel"), null],
     ]);
-    if (!to) return null;
+    if (to && (await this.moveNow(book, uid, to, name))) desk.pane.open(to, uid, true);
+  }
+
+  /** Moves a card on the server, once what was changed in it is there. */
+  async moveNow(book, uid, to, name) {
+    const { desk } = this;
     try {
-      const done = await this.reply(
-        push.move(this.api, this.store, book, uid, kept.version, to),
-      );
-      if (!done.change) {
-        this.desk.frame.toast(done.theirs ? t("moveChanged") : t("goneCard"));
-        await this.desk.follow(book);
-        return null;
+      await this.reply(desk.outbox.run());
+      if (await desk.queue.entry(book, uid)) {
+        desk.frame.toast(t("moveWaits"));
+        return false;
       }
-      await this.desk.changed(book, done.change);
-      await this.desk.follow(to);
-      this.desk.frame.toast(t("moved", { name, book: to }));
-      return to;
+      const { version } = await desk.store.card(book, uid);
+      const done = await this.reply(push.move(this.api, desk.store, book, uid, version, to));
+      if (!done.change) {
+        desk.frame.toast(done.theirs ? t("moveChanged") : t("goneCard"));
+        await desk.follow(book);
+        return false;
+      }
+      await desk.follower.now(to);
+      desk.arrived(book, done.change);
+      desk.frame.toast(t("moved", { name, book: to }));
+      return true;
     } catch (fault) {
-      this.desk.frame.toast(words(fault));
-      return null;
+      desk.frame.toast(words(fault));
+      return false;
     }
   }
 
   /** Asks the server who is in a group. */
-  async people(book, uid) {
+  async people(book, uid, node) {
+    let found;
     try {
-      return await this.reply(this.api.people(book, uid));
+      found = await this.reply(this.api.people(book, uid));
     } catch (fault) {
       this.desk.frame.toast(words(fault));
-      return null;
+      return;
     }
+    const people = found.people.map((it) => [it, this.desk.shelf.get(book, it) ?? null]);
+    const act = { open: (row) => this.desk.pane.open(row.book, row.uid) };
+    fill(node, peopleView(people, found.missing, act));
   }
 
   /** Shows a book with its numbers, and what can be done with it. */
   async book(name) {
-    const book = await this.store.book(name);
+    const { desk, files } = this;
+    const book = await desk.store.book(name);
     return showBook(book, {
       tally: () => this.api.tally(name).catch((fault) => { throw words(fault); }),
-      update: () => this.desk.follow(name),
-      import: () => this.importFile(name),
-      exportCards: () => this.exportRows(name, "cards"),
-      exportColumns: () => this.exportRows(name, "columns"),
-      exportVcf: async () => {
-        const texts = await this.store.texts(name);
-        this.saved(`${name}.vcf`, "text/vcard", texts.join(""));
-      },
+      update: () => desk.follow(name),
+      import: book.rights === "read" ? null : () => files.import(name),
+      exportCards: () => files.exportRows(name, "cards"),
+      exportColumns: () => files.exportRows(name, "columns"),
+      exportVcf: () => files.exportCopy(name),
       startAgain: async () => {
-        await this.store.startAgain(name);
-        await this.desk.follow(name);
+        await desk.store.startAgain(name);
+        await desk.follow(name);
       },
-      drop: () => this.desk.dropBook(name),
+      drop: () => desk.dropBook(name),
     });
   }
 
-  saved(file, type, text) {
-    saveFile(file, type, text);
-    this.desk.frame.toast(t("exported", { file }));
-  }
-
-  async exportRows(name, form) {
-    try {
-      const suffix = form === "columns" ? "-columns" : "";
-      const rows = await this.reply(this.api.exportRows(name, form));
-      this.saved(`${name}${suffix}.csv`, "text/csv", rows);
-    } catch (fault) {
-      this.desk.frame.toast(words(fault));
-    }
-  }
-
-  importFile(name) {
-    // The key is of the file: if no reply comes, the same import is sent again under the same key.
-    let key = newKey();
-    const read = (fileName, bytes) => {
-      key = newKey();
-      try {
-        const file = readFile(fileName, bytes);
-        const known = file.uids.filter((uid) => uid && this.desk.shelf.get(name, uid)).length;
-        const said = [
-          el("p", {}, count("importReady", file.rows)),
-          known ? el("p", {}, count("importKnown", known)) : null,
-          known && file.form === "columns"
-            ? el("p", { class: "error" }, t("importReplaces"))
-            : null,
-        ];
-        return { file, words: said };
-      } catch (fault) {
-        if (!(fault instanceof FileFault)) throw fault;
-        return { file: null, words: [el("p", { class: "error" }, t(fault.word, fault.values))] };
-      }
-    };
-    const send = async (file) => {
-      try {
-        const done = await this.api.importRows(name, key, file.body);
-        key = newKey();
-        this.desk.follow(name);
-        const parts = [
-          count("importNew", done.new), count("importEdited", done.edited),
-          count("importSame", done.same),
-        ];
-        return [el("p", { class: "good" }, parts.join(", ")), false];
-      } catch (fault) {
-        const text = fault instanceof Fault && fault.is("bad-import")
-          ? importFaultText(fault, file)
-          : words(fault);
-        return [el("p", { class: "error" }, text), fault.isPassing];
-      }
-    };
-    return askFile(name, { read, send });
-  }
-
   /** A book by its name, which is made on the server if it isn't there and the user wants it. */
-  async addBook() {
-    const name = await askText(t("addBookTitle"), t("addBookLabel"), t("addBookHint"), (text) =>
-      NAME.test(text) ? "" : t("badBookName"),
-    );
+  async addBook(given) {
+    const name = given ?? (await askText(
+      t("addBookTitle"), t("addBookLabel"), t("addBookHint"), bookNameFault,
+    ));
     if (!name) return null;
     try {
-      await this.api.tally(name);
+      await this.reply(this.api.tally(name));
     } catch (fault) {
       if (!(fault instanceof Fault) || !fault.is("no-such-book")) {
         this.desk.frame.toast(words(fault));
         return null;
       }
-      const sure = await ask(t("makeBookTitle", { book: name }), [t("makeBookText")], [
-        [t("makeBook"), true, "main"], [t("cancel"), null],
-      ]);
-      if (!sure) return null;
-      try {
-        await this.api.makeBook(name);
-      } catch (refused) {
-        if (!(refused instanceof Fault) || !refused.is("book-exists")) {
-          this.desk.frame.toast(words(refused));
-          return null;
-        }
-      }
+      return (await this.makeBook(name)) ? name : null;
     }
     return name;
+  }
+
+  async makeBook(name) {
+    const sure = await ask(t("makeBookTitle", { book: name }), [t("makeBookText")], [
+      [t("makeBook"), true, "main"], [t("cancel"), null],
+    ]);
+    if (!sure) return false;
+    try {
+      await this.api.makeBook(name);
+    } catch (refused) {
+      if (!(refused instanceof Fault) || !refused.is("book-exists")) {
+        this.desk.frame.toast(words(refused));
+        return false;
+      }
+    }
+    return true;
   }
 }

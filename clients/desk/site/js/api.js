@@ -1,5 +1,7 @@
 // The HTTP API of docs/API.md: one function for each route that the desk uses.
 
+import { newUid } from "./vcard.js";
+
 const SECONDS = 60;
 
 /**
@@ -92,6 +94,21 @@ export class Api {
 
   remove(book, uid, version) {
     return this.ask("DELETE", `${cardPath(book, uid)}?version=${version}`);
+  }
+
+  /**
+   * Whether the book may be changed: "write", "read", or "" if that can't be told. It asks to
+   * remove a card that can't be there, which changes nothing.
+   */
+  async rights(book) {
+    try {
+      await this.remove(book, newUid(), 1);
+    } catch (fault) {
+      if (!(fault instanceof Fault)) throw fault;
+      if (fault.is("no-such-card") || fault.is("version-mismatch")) return "write";
+      if (fault.from === "front" && fault.status === 403) return "read";
+    }
+    return "";
   }
 
   move(book, uid, version, to) {

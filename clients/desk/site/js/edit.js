@@ -1,25 +1,27 @@
 // The fields of the form, and the card after an edit. Lines whose fields are as they were are kept
 // as they are, and so is every line that the form doesn't know.
 import {
-  firstNamed, kindOf, linesNamed, makeLine, newUid, param, typesOf, uidOf, withParams, withValue,
+  firstNamed, kindOf, linesNamed, makeLine, param, typesOf, uidOf, withParams, withValue,
 } from "./vcard.js";
 import {
-  clean, componentOfList, componentText, dateField, dateParts, dateValue, escapeText, partsOf,
-  photoOf, telText, telUri, unescapeText,
+  clean, componentOfList, componentText, dateParts, escapeText, partsOf, photoOf, telText, telUri,
+  unescapeText,
 } from "./values.js";
+import { dateOf, readDate } from "./dates.js";
+import { dateText, locale } from "./say.js";
 import { useOf } from "./person.js";
 
 const USES = ["work", "home", "cell", "fax", "pager"];
 
 /** A card for a new form. */
-export function newCard(kind) {
-  const lines = [makeLine("UID", "", newUid())];
+export function newCard(kind, uid) {
+  const lines = [makeLine("UID", "", uid)];
   if (kind !== "individual") lines.push(makeLine("KIND", "", kind));
   return { lines };
 }
 
 // Lines that only the forms of persons have, and only those of groups.
-const OF_PERSONS = ["N", "NICKNAME", "TITLE", "BDAY"];
+const OF_PERSONS = ["N", "NICKNAME", "TITLE", "BDAY", "ANNIVERSARY"];
 const OF_GROUPS = ["MEMBER"];
 
 /** The new card as one of another kind, without the lines that its form doesn't show. */
@@ -27,7 +29,7 @@ export function asKind(card, kind) {
   const others = ["KIND", ...(kind === "individual" ? [] : OF_PERSONS),
     ...(kind === "group" ? [] : OF_GROUPS)];
   const kept = card.lines.filter((line) => !others.includes(line.name));
-  const own = newCard(kind).lines.filter((line) => line.name === "KIND");
+  const own = newCard(kind, uidOf(card)).lines.filter((line) => line.name === "KIND");
   return { lines: [...kept, ...own] };
 }
 
@@ -62,6 +64,8 @@ export function fieldsOf(card) {
     tels: several(card, "TEL", telText),
     mails: several(card, "EMAIL", plain),
     urls: several(card, "URL", plain),
+    chats: several(card, "IMPP", plain),
+    related: several(card, "RELATED", plain),
     adrs: linesNamed(card, "ADR").map((line) => {
       const parts = partsOf(line.value, ";").map(componentText);
       const at = (place) => parts[place] ?? "";
@@ -69,14 +73,19 @@ export function fieldsOf(card) {
         line, use: useOf(line).join(","), text: [at(2), at(5), at(3), at(4), at(6)],
       };
     }),
-    bday: single(card, "BDAY", (line) =>
-      param(line, "VALUE") === "text" ? plain(line) : dateField(line.value),
-    ),
+    bday: single(card, "BDAY", dateShown),
+    anniversary: single(card, "ANNIVERSARY", dateShown),
     note: single(card, "NOTE"),
     categories: single(card, "CATEGORIES", (line) => componentText(line.value)),
     members: card.lines.filter((line) => line.name === "MEMBER").map((line) => line.value),
     photo: photoOf(firstNamed(card, "PHOTO")),
   };
+}
+
+/** A date as the form shows it: as people write it where they are, or the text as it is. */
+function dateShown(line) {
+  const date = param(line, "VALUE") === "text" ? null : dateParts(line.value);
+  return date && !line.value.includes("T") ? dateText(date) : unescapeText(line.value);
 }
 
 const same = (one, other) => JSON.stringify(one) === JSON.stringify(other);
@@ -95,12 +104,15 @@ export function editCard(card, before, after) {
   if (changed("note")) edit.set("NOTE", escapeText(after.note.replace(/\s+$/, "")));
   if (changed("categories")) edit.set("CATEGORIES", componentOfList(after.categories));
   if (changed("bday")) edit.setDate("BDAY", after.bday.trim());
+  if (changed("anniversary")) edit.setDate("ANNIVERSARY", after.anniversary.trim());
   if (changed("photo")) edit.setPhoto(after.photo);
   if (changed("members")) edit.setMembers(after.members);
   const text = (row) => clean(row.text).trim();
   edit.setRows("TEL", before.tels, after.tels, text, telLine);
   edit.setRows("EMAIL", before.mails, after.mails, text, textLine("EMAIL"));
   edit.setRows("URL", before.urls, after.urls, text, uriLine("URL"));
+  edit.setRows("IMPP", before.chats, after.chats, text, textLine("IMPP"));
+  edit.setRows("RELATED", before.related, after.related, text, relatedLine);
   edit.setRows("ADR", before.adrs, after.adrs, (row) => row.text.join("").trim(), addressLine);
   return edit.card();
 }
@@ -158,6 +170,16 @@ function textLine(name) {
 
 function uriLine(name) {
   return (row, isSame) => rewritten(name, row, isSame ? row.line.value : webAddress(row.text));
+}
+
+/** A related person: a text of somebody's, unless it is an address. */
+function relatedLine(row, isSame) {
+  if (isSame) return rewritten("RELATED", row, row.line.value);
+  const text = clean(row.text).trim();
+  const isAddress = /^[a-z][a-z0-9+.-]*:\S+$/i.test(text);
+  return isAddress
+    ? rewritten("RELATED", row, text, "")
+    : rewritten("RELATED", row, escapeText(text), "text");
 }
 
 /** An address as somebody types it: "example.org" is a page too. */
@@ -227,18 +249,16 @@ class Edit {
     else this.replace(old, old ? withValue(old, value) : makeLine(name, "", value), name);
   }
 
+  /** Sets a date. A text that isn't one is kept as a text: the form has asked. */
   setDate(name, text) {
     const old = firstNamed(this.source, name);
-    const date = dateValue(text);
+    const date = readDate(text, locale);
     const params = old ? old.params.filter((it) => !/^;(VALUE|CALSCALE)=/i.test(it.text)) : [];
     const kept = params.map((it) => it.text);
-    let line = null;
-    if (text !== "" && dateParts(text) && date) {
-      line = withParams(old ?? makeLine(name, "", ""), kept, date);
-    } else if (text !== "") {
-      line = withParams(old ?? makeLine(name, "", ""), [";VALUE=text", ...kept], escapeText(text));
-    }
-    this.replace(old, line, name);
+    const line = old ?? makeLine(name, "", "");
+    if (text === "") this.replace(old, null, name);
+    else if (date) this.replace(old, withParams(line, kept, dateOf(date)), name);
+    else this.replace(old, withParams(line, [";VALUE=text", ...kept], escapeText(text)), name);
   }
 
   /** Puts a photo in place of the preferred one; the old one's parameters go with it. */

@@ -1,5 +1,6 @@
 // Files of cards: CSV rows and .vcf texts, read for an import and written for an export.
-import { splitCards, withSomeUid } from "./vcard.js";
+import { componentText, partsOf, telText, unescapeText } from "./values.js";
+import { firstNamed, readCard, splitCards, uidOf, withSomeUid } from "./vcard.js";
 
 const MOST = 8_388_608;
 const CARDS = "uid,vcard";
@@ -61,6 +62,25 @@ function ofRows(text) {
     uids: rows.map((row) => row[0]),
     names: rows.map((row) => (head === CARDS ? row[0] : row[1]) ?? ""),
   };
+}
+
+/** Cards as a table for spreadsheets: the columns that an import takes. */
+export function columnsOf(texts) {
+  const cell = (value) => (/[",\r\n]/.test(value) ? quoted(value) : value);
+  const rows = texts.map((text) => {
+    const card = readCard(text);
+    const first = (name) => firstNamed(card, name);
+    const plain = (name) => (first(name) ? unescapeText(first(name).value) : "");
+    const [family = "", given = ""] = first("N")
+      ? partsOf(first("N").value, ";").map(componentText)
+      : [];
+    const org = first("ORG") ? partsOf(first("ORG").value, ";").map(unescapeText).join(", ") : "";
+    const tel = first("TEL") ? telText(first("TEL")) : "";
+    return [
+      uidOf(card), plain("FN"), family, given, plain("EMAIL"), tel, org, plain("NOTE"),
+    ].map(cell).join(",");
+  });
+  return `${COLUMNS}\n${rows.join("\n")}\n`;
 }
 
 function quoted(text) {

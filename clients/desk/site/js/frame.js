@@ -1,6 +1,7 @@
 // What is around the cards: the search, the books, how the copy is, and short messages.
 import { button, el, fill } from "./dom.js";
-import { count, faultText, number, t, timeText } from "./texts.js";
+import { icon } from "./icons.js";
+import { count, faultText, number, t, timeText } from "./say.js";
 
 const by = (id) => document.getElementById(id);
 
@@ -11,7 +12,6 @@ export class Frame {
     this.listRoot = by("list");
     this.states = new Map();
     this.progress = null;
-    this.drawn = "";
     this.saying = 0;
     this.showing = 0;
   }
@@ -28,9 +28,14 @@ export class Frame {
     by("cards").setAttribute("aria-label", t("listLabel"));
     this.listRoot.setAttribute("aria-label", t("listLabel"));
     const add = by("new");
-    add.textContent = t("newCard");
+    fill(add, icon("add"), el("span", {}, t("newCard")));
+    const places = by("places");
+    fill(places, icon("books"));
+    places.setAttribute("aria-label", t("showBooks"));
+    places.addEventListener("click", () => this.showNav(document.body.dataset.nav !== "open"));
     add.title = t("newCardKey");
     add.addEventListener("click", run.newCard);
+    by("waiting").addEventListener("click", run.waiting);
     fill(by("state"), el("span"), button(t("update"), run.update, { class: "quiet" }));
     by("skip").addEventListener("click", (event) => {
       event.preventDefault();
@@ -43,53 +48,42 @@ export class Frame {
     document.body.dataset.pane = name;
   }
 
+  /** Opens or closes the books and groups on a narrow page, where they cover the list. */
+  showNav(isOpen) {
+    document.body.dataset.nav = isOpen ? "open" : "";
+    by("places").setAttribute("aria-expanded", String(isOpen));
+    if (isOpen) by("books").querySelector("button")?.focus();
+  }
+
   get isNarrow() {
     return matchMedia("(max-width: 47.99rem)").matches;
   }
 
-  /** The books, with the chosen one ("" for all) and what they hold. */
-  showBooks(books, chosen, shelf, run) {
-    const one = (name, text) => {
-      const isChosen = name === chosen;
-      const state = this.states.get(name)?.state ?? "";
-      return el(
-        "li",
-        { class: `book ${state}` },
-        button([el("span", { class: "book-name" }, text),
-          el("span", { class: "book-count" }, number(shelf.count(name)))],
-        () => run.choose(name), { class: "choose", "aria-pressed": isChosen ? "true" : "false" }),
-        name && this.menu(name, run),
-      );
-    };
-    const states = books.map((it) => [it.name, this.states.get(it.name)?.state]);
-    const drawn = JSON.stringify([chosen, states, books.map((it) => shelf.count(it.name))]);
-    if (drawn === this.drawn) return;
-    this.drawn = drawn;
-    // Who has come to one of the buttons by keyboard stays there.
-    const place = [...by("books").querySelectorAll("button")].indexOf(document.activeElement);
-    fill(
-      by("books"),
-      el("h2", {}, t("books")),
-      el("ul", {},
-        books.length > 1 ? one("", t("allBooks")) : null,
-        books.map((it) => one(it.name, it.name))),
-      button(t("addBook"), run.add, { class: "quiet add" }),
-    );
-    if (place >= 0) by("books").querySelectorAll("button")[place]?.focus();
+  /** The button for a new card is there if there is a book for one. */
+  showNew(isThere) {
+    by("new").hidden = !isThere;
   }
 
-  menu(name, run) {
-    const text = t("bookMenu", { book: name });
-    return button("⋯", () => run.menu(name), {
-      class: "quiet menu", "aria-label": text, title: text,
-    });
+  /** Says in the list how many changes wait, and how many forms aren't finished. */
+  showWaiting(entries, drafts) {
+    const sure = entries.filter((it) => it.state === "waits").length;
+    const parts = [
+      sure ? count("waitsCount", sure) : "",
+      entries.length > sure ? count("needsCount", entries.length - sure) : "",
+      drafts.length ? count("draftsCount", drafts.length) : "",
+    ].filter(Boolean);
+    const node = by("waiting");
+    node.hidden = !parts.length;
+    node.classList.toggle("needs", entries.length > sure);
+    if (node.textContent !== parts.join(" · ")) node.textContent = parts.join(" · ");
   }
 
-  showCount(rows, isSearch) {
+  /** How many cards are in the list, and what is said if there is none. */
+  showCount(rows, isSearch, words = t("emptyBook")) {
     by("count").textContent = isSearch ? count("resultsCount", rows) : count("cardsCount", rows);
     const empty = by("empty");
     empty.hidden = rows > 0;
-    empty.textContent = isSearch ? t("noCards") : t("emptyBook");
+    empty.textContent = isSearch ? t("noCards") : words;
     if (isSearch) this.sayLater(count("resultsCount", rows));
   }
 
@@ -108,15 +102,15 @@ export class Frame {
     if (progress) by("bar").value = Math.min(1, progress.done / Math.max(1, progress.total));
   }
 
-  showState(books) {
-    const [text, kind] = this.stateOf(books);
+  showState(books, entries) {
+    const [text, kind] = this.stateOf(books, entries);
     by("state").className = `state ${kind}`;
     const words = by("state").firstElementChild;
     // It is read out when it changes, so it is left alone when it doesn't.
     if (words.textContent !== text) words.textContent = text;
   }
 
-  stateOf(books) {
+  stateOf(books, entries) {
     const states = [...this.states.entries()];
     const oldest = Math.min(...books.map((it) => it.synced));
     const time = timeText(Number.isFinite(oldest) ? oldest : 0);

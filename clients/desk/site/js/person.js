@@ -3,10 +3,10 @@ import {
   firstNamed, kindOf, lineText, linesNamed, param, readCard, typesOf, uidOf,
 } from "./vcard.js";
 import {
-  componentText, dateParts, digitsOf, mailLink, partsOf, photoOf, safeLink, telLink, telText,
-  unescapeText,
+  componentText, dateParts, digitsOf, mailLink, partsOf, photoOf, plainText, safeLink, telLink,
+  telText, unescapeText,
 } from "./values.js";
-import { fold } from "./search.js";
+import { fold, spellOut } from "./search.js";
 
 // Lines that `describe` shows, or that mean nothing to people.
 const SHOWN = new Set([
@@ -51,7 +51,7 @@ function orgOf(card) {
     .filter(Boolean);
 }
 
-function addressOf(line) {
+export function addressOf(line) {
   const label = param(line, "LABEL");
   if (label) return label.replace(/\\n/gi, "\n").split("\n").map((it) => it.trim()).filter(Boolean);
   const [box, flat, street, city, region, code, country] = partsOf(line.value, ";")
@@ -60,8 +60,9 @@ function addressOf(line) {
   return [box, flat, street, place, region, country].filter(Boolean);
 }
 
+/** A value with its link. What a link shows is what it does: no mark may turn it around. */
 function linkRow(card, line, text, href) {
-  return { label: labelOf(card, line), text, href };
+  return { label: labelOf(card, line), text: href ? plainText(text) : text, href };
 }
 
 /** All that the view of a card shows. Texts are plain; each `href` is of a harmless scheme. */
@@ -90,10 +91,7 @@ export function describe(card) {
     dates: ["BDAY", "ANNIVERSARY"].flatMap((name) =>
       linesNamed(card, name).map((it) => ({ name, date: dateParts(it.value), text: plain(it) })),
     ),
-    categories: linesNamed(card, "CATEGORIES")
-      .flatMap((it) => partsOf(it.value, ",").map(unescapeText))
-      .map((it) => it.trim())
-      .filter(Boolean),
+    categories: categoriesOf(card),
     related: rows("RELATED", web),
     languages: textsOf(card, "LANG"),
     zones: textsOf(card, "TZ"),
@@ -105,32 +103,57 @@ export function describe(card) {
   };
 }
 
+const clip = (text, most = LONG) => (text.length > most ? `${text.slice(0, most)}…` : text);
+
+/** Folded texts for the search, with a space before each word. */
+function searched(texts, most) {
+  const text = texts.filter(Boolean).join(" ");
+  const folded = fold(text);
+  const spelt = /[^\x00-\x7f]/.test(text) ? fold(spellOut(text)) : folded;
+  return ` ${folded}${spelt === folded ? "" : ` ${spelt}`}`.slice(0, most);
+}
+
 /** The row of a card: what the list shows, and folded texts for the search. */
 export function rowOf(book, uid, version, text) {
   const card = readCard(text);
-  const seen = describe(card);
-  const clip = (it) => (it.length > LONG ? `${it.slice(0, LONG)}…` : it);
+  const names = new Set(card.lines.map((it) => it.name));
+  const lines = (name) => (names.has(name) ? linesNamed(card, name) : []);
+  const plain = (line) => unescapeText(line.value).trim();
   const n = firstNamed(card, "N");
   const parts = n ? partsOf(n.value, ";").map(componentText) : [];
-  const names = [seen.name, ...seen.nicknames, ...parts.slice(0, 3)].join(" ");
-  const rest = [
-    ...seen.orgs, ...seen.titles, ...seen.mails.map((it) => it.text), ...seen.categories,
-  ].join(" ");
-  return {
-    book,
-    uid,
-    version,
-    kind: seen.kind,
-    name: clip(seen.name),
-    org: clip(seen.orgs[0] ?? ""),
-    title: clip(seen.titles[0] ?? ""),
-    phones: seen.phones.slice(0, 20).map((it) => ({ ...it, text: clip(it.text) })),
-    mail: clip(seen.mails[0]?.text ?? ""),
-    members: seen.members.slice(0, 10000),
-    names: ` ${fold(names).slice(0, 2000)}`,
-    words: ` ${fold(rest).slice(0, 2000)}`,
-    digits: seen.phones.slice(0, 20).map((it) => digitsOf(it.text).slice(0, 40)),
+  const name = nameOf(card);
+  const nicks = lines("NICKNAME").map((it) => componentText(it.value));
+  const orgs = orgOf(card);
+  const titles = [...textsOf(card, "TITLE"), ...textsOf(card, "ROLE")];
+  const mails = lines("EMAIL").map(plain).filter(Boolean);
+  const phones = lines("TEL").slice(0, 20);
+  const row = { book, uid, version, kind: kindOf(card), name: clip(name) };
+  const some = {
+    family: clip(parts[0] ?? ""),
+    given: clip(parts[1] ?? ""),
+    org: clip(orgs[0] ?? ""),
+    title: clip(titles[0] ?? ""),
+    mail: clip(mails[0] ?? ""),
+    phone: phones.length ? clip(telText(phones[0])) : "",
+    label: phones.length ? labelOf(card, phones[0]) : null,
+    face: photoOf(lines("PHOTO")[0] ?? null) ? 1 : 0,
+    names: searched([name, ...nicks, ...parts.slice(0, 3)], 2000),
+    words: searched([...orgs, ...titles, ...mails, ...categoriesOf(card)], 2000),
+    more: searched([...lines("ADR").flatMap(addressOf), ...textsOf(card, "NOTE")], 600),
+    digits: phones.map((it) => digitsOf(telText(it)).slice(0, 40)).join(" "),
   };
+  // Rows are many: what a card hasn't takes no room.
+  for (const [key, value] of Object.entries(some)) if (value && value !== " ") row[key] = value;
+  const members = lines("MEMBER").slice(0, 10000).map((it) => it.value);
+  if (members.length) row.members = members;
+  return row;
+}
+
+function categoriesOf(card) {
+  return linesNamed(card, "CATEGORIES")
+    .flatMap((it) => partsOf(it.value, ",").map(unescapeText))
+    .map((it) => it.trim())
+    .filter(Boolean);
 }
 
 /** The UID in `known` that a member's value names, with or without urn:uuid: before it, or null. */

@@ -5,8 +5,18 @@ const LETTERS = {
   ß: "ss", ø: "o", đ: "d", ð: "d", ł: "l", æ: "ae", œ: "oe", þ: "th", ı: "i",
 };
 
+const SPELT = { ä: "ae", ö: "oe", ü: "ue", ø: "oe", å: "aa" };
+
+/** The text with umlauts as two letters, as many type them: Müller is Mueller then. */
+export function spellOut(text) {
+  return text.normalize("NFC").replace(/[äöüøå]/gi, (it) => SPELT[it.toLowerCase()]);
+}
+
 /** The text in small letters without accents and apostrophes, and with one space between words. */
 export function fold(text) {
+  if (/^[\x00-\x7f]*$/.test(text)) {
+    return text.toLowerCase().replace(/'/g, "").replace(/[^a-z0-9@.+]+/g, " ").trim();
+  }
   return text
     .normalize("NFKD")
     .replace(/[\p{M}'’ʼ]+/gu, "")
@@ -21,56 +31,97 @@ export function readQuery(text) {
   const words = fold(text).split(" ").filter(Boolean);
   const isNumber = /^[\s+\d().\-/]+$/.test(text) && /\d/.test(text);
   const digits = isNumber ? text.replace(/\D/g, "") : "";
-  return { words, digits, trunk: digits.replace(/^0+/, "") };
+  const begins = words.map((it) => ` ${it}`);
+  return { words, begins, digits, trunk: digits.replace(/^0+/, "") };
 }
 
 /** 0 for the best match, higher for a lesser one, -1 for none. */
 export function rank(row, query) {
-  if (query.digits && hasNumber(row, query)) return 0;
+  if (query.digits && row.digits && hasNumber(row.digits, query)) return 0;
+  if (!query.words.length) return -1;
+  const { names } = row;
   let worst = 0;
-  for (const word of query.words) {
-    const begin = ` ${word}`;
-    let found;
-    if (row.names.startsWith(begin)) found = 0;
-    else if (row.names.includes(begin)) found = 1;
-    else if (row.words.includes(begin)) found = 2;
-    else if (row.names.includes(word)) found = 3;
-    else if (row.words.includes(word)) found = 4;
-    else return -1;
+  for (let at = 0; at < query.words.length; at += 1) {
+    const word = query.words[at];
+    const begin = query.begins[at];
+    const place = names ? names.indexOf(begin) : -1;
+    let found = 5;
+    if (place === 0) found = 0;
+    else if (place > 0) found = 1;
+    else if (row.words?.includes(begin)) found = 2;
+    else if (names?.includes(word)) found = 3;
+    else if (row.words?.includes(word)) found = 4;
+    else if (!row.more?.includes(begin)) return -1;
     if (found > worst) worst = found;
   }
-  return query.words.length ? worst : -1;
+  return worst;
 }
 
 // A number may be stored as +353 20 911 0177 and typed as 020 911 0177, or the other way round: so
 // leading zeros don't count, and of long numbers the last eight digits are enough.
-function hasNumber(row, query) {
-  const end = query.trunk.length >= 8 ? query.trunk.slice(-8) : null;
-  return row.digits.some(
-    (it) =>
-      it.includes(query.digits) ||
-      (query.trunk !== "" && it.includes(query.trunk)) ||
-      (end !== null && it.length >= 8 && end.endsWith(it.slice(-8))),
-  );
+function hasNumber(digits, query) {
+  if (digits.includes(query.digits)) return true;
+  if (query.trunk !== "" && digits.includes(query.trunk)) return true;
+  if (query.trunk.length < 8) return false;
+  const end = query.trunk.slice(-8);
+  return digits.split(" ").some((it) => it.length >= 8 && end.endsWith(it.slice(-8)));
 }
 
-/** The rows that match, the best first, and in their own order where they match alike. */
-export function search(rows, text) {
-  const query = readQuery(text);
-  if (!query.words.length && !query.digits) return rows;
-  const ranked = [[], [], [], [], []];
-  for (const row of rows) {
-    const found = rank(row, query);
-    if (found >= 0) ranked[found].push(row);
+/**
+ * A search that goes on from the one before it: what matches a longer text matched the shorter one,
+ * unless it is a number.
+ */
+export class Searcher {
+  constructor() {
+    this.rows = null; // all rows of the last search
+    this.typed = "";
+    this.matches = []; // those that matched, in their own order
   }
-  return ranked.flat();
+
+  /** The rows that match, the best first, and in their own order where they match alike. */
+  find(rows, text) {
+    const query = readQuery(text);
+    if (!query.words.length && !query.digits) return text.trim() === "" ? rows : [];
+    const typed = query.words.join(" ");
+    const goesOn = rows === this.rows && this.typed !== "" && !query.digits
+      && typed.startsWith(this.typed);
+    const ranked = [[], [], [], [], [], []];
+    const matches = [];
+    for (const row of goesOn ? this.matches : rows) {
+      const found = rank(row, query);
+      if (found < 0) continue;
+      ranked[found].push(row);
+      matches.push(row);
+    }
+    Object.assign(this, { rows, typed: query.digits ? "" : typed, matches });
+    return ranked.flat();
+  }
 }
 
-/** Sorts rows by name as the language does, then by book and UID. */
-export function sortRows(rows, language) {
+/** One search by itself. */
+export function search(rows, text) {
+  return new Searcher().find(rows, text);
+}
+
+/**
+ * Sorts rows by name as the language does, then by book and UID; `by` is "name", or "family" for
+ * the family name first.
+ */
+export function sortRows(rows, language, by = "name") {
   const { compare } = new Intl.Collator(language, { sensitivity: "base", numeric: true });
   const order = (a, b) => (a < b ? -1 : Number(a > b));
-  return rows.sort(
-    (a, b) => compare(a.name, b.name) || order(a.book, b.book) || order(a.uid, b.uid),
+  const name = by === "family" ? familyFirst : (row) => row.name;
+  const keyed = rows.map((row) => [name(row), row]);
+  keyed.sort(
+    (a, b) => compare(a[0], b[0]) || order(a[1].book, b[1].book) || order(a[1].uid, b[1].uid),
   );
+  return keyed.map((it) => it[1]);
+}
+
+/** The name by which a row is sorted if family names come first. */
+export function familyFirst(row) {
+  if (row.family) return `${row.family} ${row.given ?? ""}`;
+  if (row.kind !== "individual") return row.name;
+  const words = row.name.split(" ");
+  return words.length > 1 ? `${words[words.length - 1]} ${row.name}` : row.name;
 }

@@ -1,6 +1,7 @@
-// The rows of all cards in memory, in the order of the list.
-import { memberUid } from "./person.js";
-import { search, sortRows } from "./search.js";
+// The rows of all cards in memory, in the order of the list: as the server has them, and over them
+// the changes that it doesn't have yet.
+import { memberUid, rowOf } from "./person.js";
+import { Searcher, sortRows } from "./search.js";
 
 export function keyOf(row) {
   return `${row.book}/${row.uid}`;
@@ -9,29 +10,64 @@ export function keyOf(row) {
 export class Shelf {
   constructor(language) {
     this.language = language;
-    this.rows = new Map();
+    this.server = new Map();
+    this.local = new Map(); // the rows of what isn't sent, null where a card is removed
+    this.rows = new Map(); // what is seen
+    this.by = "name";
+    this.searcher = new Searcher();
     this.sorted = [];
     this.isSorted = true;
   }
 
   load(rows) {
-    this.rows = new Map(rows.map((row) => [keyOf(row), row]));
+    this.server = new Map(rows.map((row) => [keyOf(row), row]));
+    this.rows = new Map(this.server);
+    for (const [key, row] of this.local) this.see(key, row);
     this.isSorted = false;
   }
 
+  see(key, row) {
+    if (row) this.rows.set(key, row);
+    else this.rows.delete(key);
+    this.isSorted = false;
+  }
+
+  /** Applies a change of the copy. */
   apply(book, change) {
-    for (const row of change.rows) this.rows.set(keyOf(row), row);
-    for (const uid of change.gone) this.rows.delete(`${book}/${uid}`);
-    if (change.rows.length || change.gone.length) this.isSorted = false;
+    for (const row of change.rows) this.put(keyOf(row), row);
+    for (const uid of change.gone) this.put(`${book}/${uid}`, null);
+  }
+
+  put(key, row) {
+    if (row) this.server.set(key, row);
+    else this.server.delete(key);
+    if (!this.local.has(key)) this.see(key, row);
+  }
+
+  /** Puts the entries of the queue over the copy, in place of those before. Returns their keys. */
+  cover(entries) {
+    const before = [...this.local.keys()];
+    this.local = new Map(entries.map((it) => [keyOf(it), localRow(it)]));
+    for (const key of before) {
+      if (!this.local.has(key)) this.see(key, this.server.get(key) ?? null);
+    }
+    for (const [key, row] of this.local) this.see(key, row);
+    return new Set([...before, ...this.local.keys()]);
   }
 
   dropBook(book) {
-    for (const [key, row] of this.rows) if (row.book === book) this.rows.delete(key);
-    this.isSorted = false;
+    for (const [key, row] of this.server) if (row.book === book) this.server.delete(key);
+    for (const [key, row] of this.rows) if (row.book === book) this.see(key, null);
   }
 
   get(book, uid) {
     return this.rows.get(`${book}/${uid}`);
+  }
+
+  sortBy(by) {
+    if (this.by === by) return;
+    this.by = by;
+    this.isSorted = false;
   }
 
   all() {
@@ -47,7 +83,7 @@ export class Shelf {
         }
       }
       for (const row of this.rows.values()) if (!seen.has(row)) kept.push(row);
-      this.sorted = sortRows(kept, this.language);
+      this.sorted = sortRows(kept, this.language, this.by);
       this.isSorted = true;
     }
     return this.sorted;
@@ -55,8 +91,16 @@ export class Shelf {
 
   /** The rows of a book ("" for all books) that match. */
   find(text, book) {
+    return this.searcher.find(this.ofBook(book), text);
+  }
+
+  ofBook(book) {
     const rows = this.all();
-    return search(book ? rows.filter((row) => row.book === book) : rows, text);
+    if (!book) return rows;
+    if (this.part?.rows !== rows || this.part.book !== book) {
+      this.part = { rows, book, of: rows.filter((row) => row.book === book) };
+    }
+    return this.part.of;
   }
 
   count(book) {
@@ -75,14 +119,22 @@ export class Shelf {
     });
   }
 
+  /** The groups of a book ("" for all books). */
+  groups(book) {
+    return this.all().filter((row) => row.kind === "group" && (!book || row.book === book));
+  }
+
   /** The groups of the book that name the card. */
   groupsOf(book, uid) {
     const known = { has: (it) => this.rows.has(`${book}/${it}`) };
-    return this.all().filter(
-      (row) =>
-        row.book === book &&
-        row.kind === "group" &&
-        row.members.some((value) => memberUid(value, known) === uid),
+    return this.groups(book).filter(
+      (row) => row.members?.some((value) => memberUid(value, known) === uid),
     );
   }
+}
+
+/** The row of what isn't sent; `mark` is the state of its entry. */
+function localRow(entry) {
+  if (entry.kind === "remove") return null;
+  return { ...rowOf(entry.book, entry.uid, entry.version, entry.text), mark: entry.state };
 }

@@ -1,46 +1,26 @@
-// The desk's copy in IndexedDB: books with their tokens, cards, rows for the list and the search,
-// and drafts. A page and its token are written in one transaction, so the copy is always that of
-// its token, wherever the desk was stopped.
+// The desk's copy: books with their tokens, cards, and rows for the list and the search. Pages and
+// their token are written in one transaction, so the copy is always that of its token, wherever
+// the desk was stopped.
 import { rowOf } from "./person.js";
+import { done, emptyBook, ended, ofBook, openTables, RELAXED } from "./tables.js";
 
-// A new version of the tables or of the rows starts with an empty copy, which the server fills.
-const VERSION = 1;
-const RELAXED = { durability: "relaxed" };
-
-function done(request) {
-  return new Promise((resolve, reject) => {
-    request.onsuccess = () => resolve(request.result);
-    request.onerror = () => reject(request.error);
-  });
-}
-
-function ended(transaction) {
-  return new Promise((resolve, reject) => {
-    transaction.oncomplete = () => resolve();
-    transaction.onabort = () => reject(transaction.error ?? new Error("aborted"));
-  });
-}
-
-/** All keys [book, uid] of a book: an array is above every text. */
-function ofBook(book) {
-  return IDBKeyRange.bound([book], [book, []]);
-}
-
-function makeTables(db) {
-  for (const name of [...db.objectStoreNames]) db.deleteObjectStore(name);
-  db.createObjectStore("books", { keyPath: "name" });
-  db.createObjectStore("cards", { keyPath: ["book", "uid"] });
-  db.createObjectStore("rows", { keyPath: ["book", "uid"] });
-  db.createObjectStore("drafts", { keyPath: ["book", "uid"] });
-  db.createObjectStore("settings");
-}
+const LONG_LOG = 60;
 
 export async function openStore(name = "desk") {
-  const request = indexedDB.open(name, VERSION);
-  request.onupgradeneeded = () => makeTables(request.result);
-  const db = await done(request);
-  db.onversionchange = () => db.close();
-  return new Store(db);
+  return new Store(await openTables(name));
+}
+
+/** Adds to the log of rows, in the transaction. */
+export function logRows(tx, book, rows, gone) {
+  if (!rows.length && !gone.length) return;
+  tx.objectStore("rows").add({ book, text: JSON.stringify({ rows, gone }) });
+}
+
+/** Keeps the card as the server has it, in the transaction. Returns its row. */
+export function putCard(tx, book, uid, version, text) {
+  const row = rowOf(book.name, uid, version, text);
+  tx.objectStore("cards").put({ book: book.name, uid, version, text, round: book.round });
+  return row;
 }
 
 export class Store {
@@ -60,41 +40,91 @@ export class Store {
     return done(this.reading("books").get(name));
   }
 
-  rows() {
-    return done(this.reading("rows").getAll());
-  }
-
-  row(book, uid) {
-    return done(this.reading("rows").get([book, uid]));
-  }
-
-  /** The card with its version and text, or undefined. */
+  /** The card with its version and text as the server had it, or undefined. */
   card(book, uid) {
     return done(this.reading("cards").get([book, uid]));
   }
 
-  /** The texts of a book's cards, in the order of their UIDs. */
-  async texts(book) {
-    return (await done(this.reading("cards").getAll(ofBook(book)))).map((it) => it.text);
+  /** The cards of a book by their UIDs, as the server had them. */
+  cards(book) {
+    return done(this.reading("cards").getAll(ofBook(book)));
+  }
+
+  /**
+   * The rows of all cards. They are read from the log of what changed, which is much quicker than
+   * a record for each row. A log that has become long is written anew.
+   */
+  async rows() {
+    const logs = await done(this.reading("rows").getAll());
+    const books = new Map();
+    for (const { book, text } of logs) {
+      if (!books.has(book)) books.set(book, { rows: new Map(), parts: 0 });
+      const kept = books.get(book);
+      const { rows, gone } = JSON.parse(text);
+      for (const row of rows) kept.rows.set(row.uid, row);
+      for (const uid of gone) kept.rows.delete(uid);
+      kept.parts += 1;
+    }
+    const all = [];
+    for (const [book, { rows, parts }] of books) {
+      for (const row of rows.values()) all.push(row);
+      if (parts > LONG_LOG) this.shorten(book);
+    }
+    return all;
+  }
+
+  /** Writes the log of a book's rows anew, if nothing was added meanwhile. */
+  async shorten(book) {
+    const tx = this.db.transaction("rows", "readwrite", RELAXED);
+    const end = ended(tx);
+    const store = tx.objectStore("rows");
+    const index = store.index("book");
+    const [keys, logs] = await Promise.all([
+      done(index.getAllKeys(book)), done(index.getAll(book)),
+    ]);
+    const kept = new Map();
+    for (const { text } of logs) {
+      const { rows, gone } = JSON.parse(text);
+      for (const row of rows) kept.set(row.uid, row);
+      for (const uid of gone) kept.delete(uid);
+    }
+    for (const key of keys) store.delete(key);
+    const rows = [...kept.values()];
+    for (let at = 0; at < rows.length; at += 500) {
+      logRows(tx, book, rows.slice(at, at + 500), []);
+    }
+    return end;
   }
 
   /** Adds a book without cards and without a token, unless it is there. */
   async addBook(name) {
     const tx = this.db.transaction("books", "readwrite");
     const books = tx.objectStore("books");
-    if (!(await done(books.get(name)))) {
-      books.put({ name, token: "", round: 1, whole: false, synced: 0 });
-    }
+    if (!(await done(books.get(name)))) books.put(emptyBook(name));
     return ended(tx);
   }
 
-  /** Removes the book and its cards from the copy. Its drafts stay. */
-  removeBook(name) {
+  /** Keeps whether a book may be changed: "write", "read", or "" if that isn't known. */
+  async setRights(name, rights) {
+    const tx = this.db.transaction("books", "readwrite");
+    const end = ended(tx);
+    const books = tx.objectStore("books");
+    const book = await done(books.get(name));
+    const isNew = Boolean(book) && book.rights !== rights;
+    if (isNew) books.put({ ...book, rights });
+    await end;
+    return isNew;
+  }
+
+  /** Removes the book and its cards from the copy. Its drafts and what isn't sent stay. */
+  async removeBook(name) {
     const tx = this.db.transaction(["books", "cards", "rows"], "readwrite");
+    const end = ended(tx);
     tx.objectStore("books").delete(name);
     tx.objectStore("cards").delete(ofBook(name));
-    tx.objectStore("rows").delete(ofBook(name));
-    return ended(tx);
+    const rows = tx.objectStore("rows");
+    for (const key of await done(rows.index("book").getAllKeys(name))) rows.delete(key);
+    return end;
   }
 
   /**
@@ -110,88 +140,67 @@ export class Store {
   }
 
   /**
-   * Applies a page that was asked for with `asked`, the book as it was then, and keeps its token.
-   * If the book has another token by now, as another tab applied a page meanwhile, the page is
-   * dropped. Returns what changed: rows, the UIDs that are gone, and whether it was dropped.
+   * Applies pages, of which the first was asked for with `asked`, the book as it was then, and
+   * keeps the last one's token. If the book has another token by now, as another tab applied a page
+   * meanwhile, they are dropped. Returns what changed: rows, the UIDs that are gone, and whether
+   * they were dropped.
    */
-  async applyPage(asked, page, now) {
+  async applyPages(asked, pages, now) {
     const tx = this.db.transaction(["books", "cards", "rows"], "readwrite", RELAXED);
-    const [books, cards, rows] = ["books", "cards", "rows"].map((it) => tx.objectStore(it));
+    const [books, cards] = ["books", "cards"].map((it) => tx.objectStore(it));
     const end = ended(tx);
     const book = await done(books.get(asked.name));
     if (!book || book.token !== asked.token || book.round !== asked.round) {
       await end;
-      return { rows: [], gone: [], dropped: true };
+      return { rows: [], gone: [], dropped: true, book };
     }
-    const change = { rows: [], gone: [], dropped: false };
-    for (const member of page.members) {
-      const key = [book.name, member.uid];
+    const changed = new Map();
+    for (const member of pages.flatMap((it) => it.members)) {
       if (member.status === 200) {
-        const row = rowOf(book.name, member.uid, member.version, member.card);
-        cards.put({
-          book: book.name, uid: member.uid, version: member.version, text: member.card,
-        });
-        rows.put({ ...row, round: book.round });
-        change.rows.push(row);
+        changed.set(member.uid, putCard(tx, book, member.uid, member.version, member.card));
       } else {
-        cards.delete(key);
-        rows.delete(key);
-        change.gone.push(member.uid);
+        cards.delete([book.name, member.uid]);
+        changed.set(member.uid, null);
       }
     }
-    if (!page.truncated && !book.whole) {
-      for (const row of await done(rows.getAll(ofBook(book.name)))) {
-        if (row.round === book.round) continue;
-        cards.delete([book.name, row.uid]);
-        rows.delete([book.name, row.uid]);
-        change.gone.push(row.uid);
+    const last = pages[pages.length - 1];
+    // A first copy can't have cards of an older one.
+    if (!last.truncated && !book.whole && book.round > 1) {
+      for (const card of await done(cards.getAll(ofBook(book.name)))) {
+        if (card.round === book.round) continue;
+        cards.delete([book.name, card.uid]);
+        changed.set(card.uid, null);
       }
     }
-    const whole = book.whole || !page.truncated;
-    const synced = page.truncated ? book.synced : now;
-    books.put({ ...book, token: page.token, whole, synced });
+    const whole = book.whole || !last.truncated;
+    const synced = last.truncated ? book.synced : now;
+    const next = { ...book, token: last.token, whole, synced };
+    books.put(next);
+    const rows = [...changed.values()].filter(Boolean);
+    const gone = [...changed].filter((it) => !it[1]).map((it) => it[0]);
+    logRows(tx, book.name, rows, gone);
     await end;
-    return change;
+    return { rows, gone, dropped: false, book: next };
   }
 
-  /** Keeps a card that the server has just stored. The next page confirms it. */
-  async keepCard(name, uid, version, text) {
-    const tx = this.db.transaction(["books", "cards", "rows"], "readwrite");
-    const end = ended(tx);
-    const book = await done(tx.objectStore("books").get(name));
-    const row = rowOf(name, uid, version, text);
-    if (book) {
-      tx.objectStore("cards").put({ book: name, uid, version, text });
-      tx.objectStore("rows").put({ ...row, round: book.round });
-    }
-    await end;
-    return { rows: book ? [row] : [], gone: [] };
-  }
-
-  /** Drops a card that the server has just removed. */
+  /** Drops a card that isn't in the book any more, as after a move. */
   async dropCard(name, uid) {
     const tx = this.db.transaction(["cards", "rows"], "readwrite");
     tx.objectStore("cards").delete([name, uid]);
-    tx.objectStore("rows").delete([name, uid]);
+    logRows(tx, name, [], [uid]);
     await ended(tx);
     return { rows: [], gone: [uid] };
   }
 
-  /** What a form had when it was left; `uid` is "" for a new card. */
-  draft(book, uid) {
-    return done(this.reading("drafts").get([book, uid]));
-  }
-
-  keepDraft(draft) {
-    const tx = this.db.transaction("drafts", "readwrite");
-    tx.objectStore("drafts").put(draft);
-    return ended(tx);
-  }
-
-  dropDraft(book, uid) {
-    const tx = this.db.transaction("drafts", "readwrite");
-    tx.objectStore("drafts").delete([book, uid]);
-    return ended(tx);
+  /** Keeps a card that the server has just shown. */
+  async keepCard(name, uid, version, text) {
+    const tx = this.db.transaction(["books", "cards", "rows"], "readwrite");
+    const end = ended(tx);
+    const book = await done(tx.objectStore("books").get(name));
+    const rows = book ? [putCard(tx, book, uid, version, text)] : [];
+    logRows(tx, name, rows, []);
+    await end;
+    return { rows, gone: [] };
   }
 
   setting(key) {

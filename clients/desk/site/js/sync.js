@@ -2,17 +2,26 @@
 // a time: a page goes on from the token of the page before it.
 import { Fault } from "./api.js";
 
-const MINUTE = 60_000;
-const IN_USE = 5 * MINUTE;
-const OTHERWISE = 60 * MINUTE;
-const LONGEST_WAIT = 5 * MINUTE;
+const SECOND = 1000;
+// A page that somebody looks at shows what others change within seconds; it costs next to nothing.
+const IN_USE = 15 * SECOND;
+const OTHERWISE = 3600 * SECOND;
+const LONGEST_WAIT = 60 * SECOND;
+// How much is written at once: the first page by itself, so that the list is there soon.
+const MOST_PAGES = 10;
+const MOST_SIGNS = 2_000_000;
+
+/** Runs `work` while nothing else has the lock, in this tab or another. */
+export function withLock(name, work) {
+  return navigator.locks ? navigator.locks.request(name, work) : queued(name, work);
+}
 
 /**
- * Runs `work` while nothing else asks or changes this book, in this tab or another: so no page
- * that is older than a change can be applied after it.
+ * Runs `work` while nothing else asks or changes this book: so no page that is older than a change
+ * can be applied after it.
  */
 export function withBook(name, work) {
-  return navigator.locks ? navigator.locks.request(`desk ${name}`, work) : queued(name, work);
+  return withLock(`desk ${name}`, work);
 }
 
 const queues = new Map();
@@ -23,32 +32,55 @@ function queued(name, work) {
   return turn;
 }
 
-/**
- * Asks for one page of the book and applies it. Returns the change of the copy, and whether there
- * is more. A token that is refused is dropped, and there is more then.
- */
-export async function askOnce(api, store, name, now = Date.now()) {
-  const book = await store.book(name);
-  if (!book) return { rows: [], gone: [], more: false };
-  let page;
-  try {
-    page = await api.sync(name, book.token);
-  } catch (fault) {
-    if (!(fault instanceof Fault) || !fault.is("valid-sync-token") || !book.token) throw fault;
-    await store.startAgain(name);
-    return { rows: [], gone: [], more: true, again: true };
-  }
-  const change = await store.applyPage(book, page, now);
-  return { ...change, more: change.dropped || page.truncated };
+function isLarge(pages) {
+  let signs = 0;
+  for (const { members } of pages) for (const it of members) signs += it.card?.length ?? 0;
+  return pages.length >= MOST_PAGES || signs > MOST_SIGNS;
 }
 
-/** Asks until the copy is the book. `tell` gets each change. */
-export async function syncBook(api, store, name, tell = () => {}, lock = withBook) {
+/** The next page, asked for while the pages before it are written. */
+function asked(api, name, token) {
+  const page = api.sync(name, token);
+  page.catch(() => {});
+  return page;
+}
+
+/**
+ * Asks until the copy is the book. `tell` gets each change. A token that is refused is dropped, and
+ * a whole copy begins.
+ */
+async function bringAll(api, store, name, tell, now) {
+  let book = await store.book(name);
+  if (!book) return;
+  let isFirst = true;
+  let pages = [];
+  let next = asked(api, name, book.token);
   for (;;) {
-    const change = await lock(name, () => askOnce(api, store, name));
+    let page;
+    try {
+      page = await next;
+    } catch (fault) {
+      if (pages.length) tell(await store.applyPages(book, pages, now()));
+      if (!(fault instanceof Fault) || !fault.is("valid-sync-token") || !book.token) throw fault;
+      await store.startAgain(name);
+      tell({ rows: [], gone: [], again: true });
+      return bringAll(api, store, name, tell, now);
+    }
+    pages.push(page);
+    if (page.truncated) next = asked(api, name, page.token);
+    if (page.truncated && !isFirst && !isLarge(pages)) continue;
+    isFirst = false;
+    const change = await store.applyPages(book, pages, now());
     tell(change);
-    if (!change.more) return;
+    if (change.dropped) return bringAll(api, store, name, tell, now);
+    if (!page.truncated) return undefined;
+    ({ book } = change);
+    pages = [];
   }
+}
+
+export function syncBook(api, store, name, tell = () => {}, now = Date.now) {
+  return withBook(name, () => bringAll(api, store, name, tell, now));
 }
 
 /** Keeps all books of the copy up to date, and reports how it goes. */
@@ -73,6 +105,15 @@ export class Follower {
     const names = name ? [name] : (await this.store.books()).map((it) => it.name);
     for (const it of names) this.wanted.add(it);
     await this.run();
+  }
+
+  /** Asks for a book now, and answers when the copy has what the server has. */
+  async now(name) {
+    try {
+      await this.bring(name);
+    } catch (fault) {
+      if (!(fault instanceof Fault)) throw fault;
+    }
   }
 
   async run() {
@@ -126,12 +167,12 @@ export class Follower {
         total = 0;
       }
       count += change.rows.length;
-      if (total) this.tell.progress(name, count, total);
+      if (total && !book.whole) this.tell.progress(name, count, total);
       this.tell.change(name, change);
     });
   }
 
-  /** Plans the next time, a little before or after the hour so that desks don't ask at once. */
+  /** Plans the next time, a little sooner or later so that desks don't ask all at once. */
   plan(wait) {
     clearTimeout(this.timer);
     const often = document.visibilityState === "visible" ? IN_USE : OTHERWISE;

@@ -4,7 +4,7 @@
 
 export const language = "en";
 
-const TEXTS = {
+export const TEXTS = {
   // The page
   title: "Contacts",
   skip: "Go to the search",
@@ -41,6 +41,8 @@ const TEXTS = {
   stateBroken: "This browser can't keep the copy: {why}",
   update: "Update now",
   waiting: "Waiting for the server…",
+  newDesk: "There is a new version of this page.",
+  loadAgain: "Load it",
   progress: "Cards that have come",
   never: "never",
 
@@ -51,7 +53,24 @@ const TEXTS = {
   editKey: "Edit (F2)",
   move: "Move…",
   remove: "Delete",
-  saveVcf: "Save as vCard",
+  saveVcf: "Save as a file",
+  saveVcf3: "Save as a file for older programs",
+  print: "Print",
+  moreActions: "More actions",
+  favourite: "Add to favourites",
+  unfavourite: "Remove from favourites",
+  quick: "What one does most",
+  callNow: "Call",
+  mailNow: "Mail",
+  messageNow: "Message",
+  shareNow: "Share",
+  mailAll: "Mail all",
+  mailNobody: "Nobody in this group has a mail address.",
+  mailTooMany:
+    "Too many for one mail that is opened from here: the {n} addresses are copied. Paste them " +
+    "into the hidden copies (Bcc) of a mail.",
+  map: "Map",
+  mapTitle: "Show on a map (openstreetmap.org)",
   copy: "Copy",
   copyThis: "Copy {text}",
   copied: "Copied: {text}",
@@ -74,13 +93,79 @@ const TEXTS = {
   members: "Members",
   inGroups: "In groups",
   askPeople: "Who is in it, with groups in groups",
-  source: "The card's text",
-  cardFooter: "Book {book} · version {version}",
+  source: "The card as it is stored",
+  cardFooter: "In the book {book}",
+  readOnly: "You may read this book, and not change it.",
+  readOnlyAll: "You may read these books, and not change them.",
+  notSentMark: "Not sent yet.",
+  mark_waits: "not sent yet",
+  mark_asks: "needs you",
+  mark_refused: "not sent",
   goneCard: "This card isn't in the copy. It may have been deleted or moved.",
   uses: {
     work: "work", home: "home", cell: "mobile", fax: "fax", pager: "pager", video: "video",
     textphone: "text phone",
   },
+
+  // Duplicates, the trash, groups of a card
+  duplicates: "Find duplicates",
+  pairsTitle: "Cards that may be one person",
+  pairsNone: "No two cards of this list look like one person.",
+  pairsSame_name: "the same name",
+  pairsSame_mail: "the same mail address",
+  pairsSame_number: "the same number",
+  join: "Put together…",
+  notSame: "Different people",
+  joinTitle: "Put two cards of {name} together",
+  joinText: "These differ. Choose for each which to keep. The other card is deleted.",
+  joinFirst: "First card",
+  joinOther: "Other card",
+  joinByFirst: "of the first card",
+  joinByOther: "of the other card",
+  joined: "Put together: {name}",
+  trash: "Trash",
+  trashTitle: "Deleted, changed or dropped here",
+  trashText:
+    "For 30 days this browser keeps what was deleted, overwritten or dropped in it. Putting it " +
+    "back takes nothing else away.",
+  trashNone: "Nothing was deleted, changed or dropped here in the last 30 days.",
+  trash_removed: "deleted",
+  trash_changed: "before a change",
+  trash_dropped: "a change that wasn’t sent",
+  trash_cancelled: "typed, and not saved",
+  putBack: "Put back",
+  isBack: "Put back: {name}",
+  earlier: "Earlier versions…",
+  earlierTitle: "Earlier versions of {name}",
+  groupsOf: "Groups…",
+  groupsOfTitle: "Groups of {name}",
+  groupsSaved: "Groups saved: {name}",
+
+  // Several at once
+  select: "Select",
+  selectDone: "Done",
+  selectAll: "Select all",
+  forSelected: "With these…",
+  sort: "Sort",
+  sort_name: "By given name",
+  sort_family: "By family name",
+  listMenu: "Sort and select",
+  favourites: "Favourites",
+  recent: "Recently opened",
+  groupsTitle: "Groups",
+  lists: "Lists",
+  showBooks: "Books and groups",
+  noFavourites: "No card is a favourite yet. The menu of a card makes it one.",
+  noRecent: "No card was opened here yet.",
+  noMembers: "No member of this group is in the copy.",
+  removeSomeText: "They go from their books, on all devices.",
+  moveSomeText: "They go from their books, on all devices that follow those.",
+  addToGroup: "Add to a group…",
+  groupLabel: "Group",
+  groupNone: "There is no group in this book yet. “New card” makes one.",
+  groupOneBook: "A group has cards of its own book only. Choose cards of one book.",
+  grouped: "Added to {name}",
+  saveCsv: "Save for a spreadsheet (CSV)",
 
   // The form
   newTitle: { individual: "New person", org: "New organisation", group: "New group" },
@@ -104,10 +189,17 @@ const TEXTS = {
   city: "Town",
   region: "Region",
   country: "Country",
-  dateHint: "Year-month-day, or --month-day without a year.",
+  dateHint: "As you write it, with or without a year.",
+  dateRead: "That is {date}.",
+  dateBad: "This can’t be read as a date. Write it as 12 April 1980, or keep it as it is typed.",
+  dateKeep: "Keep it as it is typed",
+  dateKept: "Kept as it is typed.",
+  mailBad: "This doesn’t look like a mail address.",
+  phoneBad: "This doesn’t look like a phone number.",
   commaHint: "Separate several with commas.",
   choosePhoto: "Choose a photo",
-  moreFields: "More about this card",
+  otherPhoto: "Choose another photo",
+  addField: "Add field",
   useOf: "Kind of {title}",
   noUse: "–",
   add: "Add",
@@ -124,7 +216,35 @@ const TEXTS = {
   draftDrop: "Drop it and start from the card",
   nothingChanged: "Nothing was changed.",
   saved: "Saved: {name}",
-  kept: "Your edit is kept here until you save or cancel it.",
+  saveFailed: "This browser couldn’t keep it ({why}). The form stays open: try again.",
+  copyBad: "This browser doesn’t let the page copy.",
+  leftForm: "Not saved, but kept: {name}",
+  goBack: "Go on with it",
+  cancelled: "What you typed was dropped.",
+
+  // What waits
+  waitingTitle: "What isn’t sent or saved yet",
+  notSent: "Not sent yet",
+  notSentHint:
+    "These changes are kept in this browser. They go to the server as soon as it answers, also " +
+    "after a restart.",
+  unfinished: "Not saved yet",
+  nothingWaits: "Everything is sent.",
+  waitsSave: "It goes to the server as soon as that answers.",
+  waitsRemoval: "It is deleted for all as soon as the server answers.",
+  waitsAsks: "Somebody else changed it too. Decide what the card has.",
+  waitsGone: "Somebody else deleted or moved it. Decide what happens to your change.",
+  decide: "Decide…",
+  tryAgain: "Try again",
+  giveUp: "Drop this change",
+  givenUp: "Dropped: the change of {name}",
+  open: "Open",
+  goOn: "Go on",
+  dropDraft: "Drop it",
+  draftNew: "A new card",
+  draftEdit: "A change of a card",
+  later: "Decide later",
+  dropWaits: "Changes of this book aren’t sent yet. Its copy stays until they are.",
 
   // Questions
   ok: "OK",
@@ -137,26 +257,29 @@ const TEXTS = {
   moveText: "It goes from {book}, on all devices that follow that book.",
   moved: "Moved to {book}: {name}",
   conflictTitle: "Somebody else changed {name}",
-  conflictText: "These properties differ. Choose for each which to keep.",
+  conflictText: "You both changed these. Choose for each which to keep.",
   yours: "Yours",
   theirs: "Theirs",
+  was: "It was",
   nothing: "nothing",
-  picture: "a picture, {size} signs",
-  changedBy_mine: "changed by you",
-  changedBy_theirs: "changed by them",
-  changedBy_both: "changed by both",
-  chooseAll: "Choose one for each property that both changed.",
+  picture: "a picture of {size} kB",
+  takenTitle: "Changed by one of you, and kept",
+  takenGone: "(removed)",
+  changedBy_mine: "by you",
+  changedBy_theirs: "by them",
+  chooseAll: "Choose one for each.",
   saveChosen: "Save what is chosen",
-  keepTheirs: "Keep theirs, drop mine",
-  editOn: "Back to the form",
+  keepTheirs: "Take theirs",
   goneTitle: "Somebody deleted or moved {name}",
   goneText: "It isn't in the book any more. You can store it again with your edit, or let it go.",
   storeAgain: "Store it again",
   letGo: "Let it go",
   removeChangedTitle: "Somebody changed {name} meanwhile",
-  removeChangedText: "You see the changed card now. Look at it before you delete it.",
-  look: "Look at it",
+  removeChangedText: "It isn’t deleted yet. Keep the changed card, or delete it all the same.",
+  keepCard: "Keep it",
   removeAnyway: "Delete it anyway",
+  moveNowhere: "There is no other book that you may change.",
+  moveWaits: "A change of this card isn’t sent yet. Move it when it is.",
   moveChanged: "Somebody changed this card meanwhile. Look at it, and move it then.",
 
   // Books
@@ -177,6 +300,11 @@ const TEXTS = {
   addBookLabel: "Name of the book",
   addBookHint: "Small letters, digits and hyphens, at most 40.",
   badBookName: "Only a to z, 0 to 9 and hyphens, 1 to 40 of them.",
+  whichBook: "Which book is yours?",
+  whichBookText:
+    "You may not see the list of all books here. Type the name of yours; somebody in your office " +
+    "knows it.",
+  openBook: "Open it",
   makeBookTitle: "There is no book {book}",
   makeBookText: "Make a new book of this name?",
   makeBook: "Make it",
@@ -195,6 +323,7 @@ const TEXTS = {
   importTitle: "Import into {book}",
   importText:
     "All cards of the file are imported, or none. You can choose a CSV file or vCards (.vcf).",
+  dropTitle: "Which book shall this file go into?",
   importFile: "File",
   importNow: "Import",
   importing: "Importing…",
@@ -274,15 +403,30 @@ const TEXTS = {
 };
 
 // Texts with a number.
-const COUNTS = {
+export const COUNTS = {
   cardsCount: { one: "{n} card", other: "{n} cards" },
   resultsCount: { one: "{n} card found", other: "{n} cards found" },
+  waitsCount: { one: "{n} change not sent yet", other: "{n} changes not sent yet" },
+  needsCount: { one: "{n} needs you", other: "{n} need you" },
+  draftsCount: { one: "{n} not saved yet", other: "{n} not saved yet" },
+  withoutMail: { one: "{n} has no mail address.", other: "{n} have no mail address." },
+  mailOpened: {
+    one: "A mail to {n} person is opened.",
+    other: "A mail to {n} people is opened; they don’t see each other’s addresses.",
+  },
+  removeSome: { one: "Delete {n} card?", other: "Delete {n} cards?" },
+  removedSome: { one: "Deleted: {n} card", other: "Deleted: {n} cards" },
+  moveSome: { one: "Move {n} card to another book", other: "Move {n} cards to another book" },
+  movedSome: { one: "Moved: {n} card", other: "Moved: {n} cards" },
+  movedNot: { one: "{n} couldn’t be moved.", other: "{n} couldn’t be moved." },
+  groupSome: { one: "Add {n} card to a group", other: "Add {n} cards to a group" },
+  markedCount: { one: "{n} selected", other: "{n} selected" },
   membersCount: { one: "{n} member", other: "{n} members" },
   peopleCount: { one: "{n} person", other: "{n} people" },
   missingCount: { one: "{n} member names no card", other: "{n} members name no card" },
   othersCount: {
-    one: "{n} other property, and the card's text",
-    other: "{n} other properties, and the card's text",
+    one: "{n} more detail, and the card as it is stored",
+    other: "{n} more details, and the card as it is stored",
   },
   importReady: { one: "{n} card to import.", other: "{n} cards to import." },
   importKnown: {
@@ -293,85 +437,3 @@ const COUNTS = {
   importEdited: { one: "{n} changed", other: "{n} changed" },
   importSame: { one: "{n} as it was", other: "{n} as they were" },
 };
-
-// Numbers and times are written as in the user's country, if the user's language is this one.
-const locale = navigator.languages?.find((it) => it.split("-")[0] === language) ?? language;
-const plurals = new Intl.PluralRules(language);
-const numbers = new Intl.NumberFormat(locale);
-const times = new Intl.DateTimeFormat(locale, { hour: "2-digit", minute: "2-digit" });
-const days = new Intl.DateTimeFormat(locale, {
-  day: "numeric", month: "short", hour: "2-digit", minute: "2-digit",
-});
-
-function filled(text, values) {
-  return text.replace(/\{(\w+)\}/g, (_, key) => String(values[key] ?? ""));
-}
-
-/** The text of a name, with its braces filled. Lists are given as they are. */
-export function t(name, values = {}) {
-  const text = TEXTS[name];
-  if (text === undefined) throw new Error(`no text ${name}`);
-  return typeof text === "string" ? filled(text, values) : text;
-}
-
-/** A text with a number in the plural that the number has. */
-export function count(name, n) {
-  const forms = COUNTS[name];
-  return filled(forms[plurals.select(n)] ?? forms.other, { n: number(n) });
-}
-
-export function number(n) {
-  return numbers.format(n);
-}
-
-/** A time of today, or a day with its time. */
-export function timeText(ms) {
-  if (!ms) return t("never");
-  const isToday = new Date(ms).toDateString() === new Date().toDateString();
-  return (isToday ? times : days).format(ms);
-}
-
-/** A date of a card: with or without its year, its month and its day. */
-export function dateText({ year, month, day }) {
-  const form = { timeZone: "UTC" };
-  if (year) form.year = "numeric";
-  if (month) form.month = "long";
-  if (day) form.day = "numeric";
-  const date = new Date(Date.UTC(2000, Math.max(0, month - 1), day || 1));
-  if (year) date.setUTCFullYear(year);
-  return new Intl.DateTimeFormat(locale, form).format(date);
-}
-
-/** What a number or an address is for, as "work, mobile", or its own label. */
-export function usesText(label) {
-  if (!label) return "";
-  return label.text ?? label.uses.map((it) => TEXTS.uses[it] ?? it).join(", ");
-}
-
-export function propertyText(name) {
-  return TEXTS.properties[name] ?? name;
-}
-
-/** A fault in words. */
-export function faultText(fault) {
-  if (fault.from === "none") return t(navigator.onLine ? "faultNone" : "faultOffline");
-  if (fault.from === "front") {
-    if (fault.fault === "no-address") return t("faultNoAddress");
-    const known = TEXTS[`fault${fault.status}`];
-    return known ?? t("faultFront", { status: fault.status });
-  }
-  const known = fault.fault === "bad-card"
-    ? TEXTS.badCard[fault.cause]
-    : TEXTS.faults[fault.fault];
-  return known ?? t("faultOther", { fault: fault.fault });
-}
-
-/** The first fault of an import in words; `names` has the name of each row of the file. */
-export function importFaultText(fault, { names, form }) {
-  const { row, cause } = fault;
-  const why = cause > 20 && cause < 40 ? TEXTS.badCard[cause - 20] : TEXTS.badRow[cause];
-  const name = names[row - 1]?.slice(0, 80);
-  const kind = form === "vcf" ? "importCard" : "importRow";
-  const place = row === 0 ? t("importHeader") : t(name ? `${kind}Named` : kind, { row, name });
-  return t("importBadRow", { place, why: why ?? fault.fault });
-}

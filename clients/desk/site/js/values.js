@@ -13,6 +13,11 @@ export function escapeText(text) {
     .replace(/[,;]/g, (it) => `\\${it}`);
 }
 
+/** The text without marks that turn its direction or can't be seen: a number is read as it is. */
+export function plainText(text) {
+  return text.replace(/[\u061c\u200b-\u200f\u202a-\u202e\u2060-\u2069\ufeff]/g, "");
+}
+
 /** The text with line ends as \n, and without other control characters. */
 export function clean(text) {
   // eslint-disable-next-line no-control-regex
@@ -90,17 +95,55 @@ export function safeLink(text) {
   return SAFE.includes(url.protocol) ? url.href : null;
 }
 
+/**
+ * The address that calls the number, or null. Stars and hashes are orders to the telephone network,
+ * as to send all calls elsewhere, so a text with them is no link.
+ */
 export function telLink(line) {
-  if (/^tel:/i.test(line.value)) return safeLink(line.value);
-  const number = telText(line).replace(/(?:ext\.?|x)\s*[0-9]+\s*$/i, "");
-  const dialled = number.replace(/[^0-9+*#]/g, "");
-  return dialled.length >= 3 ? safeLink(`tel:${dialled.replace(/#/g, "%23")}`) : null;
+  const text = plainText(telText(line)).trim();
+  const [, number, ext] = /^(.*?)(?:\s*(?:ext\.?|x)\s*([0-9]{1,10}))?$/is.exec(text);
+  if (!/^\+?[0-9\s().\-/\u2010-\u2015\u00a0]+$/.test(number)) return null;
+  const dialled = number.replace(/[^0-9+]/g, "");
+  if (dialled.length < 3 || dialled.length > 40) return null;
+  return safeLink(`tel:${dialled}${ext ? `;ext=${ext}` : ""}`);
+}
+
+/** The first number of a mobile phone that a message can go to: `{text, href}`, or null. */
+export function messageLink(phones) {
+  const it = phones.find((phone) => phone.href && phone.label.uses?.includes("cell"));
+  return it ? { text: it.text, href: it.href.replace(/^tel:/, "sms:").replace(/;.*$/, "") } : null;
+}
+
+/** A map of an address. It is another server's, so it is opened only by a press. */
+export function mapLink(lines) {
+  const text = plainText(lines.join(", ")).slice(0, 500);
+  return `https://www.openstreetmap.org/search?query=${encodeURIComponent(text)}`;
 }
 
 export function mailLink(text) {
-  return /^[^\s@<>"]+@[^\s@<>"]+$/.test(text)
-    ? safeLink(`mailto:${encodeURIComponent(text).replace(/%40/g, "@")}`)
+  const address = plainText(text);
+  return /^[^\s@<>"]+@[^\s@<>"]+$/.test(address)
+    ? safeLink(`mailto:${encodeURIComponent(address).replace(/%40/g, "@")}`)
     : null;
+}
+
+// Mail programs take an address line of about this length.
+const LONGEST_LINK = 1900;
+
+/** The address of a mail that several get without seeing each other; null if they are too many. */
+export function mailsLink(mails) {
+  const to = mails.map((it) => encodeURIComponent(plainText(it)).replace(/%40/g, "@")).join(",");
+  return to.length > LONGEST_LINK ? null : safeLink(`mailto:?bcc=${to}`);
+}
+
+/** Whether a text may be a mail address: something, an at sign, and a place with a dot. */
+export function isMail(text) {
+  return /^[^\s@<>",;]+@[^\s@<>",;.]+(\.[^\s@<>",;.]+)+$/.test(text.trim());
+}
+
+/** Whether a text may be a phone number. */
+export function isPhone(text) {
+  return /^\+?[0-9 ().\-/*#]{2,}(\s*(ext\.?|x)\s*[0-9]+)?$/i.test(text.trim());
 }
 
 /** The photo as a data: address of a type that can't have scripts, or null. */
@@ -125,21 +168,4 @@ export function dateParts(value) {
 
 function whole(parts) {
   return parts.month <= 12 && parts.day <= 31 ? parts : null;
-}
-
-/** What a form shows of a date: 1980-04-12, --04-12, or the value as it is. */
-export function dateField(value) {
-  const parts = dateParts(value);
-  if (!parts || value.includes("T")) return value;
-  const two = (number) => String(number).padStart(2, "0");
-  const year = parts.year ? String(parts.year).padStart(4, "0") : "-";
-  const given = [parts.month, parts.day].filter(Boolean).map(two);
-  return [year, ...given].join("-");
-}
-
-/** A value for what the form has, or null if it isn't a date of these forms. */
-export function dateValue(text) {
-  const typed = text.trim();
-  if (!dateParts(typed)) return null;
-  return /^\d{4}-\d{2}$/.test(typed) ? typed : typed.replace(/^(--)|-/g, "$1");
 }

@@ -1,22 +1,28 @@
-// A card as people read it.
+// A card as people read it: one sheet, with what one does most at its top.
 import { bdi, button, el } from "../dom.js";
-import { initials } from "../person.js";
-import { count, dateText, t, usesText } from "../texts.js";
+import { letters } from "../faces.js";
+import { icon } from "../icons.js";
+import { count, dateText, t, usesText } from "../say.js";
+import { mapLink, messageLink } from "../values.js";
+import { menuButton } from "./menu.js";
+import { entryButtons, whyText } from "./waiting.js";
 
 /**
  * The view of a card: `seen` of `describe`, its `row`, its text, the members and groups that the
- * copy has. `act` has the actions.
+ * copy has, and the entry of the queue if it isn't sent. `act` has the actions.
  */
-export function cardView({ seen, row, text, members, groups, act }) {
+export function cardView({ seen, row, text, entry, members, groups, mayChange, act }) {
   return el(
     "article",
     { class: "card", "aria-labelledby": "card-name" },
-    head(seen, row, act),
+    head(seen, mayChange, act),
+    entry && notSent(entry, act),
+    quick(seen, act),
     phones(seen, act),
     section(t("mail"), seen.mails.map((it) => line(it, act))),
     section(t("chat"), seen.chats.map((it) => line(it, act))),
     section(t("web"), seen.webs.map((it) => line(it, null))),
-    section(t("address"), seen.addresses.map(address)),
+    section(t("address"), seen.addresses.map((it) => address(it, act))),
     section(t("dates"), seen.dates.map(dateLine)),
     section(t("note"), seen.notes.map((it) => el("p", { class: "note" }, bdi(it)))),
     section(t("categories"), [
@@ -27,11 +33,20 @@ export function cardView({ seen, row, text, members, groups, act }) {
     seen.kind === "group" ? group(members, act) : null,
     section(t("inGroups"), [tags(groups.map((it) => link(it, act)))]),
     more(seen, text),
-    el("footer", {}, t("cardFooter", { book: row.book, version: row.version })),
+    el("footer", {}, t("cardFooter", { book: row.book })),
   );
 }
 
-function head(seen, row, act) {
+/** A change of this card that the server doesn't have yet. */
+function notSent(entry, act) {
+  const run = { decide: act.decide, again: act.again, drop: act.drop };
+  const buttons = entryButtons(entry, run);
+  return el("div", { class: `unsent ${entry.state}`, role: "status" },
+    el("p", {}, el("strong", {}, t("notSentMark")), " ", whyText(entry)),
+    buttons.length ? el("div", { class: "bar" }, buttons) : null);
+}
+
+function head(seen, mayChange, act) {
   const roles = [...seen.titles, ...seen.orgs].join(" · ");
   const nick = seen.nicknames.join(", ");
   return el(
@@ -44,14 +59,22 @@ function head(seen, row, act) {
       el("h2", { id: "card-name", tabindex: "-1" }, bdi(seen.name || t("nameless"))),
       roles && el("p", { class: "roles" }, bdi(roles)),
       nick && el("p", { class: "roles" }, bdi(`“${nick}”`)),
+      mayChange ? null : el("p", { class: "roles" }, t("readOnly")),
     ),
     el(
       "div",
       { class: "actions", role: "group", "aria-label": t("actions") },
-      button(t("edit"), act.edit, { class: "main", title: t("editKey") }),
-      act.move && button(t("move"), act.move),
-      button(t("saveVcf"), act.download),
-      button(t("remove"), act.remove, { class: "danger" }),
+      mayChange && button(t("edit"), act.edit, { class: "main", title: t("editKey") }),
+      menuButton(icon("more"), () => [
+        [t(act.isFavourite() ? "unfavourite" : "favourite"), act.favourite],
+        mayChange && [t("groupsOf"), act.groups],
+        mayChange && [t("move"), act.move],
+        mayChange && [t("earlier"), act.earlier],
+        [t("saveVcf"), act.download],
+        [t("saveVcf3"), act.download3],
+        [t("print"), act.print],
+        mayChange && [t("remove"), act.remove, "danger"],
+      ], { class: "round", "aria-label": t("moreActions"), title: t("moreActions") }),
     ),
   );
 }
@@ -59,8 +82,25 @@ function head(seen, row, act) {
 function picture(seen) {
   const alt = t("photoOf", { name: seen.name });
   if (seen.photo) return el("img", { class: "photo", src: seen.photo, alt });
-  const letters = seen.kind === "group" ? "…" : initials(seen.name);
-  return el("div", { class: `photo letters ${seen.kind}`, "aria-hidden": "true" }, letters);
+  return letters(seen.name, seen.kind, "large");
+}
+
+/** What one does most with a card: each a link that the device knows what to do with. */
+function quick(seen, act) {
+  const [phone] = seen.phones.filter((it) => it.href);
+  const [mail] = seen.mails.filter((it) => it.href);
+  const message = messageLink(seen.phones);
+  const one = (name, sign, it, href) => it && el("a", {
+    class: "quick-one", href, "aria-label": `${t(name)}: ${it.text}`, title: it.text,
+  }, icon(sign), el("span", {}, t(name)));
+  return el("div", { class: "quick", role: "group", "aria-label": t("quick") },
+    one("callNow", "call", phone, phone?.href),
+    one("mailNow", "mail", mail, mail?.href),
+    message && one("messageNow", "message", message, message.href),
+    seen.kind === "group" && act.mailAll
+      ? button([icon("mail"), el("span", {}, t("mailAll"))], act.mailAll, { class: "quick-one" })
+      : null,
+    button([icon("share"), el("span", {}, t("shareNow"))], act.share, { class: "quick-one" }));
 }
 
 function section(title, rows) {
@@ -86,18 +126,23 @@ function line(it, act) {
     "div",
     { class: "line" },
     el("div", { class: "value" }, value, label && el("span", { class: "label" }, bdi(label))),
-    act && button(t("copy"), () => act.copy(it.text), {
-      class: "quiet", "aria-label": t("copyThis", { text: it.text }),
-    }),
+    act && copier(it.text, act),
   );
+}
+
+function copier(text, act) {
+  return button(icon("copy"), () => act.copy(text), {
+    class: "quiet copy", "aria-label": t("copyThis", { text }), title: t("copy"),
+  });
 }
 
 function outside(href) {
   return /^https?:/.test(href) ? { target: "_blank", rel: "noopener noreferrer" } : {};
 }
 
-function address(it) {
+function address(it, act) {
   const label = usesText(it.label);
+  const href = mapLink(it.lines);
   return el(
     "div",
     { class: "line" },
@@ -107,6 +152,11 @@ function address(it) {
       el("div", { class: "address" }, it.lines.map((text) => el("div", {}, bdi(text)))),
       label && el("span", { class: "label" }, bdi(label)),
     ),
+    el("a", {
+      class: "copy map", href, ...outside(href), title: t("mapTitle"),
+      "aria-label": `${t("map")}: ${it.lines.join(", ")}`,
+    }, icon("map")),
+    copier(it.lines.join("\n"), act),
   );
 }
 

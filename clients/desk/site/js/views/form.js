@@ -1,17 +1,11 @@
-// The form of a card.
+// The form of a card: what the card has, and one button for what it hasn't.
 import { bdi, button, el, fill, labelled, newId } from "../dom.js";
 import { memberValue } from "../edit.js";
 import { search } from "../search.js";
-import { t, usesText } from "../texts.js";
+import { t } from "../say.js";
 import { clean } from "../values.js";
-import { readPhoto } from "../photo.js";
-
-const USES = {
-  tels: ["work", "cell", "work,cell", "home", "work,fax", "fax", ""],
-  mails: ["work", "home", ""],
-  urls: ["work", "home", ""],
-  adrs: ["work", "home", ""],
-};
+import { addressFields, dateField, input, photoField, rowsField } from "./fields.js";
+import { menuButton } from "./menu.js";
 
 /**
  * The form over `fields` of `fieldsOf`, which it changes as the user types. `act` has `save()`,
@@ -19,7 +13,8 @@ const USES = {
  */
 export function formView({ title, fields, isNew, notes, act }) {
   const error = el("p", { class: "error", role: "alert" });
-  const form = el(
+  const isGroup = fields.kind === "group";
+  return el(
     "form",
     {
       class: "form", autocomplete: "off", "aria-labelledby": "form-title",
@@ -28,13 +23,11 @@ export function formView({ title, fields, isNew, notes, act }) {
     el("h2", { id: "form-title", tabindex: "-1" }, title),
     notes,
     nameFields(fields, isNew, act),
-    rowsField("tels", t("phone"), fields, { type: "tel", autocomplete: "off" }, act),
-    rowsField("mails", t("mail"), fields, { inputmode: "email" }, act),
+    rowsField("tels", fields, act),
+    rowsField("mails", fields, act),
+    isGroup ? membersField(fields, act) : null,
     workFields(fields),
-    fields.kind === "group" ? membersField(fields, act) : null,
     el("fieldset", {}, el("legend", {}, t("note")), textArea(fields)),
-    addressFields(fields, act),
-    rowsField("urls", t("web"), fields, { inputmode: "url" }, act),
     moreFields(fields, act),
     error,
     el(
@@ -44,7 +37,6 @@ export function formView({ title, fields, isNew, notes, act }) {
       button(t("cancel"), act.cancel),
     ),
   );
-  return form;
 }
 
 /** The book and the kind of a new card. `change` gets both, and where the focus comes back to. */
@@ -61,25 +53,18 @@ export function choicesView(books, book, kind, change) {
 
 function submit(event, fields, error, act) {
   event.preventDefault();
+  const form = event.target;
+  const date = [...form.querySelectorAll("input.date")].find((it) => it.isBad());
   if (!fields.fn.trim()) {
     fill(error, t("needsName"));
-    event.target.querySelector("#field-fn").focus();
-    return;
+    form.querySelector("#field-fn").focus();
+  } else if (date) {
+    fill(error, t("dateBad"));
+    date.focus();
+  } else {
+    fill(error);
+    act.save();
   }
-  fill(error);
-  act.save();
-}
-
-/** An input for one text of an object. */
-function input(object, key, attributes = {}) {
-  return el("input", {
-    type: "text",
-    value: object[key],
-    autocomplete: "off",
-    maxlength: "20000",
-    on: { input: (event) => { object[key] = event.target.value; } },
-    ...attributes,
-  });
 }
 
 function nameFields(fields, isNew, act) {
@@ -89,7 +74,10 @@ function nameFields(fields, isNew, act) {
   const whole = labelled(t("fullName"), name, hint);
   name.id = "field-fn";
   whole.querySelector("label").htmlFor = "field-fn";
-  if (fields.kind !== "individual") return el("fieldset", {}, el("legend", {}, t("name")), whole);
+  const legend = el("legend", { class: "unseen" }, t("name"));
+  if (fields.kind !== "individual") {
+    return el("fieldset", {}, legend, whole, photoField(fields, act));
+  }
   // The whole name follows the two parts until somebody types it.
   let follows = isNew && fields.fn === [fields.n[1], fields.n[0]].filter(Boolean).join(" ");
   name.addEventListener("input", () => { follows = name.value === ""; });
@@ -102,157 +90,79 @@ function nameFields(fields, isNew, act) {
     });
     return part;
   };
-  return el(
-    "fieldset",
-    {},
-    el("legend", {}, t("name")),
+  return el("fieldset", {}, legend,
     el("div", { class: "two" },
       labelled(t("given"), both(1)), labelled(t("family"), both(0))),
-    whole,
-    photoField(fields, act),
-  );
+    whole, photoField(fields, act));
 }
 
 function workFields(fields) {
-  return el(
-    "fieldset",
-    {},
-    el("legend", {}, t("work")),
-    el("div", { class: "two" },
-      labelled(t("organisation"), input(fields.org, 0)), labelled(t("unit"), input(fields.org, 1))),
-    fields.kind === "individual" ? labelled(t("jobTitle"), input(fields, "title")) : null,
-  );
+  const isPerson = fields.kind === "individual";
+  return el("fieldset", {}, el("legend", {}, t("work")), el("div", { class: "two" },
+    labelled(t("organisation"), input(fields.org, 0)),
+    isPerson ? labelled(t("jobTitle"), input(fields, "title")) : null));
 }
 
 function textArea(fields) {
   const area = el("textarea", {
-    rows: 4, "aria-label": t("note"),
+    rows: 3, "aria-label": t("note"),
     on: { input: () => { fields.note = clean(area.value); } },
   });
   area.value = fields.note;
   return area;
 }
 
-function moreFields(fields, act) {
-  const n = fields.n;
-  const isPerson = fields.kind === "individual";
-  return el(
-    "details",
-    { open: Boolean(n[2] || n[3] || n[4] || fields.nickname || fields.bday || fields.categories) },
-    el("summary", {}, t("moreFields")),
-    isPerson && el("div", { class: "two" },
-      labelled(t("prefix"), input(n, 3)), labelled(t("suffix"), input(n, 4)),
-      labelled(t("additional"), input(n, 2)), labelled(t("nickname"), input(fields, "nickname")),
-      labelled(t("birthday"), input(fields, "bday", { placeholder: "1980-04-12" }), t("dateHint"))),
-    labelled(t("categories"), input(fields, "categories"), t("commaHint")),
-    isPerson ? null : photoField(fields, act),
-  );
+/** One field under its own legend. */
+function section(title, ...parts) {
+  return el("fieldset", {}, el("legend", { class: "unseen" }, title), parts);
 }
 
-/** Rows that can be added and removed: numbers, addresses of mail, of pages. */
-function rowsField(key, title, fields, attributes, act) {
-  const list = el("div", { class: "rows" });
-  const draw = () => fill(list, fields[key].map((row) => one(row)));
-  const one = (row) =>
-    el(
-      "div",
-      { class: "entry" },
-      useSelect(key, row, title),
-      input(row, "text", { "aria-label": title, ...attributes }),
-      remover(fields, key, row, title, draw, act),
-    );
-  draw();
-  return el("fieldset", {}, el("legend", {}, title), list,
-    adder(fields, key, list, draw, () => ""));
-}
-
-function addressFields(fields, act) {
-  const list = el("div", { class: "rows" });
-  const names = ["street", "postcode", "city", "region", "country"];
-  const draw = () => fill(list, fields.adrs.map((row) => one(row)));
-  const one = (row) =>
-    el(
-      "div",
-      { class: "entry wide" },
-      useSelect("adrs", row, t("address")),
-      el("div", { class: "two" }, names.map((name, at) => labelled(t(name), input(row.text, at)))),
-      remover(fields, "adrs", row, t("address"), draw, act),
-    );
-  draw();
-  return el(
-    "fieldset",
-    {},
-    el("legend", {}, t("address")),
-    list,
-    adder(fields, "adrs", list, draw, () => ["", "", "", "", ""]),
-  );
-}
-
-function useSelect(key, row, title) {
-  const uses = USES[key].includes(row.use) ? USES[key] : [row.use, ...USES[key]];
-  const options = uses.map((use) => {
-    const text = use ? usesText({ uses: use.split(",") }) : t("noUse");
-    return el("option", { value: use, selected: use === row.use }, text);
-  });
-  return el(
-    "select",
-    {
-      "aria-label": t("useOf", { title }),
-      on: { change: (event) => { row.use = event.target.value; } },
-    },
-    options,
-  );
-}
-
-function remover(fields, key, row, title, draw, act) {
-  return button(t("removeRow"), (event) => {
-    const place = event.currentTarget.closest("fieldset");
-    fields[key] = fields[key].filter((it) => it !== row);
-    draw();
-    act.typed();
-    place.querySelector(".add").focus();
-  }, { class: "quiet", "aria-label": t("removeThis", { title }) });
-}
-
-function adder(fields, key, list, draw, empty) {
-  return button(t("add"), () => {
-    fields[key].push({ line: null, use: USES[key][0], text: empty() });
-    draw();
-    list.lastElementChild.querySelector("input").focus();
-  }, { class: "quiet add" });
-}
-
-function photoField(fields, act) {
-  const shown = el("div", { class: "photo-field" });
-  const file = el("input", { type: "file", accept: "image/*", "aria-label": t("choosePhoto") });
-  const draw = () => {
-    fill(
-      shown,
-      fields.photo ? el("img", { class: "photo", src: fields.photo, alt: t("photo") }) : null,
-      el("label", { class: "file" }, el("span", {}, t("photo")), file),
-      fields.photo
-        ? button(t("removeRow"), () => {
-          fields.photo = null;
-          act.typed();
-          draw();
-          file.focus();
-        }, { class: "quiet", "aria-label": t("removeThis", { title: t("photo") }) })
-        : null,
-    );
-  };
-  file.addEventListener("change", async () => {
-    const [chosen] = file.files;
-    if (!chosen) return;
-    try {
-      fields.photo = await readPhoto(chosen);
-      act.typed();
-      draw();
-    } catch {
-      act.say(t("photoBad"));
+/** What a card may have beside: `[name, whether it has it, how to make the field]`. */
+function optional(fields, act) {
+  const { n } = fields;
+  const one = (name, object, key) =>
+    [name, Boolean(object[key]), () => section(t(name), labelled(t(name), input(object, key)))];
+  const rows = (name, key) => [name, fields[key].length > 0, () => {
+    if (!fields[key].length) {
+      fields[key].push({ line: null, use: key === "related" ? "" : "work", text: "" });
     }
-  });
-  draw();
-  return shown;
+    return rowsField(key, fields, act);
+  }];
+  const date = (name, key) => [name, Boolean(fields[key]),
+    () => section(t(name), dateField(fields, key, t(name), act))];
+  const address = ["address", fields.adrs.length > 0, () => {
+    if (!fields.adrs.length) {
+      fields.adrs.push({ line: null, use: "work", text: ["", "", "", "", ""] });
+    }
+    return addressFields(fields, act);
+  }];
+  const ofPerson = fields.kind !== "individual" ? [] : [
+    date("birthday", "bday"), date("anniversary", "anniversary"),
+    one("nickname", fields, "nickname"), one("prefix", n, 3), one("additional", n, 2),
+    one("suffix", n, 4), rows("related", "related"),
+  ];
+  const categories = ["categories", Boolean(fields.categories), () => section(t("categories"),
+    labelled(t("categories"), input(fields, "categories"), t("commaHint")))];
+  return [
+    address, rows("web", "urls"), rows("chat", "chats"), one("unit", fields.org, 1), categories,
+    ...ofPerson,
+  ];
+}
+
+/** The fields that the card has, and a menu of those that it hasn't. */
+function moreFields(fields, act) {
+  const all = optional(fields, act);
+  const shown = new Set(all.filter((it) => it[1]).map((it) => it[0]));
+  const list = el("div", { class: "more-fields" }, all.filter((it) => it[1]).map((it) => it[2]()));
+  const add = menuButton(t("addField"), () => all
+    .filter((it) => !shown.has(it[0]))
+    .map(([name, , make]) => [t(name), () => {
+      shown.add(name);
+      const field = make();
+      list.append(field);
+      field.querySelector("input").focus();
+    }]), { class: "add-field" });
+  return el("div", {}, list, add);
 }
 
 /** The members of a group, and a search for more. */
@@ -280,7 +190,7 @@ function membersField(fields, act) {
     const rows = box.value.trim() === "" ? [] : search(act.rows(), box.value);
     const free = rows.filter((row) => !taken.has(row.uid) && !taken.has(memberValue(row.uid)));
     fill(found, free.slice(0, 6).map((row) =>
-      button([bdi(row.name), " ", el("small", {}, bdi(row.org))], () => {
+      button([bdi(row.name), " ", el("small", {}, bdi(row.org ?? ""))], () => {
         fields.members = [...fields.members, memberValue(row.uid)];
         box.value = "";
         fill(found);

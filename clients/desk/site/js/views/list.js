@@ -1,17 +1,25 @@
 // The list of cards. Only the rows in sight are elements, so that 10,000 cards scroll like ten.
 import { bdi, el } from "../dom.js";
 import { keyOf } from "../shelf.js";
-import { count, t, usesText } from "../texts.js";
+import { count, t, usesText } from "../say.js";
+import { plainText } from "../values.js";
 
 const AROUND = 6;
 
 export class CardList {
-  /** `pick(row, isFinal)` is called when a row is chosen; it is final by a click or Enter. */
-  constructor(root, pick) {
+  /**
+   * `pick(row, isFinal)` is called when a row is chosen; it is final by a click or Enter.
+   * `faces` has the photos, and `marked(rows)` is called when several are marked.
+   */
+  constructor(root, { faces, pick, marked }) {
     this.root = root;
     this.pick = pick;
+    this.faces = faces;
+    this.tellMarked = marked;
     this.rows = [];
     this.at = -1;
+    this.anchor = -1;
+    this.marks = new Set();
     this.withBooks = false;
     this.space = el("div", { class: "space", role: "presentation" });
     this.root.replaceChildren(this.space);
@@ -23,16 +31,24 @@ export class CardList {
 
   /** Shows other rows. The selected card stays selected if it is among them. */
   show(rows, { withBooks, keep = null }) {
+    const at = keep === null ? -1 : rows.findIndex((row) => keyOf(row) === keep);
+    const isSame = rows === this.rows && at === this.at && withBooks === this.withBooks;
     this.rows = rows;
     this.withBooks = withBooks;
-    this.at = keep === null ? -1 : rows.findIndex((row) => keyOf(row) === keep);
+    this.at = at;
+    if (isSame && this.drawn) return;
     this.drawn = "";
-    this.measure();
+    if (this.height) this.stretch();
+    else this.measure();
   }
 
   measure() {
     this.height = Number.parseFloat(getComputedStyle(this.root).getPropertyValue("--row")) *
       Number.parseFloat(getComputedStyle(document.documentElement).fontSize);
+    this.stretch();
+  }
+
+  stretch() {
     this.space.style.height = `${this.rows.length * this.height}px`;
     this.draw();
   }
@@ -56,28 +72,35 @@ export class CardList {
     this.space.replaceChildren(...options);
   }
 
+  again() {
+    this.drawn = "";
+    this.draw();
+  }
+
   option(at) {
     const row = this.rows[at];
-    const phone = row.phones[0];
-    const under = [row.title, row.org].filter(Boolean).join(" · ") || row.mail;
+    const under = [row.title, row.org].filter(Boolean).join(" · ") || (row.mail ?? "");
     const isGroup = row.kind === "group";
-    const side = isGroup ? count("membersCount", row.members.length) : (phone?.text ?? "");
+    const side = isGroup ? count("membersCount", row.members?.length ?? 0) : (row.phone ?? "");
+    const isMarked = this.marks.has(keyOf(row));
     const option = el(
       "div",
       {
-        class: `row${isGroup ? " group" : ""}`,
+        class: `row${isGroup ? " group" : ""}${isMarked ? " marked" : ""}`,
         id: `row-${at}`,
         role: "option",
-        "aria-selected": at === this.at ? "true" : "false",
+        "aria-selected": at === this.at || isMarked ? "true" : "false",
         "aria-posinset": at + 1,
         "aria-setsize": this.rows.length,
       },
+      this.faces.of(row),
       el("div", { class: "who" }, bdi(row.name || t("nameless"), "name"), bdi(under, "under")),
       el(
         "div",
         { class: "side" },
-        bdi(side, isGroup ? "members" : "number"),
-        el("span", { class: "under" }, this.withBooks ? row.book : usesText(phone?.label)),
+        bdi(plainText(side), isGroup ? "members" : "number"),
+        row.mark ? el("span", { class: `mark ${row.mark}` }, t(`mark_${row.mark}`))
+          : el("span", { class: "under" }, this.withBooks ? row.book : usesText(row.label)),
       ),
     );
     option.style.top = `${at * this.height}px`;
@@ -86,13 +109,58 @@ export class CardList {
 
   clicked(event) {
     const option = event.target.closest("[role=option]");
-    if (option) this.select(Number(option.id.slice(4)), true);
+    if (!option) return;
+    const at = Number(option.id.slice(4));
+    if (event.shiftKey) this.markTo(at);
+    else if (event.ctrlKey || event.metaKey || this.isMarking) this.turn(at);
+    else this.select(at, true);
+  }
+
+  // Several at once
+
+  /** Marks all from the last one on, or from the card that is shown. */
+  markTo(at) {
+    const from = this.anchor >= 0 ? this.anchor : Math.max(0, this.at);
+    const [first, last] = from < at ? [from, at] : [at, from];
+    this.marks = new Set(this.rows.slice(first, last + 1).map(keyOf));
+    this.told();
+  }
+
+  /** Marks a row, or takes its mark away. */
+  turn(at) {
+    const key = keyOf(this.rows[at]);
+    if (!this.marks.size && this.at >= 0 && this.at !== at && !this.isMarking) {
+      this.marks.add(keyOf(this.rows[this.at]));
+    }
+    if (!this.marks.delete(key)) this.marks.add(key);
+    this.anchor = at;
+    this.told();
+  }
+
+  markAll() {
+    this.marks = new Set(this.rows.map(keyOf));
+    this.told();
+  }
+
+  /** Turns marking on, so that each press of a row marks it; or off, without marks. */
+  marking(isOn) {
+    this.isMarking = isOn;
+    this.anchor = -1;
+    if (!isOn) this.marks = new Set();
+    this.root.setAttribute("aria-multiselectable", String(isOn));
+    this.told();
+  }
+
+  told() {
+    this.again();
+    this.tellMarked(this.rows.filter((row) => this.marks.has(keyOf(row))));
   }
 
   /** Selects a row and brings it into sight. */
   select(at, isFinal = false) {
     if (at < 0 || at >= this.rows.length) return;
     this.at = at;
+    this.anchor = at;
     const top = at * this.height;
     if (top < this.root.scrollTop) this.root.scrollTop = top;
     const below = top + this.height - this.root.clientHeight;
@@ -101,13 +169,19 @@ export class CardList {
     this.pick(this.rows[at], isFinal);
   }
 
+  /** Brings a row to the top. */
+  scrollTo(at) {
+    this.root.scrollTop = at * this.height;
+  }
+
   top() {
     this.root.scrollTop = 0;
   }
 
   /** Moves the selection for a key, and says whether the key was one for the list. */
   key(event) {
-    if (event.altKey || event.ctrlKey || event.metaKey || event.isComposing) return false;
+    if (event.isComposing || event.altKey) return false;
+    if (event.ctrlKey || event.metaKey || event.shiftKey) return this.markKey(event);
     const page = Math.max(1, Math.floor(this.root.clientHeight / this.height) - 1);
     const steps = { ArrowDown: 1, ArrowUp: -1, PageDown: page, PageUp: -page };
     if (event.key === "Enter") {
@@ -118,6 +192,23 @@ export class CardList {
     if (!(event.key in steps) || !this.rows.length) return false;
     const wanted = this.at < 0 ? 0 : this.at + steps[event.key];
     this.select(Math.min(this.rows.length - 1, Math.max(0, wanted)));
+    return true;
+  }
+
+  /** Shift and an arrow mark on; Ctrl+A in the list marks all. */
+  markKey(event) {
+    const step = { ArrowDown: 1, ArrowUp: -1 }[event.key];
+    if (event.shiftKey && step && this.rows.length) {
+      const anchor = this.anchor >= 0 ? this.anchor : Math.max(0, this.at);
+      const next = Math.min(this.rows.length - 1, Math.max(0, Math.max(0, this.at) + step));
+      this.select(next);
+      this.anchor = anchor;
+      this.markTo(next);
+      return true;
+    }
+    const isAll = event.key.toLowerCase() === "a" && event.currentTarget === this.root;
+    if (!isAll || event.shiftKey) return false;
+    this.markAll();
     return true;
   }
 

@@ -1,0 +1,153 @@
+// Several cards at once: delete, move, write to files, put into a group. Each has one undo.
+import { Fault } from "./api.js";
+import { editCard, fieldsOf, memberValue } from "./edit.js";
+import { columnsOf, saveFile } from "./files.js";
+import { olderCard } from "./older.js";
+import * as push from "./push.js";
+import { keyOf } from "./shelf.js";
+import { count, faultText, t } from "./say.js";
+import { readCard, writeCard } from "./vcard.js";
+import { ask, askChoice } from "./views/dialogs.js";
+
+export class Bulk {
+  constructor(desk) {
+    this.desk = desk;
+  }
+
+  undo(run) {
+    return { text: t("undo"), run };
+  }
+
+  /** The texts of rows, as this desk shows them. */
+  async texts(rows) {
+    const cards = await Promise.all(rows.map((it) => this.desk.queue.seen(it.book, it.uid)));
+    return cards.filter(Boolean).map((it) => it.text);
+  }
+
+  async remove(rows) {
+    const { desk } = this;
+    const sure = await ask(count("removeSome", rows.length), [t("removeSomeText")], [
+      [t("remove"), true, "danger"], [t("cancel"), null],
+    ]);
+    if (!sure) return;
+    const kept = [];
+    for (const it of rows) {
+      const seen = await desk.queue.seen(it.book, it.uid);
+      if (seen) kept.push({ ...it, text: seen.text });
+    }
+    await desk.queue.remove(kept.map((it) => [it.book, it.uid]));
+    desk.clearMarks();
+    desk.pane.clear();
+    await desk.changed();
+    desk.frame.toast(count("removedSome", kept.length), this.undo(async () => {
+      for (const it of kept) await desk.queue.restore(it.book, it.uid, it.text);
+      await desk.changed();
+    }));
+  }
+
+  /** Moves cards on the server. What can't be moved stays, and is said. */
+  async move(rows) {
+    const { desk } = this;
+    const books = desk.books.filter((it) => it.rights !== "read").map((it) => it.name);
+    const to = await ask(count("moveSome", rows.length), [t("moveSomeText")], [
+      ...books.map((it) => [it, it]), [t("cancel"), null],
+    ]);
+    if (!to) return;
+    desk.clearMarks();
+    const moved = await this.moveAll(rows.filter((it) => it.book !== to), () => to);
+    const rest = rows.filter((it) => it.book !== to).length - moved.length;
+    const said = count("movedSome", moved.length) + (rest ? ` ${count("movedNot", rest)}` : "");
+    desk.frame.toast(said, moved.length ? this.undo(async () => {
+      const back = moved.map((it) => ({ ...it, book: to, from: it.book }));
+      const done = await this.moveAll(back, (it) => it.from);
+      desk.frame.toast(count("movedSome", done.length));
+    }) : null);
+  }
+
+  /** Moves each row to the book that `toOf` says. Answers those that were moved. */
+  async moveAll(rows, toOf) {
+    const { desk } = this;
+    const moved = [];
+    const books = new Set();
+    await desk.outbox.run();
+    for (const row of rows) {
+      try {
+        const to = toOf(row);
+        // A card that was moved just now has a new version there.
+        const { version } = await desk.api.card(row.book, row.uid);
+        const done = await push.move(desk.api, desk.store, row.book, row.uid, version, to);
+        if (!done.change) continue;
+        desk.arrived(row.book, done.change);
+        books.add(to);
+        moved.push(row);
+      } catch (fault) {
+        if (!(fault instanceof Fault)) throw fault;
+        desk.frame.toast(faultText(fault));
+        if (fault.isPassing) break;
+      }
+    }
+    for (const book of books) await desk.follower.now(book);
+    return moved;
+  }
+
+  async save(rows, form) {
+    const texts = await this.texts(rows);
+    const files = {
+      vcf: ["contacts.vcf", "text/vcard", () => texts.join("")],
+      vcf3: ["contacts.vcf", "text/vcard", () => texts.map(olderCard).join("")],
+      csv: ["contacts.csv", "text/csv", () => columnsOf(texts)],
+    };
+    const [name, type, content] = files[form];
+    saveFile(name, type, content());
+    this.desk.frame.toast(t("exported", { file: name }));
+  }
+
+  /** Puts the cards into a group of their book. */
+  async group(rows) {
+    const { desk } = this;
+    const [{ book }] = rows;
+    const groups = desk.shelf.groups(book);
+    if (rows.some((it) => it.book !== book)) {
+      desk.frame.toast(t("groupOneBook"));
+      return;
+    }
+    if (!groups.length) {
+      desk.frame.toast(t("groupNone"));
+      return;
+    }
+    const uid = await askChoice(count("groupSome", rows.length), t("groupLabel"),
+      groups.map((it) => [it.name, it.uid]));
+    if (!uid) return;
+    const seen = await desk.queue.seen(book, uid);
+    const card = readCard(seen.text);
+    const fields = fieldsOf(card);
+    const others = rows.filter((it) => it.uid !== uid).map((it) => memberValue(it.uid));
+    const members = [...new Set([...fields.members, ...others])];
+    const text = writeCard(editCard(card, fields, { ...fields, members }));
+    const edit = { book, uid, base: seen.text, version: seen.version, text };
+    await desk.queue.save(edit);
+    desk.clearMarks();
+    await desk.changed();
+    desk.frame.toast(t("grouped", { name: fields.fn }), this.undo(async () => {
+      await desk.queue.save({ ...edit, base: text, text: seen.text });
+      await desk.changed();
+    }));
+  }
+
+  /** What can be done with the rows, for a menu. */
+  choices(rows) {
+    const mayChange = rows.every((it) => this.desk.mayChange(it.book));
+    return [
+      mayChange && [t("addToGroup"), () => this.group(rows)],
+      mayChange && this.desk.books.length > 1 && [t("move"), () => this.move(rows)],
+      [t("saveVcf"), () => this.save(rows, "vcf")],
+      [t("saveVcf3"), () => this.save(rows, "vcf3")],
+      [t("saveCsv"), () => this.save(rows, "csv")],
+      mayChange && [t("remove"), () => this.remove(rows), "danger"],
+    ];
+  }
+
+  keys(rows) {
+    return rows.map(keyOf);
+  }
+}

@@ -1,0 +1,130 @@
+// What has to be decided: two edits of one card, a card that somebody removed, what waits.
+import { merge3 } from "./merge.js";
+import { nameOf } from "./person.js";
+import { ASKS } from "./queue.js";
+import { keyOf } from "./shelf.js";
+import { t } from "./say.js";
+import { readCard, sameCard } from "./vcard.js";
+import { askBoth } from "./views/conflict.js";
+import { ask } from "./views/dialogs.js";
+import { waitingView } from "./views/waiting.js";
+
+function nameIn(text) {
+  return nameOf(readCard(text)) || t("nameless");
+}
+
+/** Members are shown by their names. */
+function namer(desk, book) {
+  return (value) => desk.shelf.members(book, [value])[0][1]?.name ?? value;
+}
+
+/**
+ * Puts two edits of a card together, and asks where they clash. Answers the text, or null if
+ * somebody puts the question off.
+ */
+export async function chooseBoth(desk, book, base, mine, theirs) {
+  const both = merge3(base, mine, theirs);
+  if (!both.clashes.length) return both.text();
+  const choices = await askBoth(nameIn(theirs), both, namer(desk, book));
+  return choices && both.text(choices);
+}
+
+/** Asks the first question that waits, unless somebody is at something else. */
+export async function askNext(desk) {
+  const isBusy = desk.pane.form || document.querySelector("dialog[open]");
+  if (isBusy || document.visibilityState !== "visible") return;
+  const next = desk.entries.find((it) => it.state === ASKS && !desk.later.has(keyOf(it)));
+  if (next) await decide(desk, next);
+}
+
+/** Asks what to do with an entry of the queue, and does it. */
+export async function decide(desk, entry) {
+  const { queue } = desk;
+  const answer = await answerFor(desk, entry);
+  if (answer === null) {
+    desk.later.add(keyOf(entry));
+    return;
+  }
+  desk.later.delete(keyOf(entry));
+  const { book, uid } = entry;
+  if (answer === "drop") {
+    await queue.drop(book, uid);
+    const change = entry.theirs
+      ? await desk.store.keepCard(book, uid, entry.theirs.version, entry.theirs.text)
+      : await desk.store.dropCard(book, uid);
+    desk.arrived(book, change);
+  } else if (answer === "again") {
+    await queue.rebase(entry, { text: "", version: 0 }, entry.text);
+  } else if (answer === "remove") {
+    await queue.rebase(entry, entry.theirs, "");
+  } else {
+    await queue.rebase(entry, entry.theirs, answer.text);
+  }
+  await desk.changed();
+  desk.follow(book);
+}
+
+/** "drop", "again", "remove", a text, or null for later. */
+async function answerFor(desk, entry) {
+  if (entry.kind === "remove") {
+    const name = nameIn(entry.theirs.text);
+    return ask(t("removeChangedTitle", { name }), [t("removeChangedText")], [
+      [t("keepCard"), "drop", "main"], [t("removeAnyway"), "remove", "danger"],
+      [t("later"), null],
+    ]);
+  }
+  if (!entry.theirs) {
+    return ask(t("goneTitle", { name: nameIn(entry.text) }), [t("goneText")], [
+      [t("storeAgain"), "again", "main"], [t("letGo"), "drop"], [t("later"), null],
+    ]);
+  }
+  const { base, text, theirs } = entry;
+  const chosen = await chooseBoth(desk, entry.book, base, text, theirs.text);
+  if (chosen === null) return null;
+  return sameCard(chosen, theirs.text) ? "drop" : { text: chosen };
+}
+
+/** Shows what isn't sent and what isn't finished, each with what can be done. */
+export async function showWaiting(desk) {
+  const drafts = (await desk.drafts.all()).filter((it) => !desk.pane.isAt(it));
+  const name = (it) => nameIn(it.kind === "remove" ? it.base : it.text);
+  await waitingView(desk.entries, drafts, name, {
+    open: (it) => desk.pane.open(it.book, it.uid),
+    decide: (it) => decide(desk, it),
+    again: async (it) => {
+      await desk.queue.again(it.book, it.uid);
+      await desk.changed();
+    },
+    drop: (it) => giveUp(desk, it),
+    goOn: (it) => desk.pane.goDraft(it),
+    dropDraft: async (it) => {
+      await desk.trash.keep(it.book, it.uid, it.text, "cancelled");
+      await desk.drafts.drop(it);
+      await desk.drawWaiting();
+      desk.frame.toast(t("cancelled"), {
+        text: t("undo"),
+        run: async () => {
+          await desk.drafts.keep(it);
+          desk.pane.goDraft(it);
+        },
+      });
+    },
+  });
+}
+
+/** Gives a change up that can't be sent. It can be put back. */
+export async function giveUp(desk, entry) {
+  const { book, uid } = entry;
+  await desk.queue.drop(book, uid);
+  await desk.changed();
+  if (!(await desk.queue.seen(book, uid))) desk.pane.clear();
+  if (entry.kind === "remove") return;
+  desk.frame.toast(t("givenUp", { name: nameIn(entry.text) }), {
+    text: t("undo"),
+    run: async () => {
+      await desk.queue.save({ ...entry, version: entry.version });
+      await desk.changed();
+      desk.pane.open(book, uid);
+    },
+  });
+}

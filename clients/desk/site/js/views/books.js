@@ -1,0 +1,123 @@
+// Books: the question for a name, a book with its numbers, a file to import.
+import { button, el, fill, newId } from "../dom.js";
+import { count, number, t, timeText } from "../say.js";
+import { dialog } from "./dialogs.js";
+
+const NAME = /^[a-z0-9-]{1,40}$/;
+
+/** What is wrong with the name of a book, or "". */
+export function bookNameFault(name) {
+  return NAME.test(name) ? "" : t("badBookName");
+}
+
+/** In place of a card: who may not list the books says which one is theirs. */
+export function bookQuestion(add) {
+  const id = newId("field");
+  const box = el("input", {
+    id, type: "text", autocomplete: "off", autocapitalize: "none", spellcheck: "false",
+  });
+  const error = el("p", { class: "error", role: "alert" });
+  const submit = (event) => {
+    event.preventDefault();
+    const wrong = bookNameFault(box.value.trim());
+    fill(error, wrong);
+    if (!wrong) add(box.value.trim());
+  };
+  return el("form", { class: "welcome ask-book", on: { submit } },
+    el("h2", {}, t("whichBook")),
+    el("p", {}, t("whichBookText")),
+    el("div", { class: "field" }, el("label", { for: id }, t("addBookLabel")), box),
+    error,
+    el("div", { class: "bar" }, el("button", { type: "submit", class: "main" }, t("openBook"))));
+}
+
+/** Asks what to import. Answers the file's name and octets, or null. */
+export function askFile(book, run, files = null) {
+  return dialog(t("importTitle", { book }), (close) => {
+    const accept = ".csv,.vcf,text/csv,text/vcard";
+    const file = el("input", { type: "file", accept, id: newId("file") });
+    const said = el("div", { class: "import", "aria-live": "polite" });
+    const go = button(t("importNow"), () => work(), { class: "main", disabled: true });
+    const end = button(t("close"), () => close(null));
+    let ready = null;
+    file.addEventListener("change", async () => {
+      go.disabled = true;
+      fill(said);
+      const [chosen] = file.files;
+      if (!chosen) return;
+      ready = run.read(chosen.name, new Uint8Array(await chosen.arrayBuffer()));
+      fill(said, ready.words);
+      go.disabled = !ready.file;
+    });
+    if (files) {
+      file.files = files;
+      file.dispatchEvent(new Event("change"));
+    }
+    const work = async () => {
+      // While it is at work the button keeps the focus, which a disabled one would lose.
+      if (file.disabled) return;
+      go.setAttribute("aria-disabled", "true");
+      file.disabled = true;
+      fill(said, el("p", {}, t("importing")));
+      const [words, mayRepeat] = await run.send(ready.file);
+      fill(said, words);
+      file.disabled = false;
+      go.removeAttribute("aria-disabled");
+      if (mayRepeat) return;
+      file.value = "";
+      file.focus();
+      go.disabled = true;
+    };
+    return [
+      el("p", {}, t("importText")),
+      el("label", { for: file.id, class: "file" }, el("span", {}, t("importFile")), file),
+      said,
+      el("div", { class: "bar" }, go, end),
+    ];
+  });
+}
+
+/** A book: how its copy is, its numbers, and what can be done. `run` has the actions. */
+export function showBook(book, run) {
+  return dialog(t("bookTitle", { book: book.name }), (close) => {
+    const numbers = el("div", { "aria-live": "polite" }, tallyView(null));
+    run.tally().then(
+      (tally) => fill(numbers, tallyView(tally)),
+      (words) => fill(numbers, el("p", {}, words)),
+    );
+    const doing = (text, action, kind) =>
+      button(text, () => {
+        close(null);
+        action();
+      }, { class: kind ?? null });
+    return [
+      el("p", {}, book.synced ? t("copyOf", { time: timeText(book.synced) }) : t("noCopy")),
+      book.rights === "read" ? el("p", {}, t("readOnly")) : null,
+      numbers,
+      el("div", { class: "doings" },
+        doing(t("update"), run.update),
+        run.import && doing(t("importFiles"), run.import),
+        doing(t("exportCards"), run.exportCards),
+        doing(t("exportColumns"), run.exportColumns),
+        doing(t("exportVcf"), run.exportVcf),
+        doing(t("startAgain"), run.startAgain),
+        doing(t("dropBook"), run.drop, "danger")),
+      el("p", { class: "hint" }, t("bookHints")),
+      el("div", { class: "bar" }, button(t("close"), () => close(null))),
+    ];
+  });
+}
+
+/** The numbers of a book. Before they come (null) they have their room, so that no button moves. */
+function tallyView(tally) {
+  const rows = [
+    "created", "imported", "moved_in", "deleted", "moved_out", "edited", "import_edited",
+    "number", "remembered", "horizon",
+  ];
+  return el("table", { class: "tally" },
+    el("caption", {}, tally ? count("cardsCount", tally.cards) : t("asking")),
+    el("tbody", {}, rows.map((it) =>
+      el("tr", {}, el("th", { scope: "row" }, t(`tally_${it}`)),
+        el("td", {}, tally ? number(tally[it]) : "…")),
+    )));
+}

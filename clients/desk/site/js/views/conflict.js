@@ -1,0 +1,83 @@
+// Two edits of one card: what was changed in two ways is asked for, value by value, and all else is
+// said.
+import { bdi, button, el, fill, newId } from "../dom.js";
+import { lineShown } from "../shown.js";
+import { propertyText, t } from "../say.js";
+import { dialog } from "./dialogs.js";
+
+/** The words for two edits of one card by two people. */
+function ofTwo(name) {
+  return {
+    title: t("conflictTitle", { name }), text: t("conflictText"), mine: t("yours"),
+    theirs: t("theirs"), leave: t("later"), all: t("keepTheirs"),
+    by: ["changedBy_mine", "changedBy_theirs"],
+  };
+}
+
+/**
+ * Asks about the clashes of two edits (`merge3`). Answers a list with "mine" or "theirs" for each,
+ * or null to decide later. `nameOf` gives the name of a member; `words` are others for two cards.
+ */
+export function askBoth(name, both, nameOf, words = ofTwo(name)) {
+  const choices = both.clashes.map(() => null);
+  const error = el("p", { class: "error", role: "alert" });
+  return dialog(words.title, (close, box) => {
+    const save = () => {
+      if (choices.includes(null)) {
+        fill(error, t("chooseAll"));
+        box.querySelector(".clash:not(:has(:checked)) input").focus();
+        return;
+      }
+      close(choices);
+    };
+    return [
+      both.clashes.length ? el("p", {}, words.text) : null,
+      both.clashes.length ? el("div", { class: "scroll" }, el("table", { class: "conflict" },
+        el("thead", {}, el("tr", {}, el("td", {}),
+          el("th", { scope: "col" }, words.mine), el("th", { scope: "col" }, words.theirs))),
+        el("tbody", {}, both.clashes.map((it, at) => row(it, at, choices, nameOf))))) : null,
+      taken(both.changes, nameOf, words.by),
+      error,
+      el("div", { class: "bar" },
+        button(t("saveChosen"), save, { class: "main" }),
+        words.all && button(words.all, () => close(choices.map(() => "theirs"))),
+        button(words.leave, () => close(null))),
+    ];
+  }, "wide");
+}
+
+function row(clash, at, choices, nameOf) {
+  const group = newId("choice");
+  const cell = (which) => {
+    const id = newId("pick");
+    const radio = el("input", {
+      type: "radio", name: group, id, value: which,
+      on: { change: () => { choices[at] = which; } },
+    });
+    const shown = el("div", {}, side(clash[which], nameOf));
+    return el("td", {}, el("label", { for: id, class: "pick" }, radio, shown));
+  };
+  const was = clash.was
+    ? el("small", {}, t("was"), " ", lineShown(clash.was.line, nameOf))
+    : null;
+  return el("tr", { class: "clash" },
+    el("th", { scope: "row" }, propertyText(clash.name), was), cell("mine"), cell("theirs"));
+}
+
+function side(item, nameOf) {
+  if (!item) return el("span", { class: "none" }, t("nothing"));
+  return el("div", { class: "said" }, lineShown(item.line, nameOf));
+}
+
+/** What only one side changed: it is in the card in any case. */
+function taken(changes, nameOf, [mine, theirs]) {
+  const named = changes.filter((it) => it.now || it.was);
+  if (!named.length) return null;
+  return el("div", { class: "taken" }, el("h3", {}, t("takenTitle")), el("ul", {},
+    named.map((it) => {
+      const gone = it.now ? null : [" ", el("small", {}, t("takenGone"))];
+      return el("li", {}, el("strong", {}, propertyText(it.name)), " ",
+        lineShown((it.now ?? it.was).line, nameOf), gone, " ",
+        el("small", {}, bdi(t(it.by === "mine" ? mine : theirs))));
+    })));
+}

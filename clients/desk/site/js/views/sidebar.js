@@ -1,0 +1,85 @@
+// The side bar: books, lists of one's own, groups.
+import { bdi, button, el, fill } from "../dom.js";
+import { icon } from "../icons.js";
+import { number, t } from "../say.js";
+
+const MOST_GROUPS = 60;
+
+export class SideBar {
+  constructor(desk) {
+    this.desk = desk;
+    this.root = document.getElementById("books");
+    this.drawn = "";
+  }
+
+  show() {
+    const { desk } = this;
+    const { books, chosen, filter, shelf } = desk;
+    const groups = shelf.groups(chosen).slice(0, MOST_GROUPS);
+    const states = books.map((it) => [
+      it.name, it.rights, desk.frame.states.get(it.name)?.state, shelf.count(it.name),
+    ]);
+    const drawn = JSON.stringify([
+      chosen, filter, states, groups.map((it) => [it.book, it.uid, it.name]),
+    ]);
+    if (drawn === this.drawn) return;
+    this.drawn = drawn;
+    // Who has come to one of the buttons by keyboard stays there.
+    const place = [...this.root.querySelectorAll("button")].indexOf(document.activeElement);
+    fill(
+      this.root,
+      el("h2", {}, t("books")),
+      el("ul", {},
+        books.length > 1 ? this.book("", t("allBooks")) : null,
+        books.map((it) => this.book(it.name, it.name))),
+      button(t("addBook"), () => desk.addBook(), { class: "quiet add" }),
+      books.length ? [el("h2", {}, t("lists")), el("ul", {},
+        this.list({ kind: "favourites" }, t("favourites"), "star"),
+        this.list({ kind: "recent" }, t("recent"), "recent"),
+        el("li", { class: "book" }, button([icon("trash"), el("span", { class: "book-name" },
+          t("trash"))], () => this.trash(), { class: "choose" })))] : null,
+      groups.length ? [el("h2", {}, t("groupsTitle")), el("ul", {}, groups.map((it) => this.list(
+        { kind: "group", book: it.book, uid: it.uid }, it.name || t("nameless"), "people",
+      )))] : null,
+    );
+    if (place >= 0) this.root.querySelectorAll("button")[place]?.focus();
+  }
+
+  book(name, text) {
+    const { desk } = this;
+    const isChosen = !desk.filter && name === desk.chosen;
+    const state = desk.frame.states.get(name)?.state ?? "";
+    return el(
+      "li",
+      { class: `book ${state}` },
+      button([el("span", { class: "book-name" }, text),
+        el("span", { class: "book-count" }, number(desk.shelf.count(name)))],
+      () => desk.choose(name), { class: "choose", "aria-pressed": String(isChosen) }),
+      name && this.menu(name),
+    );
+  }
+
+  menu(name) {
+    const text = t("bookMenu", { book: name });
+    return button("⋯", () => {
+      this.desk.frame.showNav(false);
+      this.desk.actions.book(name);
+    }, {
+      class: "quiet menu", "aria-label": text, title: text,
+    });
+  }
+
+  trash() {
+    this.desk.frame.showNav(false);
+    this.desk.actions.trash();
+  }
+
+  list(filter, text, sign) {
+    const isChosen = JSON.stringify(filter) === JSON.stringify(this.desk.filter);
+    return el("li", { class: "book" }, button(
+      [icon(sign), el("span", { class: "book-name" }, bdi(text))],
+      () => this.desk.turnTo(filter),
+      { class: "choose", "aria-pressed": String(isChosen) },
+    ));
+  }
+}
