@@ -13,6 +13,15 @@ pub record HandlerRelation (State : Type 0) : Type 1 where
   pub step : State → Head → List ℕ → List ℕ → State → Type 0
   pub screens : State → List ℕ → List (List ℕ × List ℕ) → Option HeadFault
 
+-- why a head with this method and these fields is refused, or None if it isn't
+abbrev pub Screen : Type 0
+Screen = List ℕ → List (List ℕ × List ℕ) → Option HeadFault
+
+-- no step changes which heads the handler refuses
+abbrev pub KeepsScreens : {State : Type 0} → HandlerRelation State → Type 0
+KeepsScreens does = (old new : _) (head : Head) (body reply : List ℕ)
+    → does.step old head body reply new → does.screens new ≡ does.screens old
+
 -- why the handler refuses the head, or None if it doesn't
 abbrev pub screened : {State : Type 0} → HandlerRelation State → State → RequestHead → Option HeadFault
 screened does now head = does.screens now head.method (fields_of head)
@@ -21,11 +30,16 @@ screened does now head = does.screens now head.method (fields_of head)
 abbrev pub FaultReplies : Type 0
 FaultReplies = HeadFault → List ℕ
 
+-- the handler doesn't refuse the head, and this is its step
+abbrev pub HandlesAdmitted :
+    {State : Type 0} → HandlerRelation State → State → Request → List ℕ → State → Type 0
+HandlesAdmitted does old request reply new =
+    (screened does old request.head ≡ None)
+    × does.step old (head_of request.head) request.body reply new
+
 module _ {State : Type 0} (does : HandlerRelation State) (fault_reply : FaultReplies) where
   abbrev pub RepliesGivenFault : State → Request → List ℕ → State → Option HeadFault → Type 0
-  RepliesGivenFault old request reply new None =
-      (screened does old request.head ≡ None)
-      × does.step old (head_of request.head) request.body reply new
+  RepliesGivenFault old request reply new None = HandlesAdmitted does old request reply new
   RepliesGivenFault old request reply new (Some found) = (reply ≡ fault_reply found) × (old ≡ new)
 
   -- a head with a fault gets the fault's reply; the handler replies to every other request, unless
