@@ -10,7 +10,7 @@ use Rattle.http_hub.proofs.HubLemmas.{hubs_separate_connections}
 use Rattle.http_hub.specs.HandledRequests.{HandledInTurn, HandledRequest}
 use Rattle.http_replies.specs.Replies.{head_fault_octets}
 use Rattle.http_requests.specs.Fields.{fault_of_head}
-use Rattle.http_requests.specs.HandlerRuns.{HandlesRequests, RepliesGivenFault}
+use Rattle.http_requests.specs.HandlerRuns.{HandlesAdmitted, HandlesRequests, RepliesGivenFault}
 use Rattle.http_requests.specs.ParsedHeads.{head_of}
 use Rattle.http_requests.specs.Requests.{Request}
 use Rattle.http_requests.specs.declared.head_fault.HeadFault.{HeadFault}
@@ -28,7 +28,7 @@ own_reply request run reply (own, more, first, rest, replied, none, run_is, repl
 
 module _ {S : Type 0} (model : StoreModel S) where
   -- a handled request as a list of one
-  one_handled : (one : HandledRequest) (old new : S) → fault_of_head one.request.head ≡ None → ServiceStep model old (head_of one.request.head) one.request.body one.reply new
+  one_handled : (one : HandledRequest) (old new : S) → fault_of_head one.request.head ≡ None → HandlesAdmitted (ServiceStep model) old one.request one.reply new
       → HandlesRequests (ServiceStep model) head_fault_octets old (one.request ∷ []) one.reply new
   unfolding HandlesRequests
   one_handled one old new good done = (
@@ -76,5 +76,5 @@ module _ {S : Type 0} (model : StoreModel S) where
 
   pub hubs_are_one_run : HubsAreOneRun model
   hubs_are_one_run now limit old new steps after starts runs =
-      let apart = hubs_separate_connections (ServiceStep model) head_fault_octets limit old new steps after runs in
+      let apart = hubs_separate_connections (ServiceStep model) head_fault_octets (λ old new head body reply done. refl) limit old new steps after runs in
       record { separate = apart; ran = handled_run apart.one_run.handled now old new starts apart.one_run.in_turn }
