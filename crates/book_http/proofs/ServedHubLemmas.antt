@@ -10,12 +10,12 @@ use Rattle.http_hub.proofs.HubLemmas.{hubs_separate_connections}
 use Rattle.http_hub.specs.HandledRequests.{HandledInTurn, HandledRequest}
 use Rattle.http_replies.specs.Replies.{head_fault_octets}
 use Rattle.http_requests.specs.Fields.{fault_of_head}
-use Rattle.http_requests.specs.HandlerRuns.{HandlesAdmitted, HandlesRequests, RepliesGivenFault}
+use Rattle.http_requests.specs.HandlerRuns.{HandlerRelation, HandlesAdmitted, HandlesRequests, RepliesGivenFault}
 use Rattle.http_requests.specs.ParsedHeads.{head_of}
 use Rattle.http_requests.specs.Requests.{Request}
 use Rattle.http_requests.specs.declared.head_fault.HeadFault.{HeadFault}
 use Rattle.sync_core.specs.StoreModels.{StoreModel}
-use Rattle.book_http.specs.ServedHubs.{AreOwnReplies, HubsAreOneRun, RunsHandled}
+use Rattle.book_http.specs.ServedHubs.{AreOwnReplies, HubsAreOneRun, RunsHandled, ServesRequests}
 
 -- replies to one request are its own reply
 own_reply : (request : Request) (run : List TraceStep) (reply : List ℕ) → AreReplies (request ∷ []) run reply → IsReplyToRequest request run reply
@@ -74,7 +74,14 @@ module _ {S : Type 0} (model : StoreModel S) where
         devices_are = ap (λ (m : SystemState). m.devices) end ∙ more.devices_are ∙ first.devices_are;
       }
 
-  pub hubs_are_one_run : HubsAreOneRun model
-  hubs_are_one_run now limit old new steps after starts runs =
-      let apart = hubs_separate_connections (ServiceStep model) head_fault_octets (λ old new head body reply done. refl) limit old new steps after runs in
-      record { separate = apart; ran = handled_run apart.one_run.handled now old new starts apart.one_run.in_turn }
+  -- what a handler of the service handled, the service handled
+  served : (does : HandlerRelation S) → ServesRequests model does → (handled : List HandledRequest) (old new : S) → HandledInTurn does old handled new → HandledInTurn (ServiceStep model) old handled new
+  unfolding HandledInTurn
+  served does serves [] old new same = same
+  served does serves (one ∷ handled) old new (middle, good, done, rest) =
+      (middle, good, (refl, serves old middle (head_of one.request.head) one.request.body one.reply done.1), served does serves handled middle new rest)
+
+  pub hubs_are_one_run : (does : HandlerRelation S) → HubsAreOneRun model does
+  hubs_are_one_run does serves keeps now limit old new steps after starts runs =
+      let apart = hubs_separate_connections does head_fault_octets keeps limit old new steps after runs in
+      record { separate = apart; ran = handled_run apart.one_run.handled now old new starts (served does serves apart.one_run.handled old new apart.one_run.in_turn) }

@@ -1,13 +1,16 @@
 -- Any number of connections as one run of the service over a store. This project's own.
 use Rattle.std.specs.Prelude.{◌≡◌, ℕ, List, [], ◌∷◌, ◌++◌}
-use Rattle.book_http.specs.OctetPromise.{ServiceStep, StartsAt}
+use Rattle.book_http.specs.OctetPromise.{StartsAt}
 use Rattle.book_http.specs.OctetRuns.{IsReplyToRequest}
 use Rattle.book_model.specs.Books.{Books}
 use Rattle.book_service.specs.Runs.{MatchesRows, Run, SystemState, TraceStep, end_of}
 use Rattle.http_hub.specs.HandledRequests.{HandledRequest}
 use Rattle.http_hub.specs.HubRuns.{HubRuns, HubStep, SeparatesConnections}
 use Rattle.http_hub.specs.Hubs.{HubValue, new_hub}
+use Rattle.book_http.specs.RequestAnswers.{AnswersRequest}
 use Rattle.http_replies.specs.Replies.{head_fault_octets}
+use Rattle.http_requests.specs.HandlerRuns.{HandlerRelation, KeepsScreens}
+use Rattle.http_requests.specs.declared.head.Head.{Head}
 use Rattle.sync_core.specs.StoreModels.{StoreModel}
 
 -- the trace has the steps of these requests in turn and no others, and each reply is the request's
@@ -27,20 +30,26 @@ pub record RunsHandled (now : SystemState) (handled : List HandledRequest) (book
   pub at : MatchesRows (end_of now run) now.model.limits books
   pub devices_are : (end_of now run).devices ≡ now.devices
 
-module _ {S : Type 0} (model : StoreModel S) where
+module _ {S : Type 0} (model : StoreModel S) (does : HandlerRelation S) where
+  -- each step of the handler is one of the service
+  abbrev pub ServesRequests : Type 0
+  ServesRequests = (old new : S) (head : Head) (body reply : List ℕ)
+      → does.step old head body reply new → AnswersRequest model old head body reply new
+
   -- Each connection is sent the replies to its own requests. The requests of all connections, in
   -- the order of the pieces that complete them, are one run of the service, with these replies.
   pub record RunsForEach
       (now : SystemState) (limit : ℕ) (old : S) (steps : List HubStep) (new : S)
       (after : HubValue) : Type 0 where
-    pub separate : SeparatesConnections (ServiceStep model) head_fault_octets
+    pub separate : SeparatesConnections does head_fault_octets
         limit old steps new after
     pub ran : RunsHandled now separate.one_run.handled (model.books new)
 
-  -- from each state of the store, every run of a hub that starts without connections is such a run
+  -- If the handler's steps are the service's, and it keeps which heads it refuses, then from each
+  -- state of the store every run of a hub that starts without connections is such a run.
   abbrev pub HubsAreOneRun : Type 0
   HubsAreOneRun =
-      (now : SystemState) (limit : ℕ) (old new : S) (steps : List HubStep) →
+      ServesRequests → KeepsScreens does → (now : SystemState) (limit : ℕ) (old new : S) (steps : List HubStep) →
       (after : HubValue) → StartsAt model now old new →
-      HubRuns (ServiceStep model) head_fault_octets (new_hub limit) old steps new after →
+      HubRuns does head_fault_octets (new_hub limit) old steps new after →
       RunsForEach now limit old steps new after

@@ -1,4 +1,5 @@
 //! Laws of any number of connections to the service. Each law is a function that does nothing.
+ghost use Rattle.book_http.specs.OctetPromise.{ServiceStep};
 ghost use Rattle.book_http.specs.ServedHubs.{HubsAreOneRun};
 
 use sync_core::BookStore;
@@ -8,5 +9,5 @@ use sync_core::BookStore;
 /// connection is sent the replies to its own requests, in order. The law assumes that the store
 /// matches the state before, and that its premise holds afterwards (`specs/ServedHubs.antt`).
 pub fn hubs_are_one_run<S: BookStore>()
-    ensures { HubsAreOneRun S.model }
+    ensures { HubsAreOneRun S.model (ServiceStep S.model) }
 {}
