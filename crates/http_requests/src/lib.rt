@@ -11,6 +11,7 @@ pub mod laws;
 mod progress;
 mod session;
 
+pub use fields::{field_is_named, first_field_named};
 pub use handler::Handler;
 pub use head::{Head, ParsedHead, read_head};
 pub use head_fault::HeadFault;
