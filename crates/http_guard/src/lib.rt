@@ -1,8 +1,8 @@
 //! Decides by the head of a request whether a server that browsers reach refuses it.
 #![tactic(auto)]
 
-mod guard;
+mod deciding;
 mod hosts;
 mod sites;
 
-pub use guard::guard;
+pub use deciding::guard;

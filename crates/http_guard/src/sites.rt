@@ -24,7 +24,7 @@ fn is_foreign_site_field(host: &[u8], text: &[u8], field: HeaderSpan) -> bool
     requires { IsHeaderWithin (length text.now) field }
 {
     if field_is_named(text, field, "sec-fetch-site") {
-        return field.value.of(text) != b"same-origin";
+        return field.value.of(text) != b"same-origin".as_slice();
     }
     field_is_named(text, field, "origin") && !is_own_origin(host, field.value.of(text))
 }

@@ -13,7 +13,7 @@ use httparse::spans::HeaderSpan;
 fn writes(method: &[u8]) -> bool
     ensures { result ≡ writes method.now }
 {
-    method == b"POST" || method == b"PUT" || method == b"DELETE"
+    method == b"POST".as_slice() || method == b"PUT".as_slice() || method == b"DELETE".as_slice()
 }
 
 /// Why a server with these names, beside those of the loopback, refuses a request with this method
