@@ -26,7 +26,7 @@ BUGS = [
      "if fault and lines_of(whole) != lines_of(base):", "if fault:", "carddav_rules"),
     ("a conflict at the server is overwritten", "carddav/gateway/edits.py",
      "office.book(book.name).put(whole, old.version if old else 0, uid)",
-     "office.book(book.name).put(whole, None, uid)", "carddav_random"),
+     "office.book(book.name).put(whole, None, uid)", "carddav_rules"),
     ("an ETag is sent after each put", "carddav/gateway/edits.py",
      "is_read = new and new.version == version and"
      " is_same(book, book.text(new) or \"\", sent.text)",
