@@ -3,6 +3,7 @@
 import socket
 import time
 import unittest
+from collections import Counter
 
 from carddav_client import CLIENTS, D, PASSWORD, STAFF, Client, GatewayTest, card3
 from http_requests import card
@@ -74,6 +75,19 @@ class Bodies(GatewayTest):
                 one.sendall("\r\n".join(head).encode() + b"x" * 1000)
                 self.assertTrue(one.recv(1 << 16).startswith(b"HTTP/1.1 413 "))
             self.assertLess(time.monotonic() - begun, 5)
+
+    def test_many_lines(self):
+        """A card of many lines takes as long as it is, and doesn't hold up the book."""
+        begun = time.monotonic()
+        photo = "PHOTO;ENCODING=b;TYPE=JPEG:" + "A" * 2400
+        for lines, status in [(["A:"] * 20_000, 201), (["B:", "A:1"] * 10_000, 204),
+                              (["A:"] * 400_000, 403), ([photo] * 5_000, 403)]:
+            reply = self.dav.ask("PUT", STAFF + "many.vcf", card3("many", "M", *lines))
+            self.assertEqual(status, reply.status)
+        self.assertLess(time.monotonic() - begun, PATIENCE)
+        stored = Counter(lines_of(self.staff.get("many").text))
+        self.assertEqual((10_000, 10_000, 0), tuple(stored[it] for it in ("B:", "A:1", "A:")))
+        self.assertFalse((self.stack.state / "photos").exists())  # nothing of a refused card stays
 
     def raw(self, *lines, body=b""):
         with socket.create_connection(self.stack.place, timeout=PATIENCE) as one:

@@ -7,8 +7,8 @@ taken from the base, too. Only lines that were added or edited are converted.
 """
 
 import re
-from collections import Counter
-from typing import Dict, Hashable, Iterator, List, NamedTuple, Optional, Set, Tuple
+from collections import Counter, deque
+from typing import Deque, Dict, FrozenSet, Hashable, Iterator, List, NamedTuple, Optional, Set, Tuple
 
 from tosculai import lines_of
 
@@ -183,10 +183,10 @@ def read(text: str, base: str) -> str:
         return text
     left = Counter(key_of(line) for line in lines if not line.startswith(FRAME))
     kept: List[str] = []
-    gone: Dict[str, List[Tuple[int, str]]] = {}  # lines of the base and their places, by name
+    gone = Gone()
     for own_name, old, older in made_lines(lines_of(base)):
         if older and not left[key_of(older)]:
-            gone.setdefault(own_name, []).append((len(kept), old))
+            gone.add(own_name, len(kept), old)
         else:
             left[key_of(older)] -= bool(older)
             kept.append(old)
@@ -202,31 +202,57 @@ def read(text: str, base: str) -> str:
     return "".join(line + "\r\n" for line in whole)
 
 
-def merged(kept: List[str], gone: Dict[str, List[Tuple[int, str]]], new: List[str]) -> List[str]:
+class Gone:
+    """Lines of the base that are gone, with their places. Each is taken once, the first one first.
+
+    Every step looks lines up: an edit of a card of many lines takes as long as the card is.
+    """
+
+    def __init__(self) -> None:
+        self._all: Dict[Hashable, Deque[Tuple[int, int, str]]] = {}  # by name, and by name and types
+        self._taken: Set[int] = set()
+        self._number = 0
+
+    def add(self, name: str, place: int, old: str) -> None:
+        for key in name, (name, types_of(old)):
+            self._all.setdefault(key, deque()).append((self._number, place, old))
+        self._number += 1
+
+    def take(self, name: str, types: FrozenSet[str]) -> Optional[Tuple[int, str, bool]]:
+        """A line's place, the line, and whether it has these types; one that has them if any."""
+        for key in (name, types), name:
+            left = self._all.get(key, deque())
+            while left:
+                number, place, old = left.popleft()
+                if number not in self._taken:
+                    self._taken.add(number)
+                    return place, old, key != name
+        return None
+
+
+def merged(kept: List[str], gone: Gone, new: List[str]) -> List[str]:
     """The kept lines of the base, and the new lines of 3.0 in the places of those that are gone."""
-    placed: List[Tuple[int, str]] = []
+    before: Dict[int, List[str]] = {}  # new lines by the place of the kept line after them
     for text in new:
         line, place = read_line(text), len(kept)
         if line:
             line = newer_line(line)
-            olds = gone.get(line.name, [])
-            alike = [it for it in olds if types_of(it[1]) == types_of(text)]
-            if olds:
-                place, old = (alike or olds)[0]
-                olds.remove((place, old))
-                line = with_kept_params(line, old) if alike else line
-        placed.append((place, line.text() if line else text))
-    whole = list(kept)
-    for place, text in reversed(sorted(placed, key=lambda it: it[0])):
-        whole.insert(place, text)
-    return whole
+            found = gone.take(line.name, types_of(text))
+            if found:
+                place, old, is_alike = found
+                line = with_kept_params(line, old) if is_alike else line
+        before.setdefault(place, []).append(line.text() if line else text)
+    whole: List[str] = []
+    for place, text in enumerate(kept):
+        whole += [*before.get(place, ()), text]
+    return whole + before.get(len(kept), [])
 
 
-def types_of(text: str) -> Set[str]:
+def types_of(text: str) -> FrozenSet[str]:
     """The types of a line, without those that only one of the two versions writes."""
     line = read_line(text)
     types = line.get("TYPE") if line else []
-    return {it.lower() for it in types} - {"voice", "internet", "pref"}
+    return frozenset(it.lower() for it in types) - {"voice", "internet", "pref"}
 
 
 def key_of(text: str) -> Hashable:

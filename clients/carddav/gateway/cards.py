@@ -19,6 +19,7 @@ FORM = "1"  # changes with each change of what clients read of a card, since ETa
 MEMBER = re.compile(r"((?:[\w-]+\.)?(?:X-ADDRESSBOOKSERVER-)?MEMBER(?:;[^:]*)?:)(.*)")
 URI = re.compile(r"[A-Za-z][A-Za-z0-9+.-]*:.")
 URN = "urn:uuid:"
+LINES_MAX = 65_536  # as many of the shortest lines have the octets of the largest card
 CACHED = 2048  # characters of a card whose 3.0 text is kept in memory
 # What the server takes as a line (RFC 6350, 3.3).
 LINE = re.compile(r"(?:[\w-]+\.)?[\w-]+(?:;[\w-]+=(?:\"[^\"]*\"|[^\";:,]*)"
@@ -91,6 +92,8 @@ def newer(text: str, base: str, has: Callable[[str], bool], uid: str,
 def _framed(text: str) -> List[str]:
     """The lines of one card of a version that is known, with VERSION in the second line."""
     lines = lines_of(text)
+    if len(lines) > LINES_MAX:
+        raise BadText(f"a card has at most {LINES_MAX:,} lines")
     if lines[:1] != ["BEGIN:VCARD"] or lines[-1:] != ["END:VCARD"]:
         raise BadText("a card begins with BEGIN:VCARD and ends with END:VCARD")
     if lines.count("END:VCARD") > 1 or lines.count("BEGIN:VCARD") > 1:

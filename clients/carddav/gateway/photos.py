@@ -58,7 +58,12 @@ def value_of(line: str) -> Optional[Value]:
 
 def size_of(lines: List[str]) -> int:
     """The octets of a card on the server, which folds its lines."""
-    return sum(len(vcard3.folded(it).encode()) for it in lines) + SLACK
+    return sum(map(octets_of, lines)) + SLACK
+
+
+def octets_of(line: str) -> int:
+    """The octets of a line, folded."""
+    return len(vcard3.folded(line).encode())
 
 
 class Photos:
@@ -76,13 +81,18 @@ class Photos:
         values = {at: it for at, it in enumerate(map(value_of, lines)) if it}
         for at, value in values.items():
             lines[at] = stored.get(value.head + value.digest, lines[at])
+        size, aside = size_of(lines), []
         for at in sorted(values, key=lambda it: -len(values[it].octets)):
-            if size_of(lines) <= CARD_MAX:
+            if size <= CARD_MAX:
                 break
             value = values[at]
             if not PATH.fullmatch(lines[at]):
-                self.keep(value)
+                size -= octets_of(lines[at])
                 lines[at] = f"{value.head}{address}/photos/{value.digest}/{value.kind}"
+                size += octets_of(lines[at])
+                aside.append(value)
+        for value in aside if size <= CARD_MAX else ():  # else the server refuses the card
+            self.keep(value)
         return "".join(it + "\r\n" for it in lines)
 
     def _stored(self, base: str) -> Dict[str, str]:
