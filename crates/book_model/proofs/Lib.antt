@@ -5,3 +5,5 @@ pub mod LiveCardLemmas
 pub mod AnswerLemmas
 pub mod ImportCountLemmas
 pub mod ChangeCountLemmas
+pub mod EntryLemmas
+pub mod StoreLemmas

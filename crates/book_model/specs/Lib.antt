@@ -17,4 +17,6 @@ pub mod Pages
 pub mod BookQueries
 pub mod Devices
 pub mod WellFormed
+pub mod Counts
+pub mod CountLaws
 pub mod internal

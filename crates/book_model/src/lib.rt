@@ -1,5 +1,6 @@
 //! The model of books: what a store keeps of them, what its calls answer, and how a device applies
-//! the pages of reports (RFC 6578).
+//! the pages of reports (RFC 6578). `TombstoneCounts` is how many tombstones each book has, for stores
+//! that would otherwise count rows.
 #![tactic(auto)]
 
 mod answers;
@@ -13,6 +14,7 @@ mod page;
 mod refusal;
 mod row;
 mod token;
+mod tombstone_counts;
 
 pub use answers::{BookLine, ImportTally, Moved, PutAnswer, Stored, Tally};
 pub use change::{Change, RemovalReason, StoreReason};
@@ -23,3 +25,4 @@ pub use page::{Entry, Page};
 pub use refusal::{Refusal, TokenCause};
 pub use row::Row;
 pub use token::{Mark, Token};
+pub use tombstone_counts::TombstoneCounts;

@@ -25,8 +25,8 @@ use Rattle.store_lookups.specs.StoredBooks.{HoldCounts, IsCommittedAndSound, IsO
 use Rattle.store_writes.specs.TableChanges.{AppliesStep}
 use Rattle.store_writes.proofs.CallLemmas.{read_before}
 use Rattle.book_store.specs.StoreViews.{IsStore}
-use Rattle.book_counts.specs.Counts.{AreCountsOf, CountsByName}
-use Rattle.book_counts.proofs.EntryLemmas.{right_created}
+use Rattle.book_model.specs.Counts.{AreCountsOf, CountsByName}
+use Rattle.book_model.proofs.EntryLemmas.{right_created}
 
 -- ---- what holds of the books after a step
 

@@ -17,7 +17,7 @@ use Rattle.store_rows.specs.TableBooks.{books_of, books_in}
 use Rattle.store_rows.specs.TableRows.{no_rows}
 use Rattle.store_rows.proofs.HeldRows.{books_held, nothing_held, no_rows_sound}
 use Rattle.store_rows.proofs.OpenLemmas.{new_tables_empty}
-use Rattle.book_counts.specs.Counts.{AreCountsOf, CountsByName}
+use Rattle.book_model.specs.Counts.{AreCountsOf, CountsByName}
 use Rattle.store_lookups.specs.CallResults.{FollowsStep, GivenCounts, GivenSoundRows}
 use Rattle.store_lookups.specs.ChangeFaults.{ChangeFaultsFromOutside}
 use Rattle.store_lookups.specs.StoreFaults.{FaultsFromOutside}

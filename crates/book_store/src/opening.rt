@@ -1,5 +1,5 @@
 //! Opens a store over existing tables.
-ghost use Rattle.book_counts.specs.Counts.{AreCountsOf};
+ghost use Rattle.book_model.specs.Counts.{AreCountsOf};
 ghost use Rattle.book_model.specs.Books.{Books};
 ghost use Rattle.store_rows.specs.SoundTables.{HoldsWellFormed};
 ghost use Rattle.store_check.specs.TombstoneCounts.{IsCountOf};
@@ -12,8 +12,7 @@ ghost use Rattle.std.specs.List.{AllByRecursion};
 ghost use Rattle.std.specs.Prelude.{◌≡◌, IfErr, IfOk, false};
 
 use crate::sql_store::SqlStore;
-use book_counts::TombstoneCounts;
-use book_model::Limits;
+use book_model::{Limits, TombstoneCounts};
 use sqlite::{Alter, Connection};
 use std::alloc::Global;
 use store_check::counts::TombstoneCount;

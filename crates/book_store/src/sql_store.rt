@@ -11,8 +11,7 @@ ghost use Rattle.std.specs.FinMap as finite;
 ghost use Rattle.std.specs.Prelude.{◌≡◌, Err, IfErr, IfOk, OnOk, false};
 
 use crate::schema_creation::{commit_tables, is_schema_empty};
-use book_counts::TombstoneCounts;
-use book_model::Limits;
+use book_model::{Limits, TombstoneCounts};
 use sqlite::{Alter, Connection, MemStore};
 use std::alloc::Global;
 use std::marker::Model;

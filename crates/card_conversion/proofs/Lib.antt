@@ -5,3 +5,5 @@ mod ProgressLemmas
 mod ReadBackLemmas
 pub mod RowLemmas
 mod UidLemmas
+mod ContactProgressLemmas
+mod ContactRowLemmas

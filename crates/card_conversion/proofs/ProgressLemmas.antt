@@ -21,7 +21,7 @@ use Rattle.card_conversion.specs.Deliveries.{HasUids, WritesInTurn}
 use Rattle.card_conversion.specs.Fates.{Entry, HaveFates, IsFate, cards_of, cards_of_fate, octets_of, uids_of, uids_of_fate}
 use Rattle.card_conversion.specs.internal.PieceReaders.{HasEnded, left_of}
 use Rattle.card_conversion.specs.internal.States.{Progress, Takes}
-use Rattle.text_reader.proofs.FillLemmas.{consumes_more}
+use Rattle.import_text.proofs.FillLemmas.{consumes_more}
 
 abbrev entry_of : List ℕ → Fate → Entry
 entry_of octets fate = record { octets = octets; fate = fate }

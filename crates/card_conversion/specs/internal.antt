@@ -1,2 +1,3 @@
 pub mod PieceReaders
 pub mod States
+pub mod ContactStates

@@ -3,9 +3,9 @@ ghost use Rattle.std.specs.Prelude.{◌<◌, IfOk, length};
 ghost use Rattle.std.specs.Io.KnownBytes.{Consumes, IsAtEnd};
 
 use crate::fault::{ConversionFault, read_fault};
+use import_text::fill;
 use std::alloc::Global;
 use std::io::Read;
-use text_reader::fill;
 
 /// Reads the next `size` octets, or fewer if the input ends.
 pub(crate) fn read_chunk<R: Read>(

@@ -10,7 +10,7 @@ use std::alloc::Global;
 use vcard_text::Card;
 
 /// What became of a card that was converted.
-#[derive(Debug, Drop)]
+#[derive(Drop)]
 pub enum Outcome {
     /// It has the UID of an earlier card that came to the outlet.
     Repeated,

@@ -5,7 +5,7 @@ use vcard_import::Conversion;
 use vcard_text::CardFault;
 
 /// What becomes of a piece of a file.
-#[derive(Debug, Drop)]
+#[derive(Drop)]
 pub(crate) enum Fate {
     /// It is white space, and is passed.
     Blank,

@@ -6,7 +6,7 @@ use std::alloc::AllocError;
 use std::io::{Error, ErrorKind};
 
 /// Why a conversion stopped before the end of its file.
-#[derive(Debug, Drop)]
+#[derive(Drop)]
 pub enum ConversionFault {
     /// An allocation failed.
     Memory,

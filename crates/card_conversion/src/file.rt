@@ -1,15 +1,15 @@
 //! Converts a file of cards in any encoding.
 ghost use Rattle.std.specs.Prelude.{IfOk, option_map};
-ghost use Rattle.text_reader.specs.Texts.{text_octets};
+ghost use Rattle.import_text.specs.Texts.{text_octets};
 ghost use Rattle.card_conversion.specs.Accounts.{ConvertsAll};
 
 use crate::fault::{ConversionFault, read_fault};
 use crate::ledger::Summary;
 use crate::outlet::Outlet;
 use crate::run::convert_cards;
+use import_text::TextReader;
 use std::alloc::Global;
 use std::io::{Read, Write};
-use text_reader::TextReader;
 
 /// Converts a file of cards of vCard 2.1, 3.0 and 4.0, in UTF-8, Windows-1252, or UTF-16 with its
 /// byte order mark.

@@ -7,7 +7,7 @@ use crate::report::Place;
 use import_text::count_lines;
 
 /// What became of the cards of a file.
-#[derive(Clone, Copy, Debug, PartialEq, Eq)]
+#[derive(Clone, Copy)]
 pub struct Summary {
     /// The number of cards that were written.
     pub written: u64,
@@ -18,7 +18,7 @@ pub struct Summary {
 }
 
 /// The numbers so far, and the place of the next piece.
-#[derive(Clone, Copy, Debug)]
+#[derive(Clone, Copy)]
 pub(crate) struct Ledger {
     pub(crate) place: Place,
     pub(crate) summary: Summary,

@@ -1,7 +1,9 @@
-//! Converts a file of cards of any version of vCard, one card at a time, and reports each change.
+//! Converts a file of cards of any version of vCard, one card at a time, or the contacts that Google
+//! and Outlook export as CSV, one row at a time, and reports each change.
 #![tactic(auto)]
 
 mod chunks;
+mod contacts;
 mod delivery;
 mod fate;
 mod fault;
@@ -18,6 +20,7 @@ mod rows_order;
 mod rows_outlet;
 mod run;
 
+pub use contacts::{convert_contacts, convert_contacts_to_rows};
 pub use delivery::{Outcome, deliver};
 pub use fault::ConversionFault;
 pub use file::convert_file;

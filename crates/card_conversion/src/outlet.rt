@@ -8,7 +8,7 @@ use std::alloc::{AllocError, Global};
 use vcard_text::Card;
 
 /// What became of a card at an outlet.
-#[derive(Debug, Drop)]
+#[derive(Drop)]
 pub enum Delivery {
     /// It was written.
     Written,
@@ -17,7 +17,7 @@ pub enum Delivery {
 }
 
 /// Why an outlet takes no more cards.
-#[derive(Debug, Drop)]
+#[derive(Drop)]
 pub enum OutletFault {
     /// An allocation failed.
     Memory,

@@ -5,10 +5,9 @@ ghost use Rattle.card_conversion.specs.internal.PieceReaders.{HasEnded, left_of,
 
 use crate::chunks::read_chunk;
 use crate::fault::ConversionFault;
-use import_text::split_piece;
+use import_text::{joined, split_piece};
 use std::alloc::Global;
 use std::io::Read;
-use text_reader::joined;
 
 /// The number of octets that are read at once, at least.
 const CHUNK_OCTETS: usize = 65_536;

@@ -9,7 +9,7 @@ use vcard_import::{Change, ChangeKind, Conversion};
 use vcard_text::Line;
 
 /// Where a card or a line is in the file, both counted from 1.
-#[derive(Clone, Copy, Debug)]
+#[derive(Clone, Copy)]
 pub(crate) struct Place {
     pub(crate) card: u64,
     pub(crate) line: u64,

@@ -1,6 +1,6 @@
 //! Converts a file to the rows of an import.
 ghost use Rattle.std.specs.Prelude.{IfOk, option_map};
-ghost use Rattle.text_reader.specs.Texts.{text_octets};
+ghost use Rattle.import_text.specs.Texts.{text_octets};
 ghost use Rattle.card_conversion.specs.Accounts.{ConvertsToRows};
 
 use crate::fault::ConversionFault;

@@ -4,7 +4,7 @@ use base_types::Text;
 use csv_cards::Form;
 
 /// An order of the command line, with its arguments.
-#[derive(Debug, Drop, PartialEq, Eq)]
+#[derive(Drop)]
 pub enum Order {
     /// Put one card from standard input into an empty book, and print the initial report.
     Try,

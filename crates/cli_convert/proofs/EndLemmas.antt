@@ -5,8 +5,8 @@ use Rattle.card_conversion.specs.Fates.{cards_of}
 use Rattle.card_conversion.specs.declared.ledger.Summary.{Summary}
 use Rattle.contact_csv.specs.Contacts.{columns_of}
 use Rattle.contact_csv.specs.declared.rows.ContactReader.{ContactReader}
-use Rattle.contact_conversion.specs.Accounts.{ContactsToRows}
-use Rattle.contact_conversion.specs.Fates as contacts
+use Rattle.card_conversion.specs.ContactAccounts.{ContactsToRows}
+use Rattle.card_conversion.specs.ContactFates as contacts
 use Rattle.cli_convert.specs.Endings.{Prints, of_pieces, of_contacts}
 
 pub pieces_printed : (input before after : Option (List ℕ)) (summary : Summary) → ConvertsToRows input before after summary → Prints before after summary

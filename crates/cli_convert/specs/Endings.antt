@@ -7,7 +7,7 @@ use Rattle.card_conversion.specs.Counts.{summary_of}
 use Rattle.card_conversion.specs.Fates.{Entry, HaveFates, cards_of}
 use Rattle.card_conversion.specs.declared.ledger.Summary.{Summary}
 use Rattle.contact_columns.specs.declared.columns.Column.{Column}
-use Rattle.contact_conversion.specs.Fates as contacts
+use Rattle.card_conversion.specs.ContactFates as contacts
 use Rattle.cli_convert.specs.declared.wanted.Wanted.{Wanted}
 
 -- the exit status of a conversion: 0 if all was carried, and 1 if something wasn't

@@ -17,7 +17,7 @@ pub(crate) const HEAD_OCTETS: usize = 65_536;
 const READS_MAX: u32 = 1_000_000;
 
 /// What a file has.
-#[derive(Clone, Copy, Debug, PartialEq, Eq)]
+#[derive(Clone, Copy, PartialEq, Eq)]
 pub(crate) enum Content {
     /// Cards, or what is no card.
     Cards,
@@ -55,7 +55,7 @@ pub(crate) fn content_of(alloc: Global, path: &str, head: &[u8]) -> Result<Conte
 }
 
 /// Why the head of a file isn't read.
-#[derive(Clone, Copy, Debug)]
+#[derive(Clone, Copy)]
 pub(crate) enum HeadFault {
     /// An allocation failed.
     Memory,

@@ -8,7 +8,7 @@ use std::alloc::Global;
 use std::io::Write;
 
 /// Why the order stopped.
-#[derive(Debug, Drop)]
+#[derive(Drop)]
 pub(crate) enum ConvertStop {
     /// An allocation failed.
     Memory,

@@ -11,11 +11,11 @@ use crate::sources::{convert_to, convert_to_writer};
 use crate::wanted::Wanted;
 use base_types::Text;
 use card_conversion::{ConversionFault, RowsOutlet, Summary};
+use import_text::TextReader;
 use std::alloc::Global;
 use std::fs;
 use std::fs::Files;
 use std::io::{ErrorKind, Read, Write};
-use text_reader::TextReader;
 
 /// The most rows of an import.
 const ROWS_MAX: u64 = 10_000;

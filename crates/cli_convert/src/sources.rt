@@ -5,9 +5,9 @@ ghost use Rattle.cli_convert.specs.Endings.{Prints};
 
 use crate::content::Content;
 use card_conversion::{
-    ConversionFault, Outlet, RowsOutlet, Summary, convert_file, convert_to_rows,
+    ConversionFault, Outlet, RowsOutlet, Summary, convert_contacts, convert_contacts_to_rows,
+    convert_file, convert_to_rows,
 };
-use contact_conversion::{convert_contacts, convert_contacts_to_rows};
 use contact_csv::{ContactFault, ContactReader};
 use csv_cards::ExportText;
 use std::alloc::Global;

@@ -21,7 +21,7 @@ use std::io::{Read, Write};
 use vcard_text::NoMemory;
 
 /// How the program ended.
-#[derive(Clone, Copy, Debug, PartialEq, Eq)]
+#[derive(Clone, Copy)]
 pub struct ProgramExit {
     /// The exit status: 0 for success, 1 for a refusal, 2 for invalid arguments or help, and 3 if
     /// memory ran out, or a file, a connection or a device failed.

@@ -15,7 +15,7 @@ use sync_core::{BookLine, Denied, Tally};
 use vcard_text::NoMemory;
 
 /// Which listing of the books is printed.
-#[derive(Clone, Copy, Debug, PartialEq, Eq)]
+#[derive(Clone, Copy)]
 pub enum Listing {
     /// A line for each book.
     Books,

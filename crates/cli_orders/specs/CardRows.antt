@@ -5,7 +5,7 @@ use Rattle.csv_cards.specs.declared.cause.CsvCause.{CsvCause}
 use Rattle.csv_cards.specs.declared.cause.CsvCause.TheVariants as cause
 use Rattle.csv_cards.specs.declared.fault.CsvFault.{CsvFault}
 use Rattle.csv_cards.specs.declared.form.Form.TheVariants as form
-use Rattle.vcard_fault_line.specs.FaultLines.{IsLineOfFault}
+use Rattle.cli_orders.specs.FaultLines.{IsLineOfFault}
 use Rattle.vcard_lines.specs.declared.fault.CardFault.{CardFault}
 
 -- the row of this number has this text of a card, under the header `uid,vcard`, which is row 0

@@ -9,7 +9,7 @@ use Rattle.book_model.specs.declared.refusal.Refusal.TheVariants.{BadImport}
 use Rattle.book_model.specs.declared.refusal.Refusal.TheVariants.{BadCard as BadCardText}
 use Rattle.csv_cards.specs.Causes.{cause_number}
 use Rattle.csv_cards.specs.Reading.{IsFirstRowFault, TextHasCards}
-use Rattle.vcard_fault_line.specs.FaultLines.{IsLineOfFault}
+use Rattle.cli_orders.specs.FaultLines.{IsLineOfFault}
 use Rattle.vcard_lines.specs.FaultNumbers.{card_fault_text}
 use Rattle.vcard_lines.specs.declared.line.Line.{Line}
 use Rattle.vcard_text.specs.FirstFaults.{IsFirstFaultOfText}

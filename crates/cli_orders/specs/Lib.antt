@@ -10,6 +10,7 @@ pub mod TryStops
 pub mod TryResults
 pub mod TryOutputs
 pub mod CauseWords
+pub mod FaultLines
 pub mod CardRows
 pub mod Hints
 pub mod Findings

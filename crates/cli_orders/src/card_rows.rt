@@ -8,10 +8,10 @@ ghost use Rattle.csv.specs.Records.{fields_of};
 ghost use Rattle.csv_cards.specs.Rows.{AreRows, Row, header, row_field};
 ghost use Rattle.csv_cards.specs.declared.form.Form.TheVariants as form;
 
+use crate::fault_line::line_of_fault;
 use csv::{ByteRecord, Reader, ReaderBuilder};
 use csv_cards::{CsvCause, CsvFault};
 use std::alloc::Global;
-use vcard_fault_line::line_of_fault;
 use vcard_text::{CardFault, NoMemory};
 
 /// A reader of a text's rows, with any number of fields each. It treats no row as a header, and
@@ -97,10 +97,10 @@ fn read_card_row(
         → IsCardTextOfRow octets.now number (row_field (fields_of row.new) 1)) }
     ensures none { IfOk result (λ found. found ≡ false → HasNoCardText octets.now number) }
 {
-    let mut reader = reader_of(alloc, octets);
     if number == 0 {
         return Ok(false);
     }
+    let mut reader = reader_of(alloc, octets);
     if !read_next(&mut reader, row)? {
         return Ok(false);
     }

@@ -4,7 +4,7 @@ use csv_cards::CsvCause;
 use std::fmt;
 
 /// A cause that prints its words, such as `the name is empty`.
-#[derive(Clone, Copy, Debug, PartialEq, Eq)]
+#[derive(Clone, Copy)]
 pub(crate) struct CauseWords(pub(crate) CsvCause);
 
 impl fmt::Display for CauseWords {

@@ -5,16 +5,16 @@ ghost use Rattle.cli_orders.specs.Findings.{kind_of_file, names_card, verdict_of
 
 use crate::card_rows::line_in_row;
 use crate::cause_words::CauseWords;
+use crate::fault_line::line_of_fault;
 use crate::hints::{cause_hint, fault_hint};
 use crate::stop::Stop;
 use csv_cards::{CsvCause, CsvFault, read_rows};
 use std::alloc::Global;
 use sync_core::Refusal;
-use vcard_fault_line::line_of_fault;
 use vcard_text::{CardFault, NoMemory, read_card};
 
 /// What a file has.
-#[derive(Clone, Copy, Debug, PartialEq, Eq)]
+#[derive(Clone, Copy)]
 pub enum FileKind {
     /// Rows of cards as CSV, after a header.
     CsvRows,
@@ -23,7 +23,7 @@ pub enum FileKind {
 }
 
 /// What was found in a file.
-#[derive(Clone, Copy, Debug, PartialEq, Eq)]
+#[derive(Clone, Copy)]
 pub enum Finding {
     /// A header and this number of rows, each a card.
     Rows(u64),

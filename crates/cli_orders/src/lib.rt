@@ -2,16 +2,19 @@
 //! output.
 #![tactic(auto)]
 
+mod breaking;
 mod card_rows;
 mod cause_words;
 mod checking;
 mod commands;
 mod expansion_output;
+mod fault_line;
 mod faulty_row;
 mod finding;
 mod hints;
 mod input;
 pub mod laws;
+mod line_starts;
 mod mirror_output;
 mod one_line_outputs;
 mod reading;

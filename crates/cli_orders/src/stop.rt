@@ -11,7 +11,7 @@ use sync_core::{Denied, Fault, Refusal};
 use vcard_text::NoMemory;
 
 /// Why an order has no output, or not all of it.
-#[derive(Clone, Copy, Debug, PartialEq, Eq)]
+#[derive(Clone, Copy)]
 pub enum Stop {
     /// It was refused, and changed nothing.
     Refused(Refusal),

@@ -11,7 +11,7 @@ use std::alloc::Global;
 use vcard_text::{Items, NoMemory, Text};
 
 /// A column.
-#[derive(Debug, Drop)]
+#[derive(Drop)]
 pub struct Column {
     /// The name, as the header has it.
     pub name: Text,
@@ -21,7 +21,7 @@ pub struct Column {
 }
 
 /// The columns of a file of contacts, in order.
-#[derive(Debug, Drop)]
+#[derive(Drop)]
 pub struct ContactColumns {
     /// The columns.
     pub columns: Items<Column>,

@@ -1,7 +1,7 @@
 //! What the cells of a column mean.
 
 /// What a cell is of its property.
-#[derive(Clone, Copy, Debug, PartialEq, Eq)]
+#[derive(Clone, Copy, PartialEq, Eq)]
 pub enum Part {
     /// A component of a structured value, counted from 0 (RFC 6350, section 3.3).
     Component(usize),
@@ -14,7 +14,7 @@ pub enum Part {
 }
 
 /// The property that holds a cell, and what the cell is of it.
-#[derive(Clone, Copy, Debug)]
+#[derive(Clone, Copy)]
 pub(crate) struct Meaning<'a> {
     /// The name of the property.
     pub(crate) property: &'a str,

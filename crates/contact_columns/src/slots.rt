@@ -5,7 +5,7 @@ use std::alloc::Global;
 use vcard_text::{Items, NoMemory, Text};
 
 /// A column of a slot.
-#[derive(Clone, Copy, Debug, PartialEq, Eq)]
+#[derive(Clone, Copy)]
 pub struct SlotColumn {
     /// The index of the column in the row, from 0.
     pub place: usize,
@@ -14,7 +14,7 @@ pub struct SlotColumn {
 }
 
 /// The columns that give one property, as `Phone 1 - Label` and `Phone 1 - Value`.
-#[derive(Debug, Drop)]
+#[derive(Drop)]
 pub struct Slot {
     /// The name of the property.
     pub property: Text,

@@ -8,7 +8,7 @@ use Rattle.std.specs.Str.{chars, encode_utf8_all, str_to_ascii_lowercase}
 use Rattle.base_types.specs.Octets.{line_feed, quote}
 use Rattle.vcard_lines.specs.declared.line.Line.{Line}
 use Rattle.vcard_lines.specs.declared.line.Param.{Param}
-use Rattle.vcard_values.specs.TextValues.{escaped_value, components}
+use Rattle.vcard_lines.specs.TextValues.{escaped_value, components}
 use Rattle.vcard_import.specs.declared.change.Change.{Change}
 use Rattle.vcard_property.specs.declared.change_kind.ChangeKind.{ChangeKind}
 use Rattle.vcard_property.specs.declared.change_kind.ChangeKind.TheVariants.{Rewritten, KeptAside}

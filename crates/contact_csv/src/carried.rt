@@ -2,7 +2,7 @@
 ghost use Rattle.std.specs.Prelude.{◌≡◌, ◌<◌, ◌++◌, [], ℕ, List, true, IfOk, IfSome, IsTrue};
 ghost use Rattle.std.specs.Prelude.{bytes_eq, codes, get_or, length, map, string_bytes};
 ghost use Rattle.std.specs.List.{list_any};
-ghost use Rattle.vcard_values.specs.TextValues.{components};
+ghost use Rattle.vcard_lines.specs.TextValues.{components};
 ghost use Rattle.contact_csv.specs.Carrying.{caret_text, param_has, has_text, is_held, IsPartHeld};
 ghost use Rattle.contact_csv.specs.Carrying.{ArePartsHeld, has_types, IsLabel, IsLabelHeld};
 ghost use Rattle.contact_csv.specs.Carrying.{is_component_held, is_date_name, is_date_column};

@@ -20,7 +20,7 @@ pub(crate) fn cell_at(cells: &[Text], place: Option<usize>) -> &str {
 }
 
 /// What a label says of a value.
-#[derive(Clone, Copy, Debug)]
+#[derive(Clone, Copy)]
 struct Label<'a> {
     /// The label, without the mark of a preferred value.
     text: &'a str,
@@ -49,19 +49,45 @@ impl Label<'_> {
     }
 }
 
-/// The parameters that the column's name and the label give.
-fn label_params(alloc: Global, slot: &Slot, label: Label<'_>) -> Result<Items<Param>, NoMemory> {
-    let mut params = Items::new(alloc);
+/// Appends the types that the column's name gives.
+fn push_types(alloc: Global, params: &mut Items<Param>, slot: &Slot) -> Result<(), NoMemory> {
     if !slot.types.is_empty() {
         params.push(type_param(alloc, slot.types.as_str())?)?;
     }
+    Ok(())
+}
+
+/// Appends the types that the label is.
+fn push_label_types(
+    alloc: Global,
+    params: &mut Items<Param>,
+    label: Label<'_>,
+) -> Result<(), NoMemory> {
     let types = label_types(label.text);
     if !types.is_empty() {
         params.push(label_param(alloc, types)?)?;
     }
+    Ok(())
+}
+
+/// Appends that the value is preferred, if the label says so.
+fn push_preference(
+    alloc: Global,
+    params: &mut Items<Param>,
+    label: Label<'_>,
+) -> Result<(), NoMemory> {
     if label.is_preferred {
         params.push(make_param(alloc, "PREF", "1")?)?;
     }
+    Ok(())
+}
+
+/// The parameters that the column's name and the label give.
+fn label_params(alloc: Global, slot: &Slot, label: Label<'_>) -> Result<Items<Param>, NoMemory> {
+    let mut params = Items::new(alloc);
+    push_types(alloc, &mut params, slot)?;
+    push_label_types(alloc, &mut params, label)?;
+    push_preference(alloc, &mut params, label)?;
     Ok(params)
 }
 
@@ -177,8 +203,21 @@ fn line_of(
         group,
         name: Text::copy_of(alloc, property_name(slot, label))?,
         params: label_params(alloc, slot, label)?,
-        value: Text::copy_of(alloc, "")?,
+        value: Text::new(String::new(alloc)),
     })
+}
+
+/// Appends the lines of a value in a group.
+fn push_in_group(
+    alloc: Global,
+    made: &mut RowLines,
+    slot: &Slot,
+    label: Label<'_>,
+    cell: &str,
+    group: &Text,
+) -> Result<(), NoMemory> {
+    let model = line_of(alloc, slot, label, Some(group.try_copy()?))?;
+    push_value(alloc, made, slot, &model, cell)
 }
 
 /// Appends the lines of a value with a label that vCard 4.0 has no type for.
@@ -190,8 +229,7 @@ fn push_labelled(
     cell: &str,
 ) -> Result<(), NoMemory> {
     let group = made.new_group(alloc)?;
-    let model = line_of(alloc, slot, label, Some(group.try_copy()?))?;
-    push_value(alloc, made, slot, &model, cell)?;
+    push_in_group(alloc, made, slot, label, cell, &group)?;
     made.set_home(slot.place_of(Part::Label));
     push_label(alloc, made, group, label.text)
 }
@@ -212,6 +250,21 @@ fn push_value(
     made.push(alloc, line)
 }
 
+/// Appends the lines of the slot, whose label needs no line of its own.
+fn push_unlabelled(
+    alloc: Global,
+    made: &mut RowLines,
+    slot: &Slot,
+    label: Label<'_>,
+    cells: &[Text],
+    value: &str,
+) -> Result<(), NoMemory> {
+    made.set_home(slot.place_of(Part::Label));
+    let mut model = line_of(alloc, slot, label, None)?;
+    push_formatted(alloc, &mut model, slot, cells)?;
+    push_value(alloc, made, slot, &model, value)
+}
+
 /// Appends the lines of the slot, whose value is this.
 fn push_slot(
     alloc: Global,
@@ -223,12 +276,10 @@ fn push_slot(
     let label = label_of(cell_at(cells, slot.place_of(Part::Label)));
     let name = property_name(slot, label);
     if label.is_custom() && name == slot.property.as_str() {
-        return push_labelled(alloc, made, slot, label, value);
+        push_labelled(alloc, made, slot, label, value)
+    } else {
+        push_unlabelled(alloc, made, slot, label, cells, value)
     }
-    made.set_home(slot.place_of(Part::Label));
-    let mut model = line_of(alloc, slot, label, None)?;
-    push_formatted(alloc, &mut model, slot, cells)?;
-    push_value(alloc, made, slot, &model, value)
 }
 
 /// Gives an address its parameter LABEL (RFC 6350, section 6.3.1), if the row has it.
@@ -254,6 +305,20 @@ fn written_count(slot: &Slot, cells: &[Text]) -> usize {
     count
 }
 
+/// Appends a component, after a semicolon unless it is the first.
+fn push_component(
+    alloc: Global,
+    value: &mut String,
+    place: usize,
+    cell: &str,
+) -> Result<(), NoMemory> {
+    if place > 0 {
+        value.push(';')?;
+    }
+    value.push_str(escape(alloc, cell)?.as_str())?;
+    Ok(())
+}
+
 /// The components with semicolons between them, and whether one isn't void.
 fn structured_value(
     alloc: Global,
@@ -263,12 +328,9 @@ fn structured_value(
     let mut value = String::new(alloc);
     let mut has_value = false;
     for place in 0..written_count(slot, cells) {
-        if place > 0 {
-            value.push(';')?;
-        }
         let cell = cell_at(cells, slot.place_of(Part::Component(place)));
         has_value = has_value || !is_void(cell);
-        value.push_str(escape(alloc, cell)?.as_str())?;
+        push_component(alloc, &mut value, place, cell)?;
     }
     Ok((value, has_value))
 }

@@ -1,7 +1,7 @@
 //! Keeps aside what the lines of a row don't hold, and reports it.
 ghost use Rattle.std.specs.Prelude.{◌≡◌, ◌≢◌, ◌∷◌, ◌++◌, [], ℕ, List, IfOk, OnOk, string_bytes};
 ghost use Rattle.std.specs.Prelude.{length, map, codes, get_or, IsTrue};
-ghost use Rattle.vcard_values.specs.TextValues.{escaped_value};
+ghost use Rattle.vcard_lines.specs.TextValues.{escaped_value};
 ghost use Rattle.vcard_text.specs.Making.{upper_line, upper_lines};
 ghost use Rattle.vcard_import.specs.declared.change.Change.{Change};
 ghost use Rattle.contact_csv.specs.Carrying.{IsCarried, IsAsideName, change};
@@ -18,7 +18,7 @@ use vcard_property::{plain_line, with_upper_name};
 use vcard_text::{Items, Line, NoMemory, Text, escape};
 
 /// The lines of a card and the changes so far.
-#[derive(Debug, Drop)]
+#[derive(Drop)]
 pub(crate) struct Kept {
     pub(crate) lines: Items<Line>,
     pub(crate) changes: Items<Change>,

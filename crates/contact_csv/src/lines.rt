@@ -46,30 +46,38 @@ fn param_value(alloc: Global, text: &str) -> Result<ParamValue, NoMemory> {
     Ok(ParamValue { quoted, text })
 }
 
+/// Appends a value of a parameter that is this text.
+fn push_text(alloc: Global, values: &mut Items<ParamValue>, text: &str) -> Result<(), NoMemory> {
+    values.push(param_value(alloc, text)?)?;
+    Ok(())
+}
+
+fn named_param(alloc: Global, name: &str, values: Items<ParamValue>) -> Result<Param, NoMemory> {
+    let name = Text::copy_of(alloc, name)?;
+    Ok(Param { name, values })
+}
+
 /// A parameter with one value.
 pub(crate) fn make_param(alloc: Global, name: &str, text: &str) -> Result<Param, NoMemory> {
     let mut values = Items::new(alloc);
-    values.push(param_value(alloc, text)?)?;
-    let name = Text::copy_of(alloc, name)?;
-    Ok(Param { name, values })
+    push_text(alloc, &mut values, text)?;
+    named_param(alloc, name, values)
 }
 
 /// A TYPE parameter with values that have commas between them.
 pub(crate) fn type_param(alloc: Global, types: &str) -> Result<Param, NoMemory> {
     let mut values = Items::new(alloc);
     for kind in types.split(',') {
-        values.push(param_value(alloc, kind)?)?;
+        push_text(alloc, &mut values, kind)?;
     }
-    let name = Text::copy_of(alloc, "TYPE")?;
-    Ok(Param { name, values })
+    named_param(alloc, "TYPE", values)
 }
 
 /// A TYPE parameter with these values.
 pub(crate) fn label_param(alloc: Global, types: &[&str]) -> Result<Param, NoMemory> {
     let mut values = Items::new(alloc);
     for kind in types {
-        values.push(param_value(alloc, kind)?)?;
+        push_text(alloc, &mut values, kind)?;
     }
-    let name = Text::copy_of(alloc, "TYPE")?;
-    Ok(Param { name, values })
+    named_param(alloc, "TYPE", values)
 }

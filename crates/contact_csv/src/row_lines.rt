@@ -5,7 +5,7 @@ use vcard_property::{is_proper_line, plain_line};
 use vcard_text::{Items, Line, NoMemory, Text};
 
 /// The lines of a row so far.
-#[derive(Debug, Drop)]
+#[derive(Drop)]
 pub(crate) struct RowLines {
     pub(crate) lines: Items<Line>,
     /// For each column the index of the line that holds its cell, or the first of the lines.

@@ -6,7 +6,7 @@ use Rattle.vcard_lines.specs.declared.line.Line.{Line}
 use Rattle.vcard_text.specs.Making.{upper_line, upper_lines}
 use Rattle.csv_cards.specs.Rows.{Row}
 use Rattle.csv_cards.specs.Columns.{column_lines, email_in, family_in, given_in, nonempty_line, name_in, nonempty_name_line, note_in, organization_in, plain_line, telephone_in, uid_in}
-use Rattle.vcard_values.specs.TextValues.{escaped_value}
+use Rattle.vcard_lines.specs.TextValues.{escaped_value}
 
 upper_or_none : (b : Bool) (line : Line) → upper_line line ≡ line → upper_lines (if b then [] else line ∷ []) ≡ (if b then [] else line ∷ [])
 upper_or_none true line e = refl

@@ -7,11 +7,11 @@ use Rattle.csv.specs.Records.{AllText}
 use Rattle.vcard_lines.specs.declared.line.Line.{Line}
 use Rattle.vcard_lines.specs.Grammar.{line_text}
 use Rattle.vcard_lines.proofs.FrontLemmas.{ascii_utf8}
-use Rattle.vcard_values.specs.TextValues.{written_chars, escaped_value, text_char_of}
+use Rattle.vcard_lines.specs.TextValues.{written_chars, escaped_value, text_char_of}
 use Rattle.vcard_text.proofs.MakingLemmas.{AllUtf8}
 use Rattle.csv_cards.specs.Rows.{Row, row_field}
 use Rattle.csv_cards.specs.Columns.{begins_with_line_feed, column, column_lines, email_in, family_in, given_in, is_empty, nonempty_line, name_in, nonempty_name_line, name_value, note_in, organization_in, plain_line, telephone_in, uid_in, with_lf_line_ends}
-use Rattle.vcard_values.proofs.TextValueLemmas.{scalars_written}
+use Rattle.vcard_lines.proofs.TextValueLemmas.{scalars_written}
 
 -- ---- characters
 

@@ -5,7 +5,7 @@ use Rattle.std.specs.Prelude.{if◌then◌else◌, length}
 use Rattle.std.specs.Str.{chars, encode_utf8_all}
 use Rattle.base_types.specs.Octets.{line_feed, carriage_return}
 use Rattle.vcard_lines.specs.declared.line.Line.{Line}
-use Rattle.vcard_values.specs.TextValues.{escaped_value}
+use Rattle.vcard_lines.specs.TextValues.{escaped_value}
 use Rattle.csv_cards.specs.Rows.{Row, row_field}
 
 -- ---- line ends

@@ -4,7 +4,7 @@ use Rattle.std.specs.Option.{option_map_or}
 use Rattle.csv.specs.Writing.{default_writer, row_text}
 use Rattle.vcard_lines.specs.declared.line.Line.{Line}
 use Rattle.vcard_text.specs.Cards.{first_line_named, uid_of, canonical_text}
-use Rattle.vcard_values.specs.TextValues.{unescaped_text, components}
+use Rattle.vcard_lines.specs.TextValues.{unescaped_text, components}
 use Rattle.csv_cards.specs.declared.form.Form.{Form}
 use Rattle.csv_cards.specs.declared.form.Form.TheVariants as form
 use Rattle.csv_cards.specs.Rows.{Row, header}

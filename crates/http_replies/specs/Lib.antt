@@ -1,3 +1,5 @@
+pub mod Objects
+pub mod ReplyValues
 pub mod Messages
 pub mod Statuses
 pub mod Replies

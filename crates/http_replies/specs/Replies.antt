@@ -13,9 +13,9 @@ use Rattle.http_routes.specs.declared.fault.RouteFault.{RouteFault}
 use Rattle.page_json.specs.PageValues.{page_value}
 use Rattle.page_json.specs.WrittenPages.{page_texts}
 use Rattle.http_replies.specs.Messages.{Message, message_octets}
-use Rattle.reply_json.specs.ReplyValues.{created_value, put_value, gone_value, moved_value}
-use Rattle.reply_json.specs.ReplyValues.{imported_value, forgot_value, books_value, card_value}
-use Rattle.reply_json.specs.ReplyValues.{tally_value, people_value, fault_value, refusal_value}
+use Rattle.http_replies.specs.ReplyValues.{created_value, put_value, gone_value, moved_value}
+use Rattle.http_replies.specs.ReplyValues.{imported_value, forgot_value, books_value, card_value}
+use Rattle.http_replies.specs.ReplyValues.{tally_value, people_value, fault_value, refusal_value}
 use Rattle.http_replies.specs.Statuses.{reply_status}
 
 -- the body of a reply: JSON (RFC 8259), or rows of CSV (RFC 4180)

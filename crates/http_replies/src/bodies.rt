@@ -4,14 +4,16 @@ ghost use Rattle.serde_json.specs.Data.{Data};
 ghost use Rattle.serde_json.specs.View.{view};
 ghost use Rattle.serde_json.specs.Written.{compact_text, has_float};
 ghost use Rattle.http_replies.specs.Replies.{body_octets, media_type, reply_body};
-ghost use Rattle.reply_json.specs.ReplyValues.{fault_value};
+ghost use Rattle.http_replies.specs.ReplyValues.{fault_value};
 
+use crate::card::write_card_reply;
+use crate::refusals::{fault_value, refusal_value};
+use crate::values::{
+    books_value, created_value, forgot_value, gone_value, imported_value, moved_value,
+    people_value, put_value, tally_value,
+};
 use book_commands::Reply;
 use page_json::write_report;
-use reply_json::{
-    books_value, created_value, fault_value, forgot_value, gone_value, imported_value, moved_value,
-    people_value, put_value, refusal_value, tally_value, write_card_reply,
-};
 use serde_json::Value;
 use std::alloc::Global;
 use vcard_text::NoMemory;

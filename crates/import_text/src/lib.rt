@@ -1,20 +1,28 @@
 //! Texts as other programs export them: the encodings of octets, the pieces of a file that are
-//! cards, and the physical and logical lines of a piece, all by octets.
+//! cards, and the physical and logical lines of a piece, all by octets. And a reader that gives a
+//! file in UTF-16 as UTF-8.
 #![tactic(auto)]
 
 mod encodings;
+mod filling;
 mod line_head;
 mod lines;
+mod octets;
 mod pieces;
 mod quoted_printable;
 mod raw_line;
+mod reader;
 mod utf16;
+mod utf16_parts;
+mod utf16_reader;
 mod words;
 
 pub use encodings::{read_text, read_windows1252};
+pub use filling::{fill, joined};
 pub use lines::{Folding, read_raw_lines};
 pub use pieces::{count_lines, is_card, split_piece};
 pub use quoted_printable::read_quoted_printable;
 pub use raw_line::RawLine;
+pub use reader::TextReader;
 pub use utf16::read_utf16;
 pub use words::{begins_with_word, is_word_line};

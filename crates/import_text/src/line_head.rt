@@ -11,7 +11,7 @@ use crate::words::has_word;
 pub(crate) const WORD_START_OCTETS_MAX: usize = 15;
 
 /// What the head of the line so far says.
-#[derive(Clone, Copy, Debug, PartialEq, Eq)]
+#[derive(Clone, Copy)]
 pub(crate) struct Head {
     /// Whether the line has a colon, so that its head no longer grows.
     pub(crate) is_complete: bool,

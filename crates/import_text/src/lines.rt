@@ -16,7 +16,7 @@ use std::alloc::{AllocError, Global};
 use std::mem;
 
 /// Whether the white space that begins a continuation line belongs to the logical line.
-#[derive(Clone, Copy, Debug, PartialEq, Eq)]
+#[derive(Clone, Copy)]
 pub enum Folding {
     /// It does, as in vCard 2.1.
     KeepsSpace,

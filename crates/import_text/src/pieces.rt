@@ -93,7 +93,7 @@ pub fn count_lines(octets: &[u8]) -> usize
 }
 
 /// Where a line is among the cards of a piece.
-#[derive(Clone, Copy, Debug, PartialEq, Eq)]
+#[derive(Clone, Copy)]
 pub(crate) struct Nesting {
     /// The number of cards that began but didn't end.
     pub(crate) depth: usize,
@@ -102,7 +102,7 @@ pub(crate) struct Nesting {
 }
 
 /// What a line does to the piece in which it is.
-#[derive(Clone, Copy, Debug, PartialEq, Eq)]
+#[derive(Clone, Copy)]
 pub(crate) enum Step {
     /// The piece ends after so many octets of the line.
     Ends(usize),

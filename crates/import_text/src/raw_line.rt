@@ -3,7 +3,7 @@
 use base_types::Items;
 
 /// A logical line and the place of its first physical line, counted from 0.
-#[derive(Debug, Drop)]
+#[derive(Drop)]
 pub struct RawLine {
     /// The number of physical lines before its first one.
     pub place: usize,

@@ -21,8 +21,8 @@ use Rattle.book_model.specs.ImportLaws.{HaveDistinctUids}
 use Rattle.book_model.specs.Importing.{Importing, book_after_store, import_card, import_cards, import_reason, import_state, import_with_reason}
 use Rattle.book_model.specs.SameCards.{same_card}
 use Rattle.book_model.proofs.ImportCountLemmas.{apart_turned}
-use Rattle.book_counts.proofs.StoreLemmas.{stored_replace}
-use Rattle.book_counts.specs.Counts.{is_tombstone_at}
+use Rattle.book_model.proofs.StoreLemmas.{stored_replace}
+use Rattle.book_model.specs.Counts.{is_tombstone_at}
 use Rattle.store_inserts.specs.internal.Importing.{replaced_count}
 
 -- ---- one card

@@ -1,5 +1,5 @@
 //! Plans an import from the book's contents before it.
-ghost use Rattle.book_counts.specs.Counts.{is_tombstone_at};
+ghost use Rattle.book_model.specs.Counts.{is_tombstone_at};
 ghost use Rattle.book_model.specs.Books.{live_at};
 ghost use Rattle.book_model.specs.Counting.{live_count, one_if};
 ghost use Rattle.book_model.specs.ImportLaws.{HaveDistinctUids};

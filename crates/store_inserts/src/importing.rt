@@ -60,8 +60,7 @@ ghost use Rattle.std.specs.Prelude.{◌≡◌, ◌+◌, ◌<◌, ◌^◌, IfErr,
 ghost use Rattle.std.specs.Prelude.{length, option_copied, ℕ};
 
 use crate::import_plan::{ImportDecision, PlannedCard, plan_import};
-use book_counts::TombstoneCounts;
-use book_model::{Denied, ImportTally, Limits, StoreReason};
+use book_model::{Denied, ImportTally, Limits, StoreReason, TombstoneCounts};
 use sqlite::{Alter, Connection, Error, Transaction};
 use std::alloc::Global;
 use store_lookups::{BookHeader, column_of, fault_of};

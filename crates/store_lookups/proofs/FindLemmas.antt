@@ -14,7 +14,7 @@ use Rattle.book_model.specs.declared.denied.Denied.{Denied}
 use Rattle.book_model.specs.declared.row.Row.{Row as Member}
 use Rattle.book_model.specs.Books.{Book, live_at, stored_in_row}
 use Rattle.book_model.specs.BookQueries.{is_tombstone_after, tombstone_count}
-use Rattle.book_counts.specs.Counts.{is_tombstone_at}
+use Rattle.book_model.specs.Counts.{is_tombstone_at}
 use Rattle.store_tables.specs.QueryResults.{FindsRow, count_value}
 use Rattle.store_tables.specs.Members.{MemberRow, has_uid, number_card_shown, is_removed_above}
 use Rattle.store_tables.specs.Imports.{has_key, import_shown}

@@ -6,7 +6,7 @@ use Rattle.book_model.specs.declared.denied.Denied.TheVariants.{Refused, Fault}
 use Rattle.book_model.specs.declared.refusal.Refusal.{Refusal}
 use Rattle.book_model.specs.declared.refusal.Refusal.TheVariants.{NoSuchBook}
 use Rattle.book_model.specs.Books.{Book}
-use Rattle.book_counts.specs.Counts.{AreCountsOf, CountsByName}
+use Rattle.book_model.specs.Counts.{AreCountsOf, CountsByName}
 use Rattle.store_rows.specs.LookupLaws.{IsBookNamed, IsNameFree}
 use Rattle.store_rows.specs.SoundTables.{AreSoundRows}
 use Rattle.store_rows.specs.TableBooks.{HeaderRow, books_of, line_row, row_book}

@@ -3,7 +3,7 @@ use Rattle.std.specs.Prelude.{Result}
 use Rattle.sqlite.specs.Held.{Held, state}
 use Rattle.book_model.specs.Books.{Book, Books}
 use Rattle.book_model.specs.declared.denied.Denied.{Denied}
-use Rattle.book_counts.specs.Counts.{CountsByName}
+use Rattle.book_model.specs.Counts.{CountsByName}
 use Rattle.store_tables.specs.OnConnections.{Ghosts}
 use Rattle.store_rows.specs.TableBooks.{HeaderRow}
 use Rattle.store_rows.specs.TableRows.{TableRows}

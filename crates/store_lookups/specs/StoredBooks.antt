@@ -2,7 +2,7 @@
 use Rattle.std.specs.Prelude.{◌≡◌, IsTrue}
 use Rattle.sqlite.specs.State.{State, HasCleanDisk}
 use Rattle.book_model.specs.Books.{Books}
-use Rattle.book_counts.specs.Counts.{AreCountsOf, CountsByName}
+use Rattle.book_model.specs.Counts.{AreCountsOf, CountsByName}
 use Rattle.store_rows.specs.SoundTables.{HoldsSoundRows}
 use Rattle.store_rows.specs.TableBooks.{books_in}
 

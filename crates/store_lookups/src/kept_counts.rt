@@ -1,5 +1,5 @@
 //! How many tombstones a book has, by the number that the store keeps of it.
-ghost use Rattle.book_counts.specs.Counts.{AreCountsOf};
+ghost use Rattle.book_model.specs.Counts.{AreCountsOf};
 ghost use Rattle.book_model.specs.BookQueries.{tombstone_count};
 ghost use Rattle.store_lookups.specs.Faults.{IsDeniedFault};
 ghost use Rattle.store_lookups.specs.OnConnections.{FaultsFromOutsideInBook, GivenCounts};
@@ -10,8 +10,7 @@ ghost use Rattle.std.specs.Prelude.{◌≡◌, IfErr, IfOk};
 
 use crate::header::BookHeader;
 use crate::lookups::count_removals;
-use book_counts::TombstoneCounts;
-use book_model::Denied;
+use book_model::{Denied, TombstoneCounts};
 use sqlite::{Alter, Connection};
 
 /// Returns how many tombstones the named book, which has this header, has. If the store keeps no

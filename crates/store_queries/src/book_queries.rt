@@ -11,7 +11,7 @@ ghost use Rattle.book_model.specs.BookQueries.{
   get_step,
   tally_step,
 };
-ghost use Rattle.book_counts.specs.Counts.{AreCountsOf};
+ghost use Rattle.book_model.specs.Counts.{AreCountsOf};
 ghost use Rattle.store_rows.specs.LookupLaws.{IsBookNamed};
 ghost use Rattle.store_rows.specs.TableBooks.{books_of, line_row, row_book};
 ghost use Rattle.store_lookups.specs.CallResults.{FollowsStep, IsExactly};
@@ -31,9 +31,8 @@ ghost use Rattle.store_tables.specs.OnConnections.{OnlyReads};
 ghost use Rattle.std.specs.Prelude.{◌≡◌, IfErr, IfOk, Ok};
 
 use crate::live_rows::live_in;
-use book_counts::TombstoneCounts;
 use book_model::decisions::is_import_key;
-use book_model::{BookLine, Denied, ImportTally, Refusal, Stored, Tally};
+use book_model::{BookLine, Denied, ImportTally, Refusal, Stored, Tally, TombstoneCounts};
 use sqlite::{Alter, Connection, Error};
 use std::alloc::Global;
 use store_lookups::{BookHeader, fault_of, fetch_keep, find_header, find_import_tally, remembered};

@@ -23,7 +23,7 @@ use Rattle.book_model.specs.Counting.{counts_after_change, live_count}
 use Rattle.book_model.specs.Forgetting.{book_after_forget}
 use Rattle.book_model.specs.CallOutcomes.{MatchesStep, ◌>>=◌}
 use Rattle.book_model.specs.BookQueries.{tombstone_count}
-use Rattle.book_counts.specs.Counts.{AreCountsOf, CountsByName}
+use Rattle.book_model.specs.Counts.{AreCountsOf, CountsByName}
 use Rattle.book_model.specs.Removing.{remove_number}
 use Rattle.store_tables.specs.QueryResults.{FindsFirstRow}
 use Rattle.store_tables.specs.Books.{HasBooks, with_book_numbers}

@@ -1,11 +1,11 @@
 //! The number of tombstones that a store keeps of a book, after a removal from it was committed.
-ghost use Rattle.book_counts.specs.Counts.{AreCountsOf};
+ghost use Rattle.book_model.specs.Counts.{AreCountsOf};
 ghost use Rattle.book_model.specs.BookQueries.{tombstone_count};
 ghost use Rattle.book_model.specs.Books.{Book, Books};
 ghost use Rattle.std.specs.FinMap as finite;
 ghost use Rattle.std.specs.Prelude.{◌≡◌, IfSome};
 
-use book_counts::TombstoneCounts;
+use book_model::TombstoneCounts;
 
 /// Sets the number of the named book, or forgets it if it is not known.
 pub(crate) fn set_count(counts: &mut TombstoneCounts, name: &str, number: Option<u64>)

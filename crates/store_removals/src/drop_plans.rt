@@ -1,6 +1,6 @@
 //! What the next removal does to the tombstones of its book: it adds one, and if the book then has
 //! more than it keeps, the book forgets the oldest.
-ghost use Rattle.book_counts.specs.Counts.{AreCountsOf};
+ghost use Rattle.book_model.specs.Counts.{AreCountsOf};
 ghost use Rattle.book_model.specs.BookChanges.{oldest_tombstone};
 ghost use Rattle.book_model.specs.BookQueries.{tombstone_count};
 ghost use Rattle.store_lookups.specs.Faults.{IsDeniedFault};
@@ -18,8 +18,7 @@ ghost use Rattle.std.specs.Option.{option_map_or};
 ghost use Rattle.std.specs.Prelude.{◌≡◌, ◌+◌, ◌<◌, ◌≤◌, ◌^◌, IfErr, IfOk, IfSome, None, OnOk};
 ghost use Rattle.std.specs.Prelude.{Some, min, nat_le};
 
-use book_counts::TombstoneCounts;
-use book_model::Denied;
+use book_model::{Denied, TombstoneCounts};
 use sqlite::{Alter, Connection, Error};
 use store_lookups::{BookHeader, column_of, fault_of, fetch_keep, number_in, remembered};
 use store_tables::members::first_removed;

@@ -1,5 +1,5 @@
 //! The move: taking a card from one book to another.
-ghost use Rattle.book_counts.specs.Counts.{AreCountsOf, is_tombstone_at};
+ghost use Rattle.book_model.specs.Counts.{AreCountsOf, is_tombstone_at};
 ghost use Rattle.book_model.specs.Books.{as_stored, live_at};
 ghost use Rattle.book_model.specs.Counting.{live_count};
 ghost use Rattle.book_model.specs.Moving.{move_step, moving_of};
@@ -28,9 +28,8 @@ ghost use Rattle.std.specs.Prelude.{false, ℕ};
 use crate::counting::set_count;
 use crate::drop_plans::plan_drop;
 use crate::moving::write_move;
-use book_counts::TombstoneCounts;
 use book_model::decisions::{MemberLookup, answer_to_move};
-use book_model::{Denied, Limits, Moved, Refusal, Stored};
+use book_model::{Denied, Limits, Moved, Refusal, Stored, TombstoneCounts};
 use sqlite::{Alter, Connection};
 use std::alloc::Global;
 use store_lookups::{BookHeader, MemberState, find_header, find_live, find_member_state};

@@ -1,5 +1,5 @@
 //! The removal: deleting a card from a book.
-ghost use Rattle.book_counts.specs.Counts.{AreCountsOf};
+ghost use Rattle.book_model.specs.Counts.{AreCountsOf};
 ghost use Rattle.book_model.specs.Removing.{remove_step};
 ghost use Rattle.store_lookups.specs.CallResults.{FollowsStep, IsExactly};
 ghost use Rattle.store_removals.specs.internal.Removals.{IsRemovalPlanned, removal_number_in};
@@ -19,9 +19,8 @@ ghost use Rattle.std.specs.Prelude.{◌≡◌, ◌+◌, ◌<◌, ◌≤◌, ◌^
 use crate::counting::set_count;
 use crate::drop_plans::plan_drop;
 use crate::removing::write_remove;
-use book_counts::TombstoneCounts;
 use book_model::decisions::{MemberLookup, number_of_removal};
-use book_model::{Denied, Limits};
+use book_model::{Denied, Limits, TombstoneCounts};
 use sqlite::{Alter, Connection};
 use std::alloc::Global;
 use store_lookups::{BookHeader, find_live};

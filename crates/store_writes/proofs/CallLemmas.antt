@@ -12,7 +12,7 @@ use Rattle.book_model.specs.declared.refusal.Refusal.{Refusal}
 use Rattle.book_model.specs.declared.refusal.Refusal.TheVariants.{NoSuchBook}
 use Rattle.book_model.specs.Books.{Book, Books, book_named}
 use Rattle.book_model.specs.CallOutcomes.{MatchesStep, ◌>>=◌}
-use Rattle.book_counts.specs.Counts.{AreCountsOf, CountsByName}
+use Rattle.book_model.specs.Counts.{AreCountsOf, CountsByName}
 use Rattle.store_tables.specs.StatementEffects.{HasNoPendingWrites, OnlyReads, GivenTables}
 use Rattle.store_tables.proofs.SchemaCreationLemmas.{clean_before}
 use Rattle.store_rows.specs.LookupLaws.{IsBookNamed}

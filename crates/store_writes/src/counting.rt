@@ -1,5 +1,5 @@
 //! The number of tombstones that a store keeps of a book, after a change of the book was committed.
-ghost use Rattle.book_counts.specs.Counts.{AreCountsOf};
+ghost use Rattle.book_model.specs.Counts.{AreCountsOf};
 ghost use Rattle.book_model.specs.BookQueries.{tombstone_count};
 ghost use Rattle.book_model.specs.Books.{Book, Books};
 ghost use Rattle.book_model.specs.Counting.{one_if};
@@ -7,7 +7,7 @@ ghost use Rattle.book_model.specs.Forgetting.{book_after_forget, dropped_row_cou
 ghost use Rattle.std.specs.FinMap as finite;
 ghost use Rattle.std.specs.Prelude.{◌≡◌, ◌≤◌, ◌+◌, Some, ℕ};
 
-use book_counts::TombstoneCounts;
+use book_model::TombstoneCounts;
 
 /// Lowers the number of the named book by the number of tombstones that stored cards replaced.
 pub fn count_replaced(counts: &mut TombstoneCounts, name: &str, replaced: u64)

@@ -31,9 +31,8 @@ ghost use Rattle.std.specs.Prelude.{◌≡◌, ◌≤◌, IfErr, IfOk, List, OnE
 use crate::columns::columns_of;
 use crate::counting::count_forgotten;
 use crate::lookups::open_header;
-use book_counts::TombstoneCounts;
 use book_model::decisions::may_forget;
-use book_model::{Denied, Refusal};
+use book_model::{Denied, Refusal, TombstoneCounts};
 use sqlite::{Alter, Connection, Error, Transaction};
 use store_lookups::{BookHeader, column_of, fault_of};
 use store_tables::books::{BookNumbers, renumber_book};

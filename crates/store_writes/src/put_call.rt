@@ -1,5 +1,5 @@
 //! The put: storing a card in a book.
-ghost use Rattle.book_counts.specs.Counts.{is_tombstone_at};
+ghost use Rattle.book_model.specs.Counts.{is_tombstone_at};
 ghost use Rattle.book_model.specs.Putting.{found_in_book, put_answer, put_step, put_store_reason};
 ghost use Rattle.store_lookups.specs.CallResults.{FollowsStep};
 ghost use Rattle.store_writes.specs.internal.PutPlans.{IsPutPlanned};
@@ -19,9 +19,8 @@ ghost use Rattle.vcard_text.specs.Cards.{uid_of};
 use crate::counting::count_stored;
 use crate::lookups::open_header;
 use crate::putting::write_put;
-use book_counts::TombstoneCounts;
 use book_model::decisions::{MemberLookup, answer_to_put, reason_of};
-use book_model::{Denied, Limits, PutAnswer};
+use book_model::{Denied, Limits, PutAnswer, TombstoneCounts};
 use sqlite::{Alter, Connection};
 use std::alloc::Global;
 use store_lookups::{BookHeader, find_member_state};

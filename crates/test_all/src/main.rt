@@ -6,13 +6,9 @@
 use std::fs;
 use std::io::{Read, Write};
 use std::process::ExitCode;
-use test_cards::check_cards;
-use test_corruption::run_lines;
-use test_crashes::run_sweeps;
-use test_formats::check_formats;
-use test_http::run_connection_rows;
 use test_oom::{run_all_cases, run_chosen};
-use test_stores::run_sections;
+use test_rows::{check_cards, check_formats, run_connection_rows};
+use test_stores::{run_lines, run_sections, run_sweeps};
 
 fn print(rt: &HostRuntime, octets: &[u8]) -> bool {
     rt.stdout().write_all(octets).is_ok()

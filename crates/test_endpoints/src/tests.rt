@@ -3,5 +3,6 @@ mod counter;
 mod endpoints;
 mod hubs;
 mod scripted;
+mod service;
 mod serving;
 mod stage;

@@ -19,7 +19,7 @@ use vcard_property::{ChangeKind, Version, are_line, aside_line, convert_line, te
 use vcard_text::{Items, Line, NoMemory};
 
 /// The lines and the changes so far.
-#[derive(Debug, Drop)]
+#[derive(Drop)]
 pub(crate) struct CardLines {
     pub(crate) lines: Items<Line>,
     pub(crate) changes: Items<Change>,

@@ -2,7 +2,7 @@
 use vcard_property::ChangeKind;
 
 /// A change of a line.
-#[derive(Clone, Copy, Debug, PartialEq, Eq)]
+#[derive(Clone, Copy)]
 pub struct Change {
     /// The number of physical lines of the card before the line's first one; 0 for a line that was
     /// added, since the first line of a card is its BEGIN.

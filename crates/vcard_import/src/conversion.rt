@@ -16,7 +16,7 @@ use std::alloc::Global;
 use vcard_text::{Card, CardFault, Items, Line, NoMemory, card_of_lines, read_card};
 
 /// A card of vCard 4.0, and what was changed to make it of the card that was read.
-#[derive(Debug, Drop)]
+#[derive(Drop)]
 pub struct Conversion {
     /// The card.
     pub card: Card,

@@ -11,7 +11,7 @@ use vcard_property::{Version, read_uid_line};
 use vcard_text::{Line, NoMemory};
 
 /// The UID line of a card, and the number of logical lines before it.
-#[derive(Debug, Drop)]
+#[derive(Drop)]
 pub(crate) struct UidLine {
     pub(crate) line: Line,
     pub(crate) index: usize,

@@ -13,14 +13,14 @@ use vcard_text::{Line, UID_OCTETS_MAX};
 
 /// Which of the names that a card has at most once its lines have so far. It spares a search of all
 /// lines for each UID and each KIND.
-#[derive(Clone, Copy, Debug)]
+#[derive(Clone, Copy)]
 pub(crate) struct Seen {
     pub(crate) uid: bool,
     pub(crate) kind: bool,
 }
 
 /// How logical lines are read.
-#[derive(Clone, Copy, Debug)]
+#[derive(Clone, Copy)]
 pub(crate) struct Reading {
     pub(crate) version: Version,
     /// Whether one of the lines may be the UID of the card.

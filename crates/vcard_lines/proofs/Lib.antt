@@ -12,3 +12,4 @@ pub mod ReadBackLemmas
 pub mod LineTextLemmas
 pub mod LegalPartLemmas
 pub mod FailLemmas
+pub mod TextValueLemmas

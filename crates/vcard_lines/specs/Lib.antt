@@ -7,4 +7,5 @@ pub mod Folding
 pub mod ParseSteps
 pub mod Parsing
 pub mod Unfolding
+pub mod TextValues
 pub mod internal

@@ -1,1 +1,2 @@
 pub mod FoldingLoop
+pub mod UnescapeLoop

@@ -1,6 +1,7 @@
-//! Laws of lines. Each law is an empty function whose clauses hold for all texts and all lines.
-ghost use Rattle.std.specs.Prelude.{◌≡◌, ◌⊎◌, ◌↔◌, ℕ, true, List, Ok, Err};
-ghost use Rattle.std.specs.List.{list_all};
+//! Laws of lines and of text values. Each law is an empty function whose clauses hold for all texts,
+//! lines and values.
+ghost use Rattle.std.specs.Prelude.{◌≡◌, ◌⊎◌, ◌↔◌, ℕ, true, List, Ok, Err, ◌<◌, map, length};
+ghost use Rattle.std.specs.List.{list_all, AllByRecursion};
 ghost use Rattle.vcard_lines.specs.LogicalLines.{AreLogicalLines};
 ghost use Rattle.vcard_lines.specs.Folding.{IsFolding, physical_lines};
 ghost use Rattle.vcard_lines.specs.LegalParts.{HasLegalParts, is_name, is_value, is_param};
@@ -14,6 +15,10 @@ ghost use Rattle.vcard_lines.specs.declared.fault.CardFault.TheVariants.{BadChar
 ghost use Rattle.vcard_lines.specs.declared.line.ParamValue.{ParamValue};
 ghost use Rattle.vcard_lines.specs.declared.line.Param.{Param};
 ghost use Rattle.vcard_lines.specs.declared.line.Line.{Line};
+ghost use Rattle.std.specs.Str.{IsUtf8};
+ghost use Rattle.vcard_lines.specs.TextValues.{TextChar, AreTextChars, text_chars};
+ghost use Rattle.vcard_lines.specs.TextValues.{IsSplitAtSemicolons, split_at_semicolons};
+ghost use Rattle.vcard_lines.specs.TextValues.{joined_by_semicolons, escaped_value, components};
 
 /// A text has exactly one list of logical lines.
 pub fn logical_lines_are_unique()
@@ -54,4 +59,24 @@ pub fn tests_agree_with_the_grammar()
     ensures value { (value : ParamValue) → (is_value value ≡ true) ↔ IsValue value }
     ensures param { (param : Param) → (is_param param ≡ true) ↔ IsParam param }
     ensures parts { (line : Line) → (has_legal_parts line ≡ true) ↔ HasLegalParts line }
+{}
+
+/// A text value consists of exactly one list of characters, each plain or escaped by a backslash.
+pub fn text_characters_are_unique()
+    ensures { (value : List ℕ) (characters : List TextChar) → AreTextChars value characters
+        ↔ (characters ≡ text_chars value) }
+{}
+
+/// A text value is split in exactly one way, with a plain semicolon between adjacent pieces and
+/// none inside a piece.
+pub fn semicolon_split_is_unique()
+    ensures { (characters : List TextChar) (pieces : List (List TextChar))
+        → IsSplitAtSemicolons characters pieces ↔ (pieces ≡ split_at_semicolons characters) }
+{}
+
+/// If one or more UTF-8 texts are escaped and joined by semicolons, the components of the value are
+/// those texts.
+pub fn joined_texts_are_components()
+    ensures { (texts : List (List ℕ)) → AllByRecursion IsUtf8 texts → 0 < length texts
+        → components (joined_by_semicolons (map escaped_value texts)) ≡ texts }
 {}

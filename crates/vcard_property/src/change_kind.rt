@@ -3,7 +3,7 @@
 use std::fmt;
 
 /// What was done to a line.
-#[derive(Clone, Copy, Debug, PartialEq, Eq)]
+#[derive(Clone, Copy)]
 pub enum ChangeKind {
     /// It is the same property in the form of vCard 4.0: its encoding, its escapes, its parameters
     /// or its value were rewritten.

@@ -4,7 +4,7 @@ use std::alloc::Global;
 use vcard_text::NoMemory;
 
 /// What a value is, as far as its escapes go.
-#[derive(Clone, Copy, Debug, PartialEq, Eq)]
+#[derive(Clone, Copy)]
 pub(crate) struct ValueForm {
     /// A URI or the like: no character is escaped in it.
     pub(crate) is_plain: bool,

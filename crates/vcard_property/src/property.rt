@@ -7,7 +7,7 @@ use std::alloc::Global;
 use vcard_text::{Items, NoMemory, Param, ParamValue, Text};
 
 /// How a value is encoded.
-#[derive(Clone, Copy, Debug, PartialEq, Eq)]
+#[derive(Clone, Copy)]
 pub(crate) enum Encoding {
     Plain,
     QuotedPrintable,
@@ -15,7 +15,7 @@ pub(crate) enum Encoding {
 }
 
 /// A property of any version. What vCard 4.0 says in another way is apart from the parameters.
-#[derive(Debug, Drop)]
+#[derive(Drop)]
 pub(crate) struct Property {
     pub(crate) group: Option<Text>,
     pub(crate) name: Text,
@@ -64,6 +64,17 @@ fn read_params(alloc: Global, property: &mut Property, parts: &[&str]) -> Result
     Ok(())
 }
 
+/// The property of that value, without parameters. `None` if it has no name.
+fn named_property(alloc: Global, head: &str, value: &str) -> Result<Option<Property>, NoMemory> {
+    let (group, name) = split_group(head);
+    let Some(name) = upper_name(alloc, name)? else {
+        return Ok(None);
+    };
+    let group = read_group(alloc, group)?;
+    let value = Text::copy_of(alloc, value)?;
+    Ok(Some(bare_property(alloc, group, name, value)))
+}
+
 /// Reads a line leniently. `None` if it has no colon or no name.
 pub(crate) fn read_property(alloc: Global, text: &str) -> Result<Option<Property>, NoMemory> {
     let Some((head, value)) = split_line(text) else {
@@ -73,12 +84,9 @@ pub(crate) fn read_property(alloc: Global, text: &str) -> Result<Option<Property
     let Some((first, params)) = parts.as_slice().split_first() else {
         return Ok(None);
     };
-    let (group, name) = split_group(first.trim());
-    let Some(name) = upper_name(alloc, name)? else {
+    let Some(mut property) = named_property(alloc, first.trim(), value)? else {
         return Ok(None);
     };
-    let group = read_group(alloc, group)?;
-    let mut property = bare_property(alloc, group, name, Text::copy_of(alloc, value)?);
     read_params(alloc, &mut property, params)?;
     Ok(Some(property))
 }

@@ -149,18 +149,37 @@ fn line_with(
     })
 }
 
-/// The line of a text or a URI.
-fn text_or_uri_line(alloc: Global, property: Property, version: Version) -> Result<Line, NoMemory> {
-    let mut property = property;
-    if is_date_name(property.name.as_str()) {
-        omit_year(alloc, &mut property)?;
-    }
-    let value = text_value(alloc, &property, version)?;
-    let name = name_of(alloc, property.name.as_str(), property.is_uri)?;
+/// Adds the type of an AGENT that is a URI, which is a RELATED in vCard 4.0.
+fn add_agent(alloc: Global, property: &mut Property) -> Result<(), NoMemory> {
     if property.name.as_str() == "AGENT" && property.is_uri {
         property.types.push(make_value(alloc, "agent", false)?)?;
     }
+    Ok(())
+}
+
+/// Omits the year of a property that is a date, if a parameter says that it is none.
+fn omit_year_of_date(alloc: Global, property: &mut Property) -> Result<(), NoMemory> {
+    if is_date_name(property.name.as_str()) {
+        omit_year(alloc, property)?;
+    }
+    Ok(())
+}
+
+/// The line of a text or a URI.
+fn text_or_uri_line(alloc: Global, property: Property, version: Version) -> Result<Line, NoMemory> {
+    let mut property = property;
+    omit_year_of_date(alloc, &mut property)?;
+    add_agent(alloc, &mut property)?;
+    let value = text_value(alloc, &property, version)?;
+    let name = name_of(alloc, property.name.as_str(), property.is_uri)?;
     line_with(alloc, property, name, value)
+}
+
+/// Leaves out of the types those that name the format of the value.
+fn drop_formats(alloc: Global, property: &mut Property, name: &str) -> Result<(), NoMemory> {
+    let types = mem::replace(&mut property.types, Items::new(alloc));
+    property.types = without_formats(alloc, name, types)?;
+    Ok(())
 }
 
 /// The line of a binary value, as a `data:` URI.
@@ -168,8 +187,7 @@ fn binary_line(alloc: Global, property: Property, octets: &[u8]) -> Result<Line,
     let mut property = property;
     let name = property.name.try_copy()?;
     let uri = data_uri(alloc, name.as_str(), property.types.as_slice(), octets)?;
-    let types = mem::replace(&mut property.types, Items::new(alloc));
-    property.types = without_formats(alloc, name.as_str(), types)?;
+    drop_formats(alloc, &mut property, name.as_str())?;
     line_with(alloc, property, name, uri)
 }
 
@@ -185,15 +203,31 @@ fn with_carets(alloc: Global, text: &str) -> Result<String, NoMemory> {
     Ok(out)
 }
 
+/// The text of a label, as the value of a parameter.
+fn label_text(alloc: Global, property: &Property, version: Version) -> Result<String, NoMemory> {
+    let value = text_value(alloc, property, version)?;
+    let text = unescape(alloc, value.as_str())?;
+    with_carets(alloc, text.as_str())
+}
+
+/// The parameter LABEL with the text.
+fn label_param(alloc: Global, text: &str) -> Result<Param, NoMemory> {
+    let mut values = Items::new(alloc);
+    values.push(make_value(alloc, text, true)?)?;
+    let name = Text::copy_of(alloc, "LABEL")?;
+    Ok(Param { name, values })
+}
+
+fn add_label(alloc: Global, property: &mut Property, version: Version) -> Result<(), NoMemory> {
+    let text = label_text(alloc, property, version)?;
+    property.params.push(label_param(alloc, text.as_str())?)?;
+    Ok(())
+}
+
 /// The line of a LABEL: an ADR without components, and the label as its parameter.
 fn label_line(alloc: Global, property: Property, version: Version) -> Result<Line, NoMemory> {
-    let value = text_value(alloc, &property, version)?;
-    let text = with_carets(alloc, unescape(alloc, value.as_str())?.as_str())?;
-    let mut values = Items::new(alloc);
-    values.push(make_value(alloc, text.as_str(), true)?)?;
     let mut property = property;
-    let name = Text::copy_of(alloc, "LABEL")?;
-    property.params.push(Param { name, values })?;
+    add_label(alloc, &mut property, version)?;
     let name = Text::copy_of(alloc, "ADR")?;
     let value = String::from_str(alloc, ";;;;;;")?;
     line_with(alloc, property, name, value)
@@ -223,6 +257,24 @@ fn binary_octets(alloc: Global, property: &Property) -> Result<Option<Vec<u8>>, 
     Ok(None)
 }
 
+/// Keeps the encoding of a value that isn't the base64 that it says.
+fn keep_encoding(alloc: Global, property: &mut Property) -> Result<(), NoMemory> {
+    if property.encoding == Encoding::Base64 && !is_base64(alloc, property.value.as_str())? {
+        property.params.push(make_param(alloc, "ENCODING", "b")?)?;
+    }
+    Ok(())
+}
+
+/// The line of a value that isn't binary.
+fn plain_line_of(alloc: Global, property: Property, version: Version) -> Result<Line, NoMemory> {
+    let mut property = property;
+    keep_encoding(alloc, &mut property)?;
+    if property.name.as_str() == "LABEL" {
+        return label_line(alloc, property, version);
+    }
+    text_or_uri_line(alloc, property, version)
+}
+
 /// The line of vCard 4.0 for a property. A value that isn't the base64 that its encoding says stays
 /// as it is, and so does its encoding.
 pub(crate) fn line_of(
@@ -230,15 +282,8 @@ pub(crate) fn line_of(
     property: Property,
     version: Version,
 ) -> Result<Line, NoMemory> {
-    if let Some(octets) = binary_octets(alloc, &property)? {
-        return binary_line(alloc, property, octets.as_slice());
+    match binary_octets(alloc, &property)? {
+        Some(octets) => binary_line(alloc, property, octets.as_slice()),
+        None => plain_line_of(alloc, property, version),
     }
-    let mut property = property;
-    if property.encoding == Encoding::Base64 && !is_base64(alloc, property.value.as_str())? {
-        property.params.push(make_param(alloc, "ENCODING", "b")?)?;
-    }
-    if property.name.as_str() == "LABEL" {
-        return label_line(alloc, property, version);
-    }
-    text_or_uri_line(alloc, property, version)
 }

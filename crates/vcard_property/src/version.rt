@@ -1,7 +1,7 @@
 //! `Version`: the version of vCard in which a line is written.
 
 /// A version of vCard.
-#[derive(Clone, Copy, Debug, PartialEq, Eq)]
+#[derive(Clone, Copy)]
 pub enum Version {
     /// vCard 2.1.
     Old,

@@ -1,7 +1,7 @@
 -- The lines and the changes while cells are kept aside. Public contracts don't cite it.
 use Rattle.std.specs.Prelude.{ℕ, ◌≡◌, ◌<◌, ◌⊎◌, true, List, [], ◌∷◌, ◌++◌, codes, get_or}
 use Rattle.vcard_lines.specs.declared.line.Line.{Line}
-use Rattle.vcard_values.specs.TextValues.{escaped_value}
+use Rattle.vcard_lines.specs.TextValues.{escaped_value}
 use Rattle.vcard_text.specs.Making.{upper_line, upper_lines}
 use Rattle.vcard_property.specs.Lines.{plain_line}
 use Rattle.vcard_import.specs.declared.change.Change.{Change}

@@ -11,7 +11,7 @@ use Rattle.book_model.specs.declared.counts.Counts.{Counts}
 use Rattle.book_model.specs.declared.denied.Denied.{Denied}
 use Rattle.book_model.specs.declared.denied.Denied.TheVariants.{Refused, Fault}
 use Rattle.book_model.specs.declared.refusal.Refusal.{Refusal}
-use Rattle.book_counts.specs.Counts.{is_tombstone_at}
+use Rattle.book_model.specs.Counts.{is_tombstone_at}
 use Rattle.book_model.specs.Bounds.{Bounds}
 use Rattle.book_model.specs.BookQueries.{tombstone_count}
 use Rattle.book_model.specs.Books.{Book, Books, live_at}

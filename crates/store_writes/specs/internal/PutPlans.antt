@@ -5,7 +5,7 @@ use Rattle.vcard_text.specs.Cards.{uid_of}
 use Rattle.book_model.specs.declared.answers.PutAnswer.{PutAnswer}
 use Rattle.book_model.specs.declared.denied.Denied.{Denied}
 use Rattle.book_model.specs.declared.refusal.Refusal.{Refusal}
-use Rattle.book_counts.specs.Counts.{is_tombstone_at}
+use Rattle.book_model.specs.Counts.{is_tombstone_at}
 use Rattle.book_model.specs.Bounds.{Bounds}
 use Rattle.book_model.specs.Books.{Book, book_named}
 use Rattle.book_model.specs.CallOutcomes.{◌>>=◌}

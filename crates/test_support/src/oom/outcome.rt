@@ -1,7 +1,7 @@
 //! Outcomes of cases.
 
 /// The outcome of a case.
-#[derive(Clone, Copy, PartialEq)]
+#[derive(Clone, Copy)]
 pub enum Outcome {
     /// The call had the result and the effect that it has when nothing is refused.
     Same,

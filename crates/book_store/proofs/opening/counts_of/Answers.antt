@@ -1,6 +1,6 @@
 use Rattle.std.proofs.Common.{rules, ◌≡◌, string_bytes, subst, sym}
-use Rattle.book_counts.specs.Counts.{IsWritten}
-use Rattle.book_counts.proofs.EntryLemmas.{right_counted}
+use Rattle.book_model.specs.Counts.{IsWritten}
+use Rattle.book_model.proofs.EntryLemmas.{right_counted}
 use Rattle.store_check.specs.TombstoneCounts.{IsCountOf}
 use Rattle.store_queries.proofs.QueryFaultLemmas.{all_at}
 use Rattle.book_store.proofs.opening.counts_of.Goals as goal

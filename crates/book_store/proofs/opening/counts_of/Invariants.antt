@@ -1,6 +1,6 @@
 use Rattle.std.specs.List.{AllByRecursion}
 use Rattle.book_model.specs.Books.{Books}
-use Rattle.book_counts.specs.Counts.{AreCountsOf}
+use Rattle.book_model.specs.Counts.{AreCountsOf}
 use Rattle.store_check.specs.TombstoneCounts.{IsCountOf}
 use Rattle.book_store.proofs.opening.counts_of.Given as goal
 

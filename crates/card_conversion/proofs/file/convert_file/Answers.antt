@@ -1,6 +1,6 @@
 use Rattle.std.proofs.lemmas.Result.{IfOk-weaker}
-use Rattle.text_reader.specs.Readers.{text_left}
-use Rattle.text_reader.specs.Texts.{text_octets}
+use Rattle.import_text.specs.Readers.{text_left}
+use Rattle.import_text.specs.Texts.{text_octets}
 use Rattle.card_conversion.proofs.FileLemmas.{of_file}
 use Rattle.card_conversion.proofs.file.convert_file.Goals as goal
 

@@ -1,6 +1,6 @@
 use Rattle.std.proofs.lemmas.Result.{IfOk-weaker}
 use Rattle.std.specs.Option.{option_map}
-use Rattle.text_reader.specs.Texts.{text_octets}
+use Rattle.import_text.specs.Texts.{text_octets}
 use Rattle.card_conversion.specs.declared.rows_outlet.RowsOutlet.{RowsOutlet}
 use Rattle.card_conversion.proofs.RowLemmas.{all_rows}
 use Rattle.card_conversion.proofs.rows_order.convert_to_rows.Goals as goal

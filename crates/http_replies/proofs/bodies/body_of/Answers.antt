@@ -1,5 +1,5 @@
 use Rattle.std.proofs.Common.{refl}
-use Rattle.reply_json.proofs.FloatLemmas.{books_have_no_float, people_have_no_float}
+use Rattle.http_replies.proofs.FloatLemmas.{books_have_no_float, people_have_no_float}
 use Rattle.http_replies.proofs.bodies.body_of.Goals as goal
 
 pub returns-in-Created : goal.returns-in-Created

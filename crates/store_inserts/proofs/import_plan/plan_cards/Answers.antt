@@ -10,7 +10,7 @@ use Rattle.sqlite.specs.Held.{state}
 use Rattle.sqlite.specs.State.{HasCleanDisk}
 use Rattle.sqlite.proofs.Callers.{unchanged_then}
 use Rattle.vcard_text.specs.Cards.{uid_of}
-use Rattle.book_counts.specs.Counts.{is_tombstone_at}
+use Rattle.book_model.specs.Counts.{is_tombstone_at}
 use Rattle.book_model.specs.Counting.{one_if}
 use Rattle.book_model.specs.Importing.{import_with_reason, import_state}
 use Rattle.store_rows.specs.TableBooks.{row_book, line_row}

@@ -24,7 +24,7 @@ use Rattle.store_rows.proofs.HeldRows.{books_held}
 use Rattle.store_lookups.specs.CallResults.{GivenSoundRows}
 use Rattle.store_writes.specs.TableChanges.{AppliesStep, CommitsOnce, HasBookRow, HoldsBooks, IsAtomic, TreesHold}
 use Rattle.store_inserts.specs.internal.Importing.{IsImportPlanned, ReplacesFor, ReplacesTombstones, book_with_import}
-use Rattle.book_counts.specs.Counts.{AreCountsOf, CountsByName}
+use Rattle.book_model.specs.Counts.{AreCountsOf, CountsByName}
 use Rattle.store_lookups.specs.StoredBooks.{KeepsCounts, stored_books}
 use Rattle.store_inserts.specs.declared.import_plan.ImportDecision.TheVariants.{Kept, New}
 use Rattle.store_writes.proofs.CallLemmas.{failed_counts, fault_does, read_counts, reads_changes, wrote_changes, wrote_commits, wrote_counts}

@@ -1,6 +1,6 @@
 use Rattle.std.proofs.Common.{sym, subst}
-use Rattle.book_counts.specs.Counts.{IsWritten}
-use Rattle.book_counts.proofs.EntryLemmas.{right_counted}
+use Rattle.book_model.specs.Counts.{IsWritten}
+use Rattle.book_model.proofs.EntryLemmas.{right_counted}
 use Rattle.store_rows.specs.TableBooks.{books_of, line_row, row_book}
 use Rattle.store_lookups.proofs.kept_counts.remembered.Goals as goal
 

@@ -4,7 +4,7 @@ use Rattle.book_model.specs.Books.{Book}
 use Rattle.book_model.specs.BookQueries.{book_tally, tally_step}
 use Rattle.store_tables.proofs.Lookups.{reads_then}
 use Rattle.store_tables.proofs.SchemaCreationLemmas.{clean_before}
-use Rattle.book_counts.specs.Counts.{AreCountsOf}
+use Rattle.book_model.specs.Counts.{AreCountsOf}
 use Rattle.store_rows.specs.LookupLaws.{IsBookNamed}
 use Rattle.store_rows.specs.TableBooks.{books_of, line_row, row_book}
 use Rattle.store_lookups.specs.CallResults.{FollowsStep, IsExactly}

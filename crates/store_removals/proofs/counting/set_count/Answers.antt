@@ -1,7 +1,7 @@
 use Rattle.std.proofs.Common.{◌≡◌, IfSome, sym, subst}
 use Rattle.std.specs.FinMap as finite
-use Rattle.book_counts.proofs.EntryLemmas.{right_cleared, right_set}
-use Rattle.book_counts.specs.Counts.{AreCountsOf, CountsByName, IsWritten}
+use Rattle.book_model.proofs.EntryLemmas.{right_cleared, right_set}
+use Rattle.book_model.specs.Counts.{AreCountsOf, CountsByName, IsWritten}
 use Rattle.book_model.specs.BookQueries.{tombstone_count}
 use Rattle.store_removals.proofs.counting.set_count.Goals as goal
 

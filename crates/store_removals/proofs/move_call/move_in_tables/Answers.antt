@@ -21,8 +21,8 @@ use Rattle.book_model.specs.BookChanges.{book_after_drop, book_with_row}
 use Rattle.book_model.specs.BookQueries.{tombstone_count}
 use Rattle.book_model.specs.CallOutcomes.{MatchesStep}
 use Rattle.book_model.specs.Counting.{one_if}
-use Rattle.book_counts.specs.Counts.{AreCountsOf, CountsByName}
-use Rattle.book_counts.proofs.StoreLemmas.{stored_replace}
+use Rattle.book_model.specs.Counts.{AreCountsOf, CountsByName}
+use Rattle.book_model.proofs.StoreLemmas.{stored_replace}
 use Rattle.book_model.specs.Moving.{books_after_move, move_step}
 use Rattle.store_rows.specs.SoundTables.{AreSoundRows}
 use Rattle.store_rows.specs.TableBooks.{books_in, books_of}

@@ -16,7 +16,7 @@ use Rattle.book_model.specs.Books.{Books, book_named}
 use Rattle.book_model.specs.BookChanges.{book_after_drop, book_with_row}
 use Rattle.book_model.specs.BookQueries.{tombstone_count}
 use Rattle.book_model.specs.CallOutcomes.{MatchesStep}
-use Rattle.book_counts.specs.Counts.{AreCountsOf, CountsByName}
+use Rattle.book_model.specs.Counts.{AreCountsOf, CountsByName}
 use Rattle.store_rows.specs.SoundTables.{AreSoundRows}
 use Rattle.book_model.specs.Removing.{remove_step}
 use Rattle.store_rows.specs.TableBooks.{row_book, books_of, books_in, line_row}

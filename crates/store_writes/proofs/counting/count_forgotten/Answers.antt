@@ -1,7 +1,7 @@
 use Rattle.std.proofs.Common.{rules, ◌≡◌, sym, subst, ◌∙◌}
 use Rattle.std.specs.FinMap as finite
-use Rattle.book_counts.proofs.EntryLemmas.{right_cleared, right_same}
-use Rattle.book_counts.specs.Counts.{AreCountsOf}
+use Rattle.book_model.proofs.EntryLemmas.{right_cleared, right_same}
+use Rattle.book_model.specs.Counts.{AreCountsOf}
 use Rattle.book_model.specs.Forgetting.{book_after_forget}
 use Rattle.store_writes.proofs.ForgottenCounts.{none_forgotten}
 use Rattle.store_writes.proofs.counting.count_forgotten.Goals as goal

@@ -1,7 +1,7 @@
 use Rattle.std.proofs.Common.{rules, ◌≡◌, ◌-◌, Some, None, sym, subst, ◌∙◌, arith}
 use Rattle.std.specs.FinMap as finite
-use Rattle.book_counts.proofs.EntryLemmas.{absent_removed, right_cleared, right_number, right_same, right_set}
-use Rattle.book_counts.specs.Counts.{AreCountsOf, CountsByName, IsWritten}
+use Rattle.book_model.proofs.EntryLemmas.{absent_removed, right_cleared, right_number, right_same, right_set}
+use Rattle.book_model.specs.Counts.{AreCountsOf, CountsByName, IsWritten}
 use Rattle.book_model.specs.BookQueries.{tombstone_count}
 use Rattle.store_writes.proofs.counting.count_replaced.Goals as goal
 

@@ -5,7 +5,7 @@ use Rattle.store_writes.proofs.ForgetLemmas.{forgets_known, forgets_later}
 use Rattle.sqlite.specs.Held.{state}
 use Rattle.sqlite.specs.Effect.{Database}
 use Rattle.sqlite.specs.State.{State, HasCleanDisk}
-use Rattle.book_counts.specs.Counts.{AreCountsOf, CountsByName}
+use Rattle.book_model.specs.Counts.{AreCountsOf, CountsByName}
 use Rattle.book_model.specs.declared.denied.Denied.{Denied}
 use Rattle.book_model.specs.declared.denied.Denied.TheVariants.{Refused}
 use Rattle.book_model.specs.declared.refusal.Refusal.{Refusal}

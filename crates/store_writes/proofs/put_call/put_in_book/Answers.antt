@@ -16,8 +16,8 @@ use Rattle.book_model.specs.declared.change.StoreReason.{StoreReason}
 use Rattle.book_model.specs.BookQueries.{tombstone_count}
 use Rattle.book_model.specs.CallOutcomes.{MatchesStep}
 use Rattle.book_model.specs.Counting.{one_if}
-use Rattle.book_counts.specs.Counts.{AreCountsOf, CountsByName}
-use Rattle.book_counts.proofs.StoreLemmas.{stored_replace}
+use Rattle.book_model.specs.Counts.{AreCountsOf, CountsByName}
+use Rattle.book_model.proofs.StoreLemmas.{stored_replace}
 use Rattle.book_model.specs.Putting.{put_step, put_store_reason}
 use Rattle.store_rows.specs.TableBooks.{row_book, books_of, books_in, line_row}
 use Rattle.store_rows.specs.TableRows.{TableRows}

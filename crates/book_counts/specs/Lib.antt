@@ -1,2 +1,0 @@
-pub mod CountLaws
-pub mod Counts

@@ -1,0 +1,174 @@
+-- The rows so far, and one more.
+use Rattle.std.proofs.Common.{◌≡◌, ◌≢◌, ◌∷◌, ◌++◌, [], ℕ, List, Option, Some, None, Result, Ok, true, refl, sym, ap, subst, ◌∙◌, map, append_assoc, append-nil, arith, ◌<◌, length, get_or, zero, suc}
+use Rattle.std.specs.List.{All, AllByRecursion, AllPairs, Contains}
+use Rattle.std.specs.FinMap as finite
+use Rattle.std.specs.Option.{IsSome}
+use Rattle.std.proofs.lemmas.List.{flat_map_more}
+use Rattle.std.proofs.lemmas.List.Elements.{Contains-append_left, Contains-append_right}
+use Rattle.std.proofs.lemmas.List.Kept.{AllPairs-cons}
+use Rattle.csv.specs.Reading.{ReadRecord}
+use Rattle.csv.specs.declared.reader.Reader.{Reader}
+use Rattle.base_types.specs.TextMaps.{text_cmp}
+use Rattle.vcard_lines.specs.declared.fault.CardFault.{CardFault}
+use Rattle.vcard_lines.specs.declared.line.Line.{Line}
+use Rattle.vcard_text.specs.Cards.{IsCard, uid_of}
+use Rattle.vcard_import.specs.declared.conversion.Conversion.{Conversion}
+use Rattle.card_conversion.specs.Deliveries.{HasUids, WritesInTurn}
+use Rattle.card_conversion.specs.Counts.{nothing_counted}
+use Rattle.card_conversion.specs.declared.ledger.Summary.{Summary}
+use Rattle.std.proofs.lemmas.Grind.{fold-append}
+use Rattle.contact_csv.specs.Contacts.{Becomes, IsReady, columns_of, rows_of}
+use Rattle.contact_columns.specs.declared.columns.Column.{Column}
+use Rattle.contact_csv.specs.declared.rows.ContactReader.{ContactReader}
+use Rattle.card_conversion.specs.declared.contacts.fate.RowFate.{RowFate}
+use Rattle.card_conversion.specs.declared.contacts.fate.RowFate.TheVariants.{Refused, Repeated, Declined, Written}
+use Rattle.card_conversion.specs.ContactAccounts.{ConvertsContacts, ReadsInTurn}
+use Rattle.card_conversion.specs.ContactFates.{IsRowContact, RowEntry, HaveFates, IsFate, cards_of, cards_of_fate, counted, summary_of, uids_of, uids_of_fate}
+use Rattle.card_conversion.specs.internal.ContactStates.{IsFateOf, Progress, ReadsRow, TakesRow}
+
+abbrev entry_of : List (List ℕ) → RowFate → RowEntry
+entry_of fields fate = record { fields = fields; fate = fate }
+
+-- a flat map of one more entry
+more_uids : (entries : List RowEntry) (fields : List (List ℕ)) (fate : RowFate) → uids_of (entries ++ entry_of fields fate ∷ []) ≡ uids_of entries ++ uids_of_fate fate
+more_uids entries fields fate = sym (flat_map_more (λ (e : RowEntry). uids_of_fate e.fate) [] entries (entry_of fields fate))
+
+more_cards : (entries : List RowEntry) (fields : List (List ℕ)) (fate : RowFate) → cards_of (entries ++ entry_of fields fate ∷ []) ≡ cards_of entries ++ cards_of_fate fate
+more_cards entries fields fate = sym (flat_map_more (λ (e : RowEntry). cards_of_fate e.fate) [] entries (entry_of fields fate))
+
+more_counts : (entries : List RowEntry) (fields : List (List ℕ)) (fate : RowFate) → summary_of (entries ++ entry_of fields fate ∷ []) ≡ counted (summary_of entries) fate
+more_counts entries fields fate = fold-append (λ (s : Summary) (e : RowEntry). counted s e.fate) nothing_counted entries (entry_of fields fate ∷ [])
+
+-- one more row has its fate after the others
+more_fates : (columns : List Column) (uids : List (List ℕ)) (entries : List RowEntry) (fields : List (List ℕ)) (fate : RowFate) → HaveFates columns uids entries → IsFate columns (uids ++ uids_of entries) fields fate → HaveFates columns uids (entries ++ entry_of fields fate ∷ [])
+more_fates columns uids [] fields fate have is = (subst (λ all. IsFate columns all fields fate) (append-nil uids) is, tt)
+more_fates columns uids (e ∷ es) fields fate have is =
+    (have.0, more_fates columns (uids ++ uids_of_fate e.fate) es fields fate have.1 (subst (λ all. IsFate columns all fields fate) (sym (append_assoc uids (uids_of_fate e.fate) (uids_of es))) is))
+
+-- ---- the UIDs of the cards that were written
+
+module _ (columns : List Column) (P : List ℕ → Type 0) (rest : List (List Line)) where
+  with_card : (uids : List (List ℕ)) (fields : List (List ℕ)) (fate : RowFate) → IsFate columns uids fields fate → ((uid : List ℕ) → (Contains uids uid → ⊥) → P uid) → All P (map uid_of rest) → All P (map uid_of (cards_of_fate fate ++ rest))
+  with_card uids fields (Refused fault) is new all = all
+  with_card uids fields (Repeated made) is new all = all
+  with_card uids fields (Declined made words) is new all = all
+  with_card uids fields (Written made) is new all = λ k d small. at k d small
+    where
+      at : (k : ℕ) (d : List ℕ) → k < length (uid_of made.card ∷ map uid_of rest) → P (get_or (uid_of made.card ∷ map uid_of rest) k d)
+      at zero d small = new (uid_of made.card) is.1
+      at (suc k) d small = all k d (omega (arith, small))
+
+-- none of them is among the UIDs of earlier cards
+apart : (columns : List Column) (uids : List (List ℕ)) (entries : List RowEntry) → HaveFates columns uids entries → All (λ uid. Contains uids uid → ⊥) (map uid_of (cards_of entries))
+apart columns uids [] have = λ k d small. absurd (omega (arith, small))
+apart columns uids (e ∷ es) have =
+    with_card columns (λ uid. Contains uids uid → ⊥) (cards_of es) uids e.fields e.fate have.0 (λ uid new. new)
+    (λ k d small had. apart columns (uids ++ uids_of_fate e.fate) es have.1 k d small (Contains-append_left uids (uids_of_fate e.fate) (get_or (map uid_of (cards_of es)) k d) had))
+
+one_has : (x : List ℕ) → Contains (x ∷ []) x
+one_has x = (0, omega arith, refl)
+
+with_pairs : (uids : List (List ℕ)) (fate : RowFate) (rest : List (List Line)) → All (λ uid. Contains (uids ++ uids_of_fate fate) uid → ⊥) (map uid_of rest) → AllPairs (λ a b. a ≢ b) (map uid_of rest) → AllPairs (λ a b. a ≢ b) (map uid_of (cards_of_fate fate ++ rest))
+with_pairs uids (Refused fault) rest all pairs = pairs
+with_pairs uids (Repeated made) rest all pairs = pairs
+with_pairs uids (Declined made words) rest all pairs = pairs
+with_pairs uids (Written made) rest all pairs =
+    AllPairs-cons (λ a b. a ≢ b) (uid_of made.card) (map uid_of rest)
+    (λ k d small same. all k d small (subst (Contains (uids ++ uid_of made.card ∷ [])) same (Contains-append_right uids (uid_of made.card ∷ []) (uid_of made.card) (one_has (uid_of made.card)))))
+    pairs
+
+apart_each : (columns : List Column) (uids : List (List ℕ)) (entries : List RowEntry) → HaveFates columns uids entries → AllPairs (λ a b. a ≢ b) (map uid_of (cards_of entries))
+apart_each columns uids [] have = λ i j d below small. absurd (omega (arith, small))
+apart_each columns uids (e ∷ es) have =
+    with_pairs uids e.fate (cards_of es) (apart columns (uids ++ uids_of_fate e.fate) es have.1) (apart_each columns (uids ++ uids_of_fate e.fate) es have.1)
+
+with_rules : (columns : List Column) (uids : List (List ℕ)) (fields : List (List ℕ)) (fate : RowFate) (rest : List (List Line)) → IsFate columns uids fields fate → AllByRecursion IsCard rest → AllByRecursion IsCard (cards_of_fate fate ++ rest)
+with_rules columns uids fields (Refused fault) rest is all = all
+with_rules columns uids fields (Repeated made) rest is all = all
+with_rules columns uids fields (Declined made words) rest is all = all
+with_rules columns uids fields (Written made) rest is all = (is.0.card, all)
+
+each_card : (columns : List Column) (uids : List (List ℕ)) (entries : List RowEntry) → HaveFates columns uids entries → AllByRecursion IsCard (cards_of entries)
+each_card columns uids [] have = tt
+each_card columns uids (e ∷ es) have = with_rules columns uids e.fields e.fate (cards_of es) have.0 (each_card columns (uids ++ uids_of_fate e.fate) es have.1)
+
+-- no UID is known yet
+pub none_known : HasUids finite.empty []
+none_known uid = (λ some. cc (subst IsSome (finite.get-empty text_cmp uid) some), λ had. absurd (nothing uid had))
+  where
+    nothing : (q : List ℕ) → Contains {X = List ℕ} [] q → ⊥
+    nothing q (i, small, e) = omega (arith, small)
+
+-- ---- the reader
+
+module _ {R : Type 0} (remaining : R → Option (List ℕ)) where
+  -- one more record is read after the others
+  more_read : (entries : List RowEntry) (fields : List (List ℕ)) (fate : RowFate) (a b c : Reader R) → ReadsInTurn remaining entries a b → ReadRecord remaining b c true fields → ReadsInTurn remaining (entries ++ entry_of fields fate ∷ []) a c
+  more_read [] fields fate a b c same then = (c, subst (λ x. ReadRecord remaining x c true fields) same then, refl)
+  more_read (e ∷ es) fields fate a b c first then = (first.0, first.1, more_read es fields fate first.0 b c first.2 then)
+
+-- the row with these fields became a card or a fault, which has the fate
+card_of : (columns : List Column) (fields : List (List ℕ)) (row : Result Conversion CardFault) (made : Conversion) → Becomes columns fields row → row ≡ Ok made → IsCard made.card → IsRowContact columns fields made
+card_of columns fields row made becomes is card = record { card = card; contact = subst (Becomes columns fields) is becomes }
+
+fate_of : (columns : List Column) (fields : List (List ℕ)) (uids : List (List ℕ)) (row : Result Conversion CardFault) (fate : RowFate) → Becomes columns fields row → IsFateOf uids row fate → IsFate columns uids fields fate
+fate_of columns fields uids row (Refused fault) becomes is = subst (Becomes columns fields) is becomes
+fate_of columns fields uids row (Repeated made) becomes is = (card_of columns fields row made becomes is.0 is.1, is.2)
+fate_of columns fields uids row (Declined made words) becomes is = (card_of columns fields row made becomes is.0 is.1, is.2)
+fate_of columns fields uids row (Written made) becomes is = (card_of columns fields row made becomes is.0 is.1, is.2)
+
+-- ---- the loop
+
+module _ {A : Type 0} (writes : List Line → A → A → Type 0) where
+  -- more cards are written after the others
+  more_written : (cards more : List (List Line)) (a b c : A) → WritesInTurn writes cards a b → WritesInTurn writes more b c → WritesInTurn writes (cards ++ more) a c
+  more_written [] more a b c first then = subst (λ x. WritesInTurn writes more x c) first then
+  more_written (card ∷ cards) more a b c first then = (first.0, first.1, more_written cards more first.0 b c first.2 then)
+
+  module _ {R : Type 0} (remaining : R → Option (List ℕ)) (first : ContactReader R) (before : A) where
+    abbrev pub SoFar : A → ContactReader R → finite.FinMap text_cmp (Unit {0}) → Summary → Type 0
+    SoFar now reader map summary = Progress writes remaining (columns_of first) (rows_of first) before now reader map summary
+
+    pub begun : (map : finite.FinMap text_cmp (Unit {0})) (summary : Summary) → HasUids map [] → summary ≡ nothing_counted → IsReady first → SoFar before first map summary
+    begun map summary known counts ready = record { entries = []; read = refl; ready = ready; same_columns = refl; fates = tt; known = known; written = refl; counts = counts }
+
+    pub all_done : (now : A) (old found : ContactReader R) (map : finite.FinMap text_cmp (Unit {0})) (summary : Summary) → SoFar now old map summary → ReadsRow remaining old found None → ConvertsContacts writes remaining first before now summary
+    all_done now old found map summary p none = record {
+      entries = p.entries;
+      accounts = record {
+        last = rows_of old;
+        read = p.read;
+        end = rows_of found;
+        fields = none.0;
+        no_more = none.1;
+        fates = p.fates;
+        distinct = apart_each (columns_of first) [] p.entries p.fates;
+        cards = each_card (columns_of first) [] p.entries p.fates;
+        counts = p.counts;
+      };
+      written = p.written;
+    }
+
+    pub one_row : (now then : A) (old new : ContactReader R) (map after : finite.FinMap text_cmp (Unit {0})) (row : Result Conversion CardFault) (fate : RowFate) (summary more : Summary)
+        → SoFar now old map summary
+        → ReadsRow remaining old new (Some row)
+        → columns_of new ≡ columns_of old
+        → IsReady new
+        → TakesRow writes row map after now then fate
+        → more ≡ counted summary fate
+        → SoFar then new after more
+    one_row now then old new map after row fate summary more p step same ready takes counts =
+        let taken = takes (uids_of p.entries) p.known in
+        let fields = step.0 in
+        record {
+          entries = p.entries ++ entry_of fields fate ∷ [];
+          read = more_read remaining p.entries fields fate (rows_of first) (rows_of old) (rows_of new) p.read step.1;
+          ready = ready;
+          same_columns = same ∙ p.same_columns;
+          fates = more_fates (columns_of first) [] p.entries fields fate p.fates
+              (subst (λ columns. IsFate columns (uids_of p.entries) fields fate) p.same_columns (fate_of (columns_of old) fields (uids_of p.entries) row fate step.2 taken.0));
+          known = subst (HasUids after) (sym (more_uids p.entries fields fate)) taken.1;
+          written = subst (λ cards. WritesInTurn writes cards before then) (sym (more_cards p.entries fields fate))
+              (more_written (cards_of p.entries) (cards_of_fate fate) before now then p.written taken.2);
+          counts = counts ∙ ap (λ s. counted s fate) p.counts ∙ sym (more_counts p.entries fields fate);
+        }

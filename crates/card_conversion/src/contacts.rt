@@ -1,0 +1,12 @@
+//! Converts contacts that Google and Outlook export as CSV, one row at a time, and reports each
+//! cell that no property of its card holds as it is.
+
+mod fate;
+mod report;
+mod rows;
+mod rows_order;
+mod run;
+mod tally;
+
+pub use rows_order::convert_contacts_to_rows;
+pub use run::convert_contacts;

@@ -1,0 +1,69 @@
+//! Reads a row, and decides what becomes of it.
+ghost use Rattle.std.specs.Prelude.{◌≡◌, IfOk, Ok};
+ghost use Rattle.vcard_text.specs.Cards.{IsCard};
+ghost use Rattle.contact_csv.specs.Contacts.{IsReady, columns_of};
+ghost use Rattle.card_conversion.specs.internal.ContactStates.{ReadsRow, TakesRow};
+
+use crate::contacts::fate::RowFate;
+use crate::{ConversionFault, Outcome, Outlet, deliver};
+use base_types::TextMap;
+use contact_csv::{ContactFault, ContactReader};
+use std::alloc::Global;
+use std::io::Read;
+use vcard_import::Conversion;
+use vcard_text::CardFault;
+
+/// Reads the contact of the next row, or its fault; `None` after the last row.
+pub(crate) fn next_row<R: Read + Drop>(
+    alloc: Global,
+    contacts: &mut ContactReader<R>,
+) -> Result<Option<Result<Conversion, CardFault>>, ConversionFault>
+    ensures row { IfOk result (λ row. IsReady contacts.old
+        → ReadsRow R.remaining contacts.old contacts.new row) }
+    ensures columns { columns_of contacts.new ≡ columns_of contacts.old }
+    ensures ready { IfOk result (λ _. IsReady contacts.old → IsReady contacts.new) }
+{
+    match contacts.read_contact(alloc) {
+        Ok(row) => Ok(row),
+        Err(ContactFault::Memory) => Err(ConversionFault::Memory),
+        Err(_) => Err(ConversionFault::Input),
+    }
+}
+
+/// Writes a card, unless an earlier one has its UID.
+fn deliver_row<O: Outlet>(
+    alloc: Global,
+    uids: &mut TextMap<()>,
+    number: u64,
+    conversion: Conversion,
+    outlet: &mut O,
+) -> Result<RowFate, ConversionFault>
+    ensures { IfOk result (λ fate. IsCard conversion.card → TakesRow O.writes (Ok conversion)
+        uids.old uids.new outlet.old outlet.new fate) }
+{
+    match deliver(alloc, uids, number, &conversion.card, outlet)? {
+        Outcome::Repeated => Ok(RowFate::Repeated(conversion)),
+        Outcome::Declined(words) => Ok(RowFate::Declined(conversion, words)),
+        Outcome::Written => Ok(RowFate::Written(conversion)),
+    }
+}
+
+/// Writes the card of a row to the outlet. `number` counts the rows, from 1.
+pub(crate) fn take_row<O: Outlet>(
+    alloc: Global,
+    uids: &mut TextMap<()>,
+    number: u64,
+    row: Result<Conversion, CardFault>,
+    outlet: &mut O,
+) -> Result<RowFate, ConversionFault>
+    ensures { IfOk result (TakesRow O.writes row uids.old uids.new outlet.old outlet.new) }
+{
+    match row {
+        Ok(conversion) => {
+            // Its clause says that the lines keep the rules of a card.
+            let _lines = conversion.card.lines();
+            deliver_row(alloc, uids, number, conversion, outlet)
+        }
+        Err(fault) => Ok(RowFate::Refused(fault)),
+    }
+}

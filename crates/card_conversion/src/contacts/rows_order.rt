@@ -1,0 +1,30 @@
+//! Converts contacts to the rows of an import.
+ghost use Rattle.std.specs.Prelude.{IfOk};
+ghost use Rattle.contact_csv.specs.Contacts.{IsReady};
+ghost use Rattle.card_conversion.specs.ContactAccounts.{ContactsToRows};
+
+use crate::contacts::run::convert_contacts;
+use crate::laws::written_rows_are_read;
+use crate::{ConversionFault, RowsOutlet, Summary};
+use contact_csv::ContactReader;
+use std::alloc::Global;
+use std::io::{Read, Write};
+
+/// Converts all contacts of a file, as `convert_contacts` does, to a header and rows on the writer.
+pub fn convert_contacts_to_rows<R: Read + Drop, W: Write, E: Write>(
+    alloc: Global,
+    reader: ContactReader<R>,
+    outlet: &mut RowsOutlet<W>,
+    errors: &mut E,
+) -> Result<Summary, ConversionFault>
+    // The rows that the reader has left have their fates. The header and the rows of the cards
+    // among them were written. `read_rows` reads them as these cards, of which no two have one UID.
+    ensures { IsReady reader → IfOk result (λ summary. ContactsToRows R.remaining reader
+        (W.contents outlet.old.writer) (W.contents outlet.new.writer) summary) }
+{
+    // A law: the header and the rows of cards with different UIDs are read back as these cards.
+    written_rows_are_read();
+
+    outlet.start(alloc)?;
+    convert_contacts(alloc, reader, outlet, errors)
+}

@@ -1,0 +1,33 @@
+//! How many rows there were, of each fate.
+ghost use Rattle.std.specs.Prelude.{◌≡◌};
+ghost use Rattle.card_conversion.specs.Counts.{nothing_counted};
+ghost use Rattle.card_conversion.specs.ContactFates.{counted};
+
+use crate::Summary;
+use crate::contacts::fate::RowFate;
+
+/// The summary of no rows.
+pub(crate) fn no_rows() -> Summary
+    ensures { result ≡ nothing_counted }
+{
+    Summary {
+        written: 0,
+        changed: 0,
+        refused: 0,
+    }
+}
+
+/// Counts a row.
+pub(crate) fn count_row(summary: &mut Summary, fate: &RowFate)
+    ensures { summary.new ≡ counted summary.old fate.now }
+{
+    match fate {
+        RowFate::Written(conversion) => {
+            summary.written = summary.written.saturating_add(1);
+            if !conversion.changes.is_empty() {
+                summary.changed = summary.changed.saturating_add(1);
+            }
+        }
+        _ => summary.refused = summary.refused.saturating_add(1),
+    }
+}

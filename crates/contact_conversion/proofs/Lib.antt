@@ -1,2 +1,0 @@
-mod ProgressLemmas
-mod RowLemmas

@@ -1,0 +1,16 @@
+//! Tests each call over tables that were damaged by hand after they were last checked.
+
+mod answers;
+mod calls;
+mod changes;
+mod damage;
+mod fixture;
+mod insert_script;
+mod lines;
+mod reads;
+mod rows;
+mod stop;
+mod tables;
+
+pub use lines::run_lines;
+pub use stop::Stop;

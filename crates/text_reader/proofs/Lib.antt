@@ -1,3 +1,0 @@
-pub mod FillLemmas
-mod CutLemmas
-mod UnreadLemmas

@@ -1,3 +1,0 @@
-pub mod Readers
-pub mod Texts
-pub mod internal

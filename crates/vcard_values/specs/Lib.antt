@@ -1,2 +1,0 @@
-pub mod TextValues
-pub mod internal
