@@ -22,7 +22,9 @@ AUDIT = r"""(() => {
     // Names: of all that is used, and of what groups it.
     const used = 'button, a[href], input, select, textarea, summary, progress, img, dialog, nav, '
         + '[role=listbox], [role=option], [role=group], section[aria-label], article, [tabindex]';
-    for (const node of all(used)) if (!nameOf(node)) wrong('no name', node);
+    // The face in a row says nothing that its name doesn't.
+    const isSpoken = (node) => !node.closest('[aria-hidden=true]');
+    for (const node of all(used)) if (isSpoken(node) && !nameOf(node)) wrong('no name', node);
     // A name that is seen is part of the name that is spoken (2.5.3).
     for (const node of all('button[aria-label], a[aria-label]')) {
         const seen = node.textContent.trim().toLowerCase();
@@ -100,9 +102,24 @@ AUDIT = r"""(() => {
         const box = (node.closest('label') ?? node).getBoundingClientRect();
         if (box.width < 24 || box.height < 24) wrong(`${box.width} x ${box.height}`, node);
     }
+    // Tab goes down the page: a stop isn't above the one before it, but in a column beside it. A
+    // bar that stays in sight is at its end, wherever that is.
+    const isSticky = (it) => getComputedStyle(it.parentElement).position === 'sticky';
+    const stops = all('button, a[href], input, select, textarea, summary, [tabindex="0"]')
+        .filter((it) => it.tabIndex >= 0 && !it.closest('.skip, .toast') && !isSticky(it))
+        .filter((it) => !document.querySelector('dialog[open]') || it.closest('dialog'));
+    for (let at = 1; at < stops.length; at += 1) {
+        const [one, next] = [stops[at - 1], stops[at]].map((it) => it.getBoundingClientRect());
+        if (next.bottom <= one.top && next.left < one.right) wrong('Tab goes up to', stops[at]);
+    }
     if (document.documentElement.scrollWidth > innerWidth) found.push('wider than the page');
     return found;
 })()"""
+
+
+# Colours change within 90 ms, if the machine has time for it.
+CALM = """new Promise((done) => setTimeout(done, 150)).then(() => Promise.all(
+    document.getAnimations().map((it) => it.finished.catch(() => {})))).then(() => null)"""
 
 
 def audit(page, place):
@@ -110,7 +127,6 @@ def audit(page, place):
     wrong = []
     for scheme in page.schemes:
         page.scheme(scheme)
-        # Colours change within 90 ms.
-        page.run("new Promise((done) => setTimeout(done, 250))")
+        page.run(CALM)
         wrong += [f"{place}, {scheme}: {it}" for it in page.run(AUDIT)]
     assert not wrong, "\n".join(wrong)

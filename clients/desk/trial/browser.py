@@ -11,13 +11,16 @@ import tempfile
 import time
 from pathlib import Path
 
-SECONDS = 90  # that a page has for each thing, on a machine that is busy with others
+import pages
+
 KEYS = {
     "Enter": (13, "\r"),
     "Escape": (27, None),
     "ArrowDown": (40, None),
     "ArrowUp": (38, None),
     "ArrowRight": (39, None),
+    "Home": (36, None),
+    "End": (35, None),
     "F2": (113, None),
     "Tab": (9, None),
     " ": (32, " "),
@@ -140,15 +143,14 @@ class Browser:
         return page
 
     def desk(self, address, user, isolated=True, **size):
-        """
-        A page of a user, with storage of its own unless `isolated` is false. The password goes in
-        by the address.
-        """
+        """A page of a user, with storage of its own unless `isolated` is false."""
         page = self.page(self.context() if isolated else None, **size)
-        scheme, rest = address.split("://")
-        page.go(f"{scheme}://{user}:{user}-pw@{rest}")
-        page.go(address)
+        page.enter(address, user)
         return page
+
+    def another(self):
+        """Another browser, with nothing kept."""
+        return Browser(self.program, self.arguments)
 
     def kill(self):
         """Ends the browser at once, as a crash does."""
@@ -165,17 +167,12 @@ class Browser:
         shutil.rmtree(self.folder, ignore_errors=True)
 
 
-class Page:
+class Page(pages.Page):
     schemes = ("dark", "light")
-    was_left = False  # by Tab
 
     def __init__(self, browser, session, context):
-        self.browser = browser
+        super().__init__(browser, context)
         self.session = session
-        self.context = context
-        self.said = []  # errors of scripts and of the console
-        self.dialogs = []
-        self.asked = []  # addresses of requests
 
     def call(self, method, **parameters):
         return self.browser.call(method, self.session, **parameters)
@@ -192,7 +189,7 @@ class Page:
         elif method == "Page.javascriptDialogOpening":
             self.dialogs.append(given["message"])
         elif method == "Network.requestWillBeSent":
-            self.asked.append(given["request"]["url"])
+            self.requested(given["request"]["method"], given["request"]["url"])
 
     def size(self, width, height, mobile=False):
         self.call(
@@ -207,11 +204,8 @@ class Page:
         features = [{"name": "prefers-color-scheme", "value": name}]
         self.call("Emulation.setEmulatedMedia", features=features)
 
-    def go(self, address):
-        """Loads the address, and waits until its scripts have run."""
-        self.run("window.isOld = true")
+    def navigate(self, address):
         self.call("Page.navigate", url=address)
-        self.wait("!window.isOld && document.readyState === 'complete'")
 
     def run(self, expression):
         """The value of an expression, awaited if it is a promise."""
@@ -222,21 +216,6 @@ class Page:
         if "exceptionDetails" in result:
             raise RuntimeError(result["exceptionDetails"].get("exception", result))
         return result["result"].get("value")
-
-    def wait(self, expression, seconds=SECONDS):
-        """Waits until an expression is true. Returns its value."""
-        end = time.monotonic() + seconds
-        while True:
-            try:
-                value = self.run(expression)
-            except RuntimeError:
-                value = None
-            # An element comes as {}.
-            if value or value == {}:
-                return value
-            if time.monotonic() > end:
-                raise AssertionError(f"never true: {expression}\n{self.said}")
-            time.sleep(0.05)
 
     def type(self, text):
         self.call("Input.insertText", text=text)
@@ -260,23 +239,11 @@ class Page:
             self.call("Input.dispatchKeyEvent", type="keyDown", text=sign, **given)
             self.call("Input.dispatchKeyEvent", type="keyUp", **given)
 
-    def press(self, text, within="document"):
-        """Clicks the button or link with this text, with the mouse."""
-        find = (
-            f"[...({within}).querySelectorAll('button, a, summary, label, [role=option]')]"
-            ".find((it) => it.offsetParent &&"
-            f" it.textContent.trim().startsWith({json.dumps(text)}))"
-        )
-        place = self.wait(
-            f"(() => {{ const it = {find}; if (!it) return null;"
-            "it.scrollIntoView({block: 'nearest'});"
-            "const box = it.getBoundingClientRect();"
-            "return [box.x + box.width / 2, box.y + box.height / 2]; })()"
-        )
+    def click(self, x, y, modifiers=0):
         for kind in ("mousePressed", "mouseReleased"):
             self.call(
-                "Input.dispatchMouseEvent", type=kind, x=place[0], y=place[1], button="left",
-                clickCount=1,
+                "Input.dispatchMouseEvent", type=kind, x=x, y=y, button="left", clickCount=1,
+                modifiers=modifiers,
             )
 
     def choose_file(self, selector, path):

@@ -5,19 +5,17 @@ import time
 
 from access import audit
 from browser import ALT
+import common
+from common import HEADER, ROWS, STATE, TITLE, card_with, toast, until
 from hands import Hands
-from office import card, logical
+from office import card
 
 DAY = {}
-ROWS = "[...document.querySelectorAll('#list [role=option] .name')].map((it) => it.textContent)"
 BOOKS = "[...document.querySelectorAll('#books .choose')].map((it) => it.innerText)"
-STATE = "(document.querySelector('#state span')?.textContent ?? '')"
-TITLE = "document.querySelector('#card-name')?.textContent"
 CARD = "document.querySelector('.card').innerText"
 DIALOG = "document.querySelector('dialog').innerText"
 CAPTION = "document.querySelector('dialog .tally caption')?.textContent"
 SAID = "document.querySelector('dialog .import').innerText"
-HEADER = "uid,fn,family,given,email,tel,org,note\n"
 
 
 def step(function):
@@ -25,18 +23,7 @@ def step(function):
     return function
 
 
-class Day:
-    def __init__(self, office, browser, pictures):
-        self.office = office
-        self.browser = browser
-        self.pictures = pictures
-        self.desks = {}
-
-    def desk(self, user, **size):
-        page = self.browser.desk(self.office.front, user, **size)
-        self.desks[user] = page
-        return page
-
+class Day(common.Trial):
     @property
     def mine(self):
         """The desk of the office's manager, and the hands at it."""
@@ -45,24 +32,6 @@ class Day:
     def picture(self, page, name):
         page.run("new Promise((done) => setTimeout(done, 300))")
         page.picture(self.pictures / f"{name}.png")
-
-    def quiet(self):
-        """No script failed, nothing was alerted, and no other server was asked."""
-        for user, page in self.desks.items():
-            loud = [it for it in page.said if "Failed to load resource" not in it]
-            assert not loud, f"{user}: {loud}"
-            assert not page.dialogs, page.dialogs
-            near = (self.office.front, "data:", "blob:", "about:blank")
-            far = [it for it in page.asked if not it.startswith(near) and "@127.0.0.1" not in it]
-            assert not far, far
-
-    def failed(self, name):
-        for user, page in self.desks.items():
-            try:
-                page.picture(self.pictures / f"failed-{name}-{user}.png")
-                page.said.clear()
-            except Exception:
-                pass  # the browser is gone
 
 
 def equals(page, expression, value):
@@ -83,35 +52,13 @@ def shows(page, name):
     page.wait(f"{TITLE} === {json.dumps(name)}")
 
 
-def toast(page, text):
-    page.wait(f"document.querySelector('#toast').textContent.includes({json.dumps(text)})")
-
-
-def until(condition, seconds=60):
-    """Waits until a function answers something. Returns that."""
-    end = time.monotonic() + seconds
-    while True:
-        value = condition()
-        if value:
-            return value
-        assert time.monotonic() < end, "it never came to be"
-        time.sleep(0.1)
-
-
 def status(day, book, uid):
-    return day.office.request("GET", f"/books/{book}/cards/{uid}")[0]
+    return common.status(day.office, book, uid)
 
 
 def stored(day, book, uid, *lines):
     """Waits until the server's card has the lines. Returns all of its lines."""
-
-    def found():
-        if status(day, book, uid) != 200:
-            return None
-        text = logical(day.office.card(book, uid)["card"])
-        return text if all(it in text for it in lines) else None
-
-    return until(found)
+    return card_with(day.office, book, uid, *lines)
 
 
 def update(page):
@@ -267,7 +214,7 @@ def move(day):
     audit(page, "a question")
     hands.press("clients")
     toast(page, "Moved to clients: Cy")
-    assert "FN:Cy" in day.office.card("clients", "c")["card"]
+    stored(day, "clients", "c", "FN:Cy")
     assert status(day, "staff", "c") == 404
     page.wait("location.hash === '#/card/clients/c'")
 

@@ -1,6 +1,6 @@
 """Drives a headless Firefox by WebDriver BiDi, with Python's standard library alone.
 
-Its pages have the functions of `browser.Page` that the office's day uses.
+It and its pages have the functions of `browser` that the office's day and the faults' steps use.
 """
 
 import base64
@@ -12,7 +12,8 @@ import tempfile
 import time
 from pathlib import Path
 
-from browser import ALT, CTRL, SECONDS, SHIFT, Socket
+import pages
+from browser import ALT, CTRL, SHIFT, Socket
 
 KEYS = {
     "Enter": "\ue007", "Escape": "\ue00c", "Tab": "\ue004", "F2": "\ue032",
@@ -32,17 +33,26 @@ SETTINGS = {
     "network.captive-portal-service.enabled": False, "network.connectivity-service.enabled": False,
     "network.http.phishy-userpass-length": 255, "services.settings.server": "data:,",
     "toolkit.telemetry.reportingpolicy.firstRun": False,
+    # After it was killed, it starts as before.
+    "browser.sessionstore.resume_from_crash": False, "toolkit.startup.max_resumed_crashes": -1,
 }
 
 
 class Firefox:
     def __init__(self, program):
+        self.program = program
         self.folder = Path(tempfile.mkdtemp(prefix="desk-firefox-"))
         lines = (f"user_pref({json.dumps(it)}, {json.dumps(to)});" for it, to in SETTINGS.items())
         (self.folder / "user.js").write_text("\n".join(lines))
-        log = open(self.folder / "log", "wb")
+        self.again()
+
+    def again(self):
+        """Starts the browser, with what it kept before it was closed or killed."""
+        (self.folder / "WebDriverBiDiServer.json").unlink(missing_ok=True)
+        (self.folder / "lock").unlink(missing_ok=True)
+        log = open(self.folder / "log", "ab")
         self.process = subprocess.Popen(
-            [program, "--headless", "--no-remote", "--remote-debugging-port", "0",
+            [self.program, "--headless", "--no-remote", "--remote-debugging-port", "0",
              "--profile", self.folder],
             stdout=log, stderr=log, env={**os.environ, "LC_ALL": "C.UTF-8"},
         )
@@ -84,21 +94,36 @@ class Firefox:
         if event["method"] == "log.entryAdded" and given["level"] == "error":
             page.said.append(given["text"] or "")
         elif event["method"] == "network.beforeRequestSent":
-            page.asked.append(given["request"]["url"])
+            page.requested(given["request"]["method"], given["request"]["url"])
         elif event["method"] == "browsingContext.userPromptOpened":
             page.dialogs.append(given["message"])
 
-    def desk(self, address, user, width=1280, height=800):
-        """A page of a user, with storage of its own. The password goes in by the address."""
-        profile = self.call("browser.createUserContext", acceptInsecureCerts=True)["userContext"]
-        context = self.call("browsingContext.create", type="tab", userContext=profile)["context"]
-        page = Page(self, context, profile)
-        self.pages[context] = page
+    def page(self, profile=None, width=1280, height=800):
+        where = {"userContext": profile} if profile else {}
+        tab = self.call("browsingContext.create", type="tab", **where)["context"]
+        page = Page(self, tab, profile or "default")
+        self.pages[tab] = page
         page.size(width, height)
-        scheme, rest = address.split("://")
-        page.go(f"{scheme}://{user}:{user}-pw@{rest}")
-        page.go(address)
         return page
+
+    def desk(self, address, user, isolated=True, **size):
+        """A page of a user, with storage of its own unless `isolated` is false."""
+        profile = None
+        if isolated:
+            made = self.call("browser.createUserContext", acceptInsecureCerts=True)
+            profile = made["userContext"]
+        page = self.page(profile, **size)
+        page.enter(address, user)
+        return page
+
+    def another(self):
+        """Another browser, with nothing kept."""
+        return Firefox(self.program)
+
+    def kill(self):
+        """Ends the browser at once, as a crash does."""
+        self.process.kill()
+        self.process.wait()
 
     def close(self):
         try:
@@ -110,20 +135,15 @@ class Firefox:
         shutil.rmtree(self.folder, ignore_errors=True)
 
 
-class Page:
+class Page(pages.Page):
     schemes = ("dark",)  # as it was started: it has no command for another one
-    was_left = False  # by Tab
 
-    def __init__(self, browser, context, profile):
-        self.browser = browser
-        self.context = context
-        self.profile = profile
-        self.said = []
-        self.dialogs = []
-        self.asked = []
+    def __init__(self, browser, tab, context):
+        super().__init__(browser, context)
+        self.tab = tab
 
     def call(self, method, **parameters):
-        return self.browser.call(method, context=self.context, **parameters)
+        return self.browser.call(method, context=self.tab, **parameters)
 
     def size(self, width, height, mobile=False):
         self.call("browsingContext.setViewport", viewport={"width": width, "height": height})
@@ -134,15 +154,12 @@ class Page:
     def scheme(self, name):
         pass
 
-    def go(self, address):
-        """Loads the address, and waits until its scripts have run."""
-        self.run("window.isOld = true")
+    def navigate(self, address):
         self.call("browsingContext.navigate", url=address, wait="none")
-        self.wait("!window.isOld && document.readyState === 'complete'")
 
     def evaluate(self, expression):
         done = self.browser.call(
-            "script.evaluate", expression=expression, target={"context": self.context},
+            "script.evaluate", expression=expression, target={"context": self.tab},
             awaitPromise=True, userActivation=True,
         )
         if done["type"] == "exception":
@@ -153,20 +170,6 @@ class Page:
         """The value of an expression, awaited if it is a promise."""
         found = self.evaluate(f"(async () => JSON.stringify(await ({expression})))()")
         return json.loads(found["value"]) if "value" in found else None
-
-    def wait(self, expression, seconds=SECONDS):
-        """Waits until an expression is true. Returns its value."""
-        end = time.monotonic() + seconds
-        while True:
-            try:
-                value = self.run(expression)
-            except RuntimeError:
-                value = None
-            if value or value == {}:
-                return value
-            if time.monotonic() > end:
-                raise AssertionError(f"never true: {expression}\n{self.said}")
-            time.sleep(0.05)
 
     def keys(self, actions):
         self.call(
@@ -185,13 +188,27 @@ class Page:
         """Types a text key by key."""
         self.keys([{"type": kind, "value": it} for it in text for kind in ("keyDown", "keyUp")])
 
+    def type(self, text):
+        self.write(text)
+
+    def click(self, x, y, modifiers=0):
+        held = [sign for bit, sign in MODIFIERS.items() if modifiers & bit]
+        self.keys([{"type": "keyDown", "value": it} for it in held])
+        self.call("input.performActions", actions=[{
+            "type": "pointer", "id": "mouse", "actions": [
+                {"type": "pointerMove", "x": round(x), "y": round(y)},
+                {"type": "pointerDown", "button": 0}, {"type": "pointerUp", "button": 0},
+            ],
+        }])
+        self.keys([{"type": "keyUp", "value": it} for it in held])
+
     def choose_file(self, selector, path):
         found = self.evaluate(f"document.querySelector({json.dumps(selector)})")
         self.call("input.setFiles", element={"sharedId": found["sharedId"]}, files=[str(path)])
 
     def keep_downloads(self, folder):
         self.browser.call(
-            "browser.setDownloadBehavior", userContexts=[self.profile],
+            "browser.setDownloadBehavior", userContexts=[self.context],
             downloadBehavior={"type": "allowed", "destinationFolder": str(folder)},
         )
 

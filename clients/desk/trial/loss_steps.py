@@ -3,9 +3,8 @@
 import json
 import time
 
-from browser import Browser
 from office import card, logical
-from steps import STATE, TITLE, fill, search, step, stored, until
+from steps import STATE, TITLE, fault, fill, search, step, stored, until
 
 FORM = "document.querySelector('.form')"
 CARD = "(document.querySelector('#pane .card')?.innerText ?? '')"
@@ -65,7 +64,7 @@ def keep_files(page):
               ".then((it) => it.keys()).then((it) => it.length > 20)")
 
 
-@step
+@fault
 def save_while_away(trial):
     """The server is away while a card is saved: the next form and what it has stay."""
     office = trial.office
@@ -91,7 +90,7 @@ def save_while_away(trial):
     assert names(office).count("Ada Early") == 1
 
 
-@step
+@fault
 def typed_after_save(trial):
     """What is typed into a form after Save is an edit too: it isn't gone when that is done."""
     page, office = at_desk(trial), trial.office
@@ -112,7 +111,7 @@ def typed_after_save(trial):
     stored(office, "c02", "NOTE:Typed after Save")
 
 
-@step
+@fault
 def two_tabs(trial):
     """Two tabs with a form for a new card each: they are two cards."""
     office, first = trial.office, at_desk(trial)
@@ -151,7 +150,7 @@ def two_tabs(trial):
     assert "ORG:Cedar Clinic" in logical(office.card("clients", "c03")["card"])
 
 
-@step
+@fault
 def sets(trial):
     """Two who each add a number, an address, a member or a category: both are kept, unasked."""
     page, office = at_desk(trial), trial.office
@@ -200,7 +199,7 @@ def sets(trial):
     assert "TITLE:Architect" in logical(office.card("clients", "c13")["card"])
 
 
-@step
+@fault
 def cancel_undone(trial):
     """Cancel drops what was typed, says so, and can be undone."""
     page, office = at_desk(trial), trial.office
@@ -221,7 +220,7 @@ def cancel_undone(trial):
     until(lambda: "Nina Nearly" in names(office))
 
 
-@step
+@fault
 def saved_offline(trial):
     """Without the network Save is at once; the list says what waits, also after a reload."""
     page, office = at_desk(trial), trial.office
@@ -256,7 +255,7 @@ def saved_offline(trial):
     page.wait(f"!{CARD}.toLowerCase().includes('not sent yet')")
 
 
-@step
+@fault
 def conflict_offline(trial):
     """An edit of the time without the network clashes: the question comes when it is back."""
     page, office = at_desk(trial), trial.office
@@ -284,12 +283,11 @@ def conflict_offline(trial):
     page.wait(f"{WAITING} === ''")
 
 
-@step
+@fault
 def killed_browser(trial):
     """The browser is killed while changes wait and a form is open: all of it is there again."""
     office = trial.office
-    spki = [f"--ignore-certificate-errors-spki-list={office.spki}"]
-    browser = Browser(trial.browser.program, spki)
+    browser = trial.browser.another()
     try:
         page = browser.desk(office.front, "admin", isolated=False)
         page.wait(f"{STATE}.startsWith('Up to date')")
@@ -315,7 +313,7 @@ def killed_browser(trial):
         browser.close()
 
 
-@step
+@fault
 def refusals_kept(trial):
     """What the server refuses (403, 507) stays, says why, and can be sent again."""
     page, office = at_desk(trial), trial.office
@@ -384,8 +382,7 @@ def older_desk(trial):
     office = trial.office
     page = trial.browser.page(trial.browser.context())
     trial.desks["older"] = page
-    scheme, rest = office.front.split("://")
-    page.go(f"{scheme}://ann:ann-pw@{rest}manifest.json")
+    page.enter(office.front, "ann", "manifest.json")
     page.run(OLD_TABLES)
     page.go(office.front)
     page.wait(f"{STATE}.startsWith('Up to date')")
@@ -400,7 +397,53 @@ def older_desk(trial):
     until(lambda: "Typed Long Ago" in names(office))
 
 
+SECOND_TABLES = """(async () => {
+    const old = await new Promise((resolve) => {
+        const request = indexedDB.open('desk', 2);
+        request.onupgradeneeded = () => {
+            const db = request.result;
+            db.createObjectStore('books', { keyPath: 'name' });
+            db.createObjectStore('cards', { keyPath: ['book', 'uid'] });
+            db.createObjectStore('rows', { autoIncrement: true }).createIndex('book', 'book');
+            db.createObjectStore('queue', { keyPath: ['book', 'uid'] });
+            db.createObjectStore('drafts', { keyPath: ['book', 'uid', 'slot'] });
+            db.createObjectStore('trash', { autoIncrement: true, keyPath: 'id' })
+                .createIndex('at', 'at');
+            db.createObjectStore('settings');
+        };
+        request.onsuccess = () => resolve(request.result);
+    });
+    const text = (uid, ...lines) => ['BEGIN:VCARD', 'VERSION:4.0', 'UID:' + uid, ...lines,
+        'END:VCARD', ''].join('\\r\\n');
+    const tx = old.transaction(['books', 'cards', 'rows', 'queue'], 'readwrite');
+    tx.objectStore('books').put({ name: 'staff', token: 't', round: 1, whole: true, synced: 1 });
+    tx.objectStore('cards').put({ book: 'staff', uid: 'kept', version: 1, round: 1,
+        text: text('kept', 'FN:Kept Before', 'CATEGORIES:Before') });
+    tx.objectStore('rows').add({ book: 'staff', text: JSON.stringify({ gone: [], rows: [
+        { book: 'staff', uid: 'kept', version: 1, kind: 'individual', name: 'Kept Before' }] }) });
+    tx.objectStore('queue').put({ book: 'staff', uid: 'waited', order: 1, kind: 'save', base: '',
+        version: 0, text: text('waited', 'FN:Waited Since'), state: 'waits', theirs: null,
+        fault: null, at: 1 });
+    await new Promise((resolve) => { tx.oncomplete = resolve; });
+    old.close();
+})()"""
+
+
 @step
+def second_desk(trial):
+    """A browser with the copy of the desk before this one: all of it stays, and what waits goes."""
+    office = trial.office
+    page = trial.browser.page(trial.browser.context())
+    trial.desks["second"] = page
+    page.enter(office.front, "ann", "manifest.json")
+    page.run(SECOND_TABLES)
+    # The rows have categories, before the server says anything.
+    page.go(f"{office.front}?")
+    page.wait("document.querySelector('#books').textContent.includes('Before')")
+    until(lambda: "Waited Since" in names(office, "staff"))
+
+
+@fault
 def no_room(trial):
     """The browser can't keep what is saved: the form stays, and says so."""
     page, office = at_desk(trial), trial.office

@@ -2,6 +2,7 @@
 
 import json
 
+from access import CALM
 from cards import EVIL, MARK, hostile_cards
 from office import card
 from steps import ROWS, STATE, TITLE, fill, search, step, stored, toast, up_to_date
@@ -137,6 +138,7 @@ def looks(trial):
             admin.picture(trial.pictures / f"{name}-{scheme}-form.png")
             assert not admin.run("document.documentElement.scrollWidth > innerWidth"), name
             admin.press("Cancel", "document.querySelector('.form')")
+            admin.run(CALM)
             contrast = admin.run(CONTRAST)
             assert not contrast, (scheme, contrast)
     admin.scheme("light")

@@ -28,6 +28,10 @@ def card(uid, *lines):
     return "\r\n".join(["BEGIN:VCARD", "VERSION:4.0", f"UID:{uid}", *lines, "END:VCARD", ""])
 
 
+def uid_path(uid):
+    return urllib.parse.quote(uid, safe="")
+
+
 def rows(cards):
     """Cards as an import has them."""
     quoted = (text.replace('"', '""') for text in cards)
@@ -168,28 +172,29 @@ class Office:
         return json.loads(text)
 
     def put(self, book, uid, text):
-        name = urllib.parse.quote(uid, safe="")
-        return self.ask("PUT", f"/{book}/cards/{name}", text)
+        return self.ask("PUT", f"/{book}/cards/{uid_path(uid)}", text)
+
+    def ask_aside(self, method, path, body=None):
+        """The same behind nginx's back: as from a place where the network is there."""
+        connection = http.client.HTTPConnection("127.0.0.1", self.port, timeout=70)
+        connection.request(method, f"/books{path}", None if body is None else body.encode())
+        reply = connection.getresponse()
+        text = reply.read().decode()
+        connection.close()
+        if reply.status >= 400:
+            raise AssertionError(f"{method} {path}: {reply.status} {text[:300]}")
+        return json.loads(text)
 
     def put_aside(self, book, uid, change):
-        """Changes a card behind nginx's back: as from a place where the network is there."""
-        path = f"/books/{book}/cards/{urllib.parse.quote(uid, safe='')}"
-        for method, body in (("GET", None), ("PUT", change)):
-            connection = http.client.HTTPConnection("127.0.0.1", self.port, timeout=70)
-            data = None if body is None else body(text).encode()
-            connection.request(method, path, data)
-            reply = connection.getresponse()
-            text = reply.read().decode()
-            connection.close()
-            if reply.status >= 400:
-                raise AssertionError(f"{method} {path}: {reply.status} {text[:300]}")
-            text = json.loads(text).get("card")
+        """Changes a card behind nginx's back."""
+        path = f"/{book}/cards/{uid_path(uid)}"
+        self.ask_aside("PUT", path, change(self.ask_aside("GET", path)["card"]))
 
     def order_book(self, book):
         self.ask("PUT", f"/{book}")
 
     def card(self, book, uid):
-        return self.ask("GET", f"/{book}/cards/{urllib.parse.quote(uid, safe='')}")
+        return self.ask("GET", f"/{book}/cards/{uid_path(uid)}")
 
     def fill(self, book, cards):
         """Imports cards, as many at a time as an import may have."""

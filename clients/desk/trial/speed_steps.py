@@ -48,8 +48,7 @@ def measured(trial, user, name, cards):
     office = trial.office
     page = trial.browser.page(trial.browser.context())
     page.call("Page.addScriptToEvaluateOnNewDocument", source=WATCH)
-    scheme, rest = office.front.split("://")
-    page.go(f"{scheme}://{user}:{user}-pw@{rest}manifest.json")
+    page.enter(office.front, user, "manifest.json")
     begun = time.monotonic()
     page.go(office.front)
     page.wait("window.firstRows", 300)

@@ -4,14 +4,30 @@ import json
 import random
 import time
 
-from loss_steps import CARD, FORM, at_desk, names, new_form, open_form
+from loss_steps import CARD, FORM, WAITING, at_desk, names, new_form, open_form
 from office import card, logical
-from steps import ROWS, STATE, TITLE, fill, search, step, stored, until
+from steps import ROWS, STATE, TITLE, fault, fill, search, stored, until
 
 PANE = "document.querySelector('#pane').innerText"
 
 
-@step
+# Lets nobody else read the queue for some time, as on a slow disk.
+HOLD = """(async (ms) => {
+    const db = await new Promise((resolve) => {
+        const request = indexedDB.open('desk');
+        request.onsuccess = () => resolve(request.result);
+    });
+    const queue = db.transaction('queue', 'readwrite').objectStore('queue');
+    const end = performance.now() + ms;
+    const again = () => {
+        if (performance.now() < end) queue.count().onsuccess = again;
+        else db.close();
+    };
+    again();
+})"""
+
+
+@fault
 def nobody_shown(trial):
     """No match, or an empty book: nobody's card is beside the list. Nobody calls a wrong person."""
     page, office = at_desk(trial), trial.office
@@ -22,6 +38,13 @@ def nobody_shown(trial):
     page.wait(f"!document.querySelector('#pane a') && {TITLE} === undefined", 5)
     search(page, "miriam")
     page.wait(f"{TITLE} === 'Miriam O’Hara'")
+    # A card that comes late doesn't take the place of one that was chosen after it.
+    page.run(f"{HOLD}(1500)")
+    for name in ("nadia", "gwen"):
+        search(page, name)
+        time.sleep(0.3)
+    time.sleep(2)
+    page.wait(f"{TITLE} === 'Gwen Ashdown'", 5)
     status, _, _ = office.request("PUT", "/books/empty")
     assert status in (201, 409), status
     page.press("Update now")
@@ -33,9 +56,12 @@ def nobody_shown(trial):
     page.press("clients", "document.querySelector('#books')")
 
 
-@step
+@fault
 def rights(trial):
-    """Who may not list the books is asked for theirs; a book that may only be read has no Edit."""
+    """
+    Who may not list the books is asked for theirs. That a book may only be read is learnt from the
+    first change that is refused, which stays; nothing is written to find it out.
+    """
     page = trial.desk("hall")
     page.wait(f"{PANE}.includes('Which book is yours?')", 20)
     page.picture(trial.pictures / "which-book.png")
@@ -44,7 +70,16 @@ def rights(trial):
     page.wait(f"{ROWS}.includes('Ann Keeper')", 20)
     search(page, "ann kee")
     page.wait(f"{TITLE} === 'Ann Keeper'")
+    page.press("Update now")
+    page.wait(f"{STATE}.startsWith('Up to date')")
+    assert not page.wrote, page.wrote
+    page.key("F2")
+    fill(page, "Position", "Typed for nothing")
+    page.press("Save")
     page.wait(f"{PANE}.includes('You may read this book')", 20)
+    page.wait(f"{PANE}.includes('Typed for nothing') && {PANE}.includes('You may not do this')")
+    page.wait(f"{WAITING}.includes('1 needs you')")
+    assert [it[0] for it in page.wrote] == ["PUT"], page.wrote
     buttons = page.run("[...document.querySelectorAll('button')]"
                        ".filter((it) => it.checkVisibility()).map((it) => it.textContent)")
     assert not {"Edit", "New card", "Delete", "Move…"} & set(buttons), buttons
@@ -54,6 +89,14 @@ def rights(trial):
     assert not page.run(f"Boolean({FORM})")
     page.go(trial.office.front)
     page.wait(f"{ROWS}.includes('Ann Keeper')")
+    assert not page.run("document.querySelector('#new').checkVisibility()")
+    search(page, "ann kee")
+    page.press("Drop this change", "document.querySelector('#pane')")
+    page.wait(f"!{PANE}.includes('Typed for nothing') && {WAITING} === ''")
+    # Who gets the right later has a way back.
+    page.run("document.querySelector('#books .menu').click()")
+    page.press("Offer changes again", "document.querySelector('dialog')")
+    page.wait("document.querySelector('#new').checkVisibility()")
 
 
 LINKS = {
@@ -70,7 +113,7 @@ LINKS = {
 }
 
 
-@step
+@fault
 def readable_links(trial):
     """A link shows what it does: no mark turns a number, no order to the telephone is a link."""
     page, office = at_desk(trial), trial.office
@@ -110,7 +153,7 @@ def add_field(page, name):
     page.press(name, "document.querySelector('.form .menu-list')")
 
 
-@step
+@fault
 def birthdays(trial):
     """A birthday is read in any usual form, and is never kept as a text in silence."""
     page, office = at_desk(trial), trial.office
@@ -144,7 +187,7 @@ def birthdays(trial):
     stored(office, "c07", "BDAY;VALUE=text:in spring")
 
 
-@step
+@fault
 def hints(trial):
     """A mail address or a number that can't be one gets a word, and can be saved all the same."""
     page, office = at_desk(trial), trial.office
@@ -165,7 +208,7 @@ def hints(trial):
     until(lambda: "Hinda Hint" in names(office))
 
 
-@step
+@fault
 def others_edits(trial):
     """What others change comes by itself within seconds, while the page is seen."""
     page, office = at_desk(trial), trial.office
@@ -217,7 +260,7 @@ def called(page, script, *values):
     return page.run(f"{script}({json.dumps(values)})")
 
 
-@step
+@fault
 def three_desks(trial):
     """Random edits of sets at three desks, with the network coming and going: all are kept."""
     office, chance = trial.office, random.Random(23)

@@ -5,7 +5,6 @@ import { saveFile } from "./files.js";
 import { mailsOf } from "./groups.js";
 import { olderCard } from "./older.js";
 import { nameOf } from "./person.js";
-import * as push from "./push.js";
 import { decide, giveUp } from "./questions.js";
 import { count, faultText, t } from "./say.js";
 import { mailLink, mailsLink } from "./values.js";
@@ -68,12 +67,7 @@ export class Actions {
       share: () => this.share(seen, file, text),
       print: () => this.print("card"),
       copy: (value) => this.copy(value),
-      search: (value) => {
-        desk.frame.search.value = value;
-        desk.frame.showPane("list");
-        desk.typed();
-        desk.frame.search.focus();
-      },
+      category: (name) => desk.turnTo({ kind: "category", book: desk.chosen && book, name }),
       open: (row) => desk.pane.open(row.book, row.uid),
       people: (node) => this.people(book, uid, node),
       decide: () => decide(desk, entry),
@@ -98,14 +92,16 @@ export class Actions {
       groups.map((it) => [it.name || t("nameless"), it.uid, before.has(it.uid)]));
     if (!wanted) return;
     const changed = groups.filter((it) => wanted.has(it.uid) !== before.has(it.uid));
-    for (const it of changed) await desk.setMember(book, it.uid, uid, wanted.has(it.uid));
     if (!changed.length) return;
+    const set = (isIn) => desk.setMembers(book,
+      changed.map((it) => [it.uid, uid, isIn.has(it.uid)]));
+    await set(wanted);
     await desk.changed();
     desk.pane.again();
     desk.frame.toast(t("groupsSaved", { name }), {
       text: t("undo"),
       run: async () => {
-        for (const it of changed) await desk.setMember(book, it.uid, uid, before.has(it.uid));
+        await set(before);
         await desk.changed();
         desk.pane.again();
       },
@@ -119,7 +115,7 @@ export class Actions {
     const it = await trashView(title, kept);
     if (!it) return;
     const now = await desk.queue.seen(it.book, it.uid);
-    await desk.queue.restore(it.book, it.uid, it.text);
+    await desk.queue.restore([[it.book, it.uid, it.text]]);
     if (now) await desk.trash.keep(it.book, it.uid, now.text, "changed");
     await desk.changed();
     desk.pane.open(it.book, it.uid);
@@ -203,7 +199,7 @@ export class Actions {
 
   /** Puts a deleted card back. */
   async restore(book, uid, text) {
-    await this.desk.queue.restore(book, uid, text);
+    await this.desk.queue.restore([[book, uid, text]]);
     await this.desk.changed();
     this.desk.pane.open(book, uid);
   }
@@ -223,33 +219,23 @@ export class Actions {
     const to = await ask(t("moveTitle", { name }), [t("moveText", { book })], [
       ...others.map((it) => [it, it]), [t("cancel"), null],
     ]);
-    if (to && (await this.moveNow(book, uid, to, name))) desk.pane.open(to, uid, true);
+    if (to) await this.moveNow(book, uid, to, name);
   }
 
-  /** Moves a card on the server, once what was changed in it is there. */
-  async moveNow(book, uid, to, name) {
+  /** Moves a card here; the server follows when it answers. */
+  async moveNow(book, uid, to, name, isUndone = false) {
     const { desk } = this;
-    try {
-      await this.reply(desk.outbox.run());
-      if (await desk.queue.entry(book, uid)) {
-        desk.frame.toast(t("moveWaits"));
-        return false;
-      }
-      const { version } = await desk.store.card(book, uid);
-      const done = await this.reply(push.move(this.api, desk.store, book, uid, version, to));
-      if (!done.change) {
-        desk.frame.toast(done.theirs ? t("moveChanged") : t("goneCard"));
-        await desk.follow(book);
-        return false;
-      }
-      await desk.follower.now(to);
-      desk.arrived(book, done.change);
-      desk.frame.toast(t("moved", { name, book: to }));
-      return true;
-    } catch (fault) {
-      desk.frame.toast(words(fault));
-      return false;
+    const moved = await desk.queue.move([[book, uid, to]]);
+    if (!moved.length) {
+      desk.frame.toast(t("moveTaken", { book: to }));
+      return;
     }
+    await desk.lists.moved(moved);
+    desk.pane.open(to, uid, true);
+    await desk.changed();
+    desk.frame.toast(t("moved", { name, book: to }), isUndone ? null : {
+      text: t("undo"), run: () => this.moveNow(to, uid, book, name, true),
+    });
   }
 
   /** Asks the server who is in a group. */
@@ -273,6 +259,7 @@ export class Actions {
     return showBook(book, {
       tally: () => this.api.tally(name).catch((fault) => { throw words(fault); }),
       update: () => desk.follow(name),
+      tryChanges: book.rights === "read" ? () => desk.setRights(name, "") : null,
       import: book.rights === "read" ? null : () => files.import(name),
       exportCards: () => files.exportRows(name, "cards"),
       exportColumns: () => files.exportRows(name, "columns"),

@@ -1,7 +1,4 @@
 // The HTTP API of docs/API.md: one function for each route that the desk uses.
-
-import { newUid } from "./vcard.js";
-
 const SECONDS = 60;
 
 /**
@@ -23,6 +20,11 @@ export class Fault extends Error {
   /** Whether the same request may succeed later. */
   get isPassing() {
     return this.from === "none" || [502, 503, 504].includes(this.status);
+  }
+
+  /** Whether the front server doesn't let this user do it. */
+  get isForbidden() {
+    return this.from === "front" && this.status === 403;
   }
 
   is(fault) {
@@ -94,21 +96,6 @@ export class Api {
 
   remove(book, uid, version) {
     return this.ask("DELETE", `${cardPath(book, uid)}?version=${version}`);
-  }
-
-  /**
-   * Whether the book may be changed: "write", "read", or "" if that can't be told. It asks to
-   * remove a card that can't be there, which changes nothing.
-   */
-  async rights(book) {
-    try {
-      await this.remove(book, newUid(), 1);
-    } catch (fault) {
-      if (!(fault instanceof Fault)) throw fault;
-      if (fault.is("no-such-card") || fault.is("version-mismatch")) return "write";
-      if (fault.from === "front" && fault.status === 403) return "read";
-    }
-    return "";
   }
 
   move(book, uid, version, to) {

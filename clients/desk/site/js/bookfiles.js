@@ -65,6 +65,7 @@ export class BookFiles {
         return [el("p", { class: "good" }, parts.join(", ")), false];
       } catch (fault) {
         if (!(fault instanceof Fault)) throw fault;
+        if (fault.isForbidden) await this.desk.setRights(name, "read");
         const text = fault.is("bad-import") ? importFaultText(fault, file) : faultText(fault);
         return [el("p", { class: "error" }, text), fault.isPassing];
       }

@@ -1,11 +1,9 @@
 // Several cards at once: delete, move, write to files, put into a group. Each has one undo.
-import { Fault } from "./api.js";
 import { editCard, fieldsOf, memberValue } from "./edit.js";
 import { columnsOf, saveFile } from "./files.js";
 import { olderCard } from "./older.js";
-import * as push from "./push.js";
 import { keyOf } from "./shelf.js";
-import { count, faultText, t } from "./say.js";
+import { count, t } from "./say.js";
 import { readCard, writeCard } from "./vcard.js";
 import { ask, askChoice } from "./views/dialogs.js";
 
@@ -40,12 +38,12 @@ export class Bulk {
     desk.pane.clear();
     await desk.changed();
     desk.frame.toast(count("removedSome", kept.length), this.undo(async () => {
-      for (const it of kept) await desk.queue.restore(it.book, it.uid, it.text);
+      await desk.queue.restore(kept.map((it) => [it.book, it.uid, it.text]));
       await desk.changed();
     }));
   }
 
-  /** Moves cards on the server. What can't be moved stays, and is said. */
+  /** Moves cards. What the other book has already stays, and is said. */
   async move(rows) {
     const { desk } = this;
     const books = desk.books.filter((it) => it.rights !== "read").map((it) => it.name);
@@ -54,39 +52,22 @@ export class Bulk {
     ]);
     if (!to) return;
     desk.clearMarks();
-    const moved = await this.moveAll(rows.filter((it) => it.book !== to), () => to);
-    const rest = rows.filter((it) => it.book !== to).length - moved.length;
+    const wanted = rows.filter((it) => it.book !== to);
+    const moved = await this.moveAll(wanted.map((it) => [it.book, it.uid, to]));
+    const rest = wanted.length - moved.length;
     const said = count("movedSome", moved.length) + (rest ? ` ${count("movedNot", rest)}` : "");
     desk.frame.toast(said, moved.length ? this.undo(async () => {
-      const back = moved.map((it) => ({ ...it, book: to, from: it.book }));
-      const done = await this.moveAll(back, (it) => it.from);
-      desk.frame.toast(count("movedSome", done.length));
+      const back = await this.moveAll(moved.map(([book, uid]) => [to, uid, book]));
+      desk.frame.toast(count("movedSome", back.length));
     }) : null);
   }
 
-  /** Moves each row to the book that `toOf` says. Answers those that were moved. */
-  async moveAll(rows, toOf) {
+  /** Moves cards here, `[book, uid, to]` each. Answers those that were moved. */
+  async moveAll(places) {
     const { desk } = this;
-    const moved = [];
-    const books = new Set();
-    await desk.outbox.run();
-    for (const row of rows) {
-      try {
-        const to = toOf(row);
-        // A card that was moved just now has a new version there.
-        const { version } = await desk.api.card(row.book, row.uid);
-        const done = await push.move(desk.api, desk.store, row.book, row.uid, version, to);
-        if (!done.change) continue;
-        desk.arrived(row.book, done.change);
-        books.add(to);
-        moved.push(row);
-      } catch (fault) {
-        if (!(fault instanceof Fault)) throw fault;
-        desk.frame.toast(faultText(fault));
-        if (fault.isPassing) break;
-      }
-    }
-    for (const book of books) await desk.follower.now(book);
+    const moved = await desk.queue.move(places);
+    await desk.lists.moved(moved);
+    await desk.changed();
     return moved;
   }
 

@@ -4,20 +4,19 @@ import { Bulk } from "./bulk.js";
 import { Api, Fault } from "./api.js";
 import { Drafts } from "./drafts.js";
 import { Duplicates } from "./duplicates.js";
-import { editCard, fieldsOf, memberValue } from "./edit.js";
+import { ASKS } from "./entries.js";
 import { Faces } from "./faces.js";
 import { Frame } from "./frame.js";
 import { Lists } from "./lists.js";
 import { Outbox } from "./outbox.js";
 import { Pane } from "./pane.js";
-import { ASKS, Queue } from "./queue.js";
+import { Queue } from "./queue.js";
 import { askNext, showWaiting } from "./questions.js";
 import { keyOf, Shelf } from "./shelf.js";
 import { Follower } from "./sync.js";
 import { t } from "./say.js";
 import { language } from "./texts.js";
 import { Trash } from "./trash.js";
-import { readCard, writeCard } from "./vcard.js";
 import { Letters } from "./views/letters.js";
 import { CardList } from "./views/list.js";
 import { ListHead } from "./views/listhead.js";
@@ -42,7 +41,11 @@ export class Desk {
       pick: (row, isFinal) => this.picked(row, isFinal),
       marked: (rows) => this.head.showMarked(rows),
     });
-    this.letters = new Letters(document.getElementById("letters"), (at) => this.list.scrollTo(at));
+    this.letters = new Letters(document.getElementById("letters"), {
+      top: () => this.list.first,
+      jump: (at) => this.list.scrollTo(at),
+      open: (at) => this.list.select(at, true),
+    });
     this.duplicates = new Duplicates(this);
     this.notSame = new Set(); // pairs that somebody said are different people
     this.side = new SideBar(this);
@@ -52,7 +55,6 @@ export class Desk {
     this.entries = [];
     this.chosen = "";
     this.mayList = true;
-    this.probed = new Set();
     this.later = new Set(); // questions that somebody put off
     this.drawing = 0;
     this.showing = 0;
@@ -66,7 +68,7 @@ export class Desk {
       changed: (book, change) => this.arrived(book, change),
       queue: () => this.queued(),
       fault: (entry, fault) => this.unsent(entry, fault),
-      sent: (entry) => this.follow(entry.book),
+      sent: (entry) => this.sent(entry),
     });
   }
 
@@ -89,7 +91,6 @@ export class Desk {
     this.books = books;
     this.chosen = books.some((it) => it.name === chosen) ? chosen : "";
     this.draw();
-    this.frame.welcome();
     await this.pane.route();
     if (!this.frame.isNarrow && !this.pane.shown) this.frame.search.focus();
     this.outbox.run();
@@ -113,7 +114,6 @@ export class Desk {
       }
     }
     this.books = await this.store.books();
-    if (!this.pane.shown) this.pane.blank();
     this.draw();
   }
 
@@ -125,21 +125,12 @@ export class Desk {
     this.frame.states.delete("");
     this.frame.setState(book, state, fault);
     if (state === "ok") {
-      this.probe(book);
       if (this.entries.some((it) => it.state === "waits")) this.outbox.run();
     }
     this.drawStateSoon();
   }
 
-  /** Finds out once whether a book may be changed, so that nobody fills in a form for nothing. */
-  async probe(name) {
-    const book = this.books.find((it) => it.name === name);
-    if (!book || book.rights === "write" || this.probed.has(name)) return;
-    this.probed.add(name);
-    const rights = await this.api.rights(name);
-    if (rights) await this.setRights(name, rights);
-  }
-
+  /** Whether a book may be changed is learnt from what the server says of a change. */
   async setRights(name, rights) {
     if (!(await this.store.setRights(name, rights))) return;
     this.books = await this.store.books();
@@ -176,17 +167,31 @@ export class Desk {
     if (isOurs && this.entries.some((it) => it.state === ASKS)) askNext(this);
   }
 
+  /** A change couldn't be kept in this browser, as on a full disk: all is as it was. */
+  couldNotKeep(fault) {
+    this.frame.toast(t("keepFailed", { why: fault.message }));
+  }
+
   /** A change was made here: it is shown, and it goes to the server when that answers. */
   async changed() {
     await this.queued();
     this.outbox.run();
   }
 
+  /** The server has made a change: so the book may be changed. */
+  sent(entry) {
+    for (const book of [entry.book, entry.from].filter(Boolean)) {
+      if (!entry.from) this.setRights(book, "write");
+      this.follow(book);
+    }
+  }
+
   /** A change couldn't be sent. */
   unsent(entry, fault) {
     if (fault.isPassing) this.frame.setState(entry.book, "waiting", fault);
     else if (fault.status === 401) this.frame.setState(entry.book, "refused", fault);
-    else if (fault.from === "front" && fault.status === 403) this.setRights(entry.book, "read");
+    // A move may have been refused for either book.
+    else if (fault.isForbidden && !entry.from) this.setRights(entry.book, "read");
     this.drawStateSoon();
   }
 
@@ -225,11 +230,19 @@ export class Desk {
     const text = this.frame.search.value.trim();
     this.list.show(rows, { withBooks: this.withBooks, keep });
     const words = this.filter && t({
-      favourites: "noFavourites", recent: "noRecent", group: "noMembers",
+      favourites: "noFavourites", recent: "noRecent", group: "noMembers", category: "noCategory",
     }[this.filter.kind]);
-    this.frame.showCount(rows.length, text !== "", words ?? undefined);
+    this.frame.showCount(this.listTitle, rows.length, text !== "", words ?? undefined);
     const isSorted = text === "" && this.filter?.kind !== "recent";
     this.letters.show(isSorted ? rows : [], this.shelf.by);
+  }
+
+  /** What the list is of. */
+  get listTitle() {
+    const { filter } = this;
+    if (!filter) return this.chosen || t(this.books.length > 1 ? "allBooks" : "listLabel");
+    if (filter.kind === "group") return this.shelf.get(filter.book, filter.uid)?.name ?? "";
+    return filter.kind === "category" ? filter.name : t(filter.kind);
   }
 
   draw() {
@@ -241,9 +254,11 @@ export class Desk {
     const text = frame.search.value.trim();
     const rows = this.found();
     this.showRows(rows, pane.cardKey);
+    if (!pane.shown && !pane.missing) pane.blank();
     this.drawState();
     // What was searched for may come later than the search.
-    if (text !== "" && rows.length && !pane.shown && !frame.isNarrow) this.list.select(0);
+    const isEmpty = !pane.shown && !pane.cardKey;
+    if (text !== "" && rows.length && isEmpty && !frame.isNarrow) this.list.select(0);
     this.mark();
   }
 
@@ -302,16 +317,11 @@ export class Desk {
     return this.store.keepSetting("notSame", [...this.notSame]);
   }
 
-  /** Puts a card into a group of its book, or takes it out. */
-  async setMember(book, group, uid, isIn) {
-    const seen = await this.queue.seen(book, group);
-    if (!seen) return;
-    const card = readCard(seen.text);
-    const fields = fieldsOf(card);
-    const others = fields.members.filter((it) => it !== uid && it !== memberValue(uid));
-    const members = isIn ? [...others, memberValue(uid)] : others;
-    const text = writeCard(editCard(card, fields, { ...fields, members }));
-    await this.queue.save({ book, uid: group, base: seen.text, version: seen.version, text });
+  /** Puts cards into groups of their book or takes them out: `[group, uid, isIn]` each. */
+  setMembers(book, changes) {
+    return this.queue.change(async (entries) => {
+      for (const it of changes) await entries.setMember(book, ...it);
+    });
   }
 
   sortBy(by) {
@@ -342,14 +352,13 @@ export class Desk {
   }
 
   async dropBook(name) {
-    if (this.entries.some((it) => it.book === name)) {
+    if (this.entries.some((it) => it.book === name || it.from === name)) {
       this.frame.toast(t("dropWaits"));
       return;
     }
     await this.store.removeBook(name);
     this.shelf.dropBook(name);
     this.frame.states.delete(name);
-    this.probed.delete(name);
     if (this.chosen === name) this.chosen = "";
     this.books = await this.store.books();
     this.pane.leave();
@@ -378,8 +387,10 @@ export class Desk {
       this.pane.open(row.book, row.uid);
       return;
     }
+    if (this.frame.isNarrow) return;
+    this.pane.willShow(keyOf(row));
     this.showing = setTimeout(() => {
-      if (!this.frame.isNarrow && !isForm()) this.pane.show(row.book, row.uid);
+      if (!isForm()) this.pane.show(row.book, row.uid);
     }, 40);
   }
 
@@ -395,15 +406,19 @@ export class Desk {
     frame.search.addEventListener("input", () => this.typed());
     const keys = (event) => {
       if (this.list.key(event)) event.preventDefault();
+      // In the list itself a letter leads to the first name that begins with it.
+      else if (event.currentTarget === frame.listRoot) this.toLetter(event);
     };
     frame.search.addEventListener("keydown", keys);
     frame.listRoot.addEventListener("keydown", keys);
     document.addEventListener("keydown", (event) => this.key(event));
     // What is pressed stays until it is let go: a press of what is drawn anew would be lost.
     addEventListener("pointerdown", () => { this.isHeld = true; }, true);
-    for (const end of ["pointerup", "pointercancel", "blur", "dragend"]) {
+    for (const end of ["pointerup", "pointercancel", "dragend"]) {
       addEventListener(end, () => { this.isHeld = false; }, true);
     }
+    // That of the window alone: a press takes the focus from some element.
+    addEventListener("blur", () => { this.isHeld = false; });
     addEventListener("dragover", (event) => event.preventDefault());
     addEventListener("drop", (event) => {
       event.preventDefault();
@@ -419,6 +434,13 @@ export class Desk {
       else this.pane.form?.flush();
     });
     this.tabs.addEventListener("message", ({ data }) => this.heard(data));
+  }
+
+  toLetter(event) {
+    const at = this.letters.placeOf(event);
+    if (at === null) return;
+    event.preventDefault();
+    this.list.select(at);
   }
 
   /** The user is back, or the network: what others changed is asked for, and what waits is sent. */

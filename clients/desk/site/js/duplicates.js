@@ -74,7 +74,10 @@ export class Duplicates {
     }
   }
 
-  /** Puts two cards together, value by value; the other one is removed. One undo for both. */
+  /**
+   * Puts two cards together, value by value; the other one is removed. All of it is one change,
+   * and so is its undo.
+   */
   async join([first, other]) {
     const { desk } = this;
     const { book } = first;
@@ -87,7 +90,8 @@ export class Duplicates {
     const nameOfMember = (value) => value;
     const words = {
       title: t("joinTitle", { name: first.name }), text: t("joinText"), mine: t("joinFirst"),
-      theirs: t("joinOther"), leave: t("cancel"), by: ["joinByFirst", "joinByOther"],
+      theirs: t("joinOther"), leave: t("cancel"), taken: t("joinTaken"),
+      by: ["joinByFirst", "joinByOther"],
     };
     const choices = await askBoth(first.name, both, nameOfMember, words);
     if (!choices) return true;
@@ -95,26 +99,27 @@ export class Duplicates {
     const edit = { book, uid: first.uid, base: one.text, version: one.version, text };
     const groups = desk.shelf.groupsOf(book, other.uid);
     const inBoth = new Set(desk.shelf.groupsOf(book, first.uid).map((it) => it.uid));
-    await desk.queue.save(edit);
-    await desk.queue.remove([[book, other.uid]]);
-    // Who was in a group stays in it.
-    for (const it of groups) {
-      await desk.setMember(book, it.uid, other.uid, false);
-      await desk.setMember(book, it.uid, first.uid, true);
-    }
+    await desk.queue.change(async (entries) => {
+      await entries.save(edit);
+      await entries.remove(book, other.uid);
+      // Who was in a group stays in it.
+      for (const it of groups) {
+        await entries.setMember(book, it.uid, other.uid, false);
+        await entries.setMember(book, it.uid, first.uid, true);
+      }
+    });
     await desk.changed();
     desk.pane.open(book, first.uid);
+    const undo = () => desk.queue.change(async (entries) => {
+      await entries.restore(book, other.uid, two.text);
+      await entries.save({ ...edit, base: text, text: one.text });
+      for (const it of groups) {
+        await entries.setMember(book, it.uid, other.uid, true);
+        await entries.setMember(book, it.uid, first.uid, inBoth.has(it.uid));
+      }
+    });
     desk.frame.toast(t("joined", { name: nameOf(readCard(text)) }), {
-      text: t("undo"),
-      run: async () => {
-        await desk.queue.restore(book, other.uid, two.text);
-        await desk.queue.save({ ...edit, base: text, text: one.text });
-        for (const it of groups) {
-          await desk.setMember(book, it.uid, other.uid, true);
-          await desk.setMember(book, it.uid, first.uid, inBoth.has(it.uid));
-        }
-        await desk.changed();
-      },
+      text: t("undo"), run: () => undo().then(() => desk.changed()),
     });
     return false;
   }

@@ -9,9 +9,13 @@ import {
 } from "./values.js";
 import { dateOf, readDate } from "./dates.js";
 import { dateText, locale } from "./say.js";
+import { isOfGroup, ownLabel, withLabel } from "./labels.js";
 import { useOf } from "./person.js";
 
-const USES = ["work", "home", "cell", "fax", "pager"];
+const USES = [
+  "work", "home", "cell", "fax", "pager",
+  "spouse", "child", "parent", "sibling", "friend", "colleague", "agent", "emergency",
+];
 
 /** A card for a new form. */
 export function newCard(kind, uid) {
@@ -41,7 +45,7 @@ function single(card, name, show = (line) => unescapeText(line.value)) {
 
 function several(card, name, show) {
   return linesNamed(card, name).map((line) => ({
-    line, use: useOf(line).join(","), text: show(line),
+    line, use: useOf(line).join(","), label: ownLabel(card.lines, line), text: show(line),
   }));
 }
 
@@ -70,7 +74,8 @@ export function fieldsOf(card) {
       const parts = partsOf(line.value, ";").map(componentText);
       const at = (place) => parts[place] ?? "";
       return {
-        line, use: useOf(line).join(","), text: [at(2), at(5), at(3), at(4), at(6)],
+        line, use: useOf(line).join(","), label: ownLabel(card.lines, line),
+        text: [at(2), at(5), at(3), at(4), at(6)],
       };
     }),
     bday: single(card, "BDAY", dateShown),
@@ -237,7 +242,7 @@ class Edit {
     const [{ group }] = this.lines.splice(at, 1);
     if (!group) return;
     const mates = this.lines.filter((it) => it.group === group);
-    if (mates.every((it) => it.name.startsWith("X-AB"))) {
+    if (mates.every(isOfGroup)) {
       this.lines = this.lines.filter((it) => it.group !== group);
     }
   }
@@ -286,9 +291,12 @@ class Edit {
     for (const row of after) {
       const old = before.find((it) => it.line === row.line && row.line);
       const isSameText = Boolean(old) && same(old.text, row.text);
-      if (isSameText && old.use === row.use) continue;
-      if (text(row) === "") this.replace(row.line, null, name);
-      else this.replace(row.line, write(row, isSameText), name);
+      const label = (row.label ?? "").trim();
+      const isSameLabel = label === (old?.label ?? "");
+      if (isSameText && isSameLabel && old.use === row.use) continue;
+      const line = text(row) === "" ? null : write(row, isSameText);
+      this.replace(row.line, line, name);
+      if (line && !isSameLabel) this.lines = withLabel(this.lines, line, label);
     }
   }
 }

@@ -113,6 +113,7 @@ export class Forming {
       await this.saveNow(sent);
     } catch (fault) {
       this.desk.frame.toast(t("saveFailed", { why: fault.message }));
+      fault.isTold = true;
       throw fault;
     } finally {
       this.saving = null;
@@ -135,8 +136,9 @@ export class Forming {
     let { text } = draft;
     await desk.drafts.keep(draft);
     let { base } = edit;
+    let done;
     for (;;) {
-      const done = await desk.queue.save({ ...edit, base, text });
+      done = await desk.queue.save({ ...edit, base, text });
       if (done.clash === undefined) break;
       const chosen = await chooseBoth(desk, edit.book, base, text, done.clash);
       if (chosen === null) return;
@@ -150,7 +152,8 @@ export class Forming {
     if (isOn) this.typed();
     await desk.changed();
     desk.frame.toast(t("saved", { name: nameOf(readCard(text)) || t("nameless") }));
-    if (desk.pane.form === this && !isOn) desk.pane.open(edit.book, edit.uid, true);
+    // Another tab may have moved the card meanwhile.
+    if (desk.pane.form === this && !isOn) desk.pane.open(done.book, edit.uid, true);
   }
 
   /** Drops what was typed. It can be undone, and is in the trash too. */

@@ -1,5 +1,5 @@
 // What is around the cards: the search, the books, how the copy is, and short messages.
-import { button, el, fill } from "./dom.js";
+import { bdi, button, el, fill } from "./dom.js";
 import { icon } from "./icons.js";
 import { count, faultText, number, t, timeText } from "./say.js";
 
@@ -24,9 +24,11 @@ export class Frame {
     by("bar").setAttribute("aria-label", t("progress"));
     by("search-label").textContent = t("searchLabel");
     this.search.placeholder = t("searchHint");
+    fill(by("search-icon"), icon("search"));
     by("books").setAttribute("aria-label", t("books"));
     by("cards").setAttribute("aria-label", t("listLabel"));
     this.listRoot.setAttribute("aria-label", t("listLabel"));
+    by("letters").setAttribute("aria-label", t("letters"));
     const add = by("new");
     fill(add, icon("add"), el("span", {}, t("newCard")));
     const places = by("places");
@@ -79,7 +81,8 @@ export class Frame {
   }
 
   /** How many cards are in the list, and what is said if there is none. */
-  showCount(rows, isSearch, words = t("emptyBook")) {
+  showCount(title, rows, isSearch, words = t("emptyBook")) {
+    if (by("list-title").textContent !== title) fill(by("list-title"), bdi(title));
     by("count").textContent = isSearch ? count("resultsCount", rows) : count("cardsCount", rows);
     const empty = by("empty");
     empty.hidden = rows > 0;
@@ -169,13 +172,13 @@ export class Frame {
         hide();
         action.run();
       }),
-      button("×", hide, { class: "quiet", "aria-label": t("close") })));
+      button(icon("close"), hide, { class: "quiet round", "aria-label": t("close") })));
     this.showing = setTimeout(end, action ? 15000 : 6000);
   }
 
   welcome() {
     fill(this.pane, el("div", { class: "welcome" },
-      el("p", {}, t("welcome")),
+      icon("people"), el("p", {}, t("welcome")),
       el("dl", { class: "keys" }, t("keys").map(([key, what]) =>
         el("div", {}, el("dt", {}, el("kbd", {}, key)), el("dd", {}, what))))));
   }

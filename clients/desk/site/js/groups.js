@@ -1,18 +1,21 @@
 // Who is in a group, with groups in groups, as far as the copy knows.
 
-/** The rows of all people of a group's members. A group that is in itself counts once. */
-export function peopleOf(shelf, book, members) {
-  const found = new Map();
-  const seen = new Set();
+/** The rows of a group's members, and of those of groups in it. Each is there once. */
+export function reachedBy(shelf, book, members) {
+  const seen = new Map();
   const queue = [...members];
-  while (queue.length) {
-    const [[, row]] = shelf.members(book, [queue.shift()]);
+  for (let at = 0; at < queue.length; at += 1) {
+    const [[, row]] = shelf.members(book, [queue[at]]);
     if (!row || seen.has(row.uid)) continue;
-    seen.add(row.uid);
+    seen.set(row.uid, row);
     if (row.kind === "group") queue.push(...(row.members ?? []));
-    else found.set(row.uid, row);
   }
-  return [...found.values()];
+  return [...seen.values()];
+}
+
+/** The rows of all people of a group's members. */
+export function peopleOf(shelf, book, members) {
+  return reachedBy(shelf, book, members).filter((row) => row.kind !== "group");
 }
 
 /** The mail addresses of a group's people, and how many have none. */

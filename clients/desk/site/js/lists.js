@@ -1,5 +1,6 @@
 // Lists beside the books: favourites and cards that were opened lately, which are of this browser
 // alone, and groups.
+import { reachedBy } from "./groups.js";
 import { keyOf } from "./shelf.js";
 
 const MOST = 60;
@@ -29,6 +30,16 @@ export class Lists {
     return this.store.keepSetting("favourites", [...this.favourites]);
   }
 
+  /** Cards were moved, `[book, uid, to]` each: what is kept of them goes with them. */
+  async moved(places) {
+    const to = new Map(places.map(([book, uid, other]) => [`${book}/${uid}`, `${other}/${uid}`]));
+    const now = (key) => to.get(key) ?? key;
+    this.favourites = new Set([...this.favourites].map(now));
+    this.recent = [...new Set(this.recent.map(now))];
+    await this.store.keepSetting("favourites", [...this.favourites]);
+    await this.store.keepSetting("recent", this.recent);
+  }
+
   /** A card was opened. */
   opened(book, uid) {
     const key = `${book}/${uid}`;
@@ -37,7 +48,10 @@ export class Lists {
     this.store.keepSetting("recent", this.recent);
   }
 
-  /** The rows of a list: `{kind: "favourites" | "recent"}`, or a group with its book and UID. */
+  /**
+   * The rows of a list: `{kind: "favourites" | "recent"}`, a category with its name, or a group
+   * with its book and UID, which has those of groups in it too.
+   */
   pick(list, rows, shelf) {
     if (list.kind === "favourites") return rows.filter((row) => this.favourites.has(keyOf(row)));
     if (list.kind === "recent") {
@@ -45,9 +59,12 @@ export class Lists {
       return rows.filter((row) => place.has(keyOf(row)))
         .sort((a, b) => place.get(keyOf(a)) - place.get(keyOf(b)));
     }
+    if (list.kind === "category") {
+      const name = list.name.toLowerCase();
+      return rows.filter((row) => row.cats?.some((it) => it.toLowerCase() === name));
+    }
     const group = shelf.get(list.book, list.uid);
-    const members = shelf.members(list.book, group?.members ?? []);
-    const keys = new Set(members.filter((it) => it[1]).map((it) => keyOf(it[1])));
+    const keys = new Set(reachedBy(shelf, list.book, group?.members ?? []).map(keyOf));
     return rows.filter((row) => keys.has(keyOf(row)));
   }
 }

@@ -16,6 +16,10 @@ document.documentElement.lang = language;
 keepFiles().catch(() => {});
 try {
   const desk = new Desk(await openStore());
+  // What couldn't be kept, as on a full disk, is never lost in silence.
+  addEventListener("unhandledrejection", ({ reason }) => {
+    if (reason instanceof DOMException && !reason.isTold) desk.couldNotKeep(reason);
+  });
   navigator.serviceWorker?.addEventListener("message", ({ data }) => {
     if (data === "new files") desk.isNew();
   });

@@ -1,6 +1,7 @@
 // Two edits of one card, put together. What only one side changed is taken from it. Lists, as of
 // numbers, addresses and members, are put together like sets. Somebody has to choose only where
 // the same value was changed in two ways.
+import { isOfGroup, ownLabel } from "./labels.js";
 import { telText, unescapeText, partsOf } from "./values.js";
 import { lineText, readCard, withParams, withValue, writeCard } from "./vcard.js";
 
@@ -21,6 +22,8 @@ function keyOf(line) {
   if (line.name === "MEMBER" || line.name === "RELATED") {
     return line.value.trim().toLowerCase().replace(/^urn:uuid:/, "");
   }
+  // A label is of its group: two of the same words are two labels.
+  if (isOfGroup(line)) return `${line.group.toLowerCase()}.${unescapeText(line.value)}`;
   return line.name ? unescapeText(line.value) : line.value;
 }
 
@@ -33,7 +36,8 @@ function itemsOf(card) {
   card.lines.forEach((line, at) => {
     if (!names.has(line.name)) names.set(line.name, []);
     const text = line.name ? lineText(line) : line.value;
-    names.get(line.name).push({ line, at, text, key: keyOf(line) });
+    const label = ownLabel(card.lines, line);
+    names.get(line.name).push({ line, at, text, key: keyOf(line), label });
   });
   return names;
 }
@@ -75,7 +79,9 @@ function settle(name, was, mine, theirs) {
   if (same(mine, theirs)) return { item: theirs, at: theirs?.at };
   if (same(mine, was)) return { item: theirs, at: theirs?.at, by: "theirs", was };
   if (same(theirs, was)) return { item: mine, at: theirs?.at, by: "mine", was };
-  if (OF_PROGRAMS.has(name)) return { item: mine ?? theirs, at: theirs?.at };
+  // A label goes with its line, about which there may be a question.
+  const isLabel = isOfGroup({ name }) && !(mine && theirs);
+  if (isLabel || OF_PROGRAMS.has(name)) return { item: mine ?? theirs, at: theirs?.at };
   return { clash: { name, was, mine, theirs }, at: theirs?.at };
 }
 
@@ -149,6 +155,24 @@ function mergeName(name, sides) {
   return whole ?? mergeItems(name, base, mine, theirs);
 }
 
+/** What is in a group of lines, to be compared. */
+function linesOf(card, group) {
+  const lines = card.lines.filter((it) => it.group.toLowerCase() === group);
+  return lines.map(lineText).sort().join("\n");
+}
+
+/** Without the labels of lines that are gone. */
+function withoutLoose(lines, cards) {
+  const named = (all) => new Set(all.filter((it) => !isOfGroup(it)).map((it) =>
+    it.group.toLowerCase()));
+  const [now, before] = [named(lines), named(cards.flatMap((it) => it.lines))];
+  const isLoose = (line) => {
+    const group = line.group.toLowerCase();
+    return isOfGroup(line) && group && before.has(group) && !now.has(group);
+  };
+  return lines.filter((line) => !isLoose(line));
+}
+
 /** Mine with other names for its new groups of lines, where theirs has new ones of that name. */
 function withOwnGroups(base, mine, theirs) {
   const groupsOf = (card) => new Set(card.lines.map((it) => it.group.toLowerCase()));
@@ -157,6 +181,7 @@ function withOwnGroups(base, mine, theirs) {
   let number = 1;
   for (const group of own) {
     if (!group || old.has(group) || !other.has(group)) continue;
+    if (linesOf(mine, group) === linesOf(theirs, group)) continue; // both added the same
     while ([old, own, other].some((it) => it.has(`item${number}`))) number += 1;
     names.set(group, `item${number}`);
     own.add(`item${number}`);
@@ -196,7 +221,8 @@ export function merge3(baseText, mineText, theirText) {
   const text = (choices = []) => {
     const chosen = (slot) =>
       slot.clash ? slot.clash[choices[clashes.indexOf(slot.clash)] ?? "theirs"] : slot.item;
-    return writeCard({ lines: order.map(chosen).filter(Boolean).map((it) => it.line) });
+    const lines = order.map(chosen).filter(Boolean).map((it) => it.line);
+    return writeCard({ lines: withoutLoose(lines, [base, mine, theirs]) });
   };
   return { clashes, changes, text };
 }

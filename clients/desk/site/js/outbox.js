@@ -2,10 +2,9 @@
 // the server has it. Two edits of one card are put together; where that needs somebody's decision,
 // or where the server refuses, the entry says so and stays.
 import { Fault } from "./api.js";
-import { merge3 } from "./merge.js";
+import { WAITS } from "./entries.js";
 import * as push from "./push.js";
-import { WAITS } from "./queue.js";
-import { withBook, withLock } from "./sync.js";
+import { withBooks, withLock } from "./sync.js";
 
 const LONGEST_WAIT = 60_000;
 
@@ -67,7 +66,8 @@ export class Outbox {
       if (!next) return true;
       tried.add(JSON.stringify(next));
       try {
-        await withBook(next.book, () => this.send(next));
+        const books = [next.book, next.from].filter(Boolean);
+        await withBooks(books, () => this.send(next));
         this.failures = 0;
       } catch (fault) {
         if (!(fault instanceof Fault)) throw fault;
@@ -80,20 +80,22 @@ export class Outbox {
   }
 
   async send(entry) {
+    const { queue } = this;
     const isRemoval = entry.kind === "remove";
-    const done = await (isRemoval ? push.remove : push.save)(this.api, entry);
-    if (done.theirs === undefined) {
-      const change = await (isRemoval
-        ? this.queue.removed(entry)
-        : this.queue.stored(entry, done.version));
-      this.tell.changed(entry.book, change);
-      this.tell.sent(entry);
-    } else if (done.theirs === null || isRemoval) {
-      await this.queue.ask(entry, done.theirs);
+    const send = isRemoval ? push.remove : entry.from ? push.move : push.save;
+    const done = await send(this.api, entry);
+    if (done.moved) {
+      for (const it of await queue.moved(entry, done.moved)) this.tell.changed(...it);
+    } else if (done.there !== undefined) {
+      this.tell.changed(entry.from, await queue.left(entry, done.there));
+    } else if (done.theirs === undefined) {
+      const change = await (isRemoval ? queue.removed(entry) : queue.stored(entry, done.version));
+      this.tell.changed(entry.from ?? entry.book, change);
+    } else if (isRemoval) {
+      await queue.ask(entry, done.theirs);
     } else {
-      const both = merge3(entry.base, entry.text, done.theirs.text);
-      if (both.clashes.length) await this.queue.ask(entry, done.theirs);
-      else await this.queue.rebase(entry, done.theirs, both.text());
+      await queue.settle(entry, done.theirs);
     }
+    if (done.theirs === undefined) this.tell.sent(entry);
   }
 }

@@ -20,11 +20,13 @@ export class Pane {
     this.form = null;
     this.missing = ""; // the key of a card that was asked for and isn't here
     this.asked = {}; // what is on its way into the pane; a later one takes its place
+    this.coming = null; // the same for a card, until it is there
+    this.comingKey = null;
   }
 
-  /** The key of the card that is shown, for the list. */
+  /** The key of the card that is shown or on its way, for the list. */
   get cardKey() {
-    return this.shown ? keyOf(this.shown) : null;
+    return this.comingKey ?? (this.shown ? keyOf(this.shown) : null);
   }
 
   /** Whether a draft is that of the form in the pane. */
@@ -72,7 +74,15 @@ export class Pane {
   ask() {
     clearTimeout(this.desk.showing);
     this.asked = {};
+    this.coming = null;
+    this.comingKey = null;
     return this.asked;
+  }
+
+  /** Another card was chosen in the list: one that is on its way doesn't come. */
+  willShow(key) {
+    if (this.coming) this.ask();
+    this.comingKey = key;
   }
 
   /** Another thing comes into the pane. What was typed into a form stays kept. */
@@ -105,16 +115,17 @@ export class Pane {
     document.title = t("title");
   }
 
-  /** Nothing is shown: what the user may do is said in its place. */
+  /** Nothing is shown: what the user may do is said in its place, if it isn't yet. */
   blank() {
     const { desk } = this;
-    if (!desk.books.length && !desk.mayList) {
-      fill(this.node, bookQuestion((name) => desk.addBook(name)));
-    } else if (desk.frame.search.value.trim() !== "" || desk.shelf.count(desk.chosen) === 0) {
-      fill(this.node);
-    } else {
-      desk.frame.welcome();
-    }
+    const isSearch = desk.frame.search.value.trim() !== "";
+    let kind = isSearch || desk.shelf.count(desk.chosen) === 0 ? "empty" : "welcome";
+    if (!desk.books.length && !desk.mayList) kind = "question";
+    if (this.node.firstElementChild?.dataset.kind === kind) return;
+    if (kind === "question") fill(this.node, bookQuestion((name) => desk.addBook(name)));
+    else if (kind === "welcome") desk.frame.welcome();
+    else fill(this.node, el("div"));
+    this.node.firstElementChild.dataset.kind = kind;
   }
 
   async route() {
@@ -141,7 +152,7 @@ export class Pane {
     const { shown } = this;
     if (shown?.kind !== "card") return;
     const seen = await this.desk.queue.seen(shown.book, shown.uid);
-    if (this.shown !== shown) return;
+    if (this.shown !== shown || this.coming) return;
     // Not while something of it is pressed, or while its menu is open.
     if (this.desk.isHeld || this.node.querySelector(".menu-list:not([hidden])")) {
       setTimeout(() => this.again(), 150);
@@ -173,6 +184,8 @@ export class Pane {
   /** Shows a card in the pane; `isFinal` if the user goes there. */
   async show(book, uid, isFinal = false) {
     const asked = this.ask();
+    this.coming = asked;
+    this.comingKey = `${book}/${uid}`;
     const seen = await this.desk.queue.seen(book, uid);
     if (asked !== this.asked) return; // another card was asked for meanwhile
     if (seen) {
@@ -186,7 +199,7 @@ export class Pane {
     if (seen) this.desk.lists.opened(book, uid);
     this.desk.frame.showPane("card");
     this.desk.draw();
-    this.node.querySelector("#card-name")?.focus();
+    this.node.querySelector("#card-name")?.focus({ preventScroll: true });
   }
 
   fillCard(book, uid, { text, entry }) {

@@ -6,6 +6,7 @@ import {
   componentText, dateParts, digitsOf, mailLink, partsOf, photoOf, plainText, safeLink, telLink,
   telText, unescapeText,
 } from "./values.js";
+import { ownLabel } from "./labels.js";
 import { fold, spellOut } from "./search.js";
 
 // Lines that `describe` shows, or that mean nothing to people.
@@ -14,7 +15,11 @@ const SHOWN = new Set([
   "BDAY", "ANNIVERSARY", "CATEGORIES", "RELATED", "MEMBER", "PHOTO", "LANG", "TZ", "UID", "KIND",
   "REV", "PRODID", "X-ABLABEL", "X-ABADR",
 ]);
-const KINDS_OF_USE = new Set(["work", "home", "cell", "fax", "pager", "video", "textphone"]);
+const KINDS_OF_USE = new Set([
+  "work", "home", "cell", "fax", "pager", "video", "textphone",
+  // Of related people (RFC 6350, section 6.6.6).
+  "spouse", "child", "parent", "sibling", "friend", "colleague", "agent", "emergency",
+]);
 const LONG = 300;
 
 /** The types that people care about, in a fixed order: "work", "home", "cell" and so on. */
@@ -23,17 +28,10 @@ export function useOf(line) {
   return [...KINDS_OF_USE].filter((it) => types.includes(it));
 }
 
-/** What a line is called: a label of its own group, as some phones write them, or its uses. */
+/** What a line is called: a label of one's own, or its uses. */
 function labelOf(card, line) {
-  if (line.group) {
-    const group = line.group.toLowerCase();
-    const own = card.lines.find(
-      (it) => it.name === "X-ABLABEL" && it.group.toLowerCase() === group,
-    );
-    const text = own && unescapeText(own.value).replace(/^_\$!<(.*)>!\$_$/, "$1").trim();
-    if (text) return { text };
-  }
-  return { uses: useOf(line) };
+  const text = ownLabel(card.lines, line);
+  return text ? { text } : { uses: useOf(line) };
 }
 
 export function nameOf(card) {
@@ -126,6 +124,7 @@ export function rowOf(book, uid, version, text) {
   const orgs = orgOf(card);
   const titles = [...textsOf(card, "TITLE"), ...textsOf(card, "ROLE")];
   const mails = lines("EMAIL").map(plain).filter(Boolean);
+  const categories = names.has("CATEGORIES") ? categoriesOf(card).slice(0, 50) : [];
   const phones = lines("TEL").slice(0, 20);
   const row = { book, uid, version, kind: kindOf(card), name: clip(name) };
   const some = {
@@ -138,8 +137,9 @@ export function rowOf(book, uid, version, text) {
     label: phones.length ? labelOf(card, phones[0]) : null,
     face: photoOf(lines("PHOTO")[0] ?? null) ? 1 : 0,
     names: searched([name, ...nicks, ...parts.slice(0, 3)], 2000),
-    words: searched([...orgs, ...titles, ...mails, ...categoriesOf(card)], 2000),
+    words: searched([...orgs, ...titles, ...mails, ...categories], 2000),
     more: searched([...lines("ADR").flatMap(addressOf), ...textsOf(card, "NOTE")], 600),
+    cats: categories.length ? categories.map((it) => clip(it, 60)) : null,
     digits: phones.map((it) => digitsOf(telText(it)).slice(0, 40)).join(" "),
   };
   // Rows are many: what a card hasn't takes no room.

@@ -2,7 +2,7 @@
 // (docs/API.md, "Versions" and "Lost replies"). A change whose reply was lost may be sent again:
 // it is found out then whether it was made.
 import { Fault } from "./api.js";
-import { withBook } from "./sync.js";
+import { isEdited } from "./queue.js";
 import { sameCard } from "./vcard.js";
 
 /** The card as the server has it now, `{version, text}`, or null. */
@@ -52,18 +52,28 @@ export async function remove(api, { book, uid, version, base }) {
   return {};
 }
 
-/** Moves a card to another book. Answers `{}`, or `{theirs}`, null if it is gone. */
-export function move(api, store, book, uid, version, to) {
-  return withBook(book, async () => {
-    try {
-      await api.move(book, uid, version, to);
-    } catch (fault) {
-      if (!(fault instanceof Fault)) throw fault;
-      if (fault.is("version-mismatch")) return { theirs: await present(api, book, uid) };
-      if (!fault.is("no-such-card")) throw fault;
-      // After a lost reply it may have arrived.
-      if (!(await present(api, to, uid))) return { theirs: null };
-    }
-    return { change: await store.dropCard(book, uid) };
-  });
+/**
+ * Moves the card of an entry to another book, once what was changed in it is stored. Answers
+ * `{version}` if it was stored, `{moved}` with the new version if it was moved, `{theirs}` if
+ * somebody else changed it, or `{there}` if the old book hasn't got it any more: what the new book
+ * has then, or null.
+ */
+export async function move(api, entry) {
+  const { book, from, uid, version } = entry;
+  const done = isEdited(entry)
+    ? await save(api, { ...entry, book: from })
+    : await moveNow(api, from, uid, version, book);
+  // After a lost reply it may have arrived.
+  return done.theirs === null ? { there: await present(api, book, uid) } : done;
+}
+
+async function moveNow(api, from, uid, version, to) {
+  try {
+    return { moved: (await api.move(from, uid, version, to)).version };
+  } catch (fault) {
+    if (!(fault instanceof Fault)) throw fault;
+    if (fault.is("no-such-card")) return { theirs: null };
+    if (fault.is("version-mismatch")) return { theirs: await present(api, from, uid) };
+    throw fault;
+  }
 }

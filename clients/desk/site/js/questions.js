@@ -1,7 +1,7 @@
 // What has to be decided: two edits of one card, a card that somebody removed, what waits.
 import { merge3 } from "./merge.js";
 import { nameOf } from "./person.js";
-import { ASKS } from "./queue.js";
+import { ASKS } from "./entries.js";
 import { keyOf } from "./shelf.js";
 import { t } from "./say.js";
 import { readCard, sameCard } from "./vcard.js";
@@ -81,7 +81,8 @@ async function answerFor(desk, entry) {
   const { base, text, theirs } = entry;
   const chosen = await chooseBoth(desk, entry.book, base, text, theirs.text);
   if (chosen === null) return null;
-  return sameCard(chosen, theirs.text) ? "drop" : { text: chosen };
+  // What is moved has to be sent in any case.
+  return sameCard(chosen, theirs.text) && !entry.from ? "drop" : { text: chosen };
 }
 
 /** Shows what isn't sent and what isn't finished, each with what can be done. */
@@ -112,9 +113,16 @@ export async function showWaiting(desk) {
   });
 }
 
-/** Gives a change up that can't be sent. It can be put back. */
+/** Gives a change up that can't be sent. It can be put back. A card that is moved stays. */
 export async function giveUp(desk, entry) {
-  const { book, uid } = entry;
+  const { book, uid, from } = entry;
+  if (from) {
+    await desk.queue.move([[book, uid, from]]);
+    await desk.changed();
+    desk.pane.open(from, uid, true);
+    desk.frame.toast(t("moveStayed", { name: nameIn(entry.text), book: from }));
+    return;
+  }
   await desk.queue.drop(book, uid);
   await desk.changed();
   if (!(await desk.queue.seen(book, uid))) desk.pane.clear();

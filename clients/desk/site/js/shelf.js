@@ -47,7 +47,9 @@ export class Shelf {
   /** Puts the entries of the queue over the copy, in place of those before. Returns their keys. */
   cover(entries) {
     const before = [...this.local.keys()];
-    this.local = new Map(entries.map((it) => [keyOf(it), localRow(it)]));
+    // A card that is moved isn't in its old book any more, unless that gets one of its UID.
+    const left = entries.filter((it) => it.from).map((it) => [`${it.from}/${it.uid}`, null]);
+    this.local = new Map([...left, ...entries.map((it) => [keyOf(it), localRow(it)])]);
     for (const key of before) {
       if (!this.local.has(key)) this.see(key, this.server.get(key) ?? null);
     }
@@ -122,6 +124,25 @@ export class Shelf {
   /** The groups of a book ("" for all books). */
   groups(book) {
     return this.all().filter((row) => row.kind === "group" && (!book || row.book === book));
+  }
+
+  /** The categories of a book's cards ("" for all books) by name: `[name, how many]` each. */
+  categories(book) {
+    const rows = this.ofBook(book);
+    if (this.named?.rows !== rows) {
+      const counts = new Map();
+      for (const row of rows) {
+        for (const name of row.cats ?? []) {
+          const key = name.toLowerCase();
+          const found = counts.get(key) ?? [name, 0];
+          found[1] += 1;
+          counts.set(key, found);
+        }
+      }
+      const { compare } = new Intl.Collator(this.language, { sensitivity: "base" });
+      this.named = { rows, of: [...counts.values()].sort((a, b) => compare(a[0], b[0])) };
+    }
+    return this.named.of;
   }
 
   /** The groups of the book that name the card. */

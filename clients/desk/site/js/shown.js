@@ -27,9 +27,10 @@ function valueText(line, nameOf) {
 }
 
 /** The value of a line, and what it is for. */
-export function lineShown(line, nameOf = (value) => value) {
-  const uses = line.name ? usesText({ uses: useOf(line) }) : "";
+export function lineShown({ line, label }, nameOf = (value) => value) {
+  const uses = label || (line.name ? usesText({ uses: useOf(line) }) : "");
   return [
-    bdi(plainText(valueText(line, nameOf)).slice(0, 600)), uses && el("small", {}, ` ${uses}`),
+    bdi(plainText(valueText(line, nameOf)).slice(0, 600)),
+    uses && el("small", {}, " ", bdi(plainText(uses))),
   ];
 }

@@ -24,6 +24,12 @@ export function withBook(name, work) {
   return withLock(`desk ${name}`, work);
 }
 
+/** The same with several books, which are always taken in one order. */
+export function withBooks(names, work) {
+  const [name, ...others] = [...new Set(names)].sort();
+  return withBook(name, () => (others.length ? withBooks(others, work) : work()));
+}
+
 const queues = new Map();
 
 function queued(name, work) {

@@ -96,6 +96,7 @@ export const TEXTS = {
   source: "The card as it is stored",
   cardFooter: "In the book {book}",
   readOnly: "You may read this book, and not change it.",
+  tryChanges: "Offer changes again",
   readOnlyAll: "You may read these books, and not change them.",
   notSentMark: "Not sent yet.",
   mark_waits: "not sent yet",
@@ -104,7 +105,9 @@ export const TEXTS = {
   goneCard: "This card isn't in the copy. It may have been deleted or moved.",
   uses: {
     work: "work", home: "home", cell: "mobile", fax: "fax", pager: "pager", video: "video",
-    textphone: "text phone",
+    textphone: "text phone", spouse: "spouse", child: "child", parent: "parent",
+    sibling: "sibling", friend: "friend", colleague: "colleague", agent: "assistant",
+    emergency: "in an emergency",
   },
 
   // Duplicates, the trash, groups of a card
@@ -120,6 +123,7 @@ export const TEXTS = {
   joinText: "These differ. Choose for each which to keep. The other card is deleted.",
   joinFirst: "First card",
   joinOther: "Other card",
+  joinTaken: "In one of the cards, and kept",
   joinByFirst: "of the first card",
   joinByOther: "of the other card",
   joined: "Put together: {name}",
@@ -144,7 +148,7 @@ export const TEXTS = {
   // Several at once
   select: "Select",
   selectDone: "Done",
-  selectAll: "Select all",
+  selectAll: "All",
   forSelected: "With these…",
   sort: "Sort",
   sort_name: "By given name",
@@ -157,6 +161,8 @@ export const TEXTS = {
   showBooks: "Books and groups",
   noFavourites: "No card is a favourite yet. The menu of a card makes it one.",
   noRecent: "No card was opened here yet.",
+  noCategory: "No card has this category.",
+  letters: "Letters: go to a name",
   noMembers: "No member of this group is in the copy.",
   removeSomeText: "They go from their books, on all devices.",
   moveSomeText: "They go from their books, on all devices that follow those.",
@@ -202,6 +208,8 @@ export const TEXTS = {
   addField: "Add field",
   useOf: "Kind of {title}",
   noUse: "–",
+  ownLabel: "Own label…",
+  labelOf: "Own label of {title}",
   add: "Add",
   removeRow: "Remove",
   removeThis: "Remove {title}",
@@ -217,6 +225,7 @@ export const TEXTS = {
   nothingChanged: "Nothing was changed.",
   saved: "Saved: {name}",
   saveFailed: "This browser couldn’t keep it ({why}). The form stays open: try again.",
+  keepFailed: "This browser couldn’t keep it ({why}). Nothing was changed: try again.",
   copyBad: "This browser doesn’t let the page copy.",
   leftForm: "Not saved, but kept: {name}",
   goBack: "Go on with it",
@@ -232,6 +241,10 @@ export const TEXTS = {
   nothingWaits: "Everything is sent.",
   waitsSave: "It goes to the server as soon as that answers.",
   waitsRemoval: "It is deleted for all as soon as the server answers.",
+  waitsMove: "It goes from {from} to {book} for all as soon as the server answers.",
+  moveRefused: "It couldn’t be moved to {book}. {why}",
+  moveStays: "Leave it in {book}",
+  moveStayed: "It stays in {book}: {name}",
   waitsAsks: "Somebody else changed it too. Decide what the card has.",
   waitsGone: "Somebody else deleted or moved it. Decide what happens to your change.",
   decide: "Decide…",
@@ -279,8 +292,7 @@ export const TEXTS = {
   keepCard: "Keep it",
   removeAnyway: "Delete it anyway",
   moveNowhere: "There is no other book that you may change.",
-  moveWaits: "A change of this card isn’t sent yet. Move it when it is.",
-  moveChanged: "Somebody changed this card meanwhile. Look at it, and move it then.",
+  moveTaken: "The book {book} has this card already.",
 
   // Books
   bookTitle: "Book {book}",
@@ -399,6 +411,7 @@ export const TEXTS = {
     TITLE: "Position", ROLE: "Role", ADR: "Address", NOTE: "Note", BDAY: "Birthday",
     ANNIVERSARY: "Anniversary", CATEGORIES: "Categories", URL: "Web", PHOTO: "Photo",
     NICKNAME: "Nickname", MEMBER: "Members", IMPP: "Chat", RELATED: "Related", KIND: "Kind",
+    "X-ABLABEL": "Label",
   },
 };
 

@@ -92,7 +92,8 @@ export function showBook(book, run) {
       }, { class: kind ?? null });
     return [
       el("p", {}, book.synced ? t("copyOf", { time: timeText(book.synced) }) : t("noCopy")),
-      book.rights === "read" ? el("p", {}, t("readOnly")) : null,
+      run.tryChanges && el("p", {}, t("readOnly"), " ",
+        doing(t("tryChanges"), run.tryChanges, "quiet")),
       numbers,
       el("div", { class: "doings" },
         doing(t("update"), run.update),

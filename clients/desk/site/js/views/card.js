@@ -174,7 +174,7 @@ function tags(buttons) {
 }
 
 function tag(text, act) {
-  return button(bdi(text), () => act.search(text), { class: "tag" });
+  return button(bdi(text), () => act.category(text), { class: "tag" });
 }
 
 function link(row, act) {

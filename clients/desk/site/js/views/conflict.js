@@ -10,7 +10,7 @@ function ofTwo(name) {
   return {
     title: t("conflictTitle", { name }), text: t("conflictText"), mine: t("yours"),
     theirs: t("theirs"), leave: t("later"), all: t("keepTheirs"),
-    by: ["changedBy_mine", "changedBy_theirs"],
+    taken: t("takenTitle"), by: ["changedBy_mine", "changedBy_theirs"],
   };
 }
 
@@ -36,7 +36,7 @@ export function askBoth(name, both, nameOf, words = ofTwo(name)) {
         el("thead", {}, el("tr", {}, el("td", {}),
           el("th", { scope: "col" }, words.mine), el("th", { scope: "col" }, words.theirs))),
         el("tbody", {}, both.clashes.map((it, at) => row(it, at, choices, nameOf))))) : null,
-      taken(both.changes, nameOf, words.by),
+      taken(both.changes, nameOf, words),
       error,
       el("div", { class: "bar" },
         button(t("saveChosen"), save, { class: "main" }),
@@ -58,7 +58,7 @@ function row(clash, at, choices, nameOf) {
     return el("td", {}, el("label", { for: id, class: "pick" }, radio, shown));
   };
   const was = clash.was
-    ? el("small", {}, t("was"), " ", lineShown(clash.was.line, nameOf))
+    ? el("small", {}, t("was"), " ", lineShown(clash.was, nameOf))
     : null;
   return el("tr", { class: "clash" },
     el("th", { scope: "row" }, propertyText(clash.name), was), cell("mine"), cell("theirs"));
@@ -66,18 +66,18 @@ function row(clash, at, choices, nameOf) {
 
 function side(item, nameOf) {
   if (!item) return el("span", { class: "none" }, t("nothing"));
-  return el("div", { class: "said" }, lineShown(item.line, nameOf));
+  return el("div", { class: "said" }, lineShown(item, nameOf));
 }
 
 /** What only one side changed: it is in the card in any case. */
-function taken(changes, nameOf, [mine, theirs]) {
+function taken(changes, nameOf, { taken: title, by: [mine, theirs] }) {
   const named = changes.filter((it) => it.now || it.was);
   if (!named.length) return null;
-  return el("div", { class: "taken" }, el("h3", {}, t("takenTitle")), el("ul", {},
+  return el("div", { class: "taken" }, el("h3", {}, title), el("ul", {},
     named.map((it) => {
       const gone = it.now ? null : [" ", el("small", {}, t("takenGone"))];
       return el("li", {}, el("strong", {}, propertyText(it.name)), " ",
-        lineShown((it.now ?? it.was).line, nameOf), gone, " ",
+        lineShown(it.now ?? it.was, nameOf), gone, " ",
         el("small", {}, bdi(t(it.by === "mine" ? mine : theirs))));
     })));
 }

@@ -1,5 +1,6 @@
 // Fields of the form: one text, rows that can be added and removed, dates, a photo.
 import { button, el, fill, labelled, newId } from "../dom.js";
+import { icon } from "../icons.js";
 import { readDate } from "../dates.js";
 import { dateText, locale, t, usesText } from "../say.js";
 import { isMail, isPhone } from "../values.js";
@@ -10,7 +11,9 @@ const USES = {
   mails: ["work", "home", ""],
   urls: ["work", "home", ""],
   chats: ["work", "home", ""],
-  related: [""],
+  related: [
+    "", "spouse", "child", "parent", "sibling", "friend", "colleague", "agent", "emergency",
+  ],
   adrs: ["work", "home", ""],
 };
 const KINDS = {
@@ -77,31 +80,57 @@ export function addressFields(fields, act) {
     adder(fields, "adrs", list, draw, () => ["", "", "", "", ""], act));
 }
 
+// Before the label of an option's value; no use begins with it.
+const OWN = "=";
+
+/** What a value is for: one of some words, or a label of one's own. */
 function useSelect(key, row, title) {
-  if (USES[key].length === 1) return el("span", {});
   const uses = USES[key].includes(row.use) ? USES[key] : [row.use, ...USES[key]];
-  const options = uses.map((use) => {
-    const text = use ? usesText({ uses: use.split(",") }) : t("noUse");
-    return el("option", { value: use, selected: use === row.use }, text);
+  const label = row.label ?? "";
+  const option = (value, text, selected) => el("option", { value, selected }, text);
+  const box = el("input", {
+    type: "text", maxlength: "60", autocomplete: "off",
+    "aria-label": t("labelOf", { title }), placeholder: t("ownLabel"),
+    on: { input: () => { row.label = box.value; } },
   });
-  return el("select", {
+  const select = el("select", {
     "aria-label": t("useOf", { title }),
-    on: { change: (event) => { row.use = event.target.value; } },
-  }, options);
+    on: {
+      change: () => {
+        const isOwn = select.value.startsWith(OWN);
+        row.label = isOwn ? select.value.slice(OWN.length) : "";
+        row.use = isOwn ? "" : select.value;
+        box.remove();
+        box.value = "";
+        if (select.value !== OWN) return;
+        cell.append(box);
+        box.focus();
+      },
+    },
+  },
+  label && option(OWN + label, label, true),
+  uses.map((use) => option(
+    use, use ? usesText({ uses: use.split(",") }) : t("noUse"), !label && use === row.use,
+  )),
+  option(OWN, t("ownLabel"), false));
+  const cell = el("div", { class: "use" }, select);
+  return cell;
 }
 
 function remover(fields, key, row, title, draw, act) {
-  return button(t("removeRow"), (event) => {
+  return button(icon("close"), (event) => {
     const place = event.currentTarget.closest("fieldset");
     fields[key] = fields[key].filter((it) => it !== row);
     draw();
     act.typed();
     place.querySelector(".add").focus();
-  }, { class: "quiet", "aria-label": t("removeThis", { title }) });
+  }, {
+    class: "quiet round remove", "aria-label": t("removeThis", { title }), title: t("removeRow"),
+  });
 }
 
 function adder(fields, key, list, draw, empty) {
-  return button(t("add"), () => {
+  return button([icon("add"), el("span", {}, t("add"))], () => {
     fields[key].push({ line: null, use: USES[key][0], text: empty() });
     draw();
     list.lastElementChild.querySelector("input").focus();
@@ -158,12 +187,15 @@ export function photoField(fields, act) {
       fields.photo ? el("img", { class: "photo", src: fields.photo, alt: t("photo") }) : null,
       el("label", { class: "pick-file" }, t(fields.photo ? "otherPhoto" : "choosePhoto"), file),
       fields.photo
-        ? button(t("removeRow"), () => {
+        ? button(icon("close"), () => {
           fields.photo = null;
           act.typed();
           draw();
           file.focus();
-        }, { class: "quiet", "aria-label": t("removeThis", { title: t("photo") }) })
+        }, {
+          class: "quiet round remove", title: t("removeRow"),
+          "aria-label": t("removeThis", { title: t("photo") }),
+        })
         : null,
     );
   };

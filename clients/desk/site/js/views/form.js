@@ -1,6 +1,7 @@
 // The form of a card: what the card has, and one button for what it hasn't.
 import { bdi, button, el, fill, labelled, newId } from "../dom.js";
 import { memberValue } from "../edit.js";
+import { icon } from "../icons.js";
 import { search } from "../search.js";
 import { t } from "../say.js";
 import { clean } from "../values.js";
@@ -154,7 +155,7 @@ function moreFields(fields, act) {
   const all = optional(fields, act);
   const shown = new Set(all.filter((it) => it[1]).map((it) => it[0]));
   const list = el("div", { class: "more-fields" }, all.filter((it) => it[1]).map((it) => it[2]()));
-  const add = menuButton(t("addField"), () => all
+  const add = menuButton([icon("add"), el("span", {}, t("addField"))], () => all
     .filter((it) => !shown.has(it[0]))
     .map(([name, , make]) => [t(name), () => {
       shown.add(name);
@@ -177,12 +178,15 @@ function membersField(fields, act) {
     const members = act.members(fields.members);
     fill(list, members.map(([value, row]) =>
       el("li", {}, row ? bdi(row.name) : el("span", { class: "missing" }, bdi(value)),
-        button(t("removeRow"), () => {
+        button(icon("close"), () => {
           fields.members = fields.members.filter((it) => it !== value);
           draw();
           act.typed();
           box.focus();
-        }, { class: "quiet", "aria-label": t("removeThis", { title: row ? row.name : value }) })),
+        }, {
+          class: "quiet round", title: t("removeRow"),
+          "aria-label": t("removeThis", { title: row ? row.name : value }),
+        })),
     ));
   };
   const look = () => {

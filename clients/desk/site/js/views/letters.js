@@ -1,48 +1,108 @@
-// Letters beside the list, to come to a name with one press or a move of a finger. They repeat what
-// the search does, so screen readers and the keyboard leave them out.
+// Letters beside the list, to come to a name with one press, a move of a finger, or by keyboard: to
+// a screen reader they are a slider.
 import { el } from "../dom.js";
 import { familyFirst, fold } from "../search.js";
 
+const STEPS = {
+  ArrowDown: 1, ArrowRight: 1, ArrowUp: -1, ArrowLeft: -1, PageDown: 5, PageUp: -5, Home: -100,
+  End: 100,
+};
+
+function letterOf(text) {
+  const first = fold(text.slice(0, 4)).charAt(0).toUpperCase();
+  return /\p{L}/u.test(first) ? first : "#";
+}
+
 export class Letters {
-  /** `jump(at)` is called with the place of the first row of a letter. */
-  constructor(root, jump) {
+  /**
+   * `run` has `top()`, the place of the first row in sight, `jump(at)`, which brings a row to the
+   * top, and `open(at)`.
+   */
+  constructor(root, run) {
     this.root = root;
-    this.jump = jump;
+    this.run = run;
     this.places = [];
     this.drawn = "";
+    this.now = 0;
     root.addEventListener("pointerdown", (event) => {
       root.setPointerCapture(event.pointerId);
-      this.at(event);
+      this.press(event);
     });
     root.addEventListener("pointermove", (event) => {
-      if (event.buttons) this.at(event);
+      if (event.buttons) this.press(event);
     });
+    root.addEventListener("focus", () => this.mark(this.letterAt(this.run.top())));
+    root.addEventListener("keydown", (event) => this.key(event));
   }
 
-  /** Shows the letters of sorted rows; none if they aren't sorted by name. */
+  /** Shows the letters of sorted rows; none if they aren't sorted by name, or are few. */
   show(rows, by) {
-    const places = [];
-    for (let at = 0; at < rows.length; at += 1) {
-      const name = by === "family" ? familyFirst(rows[at]) : rows[at].name;
-      const first = fold(name.slice(0, 4)).charAt(0).toUpperCase();
-      const letter = /\p{L}/u.test(first) ? first : "#";
-      if (places[places.length - 1]?.[0] !== letter) places.push([letter, at]);
-    }
-    // Numbers come first, and each letter once, where it begins.
+    if (rows === this.rows && by === this.by) return;
+    Object.assign(this, { rows, by });
+    // Each letter once, where it begins.
     const seen = new Map();
-    for (const [letter, at] of places) if (!seen.has(letter)) seen.set(letter, at);
+    let last = "";
+    for (let at = 0; at < rows.length; at += 1) {
+      const letter = letterOf(by === "family" ? familyFirst(rows[at]) : rows[at].name);
+      if (letter !== last && !seen.has(letter)) seen.set(letter, at);
+      last = letter;
+    }
     this.places = seen.size > 2 && rows.length > 12 ? [...seen] : [];
     const drawn = this.places.map((it) => it[0]).join("");
     if (drawn === this.drawn) return;
     this.drawn = drawn;
     this.root.hidden = drawn === "";
     this.root.replaceChildren(...this.places.map(([letter]) => el("span", {}, letter)));
+    this.root.setAttribute("aria-valuemin", "1");
+    this.root.setAttribute("aria-valuemax", String(this.places.length));
+    this.mark(0);
   }
 
-  at(event) {
-    const box = this.root.getBoundingClientRect();
-    const part = (event.clientY - box.top) / box.height;
-    const place = this.places[Math.floor(part * this.places.length)];
-    if (place) this.jump(place[1]);
+  /** Which of the letters a row is under. */
+  letterAt(row) {
+    return Math.max(0, this.places.findLastIndex((it) => it[1] <= row));
+  }
+
+  mark(now) {
+    this.root.children[this.now]?.classList.remove("now");
+    this.now = now;
+    this.root.children[now]?.classList.add("now");
+    this.root.setAttribute("aria-valuenow", String(now + 1));
+    this.root.setAttribute("aria-valuetext", this.places[now]?.[0] ?? "");
+  }
+
+  turnTo(now) {
+    if (!this.places[now]) return;
+    this.mark(now);
+    this.run.jump(this.places[now][1]);
+  }
+
+  press(event) {
+    const box = this.root.firstElementChild.getBoundingClientRect();
+    const end = this.root.lastElementChild.getBoundingClientRect().bottom;
+    const part = (event.clientY - box.top) / (end - box.top);
+    this.turnTo(Math.min(this.places.length - 1, Math.floor(part * this.places.length)));
+  }
+
+  key(event) {
+    if (event.ctrlKey || event.metaKey || event.altKey) return;
+    const at = this.placeOf(event);
+    if (event.key in STEPS) {
+      const to = this.now + STEPS[event.key];
+      this.turnTo(Math.min(this.places.length - 1, Math.max(0, to)));
+    } else if (event.key === "Enter" || event.key === " ") {
+      this.run.open(this.places[this.now][1]);
+    } else if (at !== null) {
+      this.turnTo(this.letterAt(at));
+    } else {
+      return;
+    }
+    event.preventDefault();
+  }
+
+  /** The place of the first row of the letter of a key, or null. */
+  placeOf(event) {
+    if (event.key.length !== 1 || event.ctrlKey || event.metaKey || event.altKey) return null;
+    return this.places.find((it) => it[0] === letterOf(event.key))?.[1] ?? null;
   }
 }

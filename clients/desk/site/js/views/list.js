@@ -6,6 +6,11 @@ import { plainText } from "../values.js";
 
 const AROUND = 6;
 
+/** What a number is for, if it isn't for what most are. */
+function labelText(label) {
+  return label?.uses?.join() === "work" ? "" : usesText(label);
+}
+
 export class CardList {
   /**
    * `pick(row, isFinal)` is called when a row is chosen; it is final by a click or Enter.
@@ -100,7 +105,7 @@ export class CardList {
         { class: "side" },
         bdi(plainText(side), isGroup ? "members" : "number"),
         row.mark ? el("span", { class: `mark ${row.mark}` }, t(`mark_${row.mark}`))
-          : el("span", { class: "under" }, this.withBooks ? row.book : usesText(row.label)),
+          : el("span", { class: "under" }, this.withBooks ? row.book : labelText(row.label)),
       ),
     );
     option.style.top = `${at * this.height}px`;
@@ -169,6 +174,11 @@ export class CardList {
     this.pick(this.rows[at], isFinal);
   }
 
+  /** The first row in sight. */
+  get first() {
+    return Math.ceil(this.root.scrollTop / this.height);
+  }
+
   /** Brings a row to the top. */
   scrollTo(at) {
     this.root.scrollTop = at * this.height;
@@ -184,13 +194,16 @@ export class CardList {
     if (event.ctrlKey || event.metaKey || event.shiftKey) return this.markKey(event);
     const page = Math.max(1, Math.floor(this.root.clientHeight / this.height) - 1);
     const steps = { ArrowDown: 1, ArrowUp: -1, PageDown: page, PageUp: -page };
+    // In the search these two go through what is typed.
+    if (event.currentTarget === this.root) Object.assign(steps, { Home: -1e9, End: 1e9 });
     if (event.key === "Enter") {
       if (this.at < 0 && this.rows.length) this.select(0, true);
       else this.select(this.at, true);
       return true;
     }
     if (!(event.key in steps) || !this.rows.length) return false;
-    const wanted = this.at < 0 ? 0 : this.at + steps[event.key];
+    const isEnd = Math.abs(steps[event.key]) > 1e8;
+    const wanted = this.at < 0 && !isEnd ? 0 : this.at + steps[event.key];
     this.select(Math.min(this.rows.length - 1, Math.max(0, wanted)));
     return true;
   }

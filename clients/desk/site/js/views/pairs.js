@@ -9,7 +9,7 @@ function side(row) {
   return el("div", { class: "pair-side" }, letters(row.name, row.kind),
     el("div", { class: "who" },
       el("strong", {}, bdi(row.name)),
-      [row.org, row.phone, row.mail].filter(Boolean)
+      [[row.title, row.org].filter(Boolean).join(" · "), row.phone, row.mail].filter(Boolean)
         .map((it) => el("div", { class: "hint" }, bdi(plainText(it))))));
 }
 

@@ -4,6 +4,7 @@ import { icon } from "../icons.js";
 import { number, t } from "../say.js";
 
 const MOST_GROUPS = 60;
+const MOST_CATEGORIES = 40;
 
 export class SideBar {
   constructor(desk) {
@@ -16,11 +17,12 @@ export class SideBar {
     const { desk } = this;
     const { books, chosen, filter, shelf } = desk;
     const groups = shelf.groups(chosen).slice(0, MOST_GROUPS);
+    const categories = shelf.categories(chosen).slice(0, MOST_CATEGORIES);
     const states = books.map((it) => [
       it.name, it.rights, desk.frame.states.get(it.name)?.state, shelf.count(it.name),
     ]);
     const drawn = JSON.stringify([
-      chosen, filter, states, groups.map((it) => [it.book, it.uid, it.name]),
+      chosen, filter, states, groups.map((it) => [it.book, it.uid, it.name]), categories,
     ]);
     if (drawn === this.drawn) return;
     this.drawn = drawn;
@@ -32,7 +34,9 @@ export class SideBar {
       el("ul", {},
         books.length > 1 ? this.book("", t("allBooks")) : null,
         books.map((it) => this.book(it.name, it.name))),
-      button(t("addBook"), () => desk.addBook(), { class: "quiet add" }),
+      button([icon("add"), el("span", {}, t("addBook"))], () => desk.addBook(), {
+        class: "quiet add",
+      }),
       books.length ? [el("h2", {}, t("lists")), el("ul", {},
         this.list({ kind: "favourites" }, t("favourites"), "star"),
         this.list({ kind: "recent" }, t("recent"), "recent"),
@@ -41,6 +45,10 @@ export class SideBar {
       groups.length ? [el("h2", {}, t("groupsTitle")), el("ul", {}, groups.map((it) => this.list(
         { kind: "group", book: it.book, uid: it.uid }, it.name || t("nameless"), "people",
       )))] : null,
+      categories.length ? [el("h2", {}, t("categories")), el("ul", {},
+        categories.map(([name, many]) => this.list(
+          { kind: "category", book: chosen, name }, name, "tag", many,
+        )))] : null,
     );
     if (place >= 0) this.root.querySelectorAll("button")[place]?.focus();
   }
@@ -52,7 +60,7 @@ export class SideBar {
     return el(
       "li",
       { class: `book ${state}` },
-      button([el("span", { class: "book-name" }, text),
+      button([icon(name ? "book" : "books"), el("span", { class: "book-name" }, text),
         el("span", { class: "book-count" }, number(desk.shelf.count(name)))],
       () => desk.choose(name), { class: "choose", "aria-pressed": String(isChosen) }),
       name && this.menu(name),
@@ -61,7 +69,7 @@ export class SideBar {
 
   menu(name) {
     const text = t("bookMenu", { book: name });
-    return button("⋯", () => {
+    return button(icon("more"), () => {
       this.desk.frame.showNav(false);
       this.desk.actions.book(name);
     }, {
@@ -74,10 +82,11 @@ export class SideBar {
     this.desk.actions.trash();
   }
 
-  list(filter, text, sign) {
+  list(filter, text, sign, many = 0) {
     const isChosen = JSON.stringify(filter) === JSON.stringify(this.desk.filter);
     return el("li", { class: "book" }, button(
-      [icon(sign), el("span", { class: "book-name" }, bdi(text))],
+      [icon(sign), el("span", { class: "book-name" }, bdi(text)),
+        many ? el("span", { class: "book-count" }, number(many)) : null],
       () => this.desk.turnTo(filter),
       { class: "choose", "aria-pressed": String(isChosen) },
     ));

@@ -1,6 +1,6 @@
 // What isn't sent yet, and which forms aren't finished.
 import { bdi, button, el } from "../dom.js";
-import { ASKS, REFUSED } from "../queue.js";
+import { ASKS, REFUSED } from "../entries.js";
 import { faultText, t, timeText } from "../say.js";
 import { Fault } from "../api.js";
 import { dialog } from "./dialogs.js";
@@ -8,9 +8,13 @@ import { dialog } from "./dialogs.js";
 /** Why an entry of the queue isn't sent, in words. */
 export function whyText(entry) {
   if (entry.state === ASKS) return t(entry.theirs ? "waitsAsks" : "waitsGone");
-  if (entry.state !== REFUSED) return t(entry.kind === "remove" ? "waitsRemoval" : "waitsSave");
+  if (entry.state !== REFUSED) {
+    if (entry.from) return t("waitsMove", { from: entry.from, book: entry.book });
+    return t(entry.kind === "remove" ? "waitsRemoval" : "waitsSave");
+  }
   const { from, status, ...rest } = entry.fault;
-  return faultText(new Fault(from, status, rest));
+  const why = faultText(new Fault(from, status, rest));
+  return entry.from ? t("moveRefused", { book: entry.book, why }) : why;
 }
 
 /** The buttons for an entry: what somebody can do about it. */
@@ -21,7 +25,7 @@ export function entryButtons(entry, run) {
   if (entry.state !== REFUSED) return [];
   return [
     button(t("tryAgain"), () => run.again(entry), { class: "main" }),
-    button(t("giveUp"), () => run.drop(entry)),
+    button(entry.from ? t("moveStays", { book: entry.from }) : t("giveUp"), () => run.drop(entry)),
   ];
 }
 

@@ -1,0 +1,105 @@
+"""Each dialog and menu by the keyboard alone, looked at as screen readers and weak eyes need it."""
+
+from access import audit
+from browser import SHIFT
+from hands import Hands
+from loss_steps import at_desk
+from office import card
+from steps import TITLE, search, step
+
+IS_OPEN = "Boolean(document.querySelector('dialog[open]'))"
+IS_IN = "Boolean(document.activeElement.closest('dialog, #toast')) " \
+    "|| document.activeElement === document.body"
+
+
+def look(page, hands, name, title, below=""):
+    """The dialog that is open now; Escape closes it, and leads to the one below it, or the page."""
+    page.wait(f"document.querySelector('dialog[open] h2')?.textContent.includes({title!r})")
+    audit(page, name)
+    for _ in range(8):
+        hands.tab()
+        assert page.run(IS_IN), (name, page.run("document.activeElement.outerHTML"))
+    page.key("Escape")
+    page.wait(f"(document.querySelector('dialog[open] h2')?.textContent ?? '').includes({below!r})"
+              f" && ({IS_OPEN}) === {str(bool(below)).lower()}")
+
+
+def card_menu(hands, page, item):
+    page.key("Enter")
+    hands.at("card-name")
+    # Nothing is pressed at the heading, so it isn't marked.
+    assert page.run("getComputedStyle(document.activeElement).outlineStyle") == "none"
+    hands.choose("More actions", item)
+
+
+@step
+def dialogs(trial):
+    """The trash, duplicates, groups of a card, questions, several cards: names, contrast, order."""
+    page, office = at_desk(trial), trial.office
+    for number in range(2):
+        office.put("clients", f"twin{number}", card(
+            f"twin{number}", "FN:Tilda Twin", f"TEL:020 7946 070{number}", f"TITLE:T{number}"))
+    page.front()
+    page.press("Update now")
+    page.press("clients", "document.querySelector('#books')")
+    hands = Hands(page)
+    search(page, "viktor")
+    page.wait(f"{TITLE} === 'Viktor Sokolov'")
+    for item, title in (("Groups…", "Groups of Viktor"), ("Move…", "Move Viktor"),
+                        ("Earlier versions…", "Earlier versions"), ("Delete", "Delete Viktor")):
+        card_menu(hands, page, item)
+        look(page, hands, item, title)
+        page.key("Escape")
+        hands.at("search")
+    hands.press("Trash")
+    look(page, hands, "the trash", "Deleted, changed")
+    page.key("Escape")
+    search(page, "tilda twin")
+    page.wait("document.querySelectorAll('#list .row').length === 2")
+    hands.choose("Sort and select", "Find duplicates")
+    page.wait(IS_OPEN)
+    audit(page, "duplicates")
+    hands.press("Put together…")
+    look(page, hands, "two cards put together", "Put two cards", "may be one person")
+    look(page, hands, "duplicates again", "may be one person")
+    page.key("Escape")
+    hands.at("search")
+    page.key("ArrowDown", SHIFT)
+    page.wait("document.querySelector('#list-menu').innerText.includes('2 selected')")
+    audit(page, "several cards")
+    for item, title in (("Add to a group…", "Add 2 cards"), ("Move…", "Move 2 cards"),
+                        ("Delete", "Delete 2 cards")):
+        hands.choose("With these…", item)
+        look(page, hands, f"several: {item}", title)
+    page.key("Escape")
+    hands.press("Add a book")
+    look(page, hands, "a new book", "Add a book")
+    page.key("Escape")
+    search(page, "")
+
+
+@step
+def menus(trial):
+    """Menus that are open: of a card, of the list, of the form."""
+    page = at_desk(trial)
+    page.front()
+    hands = Hands(page)
+    search(page, "miriam")
+    page.wait(f"{TITLE} === 'Miriam O’Hara'")
+    hands.press("Sort and select")
+    audit(page, "the menu of the list")
+    page.key("Escape")
+    page.key("Escape")
+    page.key("Enter")
+    hands.at("card-name")
+    hands.press("More actions")
+    audit(page, "the menu of a card")
+    page.key("Escape")
+    page.key("F2")
+    page.wait("document.querySelector('.form')")
+    audit(page, "the form")
+    hands.press("Add field")
+    audit(page, "the menu of the form")
+    page.key("Escape")
+    hands.press("Cancel")
+    page.wait("!document.querySelector('.form')")

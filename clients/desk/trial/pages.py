@@ -1,0 +1,78 @@
+"""What the pages of both browsers have in common: waiting, loading, and pressing what is seen."""
+
+import json
+import time
+
+SECONDS = 90  # that a page has for each thing, on a machine that is busy with others
+
+# The middle of a button or link by its text. Whether it was pressed is kept, as what is there may
+# be drawn anew, or elsewhere, between this and the press.
+FIND = """(() => {{
+    const kinds = 'button, a, summary, label, [role=option]';
+    const isIt = (it) => it?.textContent.trim().startsWith({text});
+    const it = [...({within}).querySelectorAll(kinds)].find((it) => it.offsetParent && isIt(it));
+    if (!it) return null;
+    window.isMissed = true;
+    addEventListener('click', (event) => {{
+        window.isMissed = window.isMissed && !isIt(event.target.closest(kinds));
+    }}, {{ capture: true, once: true }});
+    it.scrollIntoView({{ block: 'nearest' }});
+    const box = it.getBoundingClientRect();
+    return [box.x + box.width / 2, box.y + box.height / 2];
+}})()"""
+
+
+class Page:
+    """A page of a browser. Each browser's own has `run`, `navigate`, `click` and what is typed."""
+
+    was_left = False  # by Tab
+
+    def __init__(self, browser, context):
+        self.browser = browser
+        self.context = context
+        self.said = []  # errors of scripts and of the console
+        self.dialogs = []
+        self.asked = []  # addresses of requests
+        self.wrote = []  # methods and addresses of those that may change something
+
+    def requested(self, method, address):
+        self.asked.append(address)
+        if method != "GET":
+            self.wrote.append((method, address))
+
+    def go(self, address):
+        """Loads the address, and waits until its scripts have run."""
+        self.run("window.isOld = true")
+        self.navigate(address)
+        self.wait("!window.isOld && document.readyState === 'complete'")
+
+    def enter(self, address, user, path=""):
+        """Loads the address as a user. The password goes in by the address."""
+        scheme, rest = address.split("://")
+        self.go(f"{scheme}://{user}:{user}-pw@{rest}{path}")
+        if not path:
+            self.go(address)
+
+    def wait(self, expression, seconds=SECONDS):
+        """Waits until an expression is true. Returns its value."""
+        end = time.monotonic() + seconds
+        while True:
+            try:
+                value = self.run(expression)
+            except RuntimeError:
+                value = None
+            # An element comes as {}.
+            if value or value == {}:
+                return value
+            if time.monotonic() > end:
+                raise AssertionError(f"never true: {expression}\n{self.said}")
+            time.sleep(0.05)
+
+    def press(self, text, within="document"):
+        """Clicks the button or link with this text, with the mouse."""
+        find = FIND.format(within=within, text=json.dumps(text))
+        for _ in range(5):
+            self.click(*self.wait(find))
+            if not self.run("window.isMissed"):
+                return
+        raise AssertionError(f"it can't be pressed: {text}")
