@@ -1,6 +1,7 @@
 """What nobody should send to the CardDAV gateway: each gets a clear answer, and changes nothing."""
 
 import socket
+import threading
 import time
 import unittest
 from collections import Counter
@@ -180,6 +181,28 @@ class Passwords(GatewayTest):
         for one in bob, self.dav:
             self.assertEqual(207, one.propfind(STAFF, "<D:displayname/>").status)
         self.assertIn("refused 429 GET", self.stack.logged())
+
+    def test_many_guesses_at_once(self):
+        """Those that wait for their turn are counted, too; and an IPv6 network is one address."""
+        statuses = Counter()
+
+        def guess(at):
+            one = Client(self.stack.place, "ann", f"guess {at}")
+            statuses[one.ask("GET", STAFF, X_Real_IP=f"2001:db8:0:1::{at:x}").status] += 1
+            one.close()
+
+        threads = [threading.Thread(target=guess, args=(at,)) for at in range(40)]
+        for it in threads:
+            it.start()
+        for it in threads:
+            it.join()
+        # Two are tried at once, so one more may be tried.
+        self.assertIn(statuses[401], (10, 11))
+        self.assertEqual(40, statuses[401] + statuses[429])
+        other = Client(self.stack.place, "ann", "guess")
+        self.addCleanup(other.close)
+        for place, status in [("2001:db8:0:1:ffff::", 429), ("2001:db8:0:2::1", 401)]:
+            self.assertEqual(status, other.ask("GET", STAFF, X_Real_IP=place).status)
 
     def test_other_credentials(self):
         for value in ["", "Basic", "Basic !!!", "Basic YW5u", "Digest username=ann", "Bearer x",

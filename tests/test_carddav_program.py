@@ -16,7 +16,7 @@ from carddav_client import CLIENTS, PASSWORD, STAFF, Client, GatewayTest, Stack,
 from http_requests import card
 from program import ROOT, Folder
 
-from gateway import accounts, cli
+from gateway import accounts, cli, readers
 from tosculai import lines_of
 
 
@@ -152,6 +152,36 @@ class Users(unittest.TestCase):
         self.assertEqual((users["ann"].hash, {"staff": "r"}), new)
         self.user("remove", "ann")
         self.assertEqual("hall *:r no password\n", self.user("list"))
+
+    def test_readers(self):
+        """A token is printed once, and kept as a digest. Neither kind has a password."""
+        token = self.user("add", "cal", "--book", "staff:r", "--token").strip()
+        self.assertRegex(token, "^[a-z2-9]{32}$")
+        self.user("add", "hall", "--book", "*:r", "--from", "10.0.0.0/8", "--from", "fd00::/8")
+        listed = "cal staff:r by a token\nhall *:r from 10.0.0.0/8, fd00::/8\n"
+        self.assertEqual(listed, self.user("list"))
+        self.assertNotIn(token, (self.state / "users").read_text())
+        self.user("add", "cal", "--book", "clients:r")  # its token stays
+        users = accounts.Users(str(self.state / "users"), False)
+        self.assertEqual(("cal", {"clients": "r"}), readers.find(users, f"/find/{token}", {}, ""))
+        other = self.user("add", "cal", "--book", "clients:r", "--token").strip()
+        self.assertIsNone(readers.find(users, f"/find?token={token}", {}, ""))
+        self.assertEqual("cal", readers.find(users, f"/find?q=&token={other}", {}, "").user)
+        self.assertEqual("hall", readers.find(users, "/find", {}, "10.1.1.1").user)
+        for option in "map", "passwords":
+            self.assertEqual((0, "", ""), run("--state", self.state, "--nginx", option))
+        for arguments, words in [
+            (["--book", "staff:rw", "--token"], "a token or an address only reads"),
+            (["--book", "staff:rw"], "a token or an address only reads"),
+            (["--book", "staff:r", "--token", "--from", "10.0.0.0/8"], "choose one of"),
+            (["--book", "staff:r", "--from", "10.0.0.1/8"], "a range is as 10.0.0.0/8"),
+        ]:
+            status, out, err = run("user", "add", "cal", *arguments, "--state", self.state)
+            self.assertEqual((3, ""), (status, out))
+            self.assertIn(words, err)
+        status, out, err = run("--state", self.state, "--port", "0", "--country", "0353")
+        self.assertEqual(2, status)
+        self.assertIn("a code has one to three digits", err)
 
     def test_the_hash_is_that_of_crypt(self):
         """nginx checks the same hash by crypt(3). The first is of RFC 7914, 12."""

@@ -5,8 +5,6 @@ Each wanted status and element is that of RFC 4918, 6352, 6578 or 9110.
 
 import threading
 import unittest
-from http.client import HTTPConnection
-from http.server import BaseHTTPRequestHandler, ThreadingHTTPServer
 from urllib.parse import quote
 
 from carddav_client import C, CLIENTS, CS, D, STAFF, Client, GatewayTest, card3
@@ -110,73 +108,6 @@ class Conditions(GatewayTest):
         new = self.dav.ask("GET", STAFF + "a.vcf").etag
         self.assertEqual(204, self.dav.ask("PUT", STAFF + "a.vcf", edited, If_Match=new).status)
         self.assertLess({"LANG:de", "TEL:+2"}, set(lines_of(self.staff.get("a").text)))
-
-
-class Between(BaseHTTPRequestHandler):
-    """Passes requests on to the server, and makes a change just before it passes on a PUT."""
-
-    protocol_version = "HTTP/1.1"
-
-    def handle_one_request(self):
-        self.raw_requestline = self.rfile.readline()
-        self.close_connection = not (self.raw_requestline and self.parse_request())
-        if self.close_connection:
-            return
-        body = self.rfile.read(int(self.headers.get("Content-Length", 0)))
-        if self.command == "PUT" and self.server.changes:
-            self.server.changes.pop()()
-        passed = HTTPConnection(*self.server.real, timeout=10)
-        passed.request(self.command, self.path, body or None, dict(self.headers))
-        reply = passed.getresponse()
-        octets = reply.read()
-        passed.close()
-        self.send_response_only(reply.status)
-        for name, value in reply.getheaders():
-            if name.lower() not in ("content-length", "transfer-encoding", "connection"):
-                self.send_header(name, value)
-        if reply.status != 204:
-            self.send_header("Content-Length", str(len(octets)))
-        self.end_headers()
-        self.wfile.write(octets)
-
-    def log_message(self, *_):
-        pass
-
-
-class Races(GatewayTest):
-    """The office changes a card between the gateway's read and its write."""
-
-    def setUp(self):
-        super().setUp()
-        self.between = ThreadingHTTPServer(("127.0.0.1", 0), Between)
-        self.between.daemon_threads, self.between.changes = True, []
-        self.between.real = self.stack.server.address
-        threading.Thread(target=self.between.serve_forever, daemon=True).start()
-        self.addCleanup(self.between.server_close)
-        self.addCleanup(self.between.shutdown)
-        self.stack.url, real = f"http://127.0.0.1:{self.between.server_port}", self.stack.url
-        self.stack.restart()
-        self.addCleanup(self.stack.restart)
-        self.addCleanup(setattr, self.stack, "url", real)
-
-    def put(self, is_conditional):
-        """An edit of the number, while the office edits the language: the status, and the lines."""
-        self.staff.put(card("a", "Ann", "TEL:+1", "LANG:fr"))
-        got = self.dav.ask("GET", STAFF + "a.vcf")
-        stored = self.staff.get("a")
-        self.between.changes.append(lambda: self.staff.put(
-            stored.text.replace("LANG:fr", "LANG:de"), stored.version))
-        status = self.dav.ask("PUT", STAFF + "a.vcf", got.text.replace("+1", "+2"),
-                              If_Match=got.etag if is_conditional else None).status
-        self.assertEqual([], self.between.changes)
-        return status, set(lines_of(self.staff.get("a").text)) & {
-            "TEL:+1", "TEL:+2", "LANG:fr", "LANG:de"}
-
-    def test_a_put_with_a_condition_is_refused(self):
-        self.assertEqual((412, {"TEL:+1", "LANG:de"}), self.put(is_conditional=True))
-
-    def test_a_put_without_one_keeps_both_edits(self):
-        self.assertEqual((204, {"TEL:+2", "LANG:de"}), self.put(is_conditional=False))
 
 
 class Names(GatewayTest):

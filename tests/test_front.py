@@ -1,38 +1,30 @@
 """The front server of examples/nginx.conf: it refuses what a page of another site sends.
 
 nginx passes on what it lets through to the served program, so that a request that isn't refused is
-seen in the book.
+seen in the book. What is the gateway's goes to that, with the address from which it comes.
 """
 
 import base64
 import http.client
 import os
+import re
 import shutil
 import ssl
 import subprocess
 import time
 import unittest
 
+from carddav_client import HASH, Client, Stack
+from carddav_client import PASSWORD as SECRET
+from nginx import configuration
 from program import PATIENCE, ROOT, Folder, Server, run
 from shells import free_port
 
+from gateway import accounts, readers
+
 CARD = b"BEGIN:VCARD\r\nVERSION:4.0\r\nUID:%s\r\nFN:Ann\r\nEND:VCARD\r\n"
 PASSWORD = "open sesame"
-MAIN = """\
-daemon off;
-pid nginx.pid;
-error_log stderr;
-events { worker_connections 64; }
-http {
-    access_log off;
-    client_body_temp_path body;
-    proxy_temp_path proxy;
-    fastcgi_temp_path fastcgi;
-    uwsgi_temp_path uwsgi;
-    scgi_temp_path scgi;
-    include contacts.conf;
-}
-"""
+PHONES = re.compile(r"   server \{\n       listen 10\.1\.0\.1.*?\n   \}\n", re.DOTALL)
 # What a browser adds to a request, and whether nginx passes it on. HOST is this front's own.
 FIELDS = [
     ({}, True),
@@ -55,8 +47,8 @@ FIELDS = [
 class Front:
     """nginx with the example's configuration, but for its paths and ports."""
 
-    def __init__(self, folder, port):
-        self.address = f"127.0.0.1:{free_port()}"
+    def __init__(self, folder, port, gateway=8090):
+        self.address, self.phones = (f"127.0.0.1:{free_port()}" for _ in range(2))
         self.folder = folder
         key = ["-newkey", "rsa:2048", "-nodes", "-keyout", "office.key", "-out", "office.pem"]
         self.run("openssl", "req", "-x509", "-days", "2", "-subj", "/CN=office", *key)
@@ -68,12 +60,16 @@ class Front:
             ("/etc/ssl/", f"{folder}/"),
             ("/etc/nginx/contacts.users", f"{folder}/users"),
             ("127.0.0.1:8080", f"127.0.0.1:{port}"),
+            ("127.0.0.1:8090", f"127.0.0.1:{gateway}"),
         ]:
             if old not in text:
                 raise AssertionError(f"examples/nginx.conf has no {old}")
             text = text.replace(old, new)
-        self.write("contacts.conf", text)
-        self.write("nginx.conf", MAIN)
+        phones = PHONES.search((ROOT / "clients/carddav/README.md").read_text())[0]
+        phones = phones.replace("listen 10.1.0.1:80", f"listen {self.phones}")
+        phones = phones.replace("10.1.0.1", "127.0.0.1").replace(":8090", f":{gateway}")
+        self.write("contacts.conf", text + phones)
+        self.write("nginx.conf", configuration("    include contacts.conf;\n"))
         os.chmod(folder, 0o755)  # nginx's workers are another user, if root starts it
         self.nginx = subprocess.Popen(
             ["nginx", "-p", str(folder), "-c", "nginx.conf"],
@@ -109,16 +105,112 @@ class Front:
             finally:
                 talk.close()
 
+    def ask_phones(self, target, fields=None):
+        """The reply of the port for desk phones, and its body."""
+        talk = http.client.HTTPConnection(self.phones, timeout=PATIENCE)
+        try:
+            talk.request("GET", target, headers=fields or {})
+            reply = talk.getresponse()
+            return reply, reply.read()
+        finally:
+            talk.close()
+
     def stop(self):
         self.nginx.terminate()
         self.nginx.wait(PATIENCE)
 
 
+def missing_tool():
+    return next((it for it in ("nginx", "openssl") if not shutil.which(it)), None)
+
+
+@unittest.skipIf(missing_tool(), f"no {missing_tool()} on this machine")
+class Gateway(unittest.TestCase):
+    """What nginx passes on to the gateway of clients/carddav."""
+
+    def test_addresses_and_tokens(self):
+        token = "a" * 32
+        with Folder() as folder:
+            stack = Stack(folder)
+            accounts.write(str(stack.state / "users"), {
+                "ann": accounts.Account(HASH, {"staff": "rw"}),
+                "cal": accounts.Account(readers.by_token(token), {"staff": "r"}),
+                "phones": accounts.Account(readers.by_address(["10.0.0.0/8"]), {"staff": "r"})})
+            (folder / "front").mkdir()
+            os.chmod(folder, 0o755)  # for nginx's workers
+            front = Front(folder / "front", stack.port, stack.place[1])
+            try:
+                self.ask_all(front, stack, token)
+                stack.books[0].put(CARD.decode().replace("\r\nEND", "\r\nTEL:101\r\nEND") % "b")
+                self.ask_phones(front, stack, token)
+            finally:
+                front.stop()
+                stack.stop()
+
+    def test_nobody_names_himself(self):
+        """A gateway with --trust-front believes this front server, which says no user."""
+        with Folder() as folder:
+            stack = Stack(folder, more=["--trust-front"])
+            (folder / "front").mkdir()
+            os.chmod(folder, 0o755)  # for nginx's workers
+            front = Front(folder / "front", stack.port, stack.place[1])
+            try:
+                ann = {"Authorization": "", "X-Remote-User": "ann"}
+                self.assertEqual(200, Client(stack.place).ask(
+                    "GET", "/dav/books/staff/", X_Remote_User="ann").status)
+                self.assertEqual(403, front.ask("GET", "/dav/books/staff/", fields=ann))
+                self.assertEqual(403, front.ask_phones("/phonebook/snom/staff", ann)[0].status)
+            finally:
+                front.stop()
+                stack.stop()
+
+    def ask_phones(self, front, stack, token):
+        """The port for desk phones, as the gateway's page has it."""
+        target = "/phonebook/snom/staff"
+        reply, body = front.ask_phones(target)
+        self.assertEqual((401, None), (reply.status, reply.headers["WWW-Authenticate"]))
+        self.assertIn(b"a token or an address is needed", body)
+        pair = base64.b64encode(f"ann:{SECRET}".encode()).decode()
+        for path, fields, status in [
+            (f"/phonebook/{token}/snom/staff", {}, 200),
+            (f"/phonebook/{token}/snom/staff", {"Host": "evil.example"}, 421),
+            (target, {"X-Real-IP": "10.0.0.1"}, 401),
+            # A password isn't for a port without TLS.
+            (target, {"Authorization": f"Basic {pair}"}, 401), ("/dav/books/staff/", {}, 404),
+            (f"/find?q=x&token={token}", {}, 404),
+        ]:
+            with self.subTest(path=path, fields=fields):
+                self.assertEqual(status, front.ask_phones(path, fields)[0].status)
+        body = front.ask_phones(f"/phonebook/{token}/snom/staff?most=1")[1]
+        self.assertIn(f"http://{front.phones}/phonebook/{token}/snom/".encode(), body)
+        users = str(stack.state / "users")
+        accounts.write(users, {**accounts.read(users), "hall": accounts.Account(
+            readers.by_address(["127.0.0.0/8"]), {"staff": "r"})})
+        self.assertEqual(200, front.ask_phones(target)[0].status)
+
+    def ask_all(self, front, stack, token):
+        pair = base64.b64encode(f"ann:{SECRET}".encode()).decode()
+        ann = {"Authorization": f"Basic {pair}"}
+        stack.books[0].put(CARD.decode().replace("\r\nEND", "\r\nTEL:101\r\nEND") % "a/b")
+        for target, fields, status in [
+            ("/dav/books/staff/", ann, 200), ("/dav/books/staff/", {}, 401),
+            ("/phonebook/yealink/staff", ann, 200), ("/phonebook/yealink/staff", {}, 401),
+            (f"/phonebook/{token}/yealink/staff", {}, 200), (f"/find?q=ann&token={token}", {}, 200),
+            (f"/lookup?tel=101&token={token}", {}, 200), (f"/lookup/{token}?tel=102", {}, 404),
+            (f"/birthdays/staff.ics?token={token}", {}, 200), ("/birthdays/staff.ics", {}, 401),
+            # A client can't say from where it comes.
+            ("/phonebook/yealink/staff", {"X-Real-IP": "10.0.0.1"}, 401),
+            ("/lookup?tel=101", {"X-Real-IP": "10.0.0.1", "X-Forwarded-For": "10.0.0.1"}, 401),
+            ("/finder", {}, 401), ("/books/staff/cards/x", ann, 401),
+        ]:
+            with self.subTest(target=target, fields=fields):
+                given = {"Authorization": "", **fields}
+                self.assertEqual(status, front.ask("GET", target, fields=given))
+
+
 class Pages(unittest.TestCase):
+    @unittest.skipIf(missing_tool(), f"no {missing_tool()} on this machine")
     def test_pages_of_other_sites(self):
-        for tool in "nginx", "openssl":
-            if not shutil.which(tool):
-                self.skipTest(f"no {tool} on this machine")
         with Folder() as folder:
             run("init", folder / "office.db")
             with Server(folder / "office.db") as server:

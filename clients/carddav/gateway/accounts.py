@@ -5,7 +5,8 @@ A line of the file is a user, the hash of the password, and the rights by book:
     ann $7$C6..../....SALT$HASH staff:rw clients:r
 
 The hash is scrypt's in the form that crypt(3) of Debian's libxcrypt knows, so nginx can check it,
-too. `-` is no password: such a user comes by a front server alone. The book `*` is all others.
+too. `-` is no password: such a user comes by a front server alone. `token:` and `from:` are none,
+either: readers.py has them. The book `*` is all others.
 """
 
 import hashlib
@@ -16,13 +17,14 @@ import secrets
 import threading
 import time
 from base64 import b64decode
+from ipaddress import IPv4Address, IPv6Network, ip_address
 from typing import Dict, List, NamedTuple, Optional, Tuple
 
 LETTERS = "./0123456789ABCDEFGHIJKLMNOPQRSTUVWXYZabcdefghijklmnopqrstuvwxyz"
 COST, BLOCK, LANES = 14, 8, 1  # 2 ** 14 rounds: 16 MB and some 50 ms for a password
 NAME = re.compile(r"[A-Za-z0-9][A-Za-z0-9._@+-]{0,63}")
 RIGHT = re.compile(r"(\*|[a-z0-9-]{1,40}):(r|rw)")
-NO_PASSWORD = "-"
+NO_PASSWORD, BY_TOKEN, BY_ADDRESS = "-", "token:", "from:"
 TRIES, TRIES_OF_ADDRESS, WINDOW = 10, 100, 300.0  # wrong passwords in so many seconds
 KNOWN_MAX = 4096
 
@@ -34,6 +36,15 @@ class Account(NamedTuple):
 
 class BadUsers(ValueError):
     """The file of users, or an argument, is wrong; the message says how."""
+
+
+def has_password(account: Account) -> bool:
+    return account.hash != NO_PASSWORD and not is_reader(account)
+
+
+def is_reader(account: Account) -> bool:
+    """Whether it is one of those who read by a token or from an address."""
+    return account.hash.startswith((BY_TOKEN, BY_ADDRESS))
 
 
 def encoded(octets: bytes) -> str:
@@ -145,7 +156,7 @@ class Users:
         accounts = self.accounts()
         if self.trusts_front:
             return self._named_by_front(fields, accounts)
-        if not any(it.hash != NO_PASSWORD for it in accounts.values()):
+        if not any(map(has_password, accounts.values())):
             raise Refusal(401, how_to_begin(self.path))
         user, password = credentials(fields.get("authorization", ""))
         if not user:
@@ -170,8 +181,10 @@ class Users:
         mark = hmac.new(self._key, secret, "sha256").digest()
         if stored and mark in self._known:
             return True
+        address = origin(address)
         self._tries.check(user, address)
         with self._slow:  # so that guesses leave processors to others
+            self._tries.check(user, address)  # again: others may have guessed while it waited
             if not is_right(password, stored):
                 self._tries.note(user, address)
                 return False
@@ -207,6 +220,17 @@ class Tries:
         return [it for it in self._times.get(key, ()) if it > since]
 
 
+def origin(address: str) -> str:
+    """The address as it is counted: of IPv6 its network, all of whose addresses one line has."""
+    try:
+        place = ip_address(address.partition("%")[0])
+    except ValueError:
+        return address
+    if isinstance(place, IPv4Address):
+        return str(place)
+    return str(place.ipv4_mapped or IPv6Network((int(place), 64), strict=False))
+
+
 def credentials(field: str) -> Tuple[str, str]:
     """The user and the password of an Authorization field; empty texts if it has none."""
     kind, _, pair = field.partition(" ")
@@ -235,6 +259,8 @@ def nginx_map(users: Dict[str, Account]) -> str:
     """The lines of the map of users in examples/nginx.conf."""
     lines = []
     for name, account in sorted(users.items()):
+        if is_reader(account):
+            continue
         user = re.escape(name)
         every = account.rights.get("*", "")
         if every == "rw":
@@ -255,7 +281,7 @@ def nginx_map(users: Dict[str, Account]) -> str:
 def nginx_passwords(users: Dict[str, Account]) -> str:
     """The lines of nginx's auth_basic_user_file."""
     return "".join(f"{name}:{account.hash}\n" for name, account in sorted(users.items())
-                   if account.hash != NO_PASSWORD)
+                   if has_password(account))
 
 
 def find_account(users: Dict[str, Account], name: str) -> Optional[Account]:

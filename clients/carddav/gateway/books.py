@@ -13,6 +13,7 @@ from tosculai import Card, InvalidToken, NoSuchBook, Page
 
 from gateway import cards
 from gateway.office import Offices
+from gateway.people import People
 from gateway.photos import Photos
 from gateway.state import Entry, Row, State
 
@@ -37,10 +38,12 @@ class Changes(NamedTuple):
 
 
 class Shelf:
-    """The books of an office."""
+    """The books of an office, which is in a country, if its code is given."""
 
-    def __init__(self, offices: Offices, state: State, photos: Photos, say: Say) -> None:
+    def __init__(self, offices: Offices, state: State, photos: Photos, say: Say,
+                 country: str = "") -> None:
         self.offices, self.state, self.photos, self.say = offices, state, photos, say
+        self.country = country
         self._books: Dict[str, "AddressBook"] = {}
         self._lock = threading.Lock()
 
@@ -77,6 +80,7 @@ class AddressBook:
         self.shelf, self.name, self.number = shelf, name, number
         self.state = shelf.state
         self.lock = threading.RLock()  # for a refresh, and for a change from its test to its end
+        self._people: Optional[People] = None  # once they are asked for
 
     # Following the server.
 
@@ -90,6 +94,7 @@ class AddressBook:
                     loading.tell(len(page.members))
                 if page.members or page.token != token:
                     self.state.apply(self.number, [row_of(it) for it in page.members], page.token)
+                    self._tell(page.members)
                 token = page.token
             if loading:
                 loading.end()
@@ -103,8 +108,20 @@ class AddressBook:
             if not token:
                 raise
             self.shelf.say(f"{self.name}: the server refuses the copy's token; all cards anew")
-            self.state.clear(self.number)
+            self._clear()
             yield from self.pages("")
+
+    def _clear(self) -> None:
+        self.state.clear(self.number)
+        self._people = None
+
+    def _tell(self, members: List[Card]) -> None:
+        """Lets the people follow. If this fails, they are read anew."""
+        people, self._people = self._people, None
+        if people:
+            for it in members:
+                people.take(it.uid, it.version, it.text if it.version else "")
+            self._people = people
 
     def pages(self, token: str, limit: Optional[int] = None) -> Iterator[Page]:
         """Pages of the server, up to `limit` members. With large cards a page has fewer."""
@@ -130,7 +147,7 @@ class AddressBook:
             self.refresh()
             if self.state.entry(self.number, uid) == old:
                 self.shelf.say(f"{self.name}: the copy isn't the server's; all cards anew")
-                self.state.clear(self.number)
+                self._clear()
                 self.refresh()
 
     # Reading.
@@ -148,6 +165,16 @@ class AddressBook:
         """The stored text of exactly this card; None if it was changed meanwhile."""
         found = self.state.text(self.number, entry.uid)
         return found[1] if found and found[0] == entry.etag else None
+
+    def people(self) -> People:
+        """The people of the copy as it is. Hold the lock while you use them."""
+        with self.lock:
+            if self._people is None:
+                people = People(self.shelf.country)
+                for uid, version, text in self.state.texts(self.number):
+                    people.take(uid, version, text)
+                self._people = people
+            return self._people
 
     def whole(self, text: str) -> str:
         """A stored text with the files that are kept beside."""

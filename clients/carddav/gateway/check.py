@@ -10,7 +10,7 @@ from typing import Dict, Iterator, List
 
 from tosculai import Error
 
-from gateway import accounts
+from gateway import accounts, readers
 from gateway.books import Shelf
 from gateway.dav import Dav
 from gateway.davxml import SPACES, href
@@ -96,6 +96,15 @@ def beside(shelf: Shelf) -> List[str]:
     return lines
 
 
+def seen(shelf: Shelf, account: accounts.Account) -> Iterator[str]:
+    """A line for each book whose cards are read at feeds."""
+    for name in shelf.names():
+        if account.rights.get(name, account.rights.get("*")):
+            shelf.book(name).refresh()
+            count = shelf.state.count(shelf.book(name).number)
+            yield f"  {name}  {count} cards, at /phonebook/, /lookup, /birthdays/ and /find"
+
+
 def check(server: str, folder: str, trusts_front: bool) -> int:
     """Prints what each user's phone would see; the status is 1 if that can't be all."""
     users = accounts.read(os.path.join(folder, "users"))
@@ -105,10 +114,15 @@ def check(server: str, folder: str, trusts_front: bool) -> int:
         names = shelf.names()
         print(f"{server} has {len(names)} books: {', '.join(names)}")
         for name, account in sorted(users.items()):
-            can_come = trusts_front or account.hash != accounts.NO_PASSWORD
-            print(f"{name}'s phone" + ("" if can_come else ", which has no password: not served"))
-            phone = Phone(Dav(shelf), name, account.rights)
-            print(*phone.books(), sep="\n")
+            if accounts.is_reader(account):
+                print(f"{name} reads {readers.told(account)}")
+                print(*seen(shelf, account), sep="\n")
+            else:
+                can_come = trusts_front or accounts.has_password(account)
+                print(f"{name}'s phone" + ("" if can_come else ", which has no password: not "
+                                           "served"))
+                phone = Phone(Dav(shelf), name, account.rights)
+                print(*phone.books(), sep="\n")
             for book in sorted(set(account.rights) - set(names) - {"*"}):
                 faults += 1
                 print(f"  there is no book {book}, to which {name} has a right")

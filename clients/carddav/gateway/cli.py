@@ -12,11 +12,13 @@ from typing import Any, Dict, List, Optional
 
 from tosculai import Error
 
-from gateway import accounts
+from gateway import accounts, birthdays, readers
 from gateway.books import Shelf
 from gateway.check import check
 from gateway.dav import Dav
+from gateway.feeds import Feeds
 from gateway.front import Server, say
+from gateway.numbers import COUNTRY
 from gateway.office import Offices, new_office
 from gateway.photos import Photos
 from gateway.state import State
@@ -26,6 +28,8 @@ USAGE = """Phones and mail programs use the books of Tosculai as address books, 
   carddav --server URL --state DIR --port P      serves at 127.0.0.1:P
   carddav --server unix:PATH --state DIR --socket PATH
   carddav user add NAME --book BOOK:rw --state DIR    then enter the password
+  carddav user add NAME --book BOOK:r --token         reads phone books, birthdays and searches
+  carddav user add NAME --book BOOK:r --from 10.0.0.0/8   the same, for addresses
   carddav user remove NAME --state DIR
   carddav user list --state DIR
 """
@@ -61,6 +65,12 @@ def parser() -> argparse.ArgumentParser:
     made.add_argument("--left-out", choices=["keep", "remove"], default="keep",
                       help="what becomes of lines that a program leaves out and has never sent "
                       "(%(default)s)")
+    made.add_argument("--country", default="", metavar="CODE", help="the office's country, as 353, "
+                      "for national numbers at /lookup")
+    made.add_argument("--birthday-text", default=birthdays.Texts().birthday, metavar="TEXT",
+                      help="what a birthday is called (%(default)s)")
+    made.add_argument("--anniversary-text", default=birthdays.Texts().anniversary, metavar="TEXT",
+                      help="what an anniversary is called (%(default)s)")
     made.add_argument("--log", action="store_true", help="a line for each request")
     made.add_argument("--check", action="store_true", help="say what a phone would see, and end")
     made.add_argument("--nginx", choices=["map", "passwords"],
@@ -85,6 +95,8 @@ def run(made: argparse.ArgumentParser, arguments: List[str]) -> int:
         return 0
     if not (given.start_over or given.tidy) and (given.port is None) == (given.socket is None):
         made.error("one of --port and --socket is needed")
+    if given.country and not COUNTRY.fullmatch(given.country):
+        made.error(f"--country {given.country}: a code has one to three digits, as 353")
     os.makedirs(given.state, exist_ok=True)
     with open(os.path.join(given.state, "lock"), "w", encoding="ascii") as lock:
         try:
@@ -96,20 +108,21 @@ def run(made: argparse.ArgumentParser, arguments: List[str]) -> int:
             state.start_over()
             return 0
         photos = Photos(os.path.join(given.state, "photos"))
-        shelf = Shelf(Offices(given.server), state, photos, say)
+        shelf = Shelf(Offices(given.server), state, photos, say, given.country)
         return tidy(shelf) if given.tidy else serve(given, shelf)
 
 
 def serve(given: argparse.Namespace, shelf: Shelf) -> int:
     dav = Dav(shelf, has4=not given.only_3, keeps_unknown=given.left_out == "keep")
+    feeds = Feeds(shelf, birthdays.Texts(given.birthday_text, given.anniversary_text))
     users = accounts.Users(users_of(given.state), given.trust_front)
     if not given.trust_front and not users.accounts():
         say(accounts.how_to_begin(users.path))
     place: Any = given.socket or ("127.0.0.1", given.port)
-    server = Server(place, dav, users, given.log, given.url.rstrip("/"))
+    server = Server(place, dav, feeds, users, given.log, given.url.rstrip("/"))
     where = given.socket or f"127.0.0.1:{server.server_address[1]}"
     print(f"listening {where}", flush=True)
-    threading.Thread(target=load, args=(shelf,), daemon=True).start()
+    threading.Thread(target=load, args=(shelf, users), daemon=True).start()
     signal.signal(signal.SIGTERM, lambda *_: os._exit(0))  # all that was replied to is kept
     try:
         server.serve_forever()
@@ -118,10 +131,14 @@ def serve(given: argparse.Namespace, shelf: Shelf) -> int:
     return 0
 
 
-def load(shelf: Shelf) -> None:
-    """Reads all books aside, so that no phone waits for that."""
+def load(shelf: Shelf, users: accounts.Users) -> None:
+    """Reads all books aside, so that no phone waits for that; and people, if any are asked for."""
     try:
         shelf.load()
+        for account in filter(accounts.is_reader, users.accounts().values()):
+            for name in shelf.names():
+                if account.rights.get(name, account.rights.get("*")):
+                    shelf.book(name).people()
     except Exception as fault:
         say(f"the books aren't read yet: {fault}")
 
@@ -156,6 +173,10 @@ def user_parser() -> argparse.ArgumentParser:
                              help="a right; * is all other books")
             one.add_argument("--no-password", action="store_true",
                              help="for a user whom a front server checks (--trust-front)")
+            one.add_argument("--token", action="store_true", help="print a new token, by which "
+                             "phone books, birthdays and searches are read")
+            one.add_argument("--from", action="append", metavar="RANGE", dest="ranges",
+                             help="addresses from which they are read, as 10.0.0.0/8")
     return made
 
 
@@ -165,7 +186,9 @@ def change_users(given: argparse.Namespace) -> int:
     if given.order == "list":
         for name, account in sorted(users.items()):
             rights = " ".join(f"{book}:{right}" for book, right in sorted(account.rights.items()))
-            print(f"{name} {rights}" + (" no password" if account.hash == "-" else ""))
+            how = " no password" if account.hash == accounts.NO_PASSWORD else \
+                " " + readers.told(account) if accounts.is_reader(account) else ""
+            print(f"{name} {rights}{how}")
         return 0
     old = accounts.find_account(users, given.name)
     if given.order == "remove":
@@ -186,6 +209,8 @@ def new_account(given: argparse.Namespace, old: Optional[accounts.Account]) -> a
         rights = accounts.rights_of(given.books)
     if not rights:
         raise accounts.BadUsers("a user needs a right: --book BOOK:rw")
+    if given.token or given.ranges or old and accounts.is_reader(old) and not given.no_password:
+        return new_reader(given, rights, old)
     if given.no_password:
         return accounts.Account(accounts.NO_PASSWORD, rights)
     password = new_password(given.name, bool(old))
@@ -194,6 +219,22 @@ def new_account(given: argparse.Namespace, old: Optional[accounts.Account]) -> a
     if not password:
         raise accounts.BadUsers("an empty password isn't taken")
     return accounts.Account(accounts.hashed(password, secrets.token_hex(8)), rights)
+
+
+def new_reader(given: argparse.Namespace, rights: Dict[str, str],
+               old: Optional[accounts.Account]) -> accounts.Account:
+    """A user who comes by a token, which is printed, or from addresses."""
+    if given.token and given.ranges or given.no_password:
+        raise accounts.BadUsers("choose one of --token, --from and --no-password")
+    if "rw" in rights.values():
+        raise accounts.BadUsers("a token or an address only reads: --book BOOK:r")
+    if old and not (given.token or given.ranges):
+        return accounts.Account(old.hash, rights)
+    if given.ranges:
+        return accounts.Account(readers.by_address(given.ranges), rights)
+    token = readers.new_token()
+    print(token)
+    return accounts.Account(readers.by_token(token), rights)
 
 
 def new_password(name: str, has_old: bool) -> str:

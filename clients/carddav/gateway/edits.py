@@ -10,7 +10,8 @@ import re
 from contextlib import ExitStack
 from typing import NamedTuple, Optional
 
-from tosculai import Conflict, NoSuchCard, Refused, UidTaken, lines_of, uid_of
+from tosculai import (Book, Conflict, Error, LostReply, NoSuchCard, Refused, UidTaken, lines_of,
+                      uid_of)
 
 from gateway import cards
 from gateway.books import AddressBook, Missing
@@ -188,9 +189,11 @@ def move(book: AddressBook, name: str, to: AddressBook, to_name: str, overwrite:
                 raise Missing(f"there is no card {name}")
             conditions.check(old)
             _check_target(old, there, to, to_name, overwrite)
-            if _move_once(book, old, to, to_name, there):
+            stale = _overwrite(book, old, to, there) if there else \
+                _move_once(book, old, to, to_name)
+            if not stale:
                 return there is None
-            book.suspect(old.uid, old)
+            stale.suspect(old.uid, old if stale is book else there)
     raise Failed("others change the card all the time")
 
 
@@ -205,22 +208,52 @@ def _check_target(old: Entry, there: Optional[Entry], to: AddressBook, to_name: 
         raise UidInUse("the other book has a card of this UID", other.name)
 
 
-def _move_once(book: AddressBook, old: Entry, to: AddressBook, to_name: str,
-               there: Optional[Entry]) -> bool:
-    """One attempt; False if somebody else was faster.
-
-    The server has no move that overwrites. A stop between the two steps loses the copy that was
-    to be overwritten, and never the card.
-    """
+def _move_once(book: AddressBook, old: Entry, to: AddressBook,
+               to_name: str) -> Optional[AddressBook]:
+    """One attempt; returns the book in which somebody else was faster, if any."""
     undo = to.state.give(to.number, to_name, old.uid)
     try:
         with book.shelf.offices.one() as office:
-            if there:
-                office.book(to.name).remove(there.uid, there.version)
             office.book(book.name).move(old.uid, to.name, old.version)
-        return True
+        return None
     except Refused as refusal:
         to.state.take_back(to.number, undo)
         if isinstance(refusal, (Conflict, UidTaken, NoSuchCard)):
-            return False
+            return to if isinstance(refusal, UidTaken) else book
         raise
+
+
+def _overwrite(book: AddressBook, old: Entry, to: AddressBook,
+               there: Entry) -> Optional[AddressBook]:
+    """One attempt to move a card over its copy in another book; returns the same.
+
+    The server has no move that overwrites. So the copy gets the card's text, and then the card is
+    removed. After a stop in between both books have the card, and the move may be done again.
+    """
+    text, before = book.text(old), to.text(there)
+    if text is None or before is None:
+        return book if text is None else to
+    with book.shelf.offices.one() as office:
+        target = office.book(to.name)
+        try:
+            version = target.put(text, there.version, there.uid)
+        except Conflict:
+            return to
+        try:
+            office.book(book.name).remove(old.uid, old.version)
+            return None
+        except LostReply:
+            raise  # it may be done
+        except Error as refusal:
+            _put_back(to, target, before, version)
+            if isinstance(refusal, (Conflict, NoSuchCard)):
+                return book
+            raise
+
+
+def _put_back(to: AddressBook, target: Book, before: str, version: int) -> None:
+    """Gives a copy its text again, unless somebody has edited it since."""
+    try:
+        target.put(before, version, uid_of(before))
+    except Error as fault:
+        to.shelf.say(f"{to.name}: {uid_of(before)} keeps what a refused move put there: {fault}")

@@ -11,9 +11,10 @@ from contextlib import nullcontext
 from http.server import BaseHTTPRequestHandler
 from typing import Any, Dict, Iterator, Optional, Tuple, Type
 
-from gateway import davxml
-from gateway.accounts import Refusal, Users
+from gateway import davxml, readers
+from gateway.accounts import Refusal, Users, Who
 from gateway.dav import METHODS, Dav, is_discovery
+from gateway.feeds import Feeds, bare, is_feed
 from gateway.messages import TEXT, Reply, Request
 from gateway.places import PREFIX
 
@@ -22,6 +23,7 @@ PATIENCE = 30.0  # seconds for which a connection may be silent
 CONNECTIONS = 200  # that are served at once; others wait
 LARGE, LARGE_AT_ONCE = 1_000_000, 2  # octets of a body that few requests may have at once
 WHOLE = 262_144  # octets of a reply up to which it is sent with its length
+NOT_IN_FIELDS = re.compile(r"[^\x20-\x7e]")
 HOST = re.compile(r"[A-Za-z0-9._:\[\]-]+")
 CHALLENGE = 'Basic realm="contacts", charset="UTF-8"'
 
@@ -72,7 +74,7 @@ class Handler(BaseHTTPRequestHandler):
             pieces = iter([reply.body]) if isinstance(reply.body, bytes) else reply.body
             first, is_whole = gathered(pieces)
         except Exception as fault:
-            reply = self._fault(fault)
+            reply = bare(self.path, self._fault(fault))
             first, is_whole, pieces = bytes(reply.body), True, iter(())  # type: ignore[arg-type]
         self._send(reply, first, is_whole, pieces)
         if self.server.logs_all or reply.status >= 500:
@@ -84,7 +86,7 @@ class Handler(BaseHTTPRequestHandler):
             self._body(fields, WHOLE)
             return self.server.dav.reply(Request(self.command, self.path, fields, b"", "", {}))
         try:
-            who = self.server.users.find(fields, self._client(fields))
+            who = self._who(fields)
         except Refusal:
             self._drop_body(fields)
             raise
@@ -93,8 +95,20 @@ class Handler(BaseHTTPRequestHandler):
         place: Any = self.server.large if self._is_large(fields) else nullcontext()
         with place:
             body = self._body(fields, most)
-            return self.server.dav.reply(Request(self.command, self.path, fields, body, who.user,
-                                                 who.rights, self._address(fields)))
+            request = Request(self.command, self.path, fields, body, who.user, who.rights,
+                              self._address(fields))
+            return (self.server.feeds if is_feed(self.path) else self.server.dav).reply(request)
+
+    def _who(self, fields: Dict[str, str]) -> Who:
+        """Who asks: by a password, or at a feed by a token or an address."""
+        if is_feed(self.path):
+            peer = self.client_address[0] if isinstance(self.client_address, tuple) else ""
+            who = readers.find(self.server.users, self.path, fields, peer)
+            if who:
+                return who
+            if "authorization" not in fields and not self.server.users.trusts_front:
+                raise Refusal(401, readers.how_to_begin(self.path))
+        return self.server.users.find(fields, self._client(fields))
 
     def _is_large(self, fields: Dict[str, str]) -> bool:
         """Whether the body takes much memory; few such are held at once."""
@@ -118,7 +132,8 @@ class Handler(BaseHTTPRequestHandler):
         return fields.get("x-real-ip") or str(self.client_address[:1])
 
     def _address(self, fields: Dict[str, str]) -> str:
-        if self.server.url:
+        # Desk phones may come another way than all others, as without TLS.
+        if self.server.url and not (is_feed(self.path) and HOST.fullmatch(fields.get("host", ""))):
             return str(self.server.url) + PREFIX
         scheme = "https" if fields.get("x-forwarded-proto") == "https" else "http"
         host = fields.get("host", "")
@@ -130,8 +145,8 @@ class Handler(BaseHTTPRequestHandler):
             reply.fields["WWW-Authenticate"] = CHALLENGE
         if refusal.status == 429:
             reply.fields["Retry-After"] = "300"
-        if "authorization" in self.headers or refusal.status != 401:
-            say(f"refused {refusal.status} {self.command} {self.path[:200]}: {refusal.words}")
+        if "authorization" in self.headers or refusal.status != 401 or is_feed(self.path):
+            say(f"refused {refusal.status} {self.command} {self._told_path()}: {refusal.words}")
         return reply
 
     # Bodies.
@@ -203,6 +218,10 @@ class Handler(BaseHTTPRequestHandler):
             self._write(first, None if is_whole else rest, is_chunked)
         self.wfile.flush()
 
+    def send_header(self, keyword: str, value: str) -> None:
+        """Every field goes through here: what was asked may be in one, and must not end it."""
+        super().send_header(keyword, NOT_IN_FIELDS.sub("?", value))
+
     def _write(self, first: bytes, rest: Optional[Iterator[bytes]], is_chunked: bool) -> None:
         """The body. A fault within it ends the connection, so that no client takes it whole."""
         self._piece(first, is_chunked)
@@ -225,8 +244,12 @@ class Handler(BaseHTTPRequestHandler):
 
     def _log(self, status: int) -> None:
         taken = (time.monotonic() - self._begun) * 1000
-        say(f"{self._user} {self.command} {self.path[:200]} {status} {self._sent} octets "
+        say(f"{self._user} {self.command} {self._told_path()} {status} {self._sent} octets "
             f"{taken:.1f} ms")
+
+    def _told_path(self) -> str:
+        """The path for the log, without a token."""
+        return readers.masked(self.path, is_feed(self.path))[:200]
 
     def log_message(self, format: str, *arguments: object) -> None:
         """What http.server would say: faults of a head, which are a client's."""
@@ -263,10 +286,11 @@ class Server(socketserver.ThreadingMixIn, socketserver.TCPServer):
     allow_reuse_address = True
     request_queue_size = 128
 
-    def __init__(self, place: Any, dav: Dav, users: Users, logs_all: bool = False,
+    def __init__(self, place: Any, dav: Dav, feeds: Feeds, users: Users, logs_all: bool = False,
                  url: str = "") -> None:
         self.address_family = socket.AF_UNIX if isinstance(place, str) else socket.AF_INET
-        self.dav, self.users, self.logs_all, self.url = dav, users, logs_all, url
+        self.dav, self.feeds, self.users = dav, feeds, users
+        self.logs_all, self.url = logs_all, url
         self.large = threading.Semaphore(LARGE_AT_ONCE)
         self._places = threading.BoundedSemaphore(CONNECTIONS)
         if isinstance(place, str):

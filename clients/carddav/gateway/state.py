@@ -153,6 +153,18 @@ class State:
         found = self._rows("SELECT etag, card FROM cards WHERE book = ? AND uid = ?", book, uid)
         return (str(found[0][0]), str(found[0][1])) if found else None
 
+    def texts(self, book: int) -> Iterator[Tuple[str, int, str]]:
+        """The UID, the version and the text of each card, some read at a time."""
+        at = ""
+        while True:
+            rows = self._rows("SELECT uid, version, card FROM cards WHERE book = ? AND uid > ?"
+                              " ORDER BY uid LIMIT 100", book, at)
+            for uid, version, text in rows:
+                yield str(uid), int(version), str(text)
+            if not rows:
+                return
+            at = str(rows[-1][0])
+
     # Names.
 
     def name(self, book: int, uid: str) -> Optional[str]:

@@ -1,0 +1,1 @@
+"""A read-only LDAP directory of an office's books."""

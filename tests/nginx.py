@@ -1,0 +1,20 @@
+"""The configuration of an nginx that runs in a folder of its own, in the foreground."""
+
+MAIN = """\
+daemon off;
+pid nginx.pid;
+error_log stderr;
+events { worker_connections 64; }
+http {
+    access_log off;
+    client_body_temp_path body;
+    proxy_temp_path proxy;
+    fastcgi_temp_path fastcgi;
+    uwsgi_temp_path uwsgi;
+    scgi_temp_path scgi;
+"""
+
+
+def configuration(http):
+    """The configuration with these lines within `http`."""
+    return f"{MAIN}{http}}}\n"
