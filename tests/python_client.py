@@ -15,7 +15,7 @@ from program import PATIENCE, ROOT
 FOLDER = ROOT / "clients/python"
 sys.path.insert(0, str(FOLDER))
 
-import command  # noqa: E402 (these are found by the line before)
+from tosculai_tools import command  # noqa: E402 (these are found by the line before)
 from tosculai import Copy, Office  # noqa: E402
 
 # The functions, as Python's profiler names them, whose calls change something outside of a process.

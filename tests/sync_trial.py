@@ -21,8 +21,8 @@ from model.cards import read_card
 from program import Server, run
 from python_client import Careless, cards_of, is_killed, is_stopped, office
 
-from folder import FolderCopy
 from tosculai import uid_of
+from tosculai_tools.folder import FolderCopy
 
 UIDS = ["a", "A", "b", "team", "é/x", "..", "o p%", "urn:uuid:7f", "q+&?#", "\\n", "con", "l" * 255]
 

@@ -19,8 +19,8 @@ from python_client import FOLDER, Lossy, cards_of, office, run_command
 
 import tosculai
 import vcard3
-from folder import file_name
 from tosculai import Card, FrontAnswer, LostReply, Refused, Unreachable, lines_of, same
+from tosculai_tools.folder import file_name
 
 # UIDs that are hard to carry: in a path, in a file's name, or on a system that ignores case.
 HOSTILE = [

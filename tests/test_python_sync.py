@@ -7,6 +7,7 @@ sync to be the one at which it stops.
 import io
 import os
 import shutil
+import signal
 import subprocess
 import unittest
 from contextlib import contextmanager, redirect_stdout
@@ -18,10 +19,10 @@ from python_client import Lossy, cards_of, is_stopped, office, run_command
 from sync_trial import UIDS, SyncTrial
 from test_python_client import HOSTILE, ClientTest
 
-import follow
 import vcard3
-from folder import FolderCopy, FolderError
 from tosculai import Copy, LostReply, Report
+from tosculai_tools import follow
+from tosculai_tools.folder import FolderCopy, FolderError
 
 SEEDS = int(os.environ.get("SEEDS", 2))
 EDITS = int(os.environ.get("EDITS", 200))
@@ -138,12 +139,51 @@ class FolderTest(ClientTest):
         self.assertEqual({"a": "bad-card, cause 5", "b": "it isn't UTF-8"}, report.refused)
         why = "it has no UID, or isn't UTF-8"
         self.assertEqual({"zagain.vcf": "it has the same UID as again.vcf", "none.vcf": why,
-                          "latin.vcf": why, "\udcff.vcf": why}, report.skipped)
+                          "latin.vcf": why, "\udcff.vcf": why, "folder.vcf": "it is no file"},
+                         report.skipped)
         wanted = {"a": card("a", "Ann"), "b": card("b", "Bob"), "c": card("c", "One")}
         self.assertEqual(wanted, cards_of(self.staff))
         self.staff.put(card("b", "Bobby"))
         self.assertEqual({"b": "b.vcf.conflict"}, self.sync().conflicts)
         self.assertIn(b"\xff", (self.cards / "b.vcf.conflict").read_bytes())
+
+    def test_links_that_point_to_nothing(self):
+        """Their files may come back, as with a disk that isn't mounted: no card is removed."""
+        for uid in "ab":
+            self.staff.put(card(uid, uid))
+        self.sync()
+        (self.folder / "disk").mkdir()
+        (self.cards / "b.vcf").rename(self.folder / "disk/b")
+        for name in "b.vcf", "renamed.vcf":
+            (self.cards / name).symlink_to(self.folder / "disk/b")
+            self.assertEqual([], self.sync().pushed)
+            (self.folder / "disk").rename(self.folder / "away")
+            with self.assertRaisesRegex(FolderError, name + " points to nothing"):
+                self.sync()
+            self.assertEqual({"a", "b"}, {*cards_of(self.staff)})
+            (self.folder / "away").rename(self.folder / "disk")
+            (self.cards / name).unlink()
+        self.assertEqual(["b"], self.sync().pushed)
+
+    def test_pipes_and_folders(self):
+        """They are left alone; and a card whose file became one isn't removed."""
+        for uid in "ab":
+            self.staff.put(card(uid, uid))
+        self.sync()
+        signal.alarm(PATIENCE)  # ends the module if it waits for the pipe
+        self.addCleanup(signal.alarm, 0)
+        os.mkfifo(self.cards / "pipe.vcf")
+        (self.cards / "to-pipe.vcf").symlink_to("pipe.vcf")
+        why = "it is no file"
+        self.assertEqual({"pipe.vcf": why, "to-pipe.vcf": why}, self.sync().skipped)
+        (self.cards / "b.vcf").unlink()
+        for make, end in (os.mkfifo, os.unlink), (os.mkdir, os.rmdir):
+            make(self.cards / "b.vcf")
+            with self.assertRaisesRegex(FolderError, "b.vcf is no file any more"):
+                self.sync()
+            self.assertEqual({"a", "b"}, {*cards_of(self.staff)})
+            end(self.cards / "b.vcf")
+        self.assertEqual(["b"], self.sync().pushed)
 
     def test_names_that_are_taken(self):
         """A file that somebody else made is never overwritten."""
@@ -426,12 +466,12 @@ class Backups(ClientTest):
 
     def test_dated(self):
         self.follow_edits("--dated")
-        found = sorted(self.backup.glob("staff/versions/a/*"))
+        found = sorted(self.backup.glob("staff/versions/a/*.vcf"))
         self.assertEqual(self.texts, [it.read_bytes().decode() for it in found])
         for number, path in enumerate(found, 1):
             self.assertRegex(path.name, fr"^{number:013}-20\d\d-\d\d-\d\dT\d{{6}}Z\.vcf$")
         others = self.backup.glob("clients/versions/*")
-        endings = sorted(([it.suffix for it in sorted(card.iterdir())] for card in others), key=len)
+        endings = sorted(([it.suffix for it in sorted(card.glob("0*"))] for card in others), key=len)
         self.assertEqual([[".vcf"], *[[".vcf", ".removed"]] * (self.EDITS - 1)], endings)
 
     def test_git(self):

@@ -11,18 +11,37 @@ import argparse
 import io
 import json
 import netrc
+import random
+import ssl
 import sys
-from typing import Any, Callable, List
+import time
+from typing import Any, Callable, List, Optional
 from urllib.parse import quote, urlsplit
 
 import vcard3
-from folder import FolderCopy, Plain
-from tosculai import Book, Error, Office, Refused, Report
+from tosculai import (Book, Error, LostReply, NoMemory, Office, Refused, Report, StoreFault,
+                      Unreachable)
+from tosculai_tools.folder import FolderCopy, FolderError, Plain, WrongFolder
 
 DONE, LOOK, FAULT = 0, 1, 3
+INTERRUPTED = 130
+# What may be over at the next round of a sync that stays.
+PASSING = (Unreachable, LostReply, StoreFault, NoMemory, FolderError)
 
 
-def office_at(url: str) -> Office:
+def trusting(ca_file: Optional[str]) -> Optional[ssl.SSLContext]:
+    """A TLS context that trusts the certificates of this file alone."""
+    if not ca_file:
+        return None
+    try:
+        return ssl.create_default_context(cafile=ca_file)
+    except ssl.SSLError as fault:
+        raise ValueError(f"{ca_file} has no certificate in PEM: {fault}") from fault
+    except OSError as fault:
+        raise ValueError(f"{ca_file}: {fault.strerror}") from fault
+
+
+def office_at(url: str, ca_file: Optional[str] = None) -> Office:
     """The office at a URL, with the user of ~/.netrc if the URL has none."""
     url = url if "://" in url else "http://" + url
     parts = urlsplit(url)
@@ -33,7 +52,7 @@ def office_at(url: str) -> Office:
     if user:
         name = quote(user[0] or "", safe="") + ":" + quote(user[2] or "", safe="")
         url = url.replace("://", f"://{name}@", 1)
-    return Office(url)
+    return Office(url, context=trusting(ca_file))
 
 
 def show(value: Any) -> None:
@@ -104,10 +123,27 @@ def forget(given: argparse.Namespace, book: Book) -> None:
 def sync(given: argparse.Namespace, book: Book) -> int:
     form = vcard3 if given.form == "3.0" else Plain
     copy = FolderCopy(given.folder, form, given.empty, given.over)
-    report = book.sync(copy)
-    lines = report_lines(report, copy.conflicts())
-    print("\n".join(lines))
-    return LOOK if len(lines) > 1 else DONE
+    said: List[str] = []  # what has to be looked at is said once, and not in each round
+    while True:
+        done, to = "", sys.stdout
+        try:
+            report = book.sync(copy)
+        except PASSING as fault:
+            if not given.watch or isinstance(fault, WrongFolder):
+                raise
+            look, to = [f"tosculai: {fault}"], sys.stderr
+        else:
+            copy.starts_over = False
+            done, *look = report_lines(report, copy.conflicts())
+            is_dull = given.watch and not (report.pulled or report.pushed)
+            done = "" if given.quiet or is_dull else done
+        lines = [done] * bool(done) + [it for it in look if look != said]
+        if lines:
+            print("\n".join(lines), file=to, flush=True)
+        said = look
+        if not given.watch:
+            return LOOK if look else DONE
+        time.sleep(given.every * random.uniform(0.9, 1.1))
 
 
 def report_lines(report: Report, kept: List[str]) -> List[str]:
@@ -123,6 +159,14 @@ def report_lines(report: Report, kept: List[str]) -> List[str]:
     return lines
 
 
+def seconds(text: str) -> float:
+    """A time between two rounds."""
+    number = float(text)
+    if not 0 < number <= 1_000_000:
+        raise ValueError(text)
+    return number
+
+
 def parser() -> argparse.ArgumentParser:
     whole = argparse.ArgumentParser(
         prog="tosculai.py", description=__doc__, formatter_class=argparse.RawTextHelpFormatter
@@ -133,6 +177,8 @@ def parser() -> argparse.ArgumentParser:
         one = commands.add_parser(name, help=text, description=text)
         one.set_defaults(call=call, book="")
         one.add_argument("url", metavar="URL", help="such as http://127.0.0.1:8080")
+        one.add_argument("--ca-file", metavar="FILE", help="for https: trust the certificates of "
+                         "this file (PEM), and no others")
         for argument in arguments:
             kind = int if argument == "upto" else str
             one.add_argument(argument, metavar=argument.upper(), type=kind)
@@ -148,6 +194,10 @@ def parser() -> argparse.ArgumentParser:
                      help="if all cards of the folder are gone, remove them on the server too")
     one.add_argument("--start-over", dest="over", action="store_true",
                      help="compare all cards, after the server's file was restored")
+    one.add_argument("--quiet", action="store_true", help="print only what has to be looked at")
+    one.add_argument("--watch", action="store_true", help="stay, and sync again and again")
+    one.add_argument("--every", type=seconds, default=60, metavar="SECONDS",
+                     help="the time between two syncs of --watch; 60 without this")
     add("get", get, "print a card", "book", "uid")
     versioned = [
         add("put", put, "store the card in a file", "book", "file"),
@@ -172,10 +222,18 @@ def main(arguments: List[str]) -> int:
         sys.stdout.reconfigure(errors="backslashreplace")  # of names that the system can't print
     given = parser().parse_args(arguments)
     try:
-        return given.call(given, office_at(given.url).book(given.book)) or DONE
+        book = office_at(given.url, given.ca_file).book(given.book)
+        return given.call(given, book) or DONE
+    except KeyboardInterrupt:
+        return INTERRUPTED
     except Refused as refusal:
         print(f"tosculai: refused {refusal}", file=sys.stderr)
         return LOOK
     except (Error, OSError, ValueError, netrc.NetrcParseError) as fault:
         print(f"tosculai: {fault}", file=sys.stderr)
         return FAULT
+
+
+def run() -> int:
+    """The program, as pip installs it."""
+    return main(sys.argv[1:])

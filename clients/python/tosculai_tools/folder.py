@@ -18,10 +18,12 @@ import itertools
 import os
 import re
 import sqlite3
+import stat
 from contextlib import contextmanager
 from typing import Any, Dict, Iterator, List, NamedTuple, Optional, Set, Tuple
 
 from tosculai import ROUNDS, Copy, Error, Page, Report, Row, same, uid_of
+from tosculai_tools.disk import sync_folder, write_file, write_files
 
 STATE = ".tosculai.db"
 ASIDE = ".tosculai-"  # the names of files that are only there during a sync begin so
@@ -41,6 +43,10 @@ CREATE TABLE IF NOT EXISTS plans (number INTEGER PRIMARY KEY, uid TEXT NOT NULL,
 
 class FolderError(Error):
     """The folder can't be used: another sync runs, it belongs to another book, or is empty."""
+
+
+class WrongFolder(FolderError):
+    """The folder belongs to another book, or has files of another form. Time doesn't mend that."""
 
 
 class Changed(Exception):
@@ -114,24 +120,6 @@ def file_name(uid: str, number: int = 1) -> str:
     return name + (f"~{number}" if number > 1 else "") + ".vcf"
 
 
-def write_file(path: str, octets: bytes) -> None:
-    """Writes a file, which is on the disk when this returns."""
-    with open(path, "wb") as file:
-        file.write(octets)
-        file.flush()
-        os.fsync(file.fileno())
-
-
-def sync_folder(path: str) -> None:
-    """Waits until the names in a folder are on the disk, where the system can do that."""
-    if os.name == "posix":
-        folder = os.open(path, os.O_RDONLY)
-        try:
-            os.fsync(folder)
-        finally:
-            os.close(folder)
-
-
 class FolderCopy(Copy):
     """A copy in a folder. A card that lost a conflict is kept as `NAME.vcf.conflict`, or `-2` ..
 
@@ -172,15 +160,16 @@ class FolderCopy(Copy):
         """Locks the folder, and makes sure that it belongs to this book."""
         self._db.execute("PRAGMA locking_mode = EXCLUSIVE")
         self._db.execute("PRAGMA synchronous = FULL")
+        self._db.execute("PRAGMA secure_delete = ON")  # nothing stays of a card that was removed
         self._db.executescript("BEGIN EXCLUSIVE;" + SCHEMA)
         for fact in ("book", url), ("form", self.form.name), ("token", ""):
             self._db.execute("INSERT OR IGNORE INTO facts VALUES (?, ?)", fact)
         self._db.commit()
         facts = dict(self._db.execute("SELECT name, value FROM facts"))
         if facts["book"] != url:
-            raise FolderError(f"{self.path} belongs to {facts['book']}, says its {STATE}")
+            raise WrongFolder(f"{self.path} belongs to {facts['book']}, says its {STATE}")
         if facts["form"] != self.form.name:
-            raise FolderError(f"{self.path} holds cards as vCard {facts['form']}")
+            raise WrongFolder(f"{self.path} holds cards as vCard {facts['form']}")
         self.token = "" if self.starts_over else facts["token"]
 
     def _recover(self) -> None:
@@ -221,13 +210,21 @@ class FolderCopy(Copy):
         owners = {place.name: uid for uid, place in self._places.items()}
         found = []
         for name in os.listdir(self.path):
-            octets = self._read_file(name) if name.endswith(".vcf") and name[0] != "." else None
-            if octets is not None:
+            if not name.endswith(".vcf") or name[0] == ".":
+                continue
+            octets, owner = self._read_file(name), owners.get(name, "")
+            if octets is None:
+                self._skip(name, owner, report)
+            else:
+                digest = digest_of(octets)
+                if owner and self._places[owner].digest == digest:
+                    found.append((False, name, owner, "", digest))  # it is as it was written
+                    continue
                 text = octets.decode("utf-8", "surrogateescape")
                 is_text = not NO_TEXT.search(name + text)
                 uid = uid_of(text) if is_text else ""
-                uid = uid or owners.get(name, "")
-                found.append((owners.get(name) != uid, name, uid, text, digest_of(octets)))
+                uid = uid or owner
+                found.append((owner != uid, name, uid, text, digest))
         if not found and len(self.rows) > 1 and not self.may_be_empty:
             raise FolderError(f"all cards of {self.path} are gone")
         # The file that had a card already comes before others with the same UID.
@@ -249,15 +246,31 @@ class FolderCopy(Copy):
             return base
         return self.form.read(text, base) or "\n"
 
+    def _skip(self, name: str, owner: str, report: Report) -> None:
+        """Skips what is no file, unless it is where the file of a card was."""
+        if os.path.lexists(self._at(name)):
+            if owner:
+                raise FolderError(f"{self._at(name)} is no file any more: move it away, so that "
+                                  "it is clear whether the card is to be removed")
+            report.skipped[name] = "it is no file"
+
     def _read_file(self, name: str, is_new: bool = True) -> Optional[bytes]:
-        """The octets of a file, or None if it is no file."""
+        """The octets of a file, or None if it is no file.
+
+        A link that points to nothing is a FolderError: its file may be on a disk that comes back,
+        and must not be taken for one that was removed.
+        """
+        path = self._at(name)
         try:
             if is_new:
-                self._marks[name] = mark_of(self._at(name))
-            with open(self._at(name), "rb") as file:
-                return file.read()
-        except (FileNotFoundError, IsADirectoryError):
-            return None
+                self._marks[name] = mark_of(path)
+            if stat.S_ISREG(os.stat(path).st_mode):  # a pipe would wait for somebody who writes
+                with open(path, "rb") as file:
+                    return file.read()
+        except FileNotFoundError as fault:
+            if os.path.islink(path):
+                raise FolderError(f"{path} points to nothing: mend or remove this link") from fault
+        return None
 
     # Cards to files.
 
@@ -273,14 +286,17 @@ class FolderCopy(Copy):
     def apply(self, changes: Dict[str, bool], rows: Dict[str, Row], token: str,
               report: Report) -> None:
         plans: List[Plan] = []
+        names, files = set(), {}  # type: Set[str], Dict[str, bytes]
         for uid, is_conflict in changes.items():
             file = self._files.get(uid)
-            name = file.name if file else self._new_name(uid, {plan.name for plan in plans})
+            name = file.name if file else self._new_name(uid, names)
+            names.add(name)
             kept = self._kept_name(name) if file and is_conflict else ""
             plans.append(Plan(len(plans), uid, rows[uid].version, rows[uid].text, name, kept))
             if rows[uid].text:
                 octets = self.form.write(rows[uid].text).encode()
-                write_file(self._aside(plans[-1].number, "new"), octets)
+                files[self._aside(plans[-1].number, "new")] = octets
+        write_files(files)
         if plans:
             sync_folder(self.path)
             self._db.executemany("INSERT INTO plans VALUES (?, ?, ?, ?, ?, ?)", plans)
