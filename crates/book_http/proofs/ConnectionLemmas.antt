@@ -1,5 +1,5 @@
 -- What a connection was served is a run of the service.
-use Rattle.std.proofs.Common.{ℕ, List, ◌++◌, false, Option, Some, None}
+use Rattle.std.proofs.Common.{ℕ, List, ◌++◌, false, Option, Some, None, inl, inr}
 use Rattle.std.proofs.KnownBytes.{Consumes-trans}
 use Rattle.std.specs.Io.KnownBytes.{Consumes}
 use Rattle.http_replies.specs.Replies.{head_fault_octets}
@@ -19,7 +19,8 @@ module _ {State : Type 0} (does : HandlerRelation State) (fault_reply : FaultRep
   pub part_of_fed : (octets replies : List ℕ) (old new : State) (session : Option (List ℕ)) → FeedsSession does fault_reply octets old replies new session → HandlesSomePrefix does fault_reply octets old new
   part_of_fed octets replies old new (Some rest) fed =
       record { replies = replies; ended = false; rest = rest; runs = answered_run does fault_reply octets old replies new false rest fed.0 }
-  part_of_fed octets replies old new None stop =
+  part_of_fed octets replies old new None (inr stop) = record { replies = stop.answers; ended = false; rest = stop.rest; runs = stop.answered }
+  part_of_fed octets replies old new None (inl stop) =
       record { replies = stop.answers; ended = stop.ended; rest = stop.rest; runs = answered_run does fault_reply octets old stop.answers new stop.ended stop.rest stop.answered }
 
   -- some first requests of what was read were handled

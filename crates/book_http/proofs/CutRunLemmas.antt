@@ -74,7 +74,9 @@ module _ {S : Type 0} (model : StoreModel S) (law : AreReadInOneWay) where
         (λ _ _. inl (refl, refl))
     fed_alike starts starts_too (Some rest) None same fed fed_too = absurd (cc same)
     fed_alike starts starts_too None (Some left) same fed fed_too = absurd (cc same)
-    fed_alike starts starts_too None None same stop stop_too =
+    fed_alike starts starts_too None None same (inr stop) stop_too = absurd (cc stop.screened_for)
+    fed_alike starts starts_too None None same (inl stop) (inr stop_too) = absurd (cc stop_too.screened_for)
+    fed_alike starts starts_too None None same (inl stop) (inl stop_too) =
         ran_alike starts starts_too stop.answers stop_too.answers stop.last stop_too.last stop.ended stop_too.ended stop.rest stop_too.rest
         stop.answered stop_too.answered stop.replies_are stop_too.replies_are
         (λ (ended : stop_too.ended ≡ stop.ended) (rest : stop_too.rest ≡ stop.rest).
@@ -94,5 +96,5 @@ module _ {S : Type 0} (model : StoreModel S) (law : AreReadInOneWay) where
       let fed_too : FeedsSession (ServiceStep model) head_fault_octets (pieces turns) old (answers others) other left =
       subst (λ t. FeedsSession (ServiceStep model) head_fault_octets t old (answers others) other left) (sym same)
       (pieces_are_fed (ServiceStep model) head_fault_octets others old other left takes_too) in
-      let held : session ≡ left = cuts_agree (ServiceStep model) head_fault_octets (pieces turns) old new other (answers turns) (answers others) session left fed fed_too in
+      let held : session ≡ left = cuts_agree (ServiceStep model) head_fault_octets (λ now head. refl) (pieces turns) old new other (answers turns) (answers others) session left fed fed_too in
       (held, fed_alike now (pieces turns) (answers turns) (answers others) old new other starts starts_too session left held fed fed_too)

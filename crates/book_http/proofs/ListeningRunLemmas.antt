@@ -75,7 +75,8 @@ module _ {S Connection : Type 0} (model : StoreModel S)
         at = at_end now (end_of now ran.run) old new starts.at (all_limits model a.requests old new replies a.handles) ran.at;
         devices_are = ran.devices_are;
       }
-  fed_happens None now before connection_after old new octets replies starts read stop sent =
+  fed_happens None now before connection_after old new octets replies starts read (inr stop) sent = absurd (cc stop.screened_for)
+  fed_happens None now before connection_after old new octets replies starts read (inl stop) sent =
       let a = stop.answered in
       let ran = requests_run model now old new a.requests stop.answers starts a.handles in
       record {

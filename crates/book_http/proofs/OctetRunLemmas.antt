@@ -1,5 +1,5 @@
 -- Requests that the service handles are a run of it.
-use Rattle.std.proofs.Common.{◌≡◌, ◌∙◌, ℕ, Bool, false, List, [], ◌∷◌, ◌++◌, refl, sym, ap, subst, Option, Some, None, Result, Ok, Err}
+use Rattle.std.proofs.Common.{◌≡◌, ◌∙◌, ℕ, Bool, false, List, [], ◌∷◌, ◌++◌, refl, sym, ap, subst, Option, Some, None, Result, Ok, Err, inl, inr}
 use Rattle.book_commands.specs.declared.command.Command.{Command}
 use Rattle.book_service.specs.declared.event.Event.TheVariants.{Do}
 use Rattle.book_service.specs.Runs.{SystemState, TraceStep, Run, end_of, MatchesRows}
@@ -28,7 +28,7 @@ module _ {S : Type 0} (model : StoreModel S) where
   found_premise : (old new : S) (request : Request) (found : Option HeadFault) (octets : List ℕ)
       → RepliesGivenFault (ServiceStep model) head_fault_octets old request octets new found → model.premise new → model.premise old
   found_premise old new request None octets replied holds =
-      asked_premise old new (requested_command request.head.method request.head.target request.body) (head_of request.head).close octets replied holds
+      asked_premise old new (requested_command request.head.method request.head.target request.body) (head_of request.head).close octets replied.1 holds
   found_premise old new request (Some found) octets replied holds = subst model.premise (sym replied.1) holds
 
   pub all_premise : (requests : List Request) (old new : S) (octets : List ℕ) → HandlesRequests (ServiceStep model) head_fault_octets old requests octets new → model.premise new → model.premise old
@@ -46,7 +46,7 @@ module _ {S : Type 0} (model : StoreModel S) where
   found_limits : (old new : S) (request : Request) (found : Option HeadFault) (octets : List ℕ)
       → RepliesGivenFault (ServiceStep model) head_fault_octets old request octets new found → model.limits new ≡ model.limits old
   found_limits old new request None octets replied =
-      asked_limits old new (requested_command request.head.method request.head.target request.body) (head_of request.head).close octets replied
+      asked_limits old new (requested_command request.head.method request.head.target request.body) (head_of request.head).close octets replied.1
   found_limits old new request (Some found) octets replied = ap model.limits (sym replied.1)
 
   -- requests change no limits
@@ -88,7 +88,7 @@ module _ {S : Type 0} (model : StoreModel S) where
       → RepliesGivenFault (ServiceStep model) head_fault_octets old request octets new found
       → model.premise new → MatchesRows now (model.limits old) (model.books old) → Happens now (λ own. IsReplyGivenFault found request own octets) new
   found_happens now old new request None octets replied holds at =
-      asked_happens now old new (requested_command request.head.method request.head.target request.body) (head_of request.head).close octets replied holds at
+      asked_happens now old new (requested_command request.head.method request.head.target request.body) (head_of request.head).close octets replied.1 holds at
   found_happens now old new request (Some found) octets replied holds at =
       nothing_happens now (λ own. IsReplyGivenFault (Some found) request own octets) old new (refl, replied.0) replied.1 at
 
@@ -143,7 +143,8 @@ module _ {S : Type 0} (model : StoreModel S) where
 
   pub sessions_run : SessionsRun model
   sessions_run now old new octets replies (Some rest) starts fed = (all_run now old new octets replies false rest starts fed.0, fed.1)
-  sessions_run now old new octets replies None starts stop = record {
+  sessions_run now old new octets replies None starts (inr stop) = absurd (cc stop.screened_for)
+  sessions_run now old new octets replies None starts (inl stop) = record {
     answers = stop.answers;
     last = stop.last;
     ended = stop.ended;

@@ -26,9 +26,10 @@ use Rattle.book_http.specs.ServedConnections.{AbortsConnection, ServesToEnd}
 -- ---- over any store
 
 module _ {S : Type 0} (model : StoreModel S) where
-  -- one step of the service by a request
+  -- one step of the service by a request; it refuses no head without a fault
   abbrev pub ServiceStep : HandlerRelation S
-  ServiceStep = AnswersRequest model
+  ServiceStep =
+      record { step = AnswersRequest model; screens = λ now method fields. None }
 
   -- The store was in this state, and its premise holds now, so that it held before.
   pub record StartsAt (now : SystemState) (old new : S) : Type 0 where

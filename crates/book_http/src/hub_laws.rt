@@ -1,5 +1,7 @@
 //! Laws of any number of connections to the service. Each law is a function that does nothing.
-ghost use Rattle.book_http.specs.ServedHubs.{HubsAreOneRun};
+ghost use Rattle.book_http.specs.OctetPromise.{ServiceStep};
+ghost use Rattle.book_http.specs.ServedHubs.{HubsAreOneRun, behind_guard};
+ghost use Rattle.http_requests.specs.GuardedHandlers.{guarded};
 
 use sync_core::BookStore;
 
@@ -8,5 +10,11 @@ use sync_core::BookStore;
 /// connection is sent the replies to its own requests, in order. The law assumes that the store
 /// matches the state before, and that its premise holds afterwards (`specs/ServedHubs.antt`).
 pub fn hubs_are_one_run<S: BookStore>()
-    ensures { HubsAreOneRun S.model }
+    ensures { HubsAreOneRun S.model (ServiceStep S.model) }
+{}
+
+/// The same of a service behind a guard. The requests of the run are those that the guard lets
+/// pass, so one that it refuses changes no book.
+pub fn guarded_hubs_are_one_run<S: BookStore>()
+    ensures { HubsAreOneRun (behind_guard S.model) (guarded (ServiceStep S.model)) }
 {}

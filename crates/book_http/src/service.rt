@@ -6,6 +6,7 @@ use base_types::NoMemory;
 use http_replies::head_fault_bytes;
 use http_requests::{Handler, Head, HeadFault};
 use http_routes::Routes;
+use httparse::spans::HeaderSpan;
 use std::alloc::Global;
 use std::marker::Model;
 use sync_core::BookStore;
@@ -38,15 +39,19 @@ impl<S: Drop> Service<S> {
 }
 
 impl<S: BookStore> Handler for Service<S> {
-    ghost use Rattle.book_http.specs.RequestAnswers.{AnswersRequest};
+    ghost use Rattle.book_http.specs.OctetPromise.{ServiceStep};
     ghost use Rattle.http_replies.specs.Replies.{head_fault_octets};
 
-    ghost does = { AnswersRequest S.model };
+    ghost does = { ServiceStep S.model };
 
     ghost fault_reply = { head_fault_octets };
 
     fn handle(&mut self, alloc: Global, head: &Head, body: &[u8]) -> Result<Vec<u8>, NoMemory> {
         answer_with(alloc, &self.routes, &mut self.store, head, body)
+    }
+
+    fn screen(&self, _method: &[u8], _text: &[u8], _fields: &[HeaderSpan]) -> Option<HeadFault> {
+        None
     }
 
     fn refuse(&self, alloc: Global, fault: HeadFault) -> Result<Vec<u8>, NoMemory> {

@@ -2,10 +2,11 @@
 -- project's own.
 use Rattle.std.specs.Prelude.{ℕ, ◌≡◌, ◌≢◌, ◌-◌, ◌^◌, ◌||◌, ⊤, Bool, true, false, List, [], Option}
 use Rattle.std.specs.Prelude.{Some, None, Result, Ok, Err, codes, find, option_map, option_and_then}
+use Rattle.std.specs.Prelude.{unwrap_or}
 use Rattle.std.specs.Prelude.{if◌then◌else◌}
 use Rattle.std.specs.Str.{bytes_eq}
 use Rattle.std.specs.Str.Parse.{digits_value, without_leading_plus}
-use Rattle.clap.specs.Walk.{Row, Text, first_of, is_empty, one_of}
+use Rattle.clap.specs.Walk.{Row, Text, all_of, first_of, is_empty, one_of}
 use Rattle.clap.specs.Simple.{matches_of, subcommand_of}
 use Rattle.clap.specs.Faults.{fault_of}
 use Rattle.clap.specs.ValueTests.{is_unsigned_in}
@@ -22,7 +23,7 @@ use Rattle.cli_args.specs.declared.order.Order.{Order}
 use Rattle.cli_args.specs.declared.order.Order.TheVariants.{Try, Init, Book, Serve, ServeWithLimits}
 use Rattle.cli_args.specs.declared.order.Order.TheVariants.{Import, Export, Tally, Forget, Mirror}
 use Rattle.cli_args.specs.declared.order.Order.TheVariants.{Expand, Migrate, Check, Books, Verify}
-use Rattle.cli_args.specs.declared.order.Order.TheVariants.{ServeLogged, Version, Convert}
+use Rattle.cli_args.specs.declared.order.Order.TheVariants.{ServeLogged, Run, Version, Convert}
 
 -- ---- the values of arguments and options
 
@@ -37,6 +38,10 @@ form_of text = if bytes_eq text (codes "cards") then Some Cards
 
 abbrev pub text_arg : Text → List Row → Option Text
 text_arg id rows = first_of id rows
+
+-- all values of an option that may be given more than once
+abbrev pub texts_arg : Text → List Row → List Text
+texts_arg id rows = unwrap_or (all_of id rows) []
 
 abbrev pub u64_arg : Text → List Row → Option ℕ
 u64_arg id rows = option_and_then (number_upto (2 ^ 64 - 1)) (one_of id rows)
@@ -100,6 +105,12 @@ unlogged_serve_order rows = if is_given (codes "M") rows || is_given (codes "S")
 abbrev pub serve_order : List Row → Option Order
 serve_order rows = if is_given (codes "log") rows
     then logged_serve_order rows else unlogged_serve_order rows
+
+abbrev pub run_order : List Row → Option Order
+run_order rows = with_file (λ file. option_and_then (λ port. option_and_then (λ max_open.
+    option_map (λ idle_timeout. Run file port (texts_arg (codes "NAME") rows) max_open idle_timeout
+    (is_given (codes "create") rows) (is_given (codes "log") rows)) (u64_arg (codes "S") rows))
+    (u64_arg (codes "M") rows)) (port_arg rows)) rows
 
 abbrev pub import_order : List Row → Option Order
 import_order rows = with_book (λ file book. option_and_then (λ key.
@@ -172,9 +183,10 @@ abbrev pub order_of : Text → List Row → Option Order
 order_of name rows =
     if bytes_eq name (codes "try") then Some Try
     else (if bytes_eq name (codes "init") then init_order rows
+    else (if bytes_eq name (codes "run") then run_order rows
     else (if bytes_eq name (codes "serve") then serve_order rows
     else (if bytes_eq name (codes "migrate") then migrate_order rows
-    else book_order_of name rows)))
+    else book_order_of name rows))))
 
 -- the order of the matched name; without a name it is `Try`
 abbrev pub named_order : Option (Text × List Row) → Option Order

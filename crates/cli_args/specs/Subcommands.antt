@@ -2,7 +2,7 @@
 use Rattle.std.specs.Prelude.{ℕ, ◌≡◌, ⊤, true, false, List, [], ◌∷◌, Some, codes}
 use Rattle.clap.specs.Walk.{Rule, Text, rule_of}
 use Rattle.clap.specs.Simple.{App, Shape, app_of, new_rule, new_shape}
-use Rattle.clap.specs.declared.builder.action.ArgAction.TheVariants.{SetTrue}
+use Rattle.clap.specs.declared.builder.action.ArgAction.TheVariants.{Append, SetTrue}
 use Rattle.clap.specs.declared.builder.arg.Arg.{Arg}
 use Rattle.clap.specs.declared.builder.command.Command.{Command}
 use Rattle.clap.specs.declared.builder.command.Command.TheViews.{out-Command as fields_of}
@@ -30,6 +30,10 @@ number_option id name least most default =
 -- an option with one value and no default
 abbrev pub free_option : Text → Text → Rule
 free_option id name = record (new_rule id) { long = Some name }
+
+-- an option with one value, which may be given more than once
+abbrev pub repeated_option : Text → Text → Rule
+repeated_option id name = record (free_option id name) { action = Some Append }
 
 -- an option without a default, whose value is a number from `least` to `most`
 abbrev pub free_number_option : Text → Text → ℕ → ℕ → Rule
@@ -89,6 +93,31 @@ serve_command = order_command (codes "serve")
     ∷ number_option (codes "N") (codes "connections") 1 1000000 (codes "1")
     ∷ together_option ∷ patience_option ∷ log_switch ∷ [])
 
+-- the port to listen on
+abbrev pub port_option : Text → Rule
+port_option default = number_option (codes "P") (codes "port") 0 65535 default
+
+-- the names that a request's Host may have
+abbrev pub host_option : Rule
+host_option = repeated_option (codes "NAME") (codes "host")
+
+-- the maximum number of connections open at once
+abbrev pub max_open_option : Rule
+max_open_option = number_option (codes "M") (codes "max-open") 1 1000 (codes "256")
+
+-- the seconds after which an idle connection is closed
+abbrev pub idle_timeout_option : Rule
+idle_timeout_option = number_option (codes "S") (codes "idle-timeout") 1 3600 (codes "60")
+
+-- whether the file is created if it isn't there
+abbrev pub create_switch : Rule
+create_switch = switch (codes "create") (codes "create")
+
+abbrev pub run_command : Shape
+run_command = order_command (codes "run")
+    (file_arg ∷ port_option (codes "8080") ∷ host_option ∷ max_open_option
+    ∷ idle_timeout_option ∷ create_switch ∷ log_switch ∷ [])
+
 abbrev pub import_command : Shape
 import_command =
     order_command (codes "import")
@@ -133,7 +162,8 @@ verify_command = order_command (codes "verify") (file_arg ∷ [])
 
 -- all orders, in the sequence of the help text
 abbrev pub order_commands : List Shape
-order_commands = try_command ∷ init_command ∷ book_command ∷ serve_command ∷ import_command
+order_commands = try_command ∷ init_command ∷ book_command ∷ run_command ∷ serve_command
+    ∷ import_command
     ∷ export_command ∷ tally_command
     ∷ forget_command ∷ mirror_command ∷ expand_command ∷ migrate_command
     ∷ check_command ∷ convert_command ∷ books_command ∷ verify_command ∷ []

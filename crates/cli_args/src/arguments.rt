@@ -65,6 +65,18 @@ pub(crate) fn free_option<'a>(alloc: Global, id: &'a str, name: &'a str, help: &
     Arg::new(alloc, id).long(name).help(help)
 }
 
+/// An option with one value, which may be given more than once.
+pub(crate) fn repeated_option<'a>(
+    alloc: Global,
+    id: &'a str,
+    name: &'a str,
+    help: &'a str,
+) -> Arg<'a>
+    ensures { IsArgument (lines.repeated_option id.entry.now name.entry.now) result }
+{
+    free_option(alloc, id, name, help).action(ArgAction::Append)
+}
+
 /// An option without a default, whose value is a number from `least` to `most`.
 pub(crate) fn free_number_option<'a>(
     alloc: Global,

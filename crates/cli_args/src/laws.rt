@@ -4,7 +4,7 @@ ghost use Rattle.cli_args.specs.WorkedLines.{WorkedConnections, WorkedConversion
 ghost use Rattle.cli_args.specs.WorkedLines.{WorkedFaults, WorkedFiles, WorkedForms, WorkedLimits};
 ghost use Rattle.cli_args.specs.WorkedLines.{WorkedLogs};
 ghost use Rattle.cli_args.specs.WorkedLines.{WorkedNumbers, WorkedOrders, WorkedPages};
-ghost use Rattle.cli_args.specs.WorkedLines.{WorkedPorts, WorkedVersions};
+ghost use Rattle.cli_args.specs.WorkedLines.{WorkedPorts, WorkedRuns, WorkedVersions};
 
 /// Some command lines and their orders, or none.
 /// - `orders`: no argument, `try`, `init`, `book`, `import`, `tally`, `expand` and `migrate`.
@@ -19,6 +19,8 @@ ghost use Rattle.cli_args.specs.WorkedLines.{WorkedPorts, WorkedVersions};
 /// - `limits`: with `--together` or `--patience`, even if it gives the default, `serve` has limits,
 ///   and the default of the other; 1 and 1000 connections are accepted, 0 and 1001 are not; 1 and
 ///   3600 seconds are accepted, 0 and 3601 are not.
+/// - `runs`: `run` without options and with all of them, `--host` twice; 1000 open connections and 1
+///   second are accepted, 1001 and 0 are not, nor a number of connections.
 /// - `logs`: with `--log`, `serve` prints a line for each request, and has limits; given twice,
 ///   with a value or after another order it is invalid.
 /// - `forms`: `columns` is a form; `rows` is none.
@@ -36,6 +38,7 @@ pub fn worked_lines_are_orders()
     ensures ports { WorkedPorts }
     ensures connections { WorkedConnections }
     ensures limits { WorkedLimits }
+    ensures runs { WorkedRuns }
     ensures logs { WorkedLogs }
     ensures forms { WorkedForms }
     ensures numbers { WorkedNumbers }

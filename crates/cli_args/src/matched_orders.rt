@@ -6,7 +6,7 @@ ghost use Rattle.cli_args.specs.ParsedOrders.{ParsesTo};
 use crate::fault::LineFault;
 use crate::order::Order;
 use crate::values::{
-    form_arg, given_text, given_u64, is_given, port_arg, refuse, text_arg, u64_arg,
+    form_arg, given_text, given_texts, given_u64, is_given, port_arg, refuse, text_arg, u64_arg,
 };
 use clap::ArgMatches;
 use std::alloc::Global;
@@ -93,6 +93,26 @@ fn serve_order(alloc: Global, matches: &ArgMatches<'_>) -> Result<Order, LineFau
     } else {
         unlogged_serve_order(alloc, matches)
     }
+}
+
+/// The order `run`.
+fn run_order(alloc: Global, matches: &ArgMatches<'_>) -> Result<Order, LineFault>
+    ensures { ParsesTo (parsed.run_order (rows_of (found_of matches.now))) result }
+{
+    let file = text_arg(alloc, matches, "FILE")?;
+    let port = port_arg(alloc, matches)?;
+    let max_open = u64_arg(alloc, matches, "M")?;
+    let idle_timeout = u64_arg(alloc, matches, "S")?;
+    let names = given_texts(alloc, matches, "NAME")?;
+    Ok(Order::Run {
+        file,
+        port,
+        names,
+        max_open,
+        idle_timeout,
+        creates: is_given(matches, "create"),
+        is_logged: is_given(matches, "log"),
+    })
 }
 
 fn import_order(alloc: Global, matches: &ArgMatches<'_>) -> Result<Order, LineFault>
@@ -261,6 +281,8 @@ fn order_of(alloc: Global, name: &str, matches: &ArgMatches<'_>) -> Result<Order
         Ok(Order::Try)
     } else if name == "init" {
         init_order(alloc, matches)
+    } else if name == "run" {
+        run_order(alloc, matches)
     } else if name == "serve" {
         serve_order(alloc, matches)
     } else if name == "migrate" {

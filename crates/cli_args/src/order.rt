@@ -1,6 +1,6 @@
 //! The orders of the program.
 
-use base_types::Text;
+use base_types::{Items, Text};
 use csv_cards::Form;
 
 /// An order of the command line, with its arguments.
@@ -56,6 +56,24 @@ pub enum Order {
         /// The seconds that a connection may be idle, and that the head of a request may take, 1 to
         /// 3,600; 60 if it wasn't given.
         patience: u64,
+    },
+    /// Serve the books over HTTP to many connections at once, until the program is stopped.
+    Run {
+        /// The path of a store file.
+        file: Text,
+        /// The port to listen on; 0 for any free port; 8080 if it wasn't given.
+        port: u16,
+        /// The names that a request's Host may have, beside those of the loopback.
+        names: Items<Text>,
+        /// The maximum number of connections open at once, 1 to 1,000; 256 if it wasn't given.
+        max_open: u64,
+        /// The seconds that a connection may be idle, and that the head of a request may take, 1 to
+        /// 3,600; 60 if it wasn't given.
+        idle_timeout: u64,
+        /// Whether the file is created if it isn't there.
+        creates: bool,
+        /// Whether a line is printed on standard error for each request.
+        is_logged: bool,
     },
     /// Import cards from a CSV file.
     Import {

@@ -7,7 +7,8 @@ ghost use Rattle.cli_args.specs.Subcommands.{AreOrderCommands, AreArguments, IsA
 ghost use Rattle.cli_args.specs.Subcommands.{IsOrderCommand};
 
 use crate::arguments::{
-    argument, book_arg, file_arg, flag, number_arg, number_option, option_arg, switch,
+    argument, book_arg, file_arg, flag, number_arg, number_option, option_arg, repeated_option,
+    switch,
 };
 use crate::convert_command::convert_command;
 use clap::{Arg, Command};
@@ -148,6 +149,93 @@ fn serve_command<'a>(alloc: Global) -> Result<Command<'a>, AllocError>
                 connections,
                 together_option(alloc),
                 patience_option(alloc),
+                log_switch(alloc),
+            ],
+        )?,
+    )
+}
+
+fn host_option<'a>(alloc: Global) -> Arg<'a>
+    ensures { IsArgument lines.host_option result }
+{
+    repeated_option(
+        alloc,
+        "NAME",
+        "host",
+        "A name of this server, which requests may have in their Host field; 127.0.0.1, localhost \
+         and [::1] are always allowed. May be given more than once",
+    )
+}
+
+fn max_open_option<'a>(alloc: Global) -> Arg<'a>
+    ensures { IsArgument lines.max_open_option result }
+{
+    number_option(
+        alloc,
+        "M",
+        "max-open",
+        1,
+        1_000,
+        "256",
+        "Maximum number of connections open at once, 1 to 1000",
+    )
+}
+
+fn idle_timeout_option<'a>(alloc: Global) -> Arg<'a>
+    ensures { IsArgument lines.idle_timeout_option result }
+{
+    number_option(
+        alloc,
+        "S",
+        "idle-timeout",
+        1,
+        3_600,
+        "60",
+        "Seconds after which an idle connection is closed, or one whose request headers are \
+         incomplete, 1 to 3600",
+    )
+}
+
+fn create_switch<'a>(alloc: Global) -> Arg<'a>
+    ensures { IsArgument lines.create_switch result }
+{
+    switch(
+        alloc,
+        "create",
+        "create",
+        "Create the file if it isn't there",
+    )
+}
+
+fn run_command<'a>(alloc: Global) -> Result<Command<'a>, AllocError>
+    ensures { IfOk result (IsOrderCommand lines.run_command) }
+{
+    let port = number_option(
+        alloc,
+        "P",
+        "port",
+        0,
+        65_535,
+        "8080",
+        "Port to listen on, 0 to 65535; 0 picks a free port",
+    );
+    order_command(
+        alloc,
+        "run",
+        "Serve the books over HTTP on 127.0.0.1 until it is stopped",
+        "Example:\n  contacts run office.db --create\n\nPrints the address and port before \
+         accepting connections. A request is refused if its Host is none of the server's names, if \
+         a page of another site sends a change, or if a change has a precondition such as \
+         If-Match. A request body may have up to 8,388,608 bytes.",
+        Vec::from_array(
+            alloc,
+            [
+                file_arg(alloc),
+                port,
+                host_option(alloc),
+                max_open_option(alloc),
+                idle_timeout_option(alloc),
+                create_switch(alloc),
                 log_switch(alloc),
             ],
         )?,
@@ -355,6 +443,7 @@ fn order_commands<'a>(alloc: Global) -> Result<Vec<Command<'a>>, AllocError>
     let lines = with_command(Vec::new(alloc), try_command(alloc))?;
     let lines = with_command(lines, init_command(alloc))?;
     let lines = with_command(lines, book_command(alloc))?;
+    let lines = with_command(lines, run_command(alloc))?;
     let lines = with_command(lines, serve_command(alloc))?;
     let lines = with_command(lines, import_command(alloc))?;
     let lines = with_command(lines, export_command(alloc))?;

@@ -1,11 +1,11 @@
 //! The values of matched arguments and options.
-ghost use Rattle.std.specs.Prelude.{◌≡◌, None, Some};
+ghost use Rattle.std.specs.Prelude.{◌≡◌, IfOk, None, Some, map};
 ghost use Rattle.clap.specs.Words.{found_of, rows_of};
 ghost use Rattle.cli_args.specs.ParsedOrders as parsed;
 ghost use Rattle.cli_args.specs.ParsedOrders.{ParsesTo};
 
 use crate::fault::LineFault;
-use base_types::Text;
+use base_types::{Items, Text};
 use clap::ArgMatches;
 use clap::parser::ValueSource;
 use csv_cards::Form;
@@ -57,6 +57,31 @@ pub(crate) fn given_text(
     match matches.get_str(id) {
         Some(text) => Ok(Some(Text::copy_of(alloc, text)?)),
         None => Ok(None),
+    }
+}
+
+/// Copies of these texts.
+fn copies_of(alloc: Global, texts: &[&str]) -> Result<Items<Text>, AllocError>
+    ensures { IfOk result (λ copies. copies ≡ map (λ text. text.now) texts.now) }
+{
+    let mut copies = Vec::new(alloc);
+    for text in texts {
+        copies.push(Text::copy_of(alloc, text)?)?;
+    }
+    Ok(Items::from_vec(copies))
+}
+
+/// The texts of an option that may be given more than once.
+pub(crate) fn given_texts(
+    alloc: Global,
+    matches: &ArgMatches<'_>,
+    id: &str,
+) -> Result<Items<Text>, LineFault>
+    ensures { ParsesTo (Some (parsed.texts_arg id.now (rows_of (found_of matches.now)))) result }
+{
+    match matches.get_strs(id) {
+        Some(texts) => Ok(copies_of(alloc, texts)?),
+        None => Ok(Items::new(alloc)),
     }
 }
 

@@ -1,8 +1,7 @@
 -- The calls that are made of a host, and what is done with their results.
-use Rattle.std.proofs.Common.{◌≡◌, ◌≢◌, ◌⊎◌, ℕ, List, [], ◌∷◌, Option, Result, Ok, Err, IfErr, OnOk, inl, inr, refl}
+use Rattle.std.proofs.Common.{◌≡◌, ◌≢◌, ◌⊎◌, ℕ, Bool, true, List, [], ◌∷◌, ◌++◌, Option, Result, Ok, Err, IfErr, OnOk, inl, inr, refl, subst}
 use Rattle.std.specs.Io.KnownBytes.{Appends}
 use Rattle.book_commands.specs.declared.command.Command.TheVariants.{Import as ImportRows}
-use Rattle.book_http.specs.OctetPromise.{ServiceStep}
 use Rattle.cli_orders.specs.Announcements.{AnnouncesAndServes, StopsServing}
 use Rattle.cli_orders.specs.CommandRuns.{PrintsCommand, StopsCommand}
 use Rattle.cli_orders.specs.OrderOutputs.{made_output, migrate_output}
@@ -15,10 +14,11 @@ use Rattle.book_http.specs.Streams.{WritesPrefix}
 use Rattle.cli_orders.specs.declared.stop.Stop.{Stop}
 use Rattle.cli_orders.specs.declared.stop.Stop.TheVariants.{Open, Device}
 use Rattle.cli_orders.proofs.StopLemmas.{kept_same}
-use Rattle.cli_host.specs.Hosts.{HostCall, Creates, Opens, FindsFault, Migrates, ReadsRows, Binds, Finishes, HasLog, LogsCalls}
-use Rattle.cli_host.specs.OrdersOnHost.{ChecksFile, DoesInFile, DoesStoreWork, ImportsRows, MakesStore, MigratesFile, ServesFile, StopsChecking, StopsInFile, StopsMaking, StopsMigrating, StopsOnImport, StopsReadingRows, StopsServe, StopsStoreWork, StopsUnbound, StopsUnopened, StopsVerifying, VerifiesFile}
+use Rattle.cli_host.specs.Hosts.{HostCall, Creates, Opens, FindsFault, Migrates, ReadsRows, Binds, Finishes, HasLog, LogsCalls, MakesCalls}
+use Rattle.cli_host.specs.OrdersOnHost.{ChecksFile, DoesInFile, DoesStoreWork, GetsStore, ImportsRows, MakesStore, MigratesFile, ServesAt, ServesStore, StopsAt, StopsChecking, StopsInFile, StopsMaking, StopsMigrating, StopsOnImport, StopsReadingRows, StopsStore, StopsStoreWork, StopsUnbound, StopsUnopened, StopsVerifying, VerifiesFile}
 use Rattle.cli_host.specs.declared.work.StoreWork.{StoreWork}
 use Rattle.http_replies.specs.Replies.{head_fault_octets}
+use Rattle.http_requests.specs.HandlerRuns.{FaultReplies, HandlerRelation}
 use Rattle.hub_server.specs.EndpointRuns.{EndpointRelation}
 use Rattle.hub_server.specs.declared.limits.ServeLimits.{ServeLimits}
 use Rattle.store_check.specs.declared.faults.FaultyRow.{FaultyRow}
@@ -162,43 +162,71 @@ module _ {S P H : Type 0} (model : StoreModel S) (calls : HostCall S P → H →
 
 -- ---- serving
 
-module _ {S P H : Type 0} (model : StoreModel S) (effects : EndpointRelation P) (calls : HostCall S P → H → H → Type 0) where
-  pub serve_unopened : (old new : H) (file : List ℕ) (requested : ℕ) (limits : ServeLimits) (fault : OpenFault) (w : Option (List ℕ)) → calls (Opens file (Err fault)) old new
-      → LogsCalls calls old new (StopsServe model effects file requested limits (Open fault) w w)
-  serve_unopened old new file requested limits fault w made =
-      one_call calls old new (Opens file (Err fault)) (StopsServe model effects file requested limits (Open fault) w w) made (inl (fault, refl, unopened fault w))
+module _ {S P H : Type 0} (calls : HostCall S P → H → H → Type 0) where
+  -- calls of the host in turn
+  makes_both : (first later : List (HostCall S P)) (old middle new : H) → MakesCalls calls old first middle → MakesCalls calls middle later new → MakesCalls calls old (first ++ later) new
+  makes_both [] later old middle new same made = subst (λ (h : H). MakesCalls calls h later new) same made
+  makes_both (call ∷ first) later old middle new (next, did, rest) made = (next, did, makes_both first later next middle new rest made)
 
-  pub serve_without_memory : (old new : H) (file : List ℕ) (requested : ℕ) (limits : ServeLimits) (store : S) (w : Option (List ℕ)) → calls (Opens file (Ok store)) old new
-      → LogsCalls calls old new (StopsServe model effects file requested limits out_of_memory w w)
-  serve_without_memory old new file requested limits store w made =
-      one_call calls old new (Opens file (Ok store)) (StopsServe model effects file requested limits out_of_memory w w) made (inr (inl (store, refl, record { stop_is = refl; unwritten = kept_same w })))
+  pub store_opened : (old new : H) (file : List ℕ) (creates : Bool) (result : Result S OpenFault) → calls (Opens file result) old new → LogsCalls calls old new (GetsStore file creates result)
+  store_opened old new file creates result made = one_call calls old new (Opens file result) (GetsStore file creates result) made (inl refl)
 
-  pub serve_unbound : (old opened new : H) (file : List ℕ) (requested : ℕ) (limits : ServeLimits) (store : S) (stop : Stop) (w : Option (List ℕ)) → calls (Opens file (Ok store)) old opened → calls (Binds requested limits.together (Err stop)) opened new
-      → (stop ≡ out_of_memory) ⊎ (stop ≡ Device) → LogsCalls calls old new (StopsServe model effects file requested limits stop w w)
-  serve_unbound old opened new file requested limits store stop w made binds stop_is = record {
-    log = Opens file (Ok store) ∷ Binds requested limits.together (Err stop) ∷ [];
-    made = (opened, made, (new, binds, refl));
-    holds = inr (inr (inl (store, refl, unbound stop w stop_is)));
+  pub store_created : (old new : H) (file : List ℕ) (creates : Bool) (result : Result S OpenFault) → creates ≡ true → calls (Creates file result) old new → LogsCalls calls old new (GetsStore file creates result)
+  store_created old new file creates result wanted made = one_call calls old new (Creates file result) (GetsStore file creates result) made (inr (wanted, refl))
+
+module _ {S P State H : Type 0} (does : HandlerRelation State) (fault_reply : FaultReplies) (effects : EndpointRelation P) (calls : HostCall S P → H → H → Type 0) where
+  pub at_unbound : (old new : H) (requested : ℕ) (limits : ServeLimits) (state : State) (stop : Stop) (w : Option (List ℕ)) → calls (Binds requested limits.together (Err stop)) old new → (stop ≡ out_of_memory) ⊎ (stop ≡ Device)
+      → LogsCalls calls old new (StopsAt does fault_reply effects requested limits stop state w w)
+  at_unbound old new requested limits state stop w binds stop_is =
+      one_call calls old new (Binds requested limits.together (Err stop)) (StopsAt does fault_reply effects requested limits stop state w w) binds (inl (refl, unbound stop w stop_is))
+
+  pub at_served : (result : Result (Unit {0}) Stop) (old bound new : H) (requested port : ℕ) (limits : ServeLimits) (state state_after : State) (endpoint endpoint_after : P) (before after : Option (List ℕ))
+      → calls (Binds requested limits.together (Ok (endpoint, port))) old bound → calls (Finishes endpoint_after) bound new → (requested ≢ 0 → port ≡ requested)
+      → OnOk result (AnnouncesAndServes does fault_reply effects port limits state endpoint before after state_after endpoint_after)
+      → OnOk result (LogsCalls calls old new (ServesAt does fault_reply effects requested limits state before after))
+  at_served (Ok done) old bound new requested port limits state state_after endpoint endpoint_after before after binds finishes is_requested announces = record {
+    log = Binds requested limits.together (Ok (endpoint, port)) ∷ Finishes endpoint_after ∷ [];
+    made = (bound, binds, (new, finishes, refl));
+    holds = record { endpoint = endpoint; port = port; new = state_after; endpoint_after = endpoint_after; calls = refl; is_requested = is_requested; announces = announces };
+  }
+  at_served (Err stop) old bound new requested port limits state state_after endpoint endpoint_after before after binds finishes is_requested announces = tt
+
+  pub at_stopped : (result : Result (Unit {0}) Stop) (old bound new : H) (requested port : ℕ) (limits : ServeLimits) (state state_after : State) (endpoint endpoint_after : P) (before after : Option (List ℕ))
+      → calls (Binds requested limits.together (Ok (endpoint, port))) old bound → calls (Finishes endpoint_after) bound new → (requested ≢ 0 → port ≡ requested)
+      → IfErr result (λ stop. StopsServing does fault_reply effects port limits state endpoint before after stop state_after endpoint_after)
+      → IfErr result (λ stop. LogsCalls calls old new (StopsAt does fault_reply effects requested limits stop state before after))
+  at_stopped (Ok done) old bound new requested port limits state state_after endpoint endpoint_after before after binds finishes is_requested stops = tt
+  at_stopped (Err stop) old bound new requested port limits state state_after endpoint endpoint_after before after binds finishes is_requested stops = record {
+    log = Binds requested limits.together (Ok (endpoint, port)) ∷ Finishes endpoint_after ∷ [];
+    made = (bound, binds, (new, finishes, refl));
+    holds = inr (record { endpoint = endpoint; port = port; new = state_after; endpoint_after = endpoint_after; calls = refl; is_requested = is_requested; stops = stops });
   }
 
-  pub file_served : (result : Result (Unit {0}) Stop) (old opened bound new : H) (file : List ℕ) (requested port : ℕ) (limits : ServeLimits) (store store_after : S) (endpoint endpoint_after : P) (before after : Option (List ℕ))
-      → calls (Opens file (Ok store)) old opened → calls (Binds requested limits.together (Ok (endpoint, port))) opened bound → calls (Finishes endpoint_after) bound new → (requested ≢ 0 → port ≡ requested)
-      → OnOk result (AnnouncesAndServes (ServiceStep model) head_fault_octets effects port limits store endpoint before after store_after endpoint_after)
-      → OnOk result (LogsCalls calls old new (ServesFile model effects file requested limits before after))
-  file_served (Ok done) old opened bound new file requested port limits store store_after endpoint endpoint_after before after made binds finishes is_requested announces = record {
-    log = Opens file (Ok store) ∷ Binds requested limits.together (Ok (endpoint, port)) ∷ Finishes endpoint_after ∷ [];
-    made = (opened, made, (bound, binds, (new, finishes, refl)));
-    holds = record { store = store; endpoint = endpoint; port = port; store_after = store_after; endpoint_after = endpoint_after; calls = refl; is_requested = is_requested; announces = announces };
-  }
-  file_served (Err stop) old opened bound new file requested port limits store store_after endpoint endpoint_after before after made binds finishes is_requested announces = tt
+module _ {S P State H : Type 0} (does : HandlerRelation State) (effects : EndpointRelation P) (state_of : S → State) (calls : HostCall S P → H → H → Type 0) where
+  pub store_missing : (old new : H) (file : List ℕ) (creates : Bool) (requested : ℕ) (limits : ServeLimits) (fault : OpenFault) (w : Option (List ℕ)) → LogsCalls calls old new (GetsStore file creates (Err fault))
+      → LogsCalls calls old new (StopsStore does effects state_of file creates requested limits (Open fault) w w)
+  store_missing old new file creates requested limits fault w got = record { log = got.log; made = got.made; holds = inl (fault, got.holds, unopened fault w) }
 
-  pub file_unserved : (result : Result (Unit {0}) Stop) (old opened bound new : H) (file : List ℕ) (requested port : ℕ) (limits : ServeLimits) (store store_after : S) (endpoint endpoint_after : P) (before after : Option (List ℕ))
-      → calls (Opens file (Ok store)) old opened → calls (Binds requested limits.together (Ok (endpoint, port))) opened bound → calls (Finishes endpoint_after) bound new → (requested ≢ 0 → port ≡ requested)
-      → IfErr result (λ stop. StopsServing (ServiceStep model) head_fault_octets effects port limits store endpoint before after stop store_after endpoint_after)
-      → IfErr result (λ stop. LogsCalls calls old new (StopsServe model effects file requested limits stop before after))
-  file_unserved (Ok done) old opened bound new file requested port limits store store_after endpoint endpoint_after before after made binds finishes is_requested stops = tt
-  file_unserved (Err stop) old opened bound new file requested port limits store store_after endpoint endpoint_after before after made binds finishes is_requested stops = record {
-    log = Opens file (Ok store) ∷ Binds requested limits.together (Ok (endpoint, port)) ∷ Finishes endpoint_after ∷ [];
-    made = (opened, made, (bound, binds, (new, finishes, refl)));
-    holds = inr (inr (inr (record { store = store; endpoint = endpoint; port = port; store_after = store_after; endpoint_after = endpoint_after; calls = refl; is_requested = is_requested; stops = stops })));
+  pub store_without_memory : (old new : H) (file : List ℕ) (creates : Bool) (requested : ℕ) (limits : ServeLimits) (store : S) (w : Option (List ℕ)) → LogsCalls calls old new (GetsStore file creates (Ok store))
+      → LogsCalls calls old new (StopsStore does effects state_of file creates requested limits out_of_memory w w)
+  store_without_memory old new file creates requested limits store w got = record { log = got.log; made = got.made; holds = inr (inl (store, got.holds, record { stop_is = refl; unwritten = kept_same w })) }
+
+  pub store_served : (result : Result (Unit {0}) Stop) (old middle new : H) (file : List ℕ) (creates : Bool) (requested : ℕ) (limits : ServeLimits) (store : S) (before after : Option (List ℕ)) → LogsCalls calls old middle (GetsStore file creates (Ok store))
+      → OnOk result (LogsCalls calls middle new (ServesAt does head_fault_octets effects requested limits (state_of store) before after))
+      → OnOk result (LogsCalls calls old new (ServesStore does effects state_of file creates requested limits before after))
+  store_served (Ok done) old middle new file creates requested limits store before after got serves = record {
+    log = got.log ++ serves.log;
+    made = makes_both calls got.log serves.log old middle new got.made serves.made;
+    holds = record { store = store; first = got.log; later = serves.log; calls = refl; gets = got.holds; serves = serves.holds };
+  }
+  store_served (Err stop) old middle new file creates requested limits store before after got serves = tt
+
+  pub store_unserved : (result : Result (Unit {0}) Stop) (old middle new : H) (file : List ℕ) (creates : Bool) (requested : ℕ) (limits : ServeLimits) (store : S) (before after : Option (List ℕ)) → LogsCalls calls old middle (GetsStore file creates (Ok store))
+      → IfErr result (λ stop. LogsCalls calls middle new (StopsAt does head_fault_octets effects requested limits stop (state_of store) before after))
+      → IfErr result (λ stop. LogsCalls calls old new (StopsStore does effects state_of file creates requested limits stop before after))
+  store_unserved (Ok done) old middle new file creates requested limits store before after got stops = tt
+  store_unserved (Err stop) old middle new file creates requested limits store before after got stops = record {
+    log = got.log ++ stops.log;
+    made = makes_both calls got.log stops.log old middle new got.made stops.made;
+    holds = inr (inr (record { store = store; first = got.log; later = stops.log; calls = refl; gets = got.holds; stops = stops.holds }));
   }

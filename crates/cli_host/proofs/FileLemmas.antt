@@ -1,15 +1,19 @@
 -- What is left of the output where an order isn't done.
-use Rattle.std.proofs.Common.{◌≡◌, ◌⊎◌, ℕ, List, Option, Result, Ok, Err, IfErr, inl, inr}
+use Rattle.std.proofs.Common.{◌≡◌, ◌⊎◌, ℕ, Bool, false, List, Option, Result, Ok, Err, IfErr, inl, inr}
+use Rattle.book_http.specs.OctetPromise.{ServiceStep}
+use Rattle.http_replies.specs.Replies.{head_fault_octets}
+use Rattle.http_requests.specs.GuardedHandlers.{guarded}
+use Rattle.http_requests.specs.HandlerRuns.{HandlerRelation}
 use Rattle.hub_server.specs.EndpointRuns.{EndpointRelation}
 use Rattle.hub_server.specs.declared.limits.ServeLimits.{ServeLimits}
 use Rattle.sync_core.specs.StoreModels.{StoreModel}
 use Rattle.cli_orders.specs.declared.stop.Stop.{Stop}
 use Rattle.cli_host.specs.Hosts.{HostCall, LogsCalls}
-use Rattle.cli_host.specs.OrdersOnHost.{HasRefusedFile, HasReportedDamage, KeepsWorkOutput, StopsAtDamage, StopsChecking, StopsInFile, StopsMaking, StopsMigrating, StopsServe, StopsStoreWork, StopsVerifying, StopsWork}
+use Rattle.cli_host.specs.OrdersOnHost.{HasRefusedFile, HasReportedDamage, KeepsWorkOutput, StopsAtDamage, StopsChecking, StopsInFile, StopsMaking, StopsMigrating, StopsStore, StopsStoreWork, StopsVerifying, StopsWork}
 use Rattle.cli_host.specs.declared.work.StoreWork.{StoreWork}
 use Rattle.cli_host.specs.declared.work.StoreWork.TheVariants.{Perform, ImportFile, ListBooks, MirrorBook}
 use Rattle.cli_host.specs.declared.work.Work.{Work}
-use Rattle.cli_host.specs.declared.work.Work.TheVariants.{Nothing, PrintVersion, CheckFile, CreateFile, MigrateFile, ServeFile, UseFile, VerifyFile}
+use Rattle.cli_host.specs.declared.work.Work.TheVariants.{Nothing, PrintVersion, CheckFile, CreateFile, MigrateFile, RunFile, ServeFile, UseFile, VerifyFile}
 use Rattle.cli_orders.specs.Announcements.{WritesListeningLine}
 use Rattle.cli_host.specs.declared.listing.Listing.TheVariants.{Verified}
 use Rattle.cli_orders.specs.ReplyTexts.{KeepsOutput}
@@ -70,15 +74,20 @@ module _ {S P : Type 0} (model : StoreModel S) where
   verifying_leaves file stop before after log (inr (inl s)) = damage_leaves file stop before after log s
   verifying_leaves file stop before after log (inr (inr s)) = inl (store_work_leaves (ListBooks Verified) s.store s.store_after stop before after s.later s.stops)
 
-module _ {S P : Type 0} (model : StoreModel S) (effects : EndpointRelation P) where
-  serve_leaves : (file : List ℕ) (requested : ℕ) (limits : ServeLimits) (stop : Stop) (before after : Option (List ℕ)) (log : List (HostCall S P)) → StopsServe model effects file requested limits stop before after log
+module _ {S P State : Type 0} (does : HandlerRelation State) (effects : EndpointRelation P) (state_of : S → State) where
+  serve_leaves : (file : List ℕ) (creates : Bool) (requested : ℕ) (limits : ServeLimits) (stop : Stop) (before after : Option (List ℕ)) (log : List (HostCall S P)) → StopsStore does effects state_of file creates requested limits stop before after log
       → KeepsOutput stop before after ⊎ ((stop ≡ out_of_memory) × WritesListeningLine before after)
-  serve_leaves file requested limits stop before after log (inl s) = inl (keeps_leaves stop before after s.2.unwritten)
-  serve_leaves file requested limits stop before after log (inr (inl s)) = inl (keeps_leaves stop before after s.2.unwritten)
-  serve_leaves file requested limits stop before after log (inr (inr (inl (store, bound, inl s)))) = inl (keeps_leaves stop before after s.unwritten)
-  serve_leaves file requested limits stop before after log (inr (inr (inl (store, bound, inr s)))) = inl (keeps_leaves stop before after s.unwritten)
-  serve_leaves file requested limits stop before after log (inr (inr (inr s))) = serving_stop_leaves _ _ effects s.port limits s.store s.store_after s.endpoint s.endpoint_after before after stop s.stops
+  serve_leaves file creates requested limits stop before after log (inl s) = inl (keeps_leaves stop before after s.2.unwritten)
+  serve_leaves file creates requested limits stop before after log (inr (inl s)) = inl (keeps_leaves stop before after s.2.unwritten)
+  serve_leaves file creates requested limits stop before after log (inr (inr s)) = elim s.stops [
+    | inl unbound ↦ inl (elim unbound.1 [
+      | inl memory ↦ keeps_leaves stop before after memory.unwritten
+      | inr device ↦ keeps_leaves stop before after device.unwritten
+    ])
+    | inr serving ↦ serving_stop_leaves does head_fault_octets effects serving.port limits (state_of s.store) serving.new serving.endpoint serving.endpoint_after before after stop serving.stops
+  ]
 
+module _ {S P : Type 0} (model : StoreModel S) (effects : EndpointRelation P) where
   work_leaves : (work : Work) (stop : Stop) (before after : Option (List ℕ)) (log : List (HostCall S P)) → StopsWork model effects work stop before after log → KeepsWorkOutput work stop before after
   work_leaves Nothing stop before after log s = inl (keeps_leaves stop before after s.1.unwritten)
   work_leaves PrintVersion stop before after log s = inl (output_kept_by_device stop before after s.1.stop_is)
@@ -88,7 +97,11 @@ module _ {S P : Type 0} (model : StoreModel S) (effects : EndpointRelation P) wh
   ]
   work_leaves (CreateFile file) stop before after log s = inl (making_leaves file stop before after log s)
   work_leaves (MigrateFile file) stop before after log s = inl (migrating_leaves file stop before after log s)
-  work_leaves (ServeFile file port limits is_logged) stop before after log s = elim (serve_leaves file port limits stop before after log s) [
+  work_leaves (ServeFile file port limits is_logged) stop before after log s = elim (serve_leaves (ServiceStep model) effects (λ store. store) file false port limits stop before after log s) [
+    | inl kept ↦ inl kept
+    | inr announced ↦ inr (inl announced)
+  ]
+  work_leaves (RunFile file creates names port limits is_logged) stop before after log s = elim (serve_leaves (guarded (ServiceStep model)) effects (λ store. (names, store)) file creates port limits stop before after log s) [
     | inl kept ↦ inl kept
     | inr announced ↦ inr (inl announced)
   ]

@@ -8,12 +8,12 @@ use Rattle.cli_args.specs.declared.order.Order.{Order}
 use Rattle.cli_args.specs.declared.order.Order.TheVariants.{Try, Init, Book, Serve, ServeWithLimits}
 use Rattle.cli_args.specs.declared.order.Order.TheVariants.{Import, Export, Tally, Forget, Mirror}
 use Rattle.cli_args.specs.declared.order.Order.TheVariants.{Expand, Migrate, Check, Books, Verify}
-use Rattle.cli_args.specs.declared.order.Order.TheVariants.{ServeLogged, Version}
+use Rattle.cli_args.specs.declared.order.Order.TheVariants.{Run, ServeLogged, Version}
 use Rattle.hub_server.specs.declared.limits.ServeLimits.{ServeLimits}
 use Rattle.cli_host.specs.declared.work.Work.{Work}
 use Rattle.cli_host.specs.declared.work.Work.TheVariants.{Nothing, PrintVersion, CheckFile}
-use Rattle.cli_host.specs.declared.work.Work.TheVariants.{CreateFile, MigrateFile, ServeFile}
-use Rattle.cli_host.specs.declared.work.Work.TheVariants.{UseFile, VerifyFile}
+use Rattle.cli_host.specs.declared.work.Work.TheVariants.{CreateFile, MigrateFile, RunFile}
+use Rattle.cli_host.specs.declared.work.Work.TheVariants.{ServeFile, UseFile, VerifyFile}
 use Rattle.cli_host.specs.declared.work.StoreWork.TheVariants.{Perform, ImportFile, MirrorBook}
 use Rattle.cli_host.specs.declared.work.StoreWork.TheVariants.{ListBooks}
 use Rattle.cli_host.specs.declared.listing.Listing.TheVariants as listing
@@ -25,6 +25,10 @@ together_default = 256
 -- the seconds after which a silent connection is closed, if the order names no limits
 abbrev pub patience_default : ℕ
 patience_default = 60
+
+-- more connections than anybody makes, so that `run` serves until it is stopped
+abbrev pub endless_connections : ℕ
+endless_connections = 9223372036854775808
 
 -- This number of seconds in milliseconds; a number that has more than 64 bits is cut to 2^64 - 1.
 -- The command line allows at most 3,600 seconds.
@@ -59,6 +63,8 @@ work_of Version = PrintVersion
 work_of (Check file) = CheckFile file
 work_of (Init file) = CreateFile file
 work_of (Migrate file) = MigrateFile file
+work_of (Run file port names max_open idle_timeout creates is_logged) = RunFile file creates names
+    port (limits_of endless_connections max_open idle_timeout) is_logged
 work_of (Serve file port connections) =
     ServeFile file port (limits_of connections together_default patience_default) false
 work_of (ServeWithLimits file port connections together patience) =

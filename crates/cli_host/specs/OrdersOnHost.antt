@@ -1,11 +1,14 @@
 -- Running an order on a host: the calls that are made of the host, what is done with their results,
--- and what is printed. This project's own.
-use Rattle.std.specs.Prelude.{◌≡◌, ◌≢◌, ◌⊎◌, ℕ, List, [], ◌∷◌, Option, Result, Ok, Err}
+-- and what is printed.
+use Rattle.std.specs.Prelude.{◌≡◌, ◌≢◌, ◌⊎◌, ℕ, Bool, true, false, List, [], ◌∷◌, ◌++◌, Option}
+use Rattle.std.specs.Prelude.{Result, Ok, Err}
 use Rattle.std.specs.Io.KnownBytes.{Appends, Keeps}
 use Rattle.book_commands.specs.declared.command.Command.TheVariants.{Import as ImportRows}
 use Rattle.book_http.specs.OctetPromise.{ServiceStep}
 use Rattle.cli_args.specs.declared.order.Order.{Order}
 use Rattle.http_replies.specs.Replies.{head_fault_octets}
+use Rattle.http_requests.specs.GuardedHandlers.{guarded}
+use Rattle.http_requests.specs.HandlerRuns.{FaultReplies, HandlerRelation}
 use Rattle.hub_server.specs.EndpointRuns.{EndpointRelation}
 use Rattle.hub_server.specs.declared.limits.ServeLimits.{ServeLimits}
 use Rattle.cli_orders.specs.OrderOutputs.{made_output, migrate_output}
@@ -20,8 +23,8 @@ use Rattle.cli_host.specs.declared.work.StoreWork.TheVariants.{Perform, ImportFi
 use Rattle.cli_host.specs.declared.work.StoreWork.TheVariants.{ListBooks}
 use Rattle.cli_host.specs.declared.work.Work.{Work}
 use Rattle.cli_host.specs.declared.work.Work.TheVariants.{Nothing, PrintVersion, CheckFile}
-use Rattle.cli_host.specs.declared.work.Work.TheVariants.{CreateFile, MigrateFile, ServeFile}
-use Rattle.cli_host.specs.declared.work.Work.TheVariants.{UseFile, VerifyFile}
+use Rattle.cli_host.specs.declared.work.Work.TheVariants.{CreateFile, MigrateFile, RunFile}
+use Rattle.cli_host.specs.declared.work.Work.TheVariants.{ServeFile, UseFile, VerifyFile}
 use Rattle.cli_orders.specs.FaultyRows.{ReportsDamage, damage_text}
 use Rattle.cli_orders.specs.Findings.{PassesCheck, PrintsFinding, StopsCheck, kind_of_file}
 use Rattle.cli_host.specs.Listings.{PrintsListing, StopsListing}
@@ -66,6 +69,8 @@ StopsUnbound stop before after = StopsForMemory stop before after ⊎ StopsAtDev
 -- the work is to serve, and the line that announces a port was written
 abbrev pub HasAnnounced : Work → Option (List ℕ) → Option (List ℕ) → Type 0
 HasAnnounced (ServeFile file port limits is_logged) before after = WritesListeningLine before after
+HasAnnounced (RunFile file creates names port limits is_logged) before after =
+    WritesListeningLine before after
 HasAnnounced work before after = ⊥
 
 -- the work is to check a file, this is the refusal of what was found in some octets, and the words
@@ -269,53 +274,118 @@ module _ {S P : Type 0} (model : StoreModel S) where
       ⊎ (StopsAtDamage file stop before after log
       ⊎ StopsOnFile file (ListBooks Verified) stop before after log)
 
--- A store is represented by its books, and an endpoint by the effects of its calls.
-module _ {S P : Type 0} (model : StoreModel S) (effects : EndpointRelation P) where
-  -- ---- serving a file
+-- ---- serving
 
-  -- The file's store was opened. An endpoint was bound to the requested port, or to any port if it
-  -- is 0, with a place for each connection that may be open at once. The line that announces its
-  -- port was written, and then all connections were served over the store. At last the endpoint,
-  -- as serving left it, was closed. What is logged of the requests changes none of this.
-  pub record ServesFile (file : List ℕ) (requested : ℕ) (limits : ServeLimits)
+-- the file's store was opened, or it was created, if that was asked for; or neither could be done
+abbrev pub GetsStore : {S P : Type 0} → List ℕ → Bool → Result S OpenFault
+    → List (HostCall S P) → Type 0
+GetsStore file creates result log =
+    (log ≡ Opens file result ∷ []) ⊎ ((creates ≡ true) × (log ≡ Creates file result ∷ []))
+
+-- A handler is represented by what it does, and an endpoint by the effects of its calls.
+module _ {S P State : Type 0} (does : HandlerRelation State) (fault_reply : FaultReplies)
+    (effects : EndpointRelation P) where
+  -- An endpoint was bound to the requested port, or to any port if it is 0, with a place for each
+  -- connection that may be open at once. The line that announces its port was written, and then all
+  -- connections were served. At last the endpoint, as serving left it, was closed. What is logged
+  -- of the requests changes none of this.
+  pub record ServesAt (requested : ℕ) (limits : ServeLimits) (old : State)
       (before after : Option (List ℕ)) (log : List (HostCall S P)) : Type 0 where
-    pub store : S
     pub endpoint : P
     pub port : ℕ
-    pub store_after : S
+    pub new : State
     pub endpoint_after : P
-    pub calls : log ≡ Opens file (Ok store) ∷ Binds requested limits.together (Ok (endpoint, port))
-        ∷ Finishes endpoint_after ∷ []
+    pub calls : log ≡
+        Binds requested limits.together (Ok (endpoint, port)) ∷ Finishes endpoint_after ∷ []
     pub is_requested : requested ≢ 0 → port ≡ requested
-    pub announces : AnnouncesAndServes (ServiceStep model) head_fault_octets effects port limits
-        store endpoint before after store_after endpoint_after
+    pub announces : AnnouncesAndServes does fault_reply effects port limits
+        old endpoint before after new endpoint_after
 
   -- the same, but not all connections were served
-  pub record StopsServingFile (file : List ℕ) (requested : ℕ) (limits : ServeLimits) (stop : Stop)
+  pub record StopsServingAt (requested : ℕ) (limits : ServeLimits) (stop : Stop) (old : State)
       (before after : Option (List ℕ)) (log : List (HostCall S P)) : Type 0 where
-    pub store : S
     pub endpoint : P
     pub port : ℕ
-    pub store_after : S
+    pub new : State
     pub endpoint_after : P
-    pub calls : log ≡ Opens file (Ok store) ∷ Binds requested limits.together (Ok (endpoint, port))
-        ∷ Finishes endpoint_after ∷ []
+    pub calls : log ≡
+        Binds requested limits.together (Ok (endpoint, port)) ∷ Finishes endpoint_after ∷ []
     pub is_requested : requested ≢ 0 → port ≡ requested
-    pub stops : StopsServing (ServiceStep model) head_fault_octets effects port limits
-        store endpoint before after stop store_after endpoint_after
+    pub stops : StopsServing does fault_reply effects port limits
+        old endpoint before after stop new endpoint_after
 
-  -- the file wasn't opened; or it was, and then memory ran out, or no endpoint was bound, or the
-  -- server stopped
+  -- no endpoint was bound, or not all connections were served
+  abbrev pub StopsAt : ℕ → ServeLimits → Stop → State → Option (List ℕ) → Option (List ℕ)
+      → List (HostCall S P) → Type 0
+  StopsAt requested limits stop old before after log =
+      ((log ≡ Binds requested limits.together (Err stop) ∷ []) × StopsUnbound stop before after)
+      ⊎ StopsServingAt requested limits stop old before after log
+
+-- The handler begins with a store in this state of its own.
+module _ {S P State : Type 0} (does : HandlerRelation State) (effects : EndpointRelation P)
+    (state_of : S → State) where
+  -- the file's store was opened or created, and then it was served
+  pub record ServesStore (file : List ℕ) (creates : Bool) (requested : ℕ) (limits : ServeLimits)
+      (before after : Option (List ℕ)) (log : List (HostCall S P)) : Type 0 where
+    pub store : S
+    pub first : List (HostCall S P)
+    pub later : List (HostCall S P)
+    pub calls : log ≡ first ++ later
+    pub gets : GetsStore file creates (Ok store) first
+    pub serves : ServesAt does head_fault_octets effects requested limits (state_of store)
+        before after later
+
+  -- the file's store was opened or created, and this is why serving it stopped
+  pub record StopsServingStore (file : List ℕ) (creates : Bool) (requested : ℕ)
+      (limits : ServeLimits) (stop : Stop) (before after : Option (List ℕ))
+      (log : List (HostCall S P)) : Type 0 where
+    pub store : S
+    pub first : List (HostCall S P)
+    pub later : List (HostCall S P)
+    pub calls : log ≡ first ++ later
+    pub gets : GetsStore file creates (Ok store) first
+    pub stops : StopsAt does head_fault_octets effects requested limits stop (state_of store)
+        before after later
+
+  -- there is no store of the file; or there is, and memory ran out, or serving it stopped
+  abbrev pub StopsStore : List ℕ → Bool → ℕ → ServeLimits → Stop
+      → Option (List ℕ) → Option (List ℕ) → List (HostCall S P) → Type 0
+  StopsStore file creates requested limits stop before after log =
+      ((fault : OpenFault) × GetsStore file creates (Err fault) log
+      × StopsUnopened fault stop before after)
+      ⊎ (((store : S) × GetsStore file creates (Ok store) log × StopsForMemory stop before after)
+      ⊎ StopsServingStore file creates requested limits stop before after log)
+
+-- A store is represented by its books, and an endpoint by the effects of its calls.
+module _ {S P : Type 0} (model : StoreModel S) (effects : EndpointRelation P) where
+  -- the file's store was opened and served
+  abbrev pub ServesFile : List ℕ → ℕ → ServeLimits → Option (List ℕ) → Option (List ℕ)
+      → List (HostCall S P) → Type 0
+  ServesFile file requested limits before after log =
+      ServesStore (ServiceStep model) effects (λ store. store) file false requested limits
+      before after log
+
+  -- why it wasn't
   abbrev pub StopsServe : List ℕ → ℕ → ServeLimits → Stop → Option (List ℕ) → Option (List ℕ)
       → List (HostCall S P) → Type 0
   StopsServe file requested limits stop before after log =
-      ((fault : OpenFault) × (log ≡ Opens file (Err fault) ∷ [])
-      × StopsUnopened fault stop before after)
-      ⊎ (((store : S) × (log ≡ Opens file (Ok store) ∷ []) × StopsForMemory stop before after)
-      ⊎ (((store : S)
-      × (log ≡ Opens file (Ok store) ∷ Binds requested limits.together (Err stop) ∷ [])
-      × StopsUnbound stop before after)
-      ⊎ StopsServingFile file requested limits stop before after log))
+      StopsStore (ServiceStep model) effects (λ store. store) file false requested limits stop
+      before after log
+
+  -- the file's store was opened, or created if that was asked for, and served behind a guard of a
+  -- server with these names
+  abbrev pub RunsFile : List ℕ → Bool → List (List ℕ) → ℕ → ServeLimits
+      → Option (List ℕ) → Option (List ℕ) → List (HostCall S P) → Type 0
+  RunsFile file creates names requested limits before after log =
+      ServesStore (guarded (ServiceStep model)) effects (λ store. (names, store)) file creates
+      requested limits before after log
+
+  -- why it wasn't
+  abbrev pub StopsRun : List ℕ → Bool → List (List ℕ) → ℕ → ServeLimits → Stop
+      → Option (List ℕ) → Option (List ℕ) → List (HostCall S P) → Type 0
+  StopsRun file creates names requested limits stop before after log =
+      StopsStore (guarded (ServiceStep model)) effects (λ store. (names, store)) file creates
+      requested limits stop before after log
 
   -- ---- all orders
 
@@ -328,6 +398,8 @@ module _ {S P : Type 0} (model : StoreModel S) (effects : EndpointRelation P) wh
   DoesWork (MigrateFile file) before after log = MigratesFile file before after log
   DoesWork (ServeFile file port limits is_logged) before after log =
       ServesFile file port limits before after log
+  DoesWork (RunFile file creates names port limits is_logged) before after log =
+      RunsFile file creates names port limits before after log
   DoesWork (VerifyFile file) before after log = VerifiesFile model file before after log
   DoesWork (UseFile file work) before after log = DoesInFile model file work before after log
 
@@ -343,6 +415,8 @@ module _ {S P : Type 0} (model : StoreModel S) (effects : EndpointRelation P) wh
   StopsWork (MigrateFile file) stop before after log = StopsMigrating file stop before after log
   StopsWork (ServeFile file port limits is_logged) stop before after log =
       StopsServe file port limits stop before after log
+  StopsWork (RunFile file creates names port limits is_logged) stop before after log =
+      StopsRun file creates names port limits stop before after log
   StopsWork (VerifyFile file) stop before after log =
       StopsVerifying model file stop before after log
   StopsWork (UseFile file work) stop before after log =

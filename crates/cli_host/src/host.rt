@@ -66,6 +66,9 @@ pub trait Host<S, P>: RequestLog {
     /// The number of octets of a file; 0 if the host can't read it.
     fn octets_of(&self, file: &str) -> u64;
 
+    /// Whether there is nothing under the file's name, as far as the host can tell.
+    fn is_missing(&self, file: &str) -> bool;
+
     /// Whether somebody watches standard error: whether it is a terminal.
     fn has_watcher(&self) -> bool;
 
@@ -169,6 +172,13 @@ impl Host<FileBooks, SocketEndpoint> for HostRuntime {
         match fs::metadata(self, file) {
             Ok(metadata) => metadata.len(),
             Err(_) => 0,
+        }
+    }
+
+    fn is_missing(&self, file: &str) -> bool {
+        match fs::metadata(self, file) {
+            Ok(_) => false,
+            Err(error) => error.kind() == io::ErrorKind::NotFound,
         }
     }
 

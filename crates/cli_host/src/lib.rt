@@ -9,6 +9,7 @@ pub mod laws;
 mod listing;
 mod progress;
 mod running;
+mod serving;
 mod verifying;
 mod waiting;
 mod work;

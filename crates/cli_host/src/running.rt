@@ -4,28 +4,27 @@ ghost use Rattle.cli_host.specs.Hosts.{HasLog, LogsCalls};
 ghost use Rattle.cli_host.specs.OrdersOnHost.{ChecksFile, DoesInFile, DoesStoreWork, DoesWork};
 ghost use Rattle.cli_host.specs.OrdersOnHost.{ImportsRows, StopsChecking};
 ghost use Rattle.cli_host.specs.OrdersOnHost.{KeepsOrderOutput, MakesStore, MigratesFile};
-ghost use Rattle.cli_host.specs.OrdersOnHost.{RunsOnHost, ServesFile};
+ghost use Rattle.cli_host.specs.OrdersOnHost.{RunsOnHost};
 ghost use Rattle.cli_host.specs.OrdersOnHost.{StopsInFile, StopsMaking, StopsMigrating};
 ghost use Rattle.cli_host.specs.OrdersOnHost.{StopsOnHost, StopsOnImport, StopsReadingRows};
-ghost use Rattle.cli_host.specs.OrdersOnHost.{StopsServe, StopsStoreWork, StopsWork};
+ghost use Rattle.cli_host.specs.OrdersOnHost.{StopsStoreWork, StopsWork};
 
 use crate::host::Host;
 use crate::keeps::BookKeeps;
 use crate::listing::run_listing;
 use crate::progress::{line_count, open_watched, run_import};
+use crate::serving::{run_guarded, run_serve};
 use crate::verifying::run_verify;
 use crate::work::{StoreWork, Work, work_of};
 use base_types::Text;
-use book_http::Service;
 use book_service::Command;
 use book_store::FileBooks;
 use cli_args::Order;
 use cli_orders::{
-    Stop, announce_and_serve, kind_of_file, made_text, migrate_text, run_check, run_command,
-    run_mirror, version_text, write_out,
+    Stop, kind_of_file, made_text, migrate_text, run_check, run_command, run_mirror, version_text,
+    write_out,
 };
-use hub_server::{Endpoint, ServeLimits};
-use request_log::{LoggedEndpoint, LoggedHandler};
+use hub_server::Endpoint;
 use socket_endpoint::SocketEndpoint;
 use std::alloc::Global;
 use std::io::Write;
@@ -79,44 +78,6 @@ fn run_check_of<S, P, M: Host<S, P>, W: Write>(
 {
     let octets = host.read_rows(alloc, file)?;
     run_check(alloc, kind_of_file(file), octets.as_slice(), writer)
-}
-
-/// The log, if it is on.
-fn log_if<L>(is_on: bool, log: &L) -> Option<&L> {
-    if is_on { Some(log) } else { None }
-}
-
-/// Serves the books in the file at the port. The store is opened first, and the endpoint is closed
-/// last, however serving ended. If it is logged, the host prints a line for each request and for
-/// each fault of a connection.
-fn run_serve<S: BookStore + Drop, P: Endpoint, M: Host<S, P>, W: Write>(
-    alloc: Global,
-    host: &mut M,
-    file: Text,
-    port: u16,
-    limits: ServeLimits,
-    is_logged: bool,
-    writer: &mut W,
-) -> Result<(), Stop>
-    ensures done { OnOk result (LogsCalls M.calls host.old host.new
-        (ServesFile S.model P.calls file port limits
-        (W.contents writer.old) (W.contents writer.new))) }
-    ensures stopped { IfErr result (λ stop. LogsCalls M.calls host.old host.new
-        (StopsServe S.model P.calls file port limits stop
-        (W.contents writer.old) (W.contents writer.new))) }
-{
-    let store = open_watched(alloc, host, file.as_str())?;
-    let service = Service::new(alloc, store)?;
-    let (endpoint, port) = host.listen(alloc, port, limits.together)?;
-    let log = log_if(is_logged, &*host);
-    let mut handler = LoggedHandler::new(service, log);
-    let mut connections = LoggedEndpoint::new(endpoint, log);
-    let served = announce_and_serve(alloc, &mut handler, &mut connections, port, limits, writer);
-    // Both borrow the host for its log.
-    drop(handler);
-    let left = connections.into_endpoint();
-    host.finish(left);
-    served
 }
 
 /// Imports a file of rows into a book of the store, and prints the counts.
@@ -215,6 +176,16 @@ fn do_work<S: BookKeeps + Drop, P: Endpoint, M: Host<S, P>, W: Write>(
             limits,
             is_logged,
         } => run_serve(alloc, host, file, port, limits, is_logged, writer),
+        Work::RunFile {
+            file,
+            creates,
+            names,
+            port,
+            limits,
+            is_logged,
+        } => run_guarded(
+            alloc, host, file, creates, names, port, limits, is_logged, writer,
+        ),
         Work::UseFile { file, work } => use_file(alloc, host, file, work, writer),
     }
 }

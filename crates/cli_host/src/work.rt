@@ -5,7 +5,7 @@ ghost use Rattle.cli_host.specs.declared.work.StoreWork.TheVariants.{Perform};
 ghost use Rattle.cli_host.specs.declared.work.Work.TheVariants.{ServeFile, UseFile};
 
 use crate::listing::Listing;
-use base_types::Text;
+use base_types::{Items, Text};
 use book_service::Command;
 use cli_args::Order;
 use hub_server::ServeLimits;
@@ -15,6 +15,9 @@ const TOGETHER_DEFAULT: u64 = 256;
 
 /// The seconds after which a silent connection is closed, if the order names no limits.
 const PATIENCE_DEFAULT: u64 = 60;
+
+/// More connections than anybody makes, 2^63, so that `run` serves until it is stopped.
+const ENDLESS_CONNECTIONS: u64 = 9_223_372_036_854_775_808;
 
 /// What an order does on a host.
 #[derive(Drop)]
@@ -51,6 +54,21 @@ pub enum Work {
         port: u16,
         /// The number of connections, the most that are open at once, and the patience with a
         /// silent one in milliseconds.
+        limits: ServeLimits,
+        /// Whether a line is printed for each request.
+        is_logged: bool,
+    },
+    /// Serves the store in the file behind a guard.
+    RunFile {
+        /// The file's name.
+        file: Text,
+        /// Whether the file is created if it isn't there.
+        creates: bool,
+        /// The names of the server, beside those of the loopback.
+        names: Items<Text>,
+        /// The port, or 0 for any free one.
+        port: u16,
+        /// As for `ServeFile`.
         limits: ServeLimits,
         /// Whether a line is printed for each request.
         is_logged: bool,
@@ -182,6 +200,22 @@ pub fn work_of(order: Order) -> Work
         Order::Check { file } => Work::CheckFile { file },
         Order::Init { file } => Work::CreateFile { file },
         Order::Migrate { file } => Work::MigrateFile { file },
+        Order::Run {
+            file,
+            port,
+            names,
+            max_open,
+            idle_timeout,
+            creates,
+            is_logged,
+        } => Work::RunFile {
+            file,
+            creates,
+            names,
+            port,
+            limits: limits_of(ENDLESS_CONNECTIONS, max_open, idle_timeout),
+            is_logged,
+        },
         Order::Serve {
             file,
             port,

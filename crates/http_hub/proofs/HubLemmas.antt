@@ -201,13 +201,13 @@ module _ {S : Type 0} (does : HandlerRelation S) (fault_reply : FaultReplies) wh
       runs_keep_places steps between after middle v runs ∙ step_keeps_places step before between w middle done
 
   pub hubs_separate_connections : HubsSeparateConnections does fault_reply
-  hubs_separate_connections limit old new steps after runs =
+  hubs_separate_connections keeps limit old new steps after runs =
       let all = runs_on_links steps (new_hub limit) after [] old new (all_new limit) runs in
       let places : length after.slots ≡ limit = runs_keep_places steps (new_hub limit) after old new runs ∙ length-replicate limit None in
       record {
         links = all.0;
         are_all = all.2;
-        one_run = one_run does fault_reply old new (pieces_in steps) (sessions_of all.0)
+        one_run = one_run does fault_reply keeps old new (pieces_in steps) (sessions_of all.0)
             (fed_from does fault_reply (pieces_in steps) (sessions_of []) new_sessions (sessions_of all.0) old new (λ n. refl) (links_fed does fault_reply steps [] all.0 old new all.1));
         sent = λ serial. balance does fault_reply serial steps [] all.0 old new all.1;
         within = let count : count_by is_some after.slots ≤ length after.slots = count_by-le-length is_some after.slots in omega (arith, count, places);

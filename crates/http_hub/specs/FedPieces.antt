@@ -3,7 +3,7 @@ use Rattle.std.specs.Prelude.{◌≡◌, ◌⊎◌, ◌==◌, ℕ, Bool, List, [
 use Rattle.std.specs.Prelude.{Option, Some, None, cond, map, ⊤}
 use Rattle.std.specs.List.{flat_map}
 use Rattle.http_requests.specs.HandlerRuns.{HandlerRelation, FaultReplies, HandlesRequests}
-use Rattle.http_requests.specs.HandlerRuns.{HandlesPrefix}
+use Rattle.http_requests.specs.HandlerRuns.{HandlesPrefix, KeepsScreens, Screen}
 use Rattle.http_requests.specs.SessionFeeding.{FeedsSession, FeedsPiece, FeedsPieceInPart}
 use Rattle.http_hub.specs.HandledRequests.{HandledInTurn, HandledRequest, ReplaysHandled}
 use Rattle.http_hub.specs.HandledRequests.{handled_for}
@@ -92,7 +92,7 @@ module _ {State : Type 0} (does : HandlerRelation State) (fault_reply : FaultRep
       ⊎ (HasFailure pieces
       × LosesReplies (octets_in pieces) old (replies_in pieces) new session)
 
-module _ (fault_reply : FaultReplies) where
+module _ (screen : Screen) (fault_reply : FaultReplies) where
   -- the requests are in the order of the pieces that complete them; those of a piece are the
   -- requests that its own session completes, and are of its own connection
   unfoldable pub AreInPieceOrder : Sessions → List FedPiece → List HandledRequest → Type 0
@@ -100,7 +100,7 @@ module _ (fault_reply : FaultReplies) where
   AreInPieceOrder before (piece ∷ pieces) handled =
       (first : List HandledRequest) × (rest : List HandledRequest) × (between : Option (List ℕ))
       × (handled ≡ first ++ rest) × AreForConnection piece.connection first
-      × FeedsOrFails ReplaysHandled fault_reply
+      × FeedsOrFails (ReplaysHandled screen) fault_reply
       (before piece.connection) first piece.octets piece.replies [] between
       × AreInPieceOrder (with_session before piece.connection between) pieces rest
 
@@ -126,12 +126,13 @@ module _ {State : Type 0} (does : HandlerRelation State) (fault_reply : FaultRep
     pub one_run : HandlesRequests does fault_reply old
         (map (λ (one : HandledRequest). one.request) handled)
         (flat_map (λ (one : HandledRequest). one.reply) handled) new
-    pub in_piece_order : AreInPieceOrder fault_reply new_sessions pieces handled
-    pub each_alone : (connection : ℕ) → FeedsAlone ReplaysHandled fault_reply
+    pub in_piece_order :
+        AreInPieceOrder (does.screens old) fault_reply new_sessions pieces handled
+    pub each_alone : (connection : ℕ) → FeedsAlone (ReplaysHandled (does.screens old)) fault_reply
         (pieces_of connection pieces) (handled_for connection handled) [] (after connection)
 
   -- every interleaving that starts from new sessions is one run
   abbrev pub InterleavingsAreOneRun : Type 0
   InterleavingsAreOneRun =
-      (old new : State) (pieces : List FedPiece) (after : Sessions)
+      KeepsScreens does → (old new : State) (pieces : List FedPiece) (after : Sessions)
       → FedInTurn new_sessions old pieces new after → AreOneRun old pieces new after

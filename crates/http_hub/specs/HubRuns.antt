@@ -1,7 +1,7 @@
 -- The effect of any list of a hub's operations. This project's own.
 use Rattle.std.specs.Prelude.{◌≡◌, ◌==◌, ◌≤◌, ℕ, List, [], ◌∷◌, ◌++◌, Option, Some, None, cond}
 use Rattle.std.specs.Prelude.{length, take, slice_get}
-use Rattle.http_requests.specs.HandlerRuns.{HandlerRelation, FaultReplies}
+use Rattle.http_requests.specs.HandlerRuns.{HandlerRelation, FaultReplies, KeepsScreens}
 use Rattle.http_hub.specs.FedPieces.{AreOneRun, FedPiece, Sessions, replies_to}
 use Rattle.http_hub.specs.Hubs.{EndsAt, FailsAt, HubValue, IsAt, OpensAt, ReceivesAt, SendsAt}
 use Rattle.http_hub.specs.Hubs.{new_hub, open_count}
@@ -109,6 +109,6 @@ module _ {State : Type 0} (does : HandlerRelation State) (fault_reply : FaultRep
   -- every run of a hub that starts without connections separates them
   abbrev pub HubsSeparateConnections : Type 0
   HubsSeparateConnections =
-      (limit : ℕ) (old new : State) (steps : List HubStep) (after : HubValue)
+      KeepsScreens does → (limit : ℕ) (old new : State) (steps : List HubStep) (after : HubValue)
       → HubRuns (new_hub limit) old steps new after
       → SeparatesConnections limit old steps new after

@@ -6,7 +6,6 @@ use Rattle.httparse.proofs.GrammarLemmas.{request_unique}
 use Rattle.http_requests.specs.Fields.{body_length}
 use Rattle.http_requests.specs.Requests.{HasNoRequest}
 use Rattle.http_requests.proofs.EndLemmas.{none_ended}
-use Rattle.http_requests.specs.declared.head.Head.{Head}
 use Rattle.http_requests.specs.declared.head_state.HeadState.{HeadState}
 use Rattle.http_requests.specs.declared.progress.Progress.{Progress}
 use Rattle.http_requests.specs.declared.progress.Stage.{Stage}
@@ -20,17 +19,17 @@ use Rattle.http_requests.proofs.RunLemmas.{run_none, run_on, run_answered, stopp
 
 pub open_is : (held : List ℕ) (at : Stage) → IsOpen at → open_octets held at ≡ Some held
 open_is held (stage.Head state) is = refl
-open_is held (stage.Body head start end) is = refl
+open_is held (stage.Body start end) is = refl
 open_is held stage.Closed is = absurd (is tt)
 
 pub closed_is : (held : List ℕ) (at : Stage) → IsClosed at → open_octets held at ≡ None
 closed_is held (stage.Head state) is = absurd is
-closed_is held (stage.Body head start end) is = absurd is
+closed_is held (stage.Body start end) is = absurd is
 closed_is held stage.Closed is = refl
 
 pub closed_holds : (held : List ℕ) (at : Stage) → IsClosed at → MatchesStage held at
 closed_holds held (stage.Head state) is = absurd is
-closed_holds held (stage.Body head start end) is = absurd is
+closed_holds held (stage.Body start end) is = absurd is
 closed_holds held stage.Closed is = tt
 
 -- ---- what an open session holds begins with no whole request
@@ -38,24 +37,25 @@ closed_holds held stage.Closed is = tt
 beginning_none : (held : List ℕ) (state : HeadState) → IsPartialHead held state → HasNoRequest held
 beginning_none held state is r rest b = none_ended held (λ e. is.not_ended (is.state_is ∙ e)) r.head (r.body ++ rest) b.0
 
-waiting_none : (held : List ℕ) (head : Head) (start end : ℕ) → IsPartialBody held head start end → HasNoRequest held
-waiting_none held head start end is r rest b =
-    let has = is.has_head in
+waiting_none : (held : List ℕ) (start end : ℕ) → IsPartialBody held start end → HasNoRequest held
+waiting_none held start end is r rest b =
+    let body = is.holds.body in
+    let has = is.holds.has_head in
     let h = has.whole_head in
-    let same = request_unique held r.head h (r.body ++ rest) is.body b.0.0 has.begins.0 in
-    let held_long : length held ≡ length (print_request h) + length is.body = ap length has.begins.0.1 ∙ length-append (print_request h) is.body in
-    let body_long : length r.body + length rest ≡ length is.body = sym (length-append r.body rest) ∙ ap length same.1 in
-    let size : length r.body ≡ head.length = b.1 ∙ ap body_length same.0 ∙ sym (ap (λ (v : Head). v.length) has.head_is) in
-    absurd (omega (arith, held_long, body_long, size, is.not_whole, has.start_is, is.end_is))
+    let same = request_unique held r.head h (r.body ++ rest) body b.0.0 has.begins.0 in
+    let held_long : length held ≡ length (print_request h) + length body = ap length has.begins.0.1 ∙ length-append (print_request h) body in
+    let body_long : length r.body + length rest ≡ length body = sym (length-append r.body rest) ∙ ap length same.1 in
+    let size : length r.body ≡ body_length h = b.1 ∙ ap body_length same.0 in
+    absurd (omega (arith, held_long, body_long, size, is.not_whole, has.start_is, is.holds.end_is))
 
 holds_none : (held : List ℕ) (at : Stage) → MatchesStage held at → IsOpen at → HasNoRequest held
 holds_none held (stage.Head state) is open_ = beginning_none held state is
-holds_none held (stage.Body head start end) is open_ = waiting_none held head start end is
+holds_none held (stage.Body start end) is open_ = waiting_none held start end is
 holds_none held stage.Closed is open_ = absurd (open_ tt)
 
 holds_rest : (held : List ℕ) (at : Stage) → MatchesStage held at → IsOpen at → IsPartialRequest held
 holds_rest held (stage.Head state) is open_ = inl (λ e. is.not_ended (is.state_is ∙ e), is.short)
-holds_rest held (stage.Body head start end) is open_ = inr (is.has_head.whole_head, is.body, is.has_head.begins, is.has_head.good)
+holds_rest held (stage.Body start end) is open_ = inr (is.holds.has_head.whole_head, is.holds.body, is.holds.has_head.begins, is.holds.has_head.good)
 holds_rest held stage.Closed is open_ = absurd (open_ tt)
 
 -- ---- the rest as the code cuts it
@@ -102,7 +102,7 @@ module _ {S : Type 0} (does : HandlerRelation S) (reply_to : FaultReplies) where
   -- a closed session ignores the piece
   pub takes_nothing : (held piece : List ℕ) (at : Stage) (w : S) (out : List ℕ) → IsClosed at → out ≡ [] → FeedsPiece does reply_to (open_octets held at) w piece out w (open_octets held at)
   takes_nothing held piece (stage.Head state) w out is none = absurd is
-  takes_nothing held piece (stage.Body head start end) w out is none = absurd is
+  takes_nothing held piece (stage.Body start end) w out is none = absurd is
   takes_nothing held piece stage.Closed w out is none = (none, refl, refl)
 
   pub takes_stop : (held piece : List ℕ) (at : Stage) (w : S) (out : List ℕ) (u : S) (now rest : List ℕ) (n : ℕ) (more : List ℕ) (v : S) (new : Progress) → IsOpen at

@@ -17,6 +17,7 @@ use Rattle.http_requests.specs.Requests.{StartsWithHead, NeverHasHead}
 use Rattle.http_requests.proofs.EndLemmas.{ended_is}
 use Rattle.http_requests.specs.declared.head.Head.{Head}
 use Rattle.http_requests.specs.ParsedHeads.{head_of, IsUnreadable}
+use Rattle.http_requests.specs.HandlerRuns.{HandlerRelation, screened}
 
 pub unreadable : (text : List ℕ) (room : ℕ) → room ≡ 64 → RequestOverflows room text → IsUnreadable text
 unreadable text room is over = subst (λ k. RequestOverflows k text) is over
@@ -63,3 +64,9 @@ token_is_ascii b token = grind (arith, nat_tests)
 
 pub token_text : (w : List ℕ) → All (λ b. IsTrue (is_token_byte b)) w → IsUtf8 w
 token_text w all = IsUtf8-from_ascii w (IsAscii-from_all w (All-weaker (λ b. is_token_byte b ≡ true) (λ b. b < 128) token_is_ascii w all))
+
+-- whether the handler refuses the head
+pub screens_is : {S : Type 0} (does : HandlerRelation S) (now : S) (text : List ℕ) (spans : List HeaderSpan) (r : RequestSpans) (h : RequestHead) (method : List ℕ) (found o : Option HeadFault) → IsRequestAt text spans r h → method ≡ h.method
+    → found ≡ does.screens now method (map (header_bytes text) (take r.headers spans)) → found ≡ o → screened does now h ≡ o
+screens_is does now text spans r h method found o at same asked is =
+    ap (λ m. does.screens now m (fields_of h)) (sym same) ∙ ap (does.screens now method) (sym at.fields) ∙ sym asked ∙ is

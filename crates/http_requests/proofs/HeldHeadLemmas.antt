@@ -2,7 +2,6 @@
 use Rattle.std.proofs.Common.{◌≡◌, ◌≢◌, ℕ, List, Some, refl}
 use Rattle.http_requests.specs.HeadEnds.{head_state_after}
 use Rattle.http_requests.specs.HeldHeads.{length_unless_ended, partial_head_length}
-use Rattle.http_requests.specs.declared.head.Head.{Head}
 use Rattle.http_requests.specs.declared.head_state.HeadState.{HeadState}
 use Rattle.http_requests.specs.declared.head_state.HeadState.TheVariants.{Blank, InLine, LineStart, Return, Ended}
 use Rattle.http_requests.specs.internal.Progress.{IsPartialBody}
@@ -17,6 +16,6 @@ none_unless_ended Return held ends = absurd (ends (λ e. cc e))
 none_unless_ended Ended held ends = refl
 
 -- within a body no head is incomplete
-pub no_partial_head : (held : List ℕ) (head : Head) (start end : ℕ) → IsPartialBody held head start end → 0 ≡ partial_head_length (Some held)
-no_partial_head held head start end is =
-    none_unless_ended (head_state_after Blank held) held (λ going. none_ended held going is.has_head.whole_head is.body is.has_head.begins)
+pub no_partial_head : (held : List ℕ) (start end : ℕ) → IsPartialBody held start end → 0 ≡ partial_head_length (Some held)
+no_partial_head held start end is =
+    none_unless_ended (head_state_after Blank held) held (λ going. none_ended held going is.holds.has_head.whole_head is.holds.body is.holds.has_head.begins)

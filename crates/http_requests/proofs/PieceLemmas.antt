@@ -4,7 +4,7 @@ use Rattle.std.specs.List.{flat_map}
 use Rattle.std.proofs.lemmas.List.{append-nil}
 use Rattle.http_requests.specs.Requests.{StartsWithHead, HasNoRequest}
 use Rattle.http_requests.specs.HandlerRuns.{HandlerRelation, FaultReplies}
-use Rattle.http_requests.specs.SessionFeeding.{IsPartialRequest, RefusesHead, ClosesSession, HandlesAllRequests, FeedsSession, FeedsPiece, FeedsPieces, PiecesAreFedAsOne, CutsMakeNoDifference}
+use Rattle.http_requests.specs.SessionFeeding.{IsPartialRequest, RefusesHead, ClosesSession, EndsSession, ScreensNothing, HandlesAllRequests, FeedsSession, FeedsPiece, FeedsPieces, PiecesAreFedAsOne, CutsMakeNoDifference}
 use Rattle.http_requests.proofs.CutLemmas.{determined}
 use Rattle.http_requests.proofs.EndLemmas.{none_ended}
 use Rattle.http_requests.proofs.RunLemmas.{run_none, run_answered, answered_run, answered_on, stopped_on, stopped_more}
@@ -60,17 +60,21 @@ module _ {S : Type 0} (does : HandlerRelation S) (reply_to : FaultReplies) where
   rest_stays_open rest reply (inr good) refused =
       refused.1 [] good.0 good.1 (subst (λ t. StartsWithHead t good.0 good.1) (sym (append-nil rest)) good.2)
 
-  open_or_stopped : (octets : List ℕ) (w v u : S) (a b : List ℕ) (rest : List ℕ) → HandlesAllRequests does reply_to octets w a v false rest → IsPartialRequest rest → ClosesSession does reply_to octets w b u → ⊥
-  open_or_stopped octets w v u a b rest all is_rest stop =
+  open_or_ended : (octets : List ℕ) (w v u : S) (a b : List ℕ) (rest : List ℕ) → HandlesAllRequests does reply_to octets w a v false rest → IsPartialRequest rest → EndsSession does reply_to octets w b u → ⊥
+  open_or_ended octets w v u a b rest all is_rest stop =
       let same = determined octets all.requests stop.answered.requests false stop.ended rest stop.rest all.requests_are stop.answered.requests_are in
       elim stop.why [
         | inl over ↦ cc (same.1, over.0)
         | inr refused ↦ rest_stays_open rest stop.last is_rest (subst (λ t. RefusesHead does reply_to t stop.last) (sym same.2) refused.1)
       ]
 
+  open_or_stopped : ScreensNothing does reply_to → (octets : List ℕ) (w v u : S) (a b : List ℕ) (rest : List ℕ) → HandlesAllRequests does reply_to octets w a v false rest → IsPartialRequest rest → ClosesSession does reply_to octets w b u → ⊥
+  open_or_stopped nothing octets w v u a b rest all is_rest (inl stop) = open_or_ended octets w v u a b rest all is_rest stop
+  open_or_stopped nothing octets w v u a b rest all is_rest (inr stop) = absurd (let none = nothing u stop.head in cc (none, stop.screened_for))
+
   pub cuts_agree : CutsMakeNoDifference does reply_to
-  cuts_agree octets w v u a b (Some rest) (Some left) first second =
+  cuts_agree nothing octets w v u a b (Some rest) (Some left) first second =
       ap Some (determined octets first.0.requests second.0.requests false false rest left first.0.requests_are second.0.requests_are).2
-  cuts_agree octets w v u a b (Some rest) None first second = absurd (open_or_stopped octets w v u a b rest first.0 first.1 second)
-  cuts_agree octets w v u a b None (Some left) first second = absurd (open_or_stopped octets w u v b a left second.0 second.1 first)
-  cuts_agree octets w v u a b None None first second = refl
+  cuts_agree nothing octets w v u a b (Some rest) None first second = absurd (open_or_stopped nothing octets w v u a b rest first.0 first.1 second)
+  cuts_agree nothing octets w v u a b None (Some left) first second = absurd (open_or_stopped nothing octets w u v b a left second.0 second.1 first)
+  cuts_agree nothing octets w v u a b None None first second = refl

@@ -1,12 +1,13 @@
 -- Runs of requests, one after another.
 use Rattle.std.proofs.Common.{◌≡◌, ◌∙◌, ℕ, List, [], ◌∷◌, ◌++◌, refl, sym, ap, subst, append_assoc, Bool, true, false, inl, inr, arith, length-append}
 use Rattle.std.proofs.lemmas.List.{append-nil, take-append-le}
-use Rattle.httparse.specs.Grammar.{ReadsRequest, MayBecomeRequest}
+use Rattle.httparse.specs.Grammar.{ReadsRequest, RequestHead, MayBecomeRequest}
+use Rattle.httparse.proofs.GrammarLemmas.{ReadsRequest-append}
 use Rattle.http_requests.specs.Fields.{is_last_request}
 use Rattle.http_requests.specs.ParsedHeads.{IsUnreadable}
-use Rattle.http_requests.specs.Requests.{Request, StartsWithRequest, HasNoHead, NeverHasHead, HasNoRequest, StartsWithRequests}
+use Rattle.http_requests.specs.Requests.{Request, StartsWithHead, StartsWithRequest, HasNoHead, NeverHasHead, HasNoRequest, StartsWithRequests}
 use Rattle.http_requests.specs.HandlerRuns.{HandlerRelation, FaultReplies, RepliesToRequest, HandlesRequests, HandlesPrefix}
-use Rattle.http_requests.specs.SessionFeeding.{HandlesAllRequests, RefusesHead, ClosesSession, HeadMustHaveEnded, HeadIsTooLong, HandlesSomePrefix}
+use Rattle.http_requests.specs.SessionFeeding.{HandlesAllRequests, RefusesHead, ClosesSession, EndsSession, ScreensHead, HeadMustHaveEnded, HeadIsTooLong, HandlesSomePrefix}
 use Rattle.http_requests.proofs.CutLemmas.{leads_on, leads_end}
 use Rattle.http_requests.proofs.EndLemmas.{whole_more}
 
@@ -27,6 +28,9 @@ over_more s y (inr long) = inr (omega (arith, long, length-append s y))
 
 too_long_more : (s y : List ℕ) → HeadIsTooLong s → HeadIsTooLong (s ++ y)
 too_long_more s y long = (omega (arith, long.0, length-append s y), subst MayBecomeRequest (sym (take-append-le 16384 s y long.0)) long.1)
+
+pub begins_on : (held x : List ℕ) (h : RequestHead) (body : List ℕ) → StartsWithHead held h body → StartsWithHead (held ++ x) h (body ++ x)
+begins_on held x h body b = (ReadsRequest-append held h body x b.0, b.1, b.2)
 
 module _ {S : Type 0} (does : HandlerRelation S) (reply_to : FaultReplies) where
   -- ---- one after the other
@@ -94,6 +98,20 @@ module _ {S : Type 0} (does : HandlerRelation S) (reply_to : FaultReplies) where
 
   -- ---- a closed session
 
+  screened_more : (s y : List ℕ) (w v : S) (a : List ℕ) → ScreensHead does reply_to s w a v → ScreensHead does reply_to (s ++ y) w a v
+  screened_more s y w v a stop = record {
+    answers = stop.answers;
+    rest = stop.rest ++ y;
+    head = stop.head;
+    after = stop.after ++ y;
+    fault = stop.fault;
+    answered = run_more s y w v stop.answers false stop.rest stop.answered;
+    begins = begins_on stop.rest y stop.head stop.after stop.begins;
+    good = stop.good;
+    screened_for = stop.screened_for;
+    replies_are = stop.replies_are;
+  }
+
   refused_more : (s y reply : List ℕ) → RefusesHead does reply_to s reply → RefusesHead does reply_to (s ++ y) reply
   refused_more s y reply refused = (
     over_more s y refused.0,
@@ -104,8 +122,8 @@ module _ {S : Type 0} (does : HandlerRelation S) (reply_to : FaultReplies) where
     ],
   )
 
-  pub stopped_more : (s y : List ℕ) (w v : S) (a : List ℕ) → ClosesSession does reply_to s w a v → ClosesSession does reply_to (s ++ y) w a v
-  stopped_more s y w v a stop = record {
+  ended_more : (s y : List ℕ) (w v : S) (a : List ℕ) → EndsSession does reply_to s w a v → EndsSession does reply_to (s ++ y) w a v
+  ended_more s y w v a stop = record {
     answers = stop.answers;
     last = stop.last;
     ended = stop.ended;
@@ -121,9 +139,13 @@ module _ {S : Type 0} (does : HandlerRelation S) (reply_to : FaultReplies) where
     ];
   }
 
-  pub stopped_on : (s y : List ℕ) (w u v : S) (a b : List ℕ) (middle : List ℕ)
-      → HandlesPrefix does reply_to s w a u false middle → ClosesSession does reply_to (middle ++ y) u b v → ClosesSession does reply_to (s ++ y) w (a ++ b) v
-  stopped_on s y w u v a b middle first stop = record {
+  pub stopped_more : (s y : List ℕ) (w v : S) (a : List ℕ) → ClosesSession does reply_to s w a v → ClosesSession does reply_to (s ++ y) w a v
+  stopped_more s y w v a (inl stop) = inl (ended_more s y w v a stop)
+  stopped_more s y w v a (inr stop) = inr (screened_more s y w v a stop)
+
+  ended_on : (s y : List ℕ) (w u v : S) (a b : List ℕ) (middle : List ℕ)
+      → HandlesPrefix does reply_to s w a u false middle → EndsSession does reply_to (middle ++ y) u b v → EndsSession does reply_to (s ++ y) w (a ++ b) v
+  ended_on s y w u v a b middle first stop = record {
     answers = a ++ stop.answers;
     last = stop.last;
     ended = stop.ended;
@@ -132,6 +154,26 @@ module _ {S : Type 0} (does : HandlerRelation S) (reply_to : FaultReplies) where
     replies_are = ap (λ t. a ++ t) stop.replies_are ∙ sym (append_assoc a stop.answers stop.last);
     why = stop.why;
   }
+
+  screened_on : (s y : List ℕ) (w u v : S) (a b : List ℕ) (middle : List ℕ)
+      → HandlesPrefix does reply_to s w a u false middle → ScreensHead does reply_to (middle ++ y) u b v → ScreensHead does reply_to (s ++ y) w (a ++ b) v
+  screened_on s y w u v a b middle first stop = record {
+    answers = a ++ stop.answers;
+    rest = stop.rest;
+    head = stop.head;
+    after = stop.after;
+    fault = stop.fault;
+    answered = run_on s y w u v a stop.answers false middle stop.rest first stop.answered;
+    begins = stop.begins;
+    good = stop.good;
+    screened_for = stop.screened_for;
+    replies_are = ap (λ t. a ++ t) stop.replies_are ∙ sym (append_assoc a stop.answers (reply_to stop.fault));
+  }
+
+  pub stopped_on : (s y : List ℕ) (w u v : S) (a b : List ℕ) (middle : List ℕ)
+      → HandlesPrefix does reply_to s w a u false middle → ClosesSession does reply_to (middle ++ y) u b v → ClosesSession does reply_to (s ++ y) w (a ++ b) v
+  stopped_on s y w u v a b middle first (inl stop) = inl (ended_on s y w u v a b middle first stop)
+  stopped_on s y w u v a b middle first (inr stop) = inr (screened_on s y w u v a b middle first stop)
 
   -- ---- a beginning of the list
 

@@ -5,6 +5,8 @@ use Rattle.http_requests.specs.declared.head_fault.HeadFault.{HeadFault}
 use Rattle.http_requests.specs.declared.head_fault.HeadFault.TheVariants.{BadHead, HeadTooLarge}
 use Rattle.http_requests.specs.declared.head_fault.HeadFault.TheVariants.{BadHost, TransferEncoding}
 use Rattle.http_requests.specs.declared.head_fault.HeadFault.TheVariants.{BadLength, BodyTooLarge}
+use Rattle.http_requests.specs.declared.head_fault.HeadFault.TheVariants.{ForeignHost, ForeignSite}
+use Rattle.http_requests.specs.declared.head_fault.HeadFault.TheVariants.{Precondition}
 
 abbrev pub head_fault_number : HeadFault → ℕ
 head_fault_number BadHead = 21
@@ -13,6 +15,9 @@ head_fault_number BadHost = 23
 head_fault_number TransferEncoding = 24
 head_fault_number BadLength = 25
 head_fault_number BodyTooLarge = 26
+head_fault_number ForeignHost = 31
+head_fault_number ForeignSite = 32
+head_fault_number Precondition = 33
 
 abbrev pub head_fault_status : HeadFault → ℕ
 head_fault_status BadHead = 400
@@ -21,6 +26,9 @@ head_fault_status BadHost = 400
 head_fault_status TransferEncoding = 501
 head_fault_status BadLength = 400
 head_fault_status BodyTooLarge = 413
+head_fault_status ForeignHost = 421
+head_fault_status ForeignSite = 403
+head_fault_status Precondition = 501
 
 abbrev pub head_fault_text : HeadFault → List ℕ
 head_fault_text BadHead = codes "bad-head"
@@ -29,3 +37,6 @@ head_fault_text BadHost = codes "bad-host"
 head_fault_text TransferEncoding = codes "transfer-encoding"
 head_fault_text BadLength = codes "bad-length"
 head_fault_text BodyTooLarge = codes "body-too-large"
+head_fault_text ForeignHost = codes "foreign-host"
+head_fault_text ForeignSite = codes "foreign-site"
+head_fault_text Precondition = codes "precondition"

@@ -1,10 +1,12 @@
 pub mod HeadFaults
 pub mod Fields
+pub mod Guards
 pub mod HeadEnds
 pub mod HeldHeads
 pub mod Requests
 pub mod RequestLaws
 pub mod ParsedHeads
 pub mod HandlerRuns
+pub mod GuardedHandlers
 pub mod SessionFeeding
 pub mod internal

@@ -1,5 +1,5 @@
 -- The result of parsing octets that end where a head ends.
-use Rattle.std.specs.Prelude.{◌≡◌, ◌≤◌, ℕ, List, [], Some, None}
+use Rattle.std.specs.Prelude.{◌≡◌, ◌≤◌, ℕ, List, [], Option, Some, None}
 use Rattle.httparse.specs.Grammar.{RequestHead, MayBecomeRequest}
 use Rattle.httparse.specs.Spans.{RequestOverflows}
 use Rattle.http_requests.specs.Fields.{fault_of_head, body_length, closes, longest_body}
@@ -8,9 +8,12 @@ use Rattle.http_requests.specs.declared.head_fault.HeadFault.{HeadFault}
 use Rattle.http_requests.specs.declared.head_fault.HeadFault.TheVariants.{BadHead, HeadTooLarge}
 use Rattle.http_requests.specs.declared.head_fault.HeadFault.TheVariants.{BadHost, TransferEncoding}
 use Rattle.http_requests.specs.declared.head_fault.HeadFault.TheVariants.{BadLength, BodyTooLarge}
+use Rattle.http_requests.specs.declared.head_fault.HeadFault.TheVariants.{ForeignHost, ForeignSite}
+use Rattle.http_requests.specs.declared.head_fault.HeadFault.TheVariants.{Precondition}
 use Rattle.http_requests.specs.declared.head.Head.{Head}
 use Rattle.http_requests.specs.declared.head.ParsedHead.{ParsedHead}
-use Rattle.http_requests.specs.declared.head.ParsedHead.TheVariants.{Good, Faulty, Unreadable}
+use Rattle.http_requests.specs.declared.head.ParsedHead.TheVariants.{Good, Faulty, Screened}
+use Rattle.http_requests.specs.declared.head.ParsedHead.TheVariants.{Unreadable}
 
 -- the head as a handler sees it
 abbrev pub head_of : RequestHead → Head
@@ -33,12 +36,18 @@ IsBoundFault octets BadHost = ⊥
 IsBoundFault octets TransferEncoding = ⊥
 IsBoundFault octets BadLength = ⊥
 IsBoundFault octets BodyTooLarge = ⊥
+IsBoundFault octets ForeignHost = ⊥
+IsBoundFault octets ForeignSite = ⊥
+IsBoundFault octets Precondition = ⊥
 
--- the whole text is a good head, a head with this fault, or no head
-abbrev pub IsParsedHead : List ℕ → ParsedHead → Type 0
-IsParsedHead text (Good found) =
+-- the whole text is a good head that isn't refused, one that is, a head with this fault, or no head
+abbrev pub IsParsedHead : (RequestHead → Option HeadFault) → List ℕ → ParsedHead → Type 0
+IsParsedHead screens text (Good found) =
     (head : RequestHead) × StartsWithHead text head [] × (fault_of_head head ≡ None)
-    × (found ≡ head_of head) × (body_length head ≤ longest_body)
-IsParsedHead text (Faulty found) =
+    × (screens head ≡ None) × (found ≡ head_of head) × (body_length head ≤ longest_body)
+IsParsedHead screens text (Faulty found) =
     (head : RequestHead) × StartsWithHead text head [] × (fault_of_head head ≡ Some found)
-IsParsedHead text Unreadable = IsUnreadable text
+IsParsedHead screens text (Screened found) =
+    (head : RequestHead) × StartsWithHead text head [] × (fault_of_head head ≡ None)
+    × (screens head ≡ Some found)
+IsParsedHead screens text Unreadable = IsUnreadable text

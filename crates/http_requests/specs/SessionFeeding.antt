@@ -3,13 +3,15 @@
 use Rattle.std.specs.Prelude.{◌≡◌, ◌≢◌, ◌<◌, ◌≤◌, ◌⊎◌, ℕ, Bool, true, false, List, [], ◌∷◌, ◌++◌}
 use Rattle.std.specs.Prelude.{length, take, Option, Some, None}
 use Rattle.std.specs.List.{flat_map}
-use Rattle.httparse.specs.Grammar.{MayBecomeRequest}
+use Rattle.httparse.specs.Grammar.{MayBecomeRequest, RequestHead}
+use Rattle.http_requests.specs.Fields.{fault_of_head}
 use Rattle.http_requests.specs.ParsedHeads.{IsUnreadable}
 use Rattle.http_requests.specs.HandlerRuns.{HandlerRelation, FaultReplies, HandlesRequests}
-use Rattle.http_requests.specs.HandlerRuns.{HandlesPrefix}
+use Rattle.http_requests.specs.HandlerRuns.{HandlesPrefix, screened}
 use Rattle.http_requests.specs.HeadEnds.{head_state_after}
 use Rattle.http_requests.specs.Requests.{Request, AreAllRequests, NeverHasHead, StartsWithGoodHead}
-use Rattle.http_requests.specs.Requests.{longest_head}
+use Rattle.http_requests.specs.Requests.{StartsWithHead, longest_head}
+use Rattle.http_requests.specs.declared.head_fault.HeadFault.{HeadFault}
 use Rattle.http_requests.specs.declared.head_fault.HeadFault.TheVariants.{BadHead, HeadTooLarge}
 use Rattle.http_requests.specs.declared.head_state.HeadState.TheVariants.{Blank, Ended}
 
@@ -45,7 +47,7 @@ module _ {State : Type 0} (does : HandlerRelation State) (fault_reply : FaultRep
       ⊎ ((reply ≡ fault_reply HeadTooLarge) × HeadIsTooLong octets))
 
   -- the list of requests has ended, or the octets after it were refused
-  pub record ClosesSession
+  pub record EndsSession
       (octets : List ℕ) (old : State) (replies : List ℕ) (new : State) : Type 0 where
     pub answers : List ℕ
     pub last : List ℕ
@@ -54,6 +56,29 @@ module _ {State : Type 0} (does : HandlerRelation State) (fault_reply : FaultRep
     pub answered : HandlesAllRequests octets old answers new ended rest
     pub replies_are : replies ≡ answers ++ last
     pub why : ((ended ≡ true) × (last ≡ [])) ⊎ ((ended ≡ false) × RefusesHead rest last)
+
+  -- some requests at the front of the octets were handled in turn; the handler refused the head
+  -- after them, and nothing else was handled
+  pub record ScreensHead
+      (octets : List ℕ) (old : State) (replies : List ℕ) (new : State) : Type 0 where
+    pub answers : List ℕ
+    pub rest : List ℕ
+    pub head : RequestHead
+    pub after : List ℕ
+    pub fault : HeadFault
+    pub answered : HandlesPrefix does fault_reply octets old answers new false rest
+    pub begins : StartsWithHead rest head after
+    pub good : fault_of_head head ≡ None
+    pub screened_for : screened does new head ≡ Some fault
+    pub replies_are : replies ≡ answers ++ fault_reply fault
+
+  abbrev pub ClosesSession : List ℕ → State → List ℕ → State → Type 0
+  ClosesSession octets old replies new =
+      EndsSession octets old replies new ⊎ ScreensHead octets old replies new
+
+  -- the handler refuses no head
+  abbrev pub ScreensNothing : Type 0
+  ScreensNothing = (now : State) (head : RequestHead) → screened does now head ≡ None
 
   -- the result of feeding all octets, with the session's value afterwards
   abbrev pub FeedsSession : List ℕ → State → List ℕ → State → Option (List ℕ) → Type 0
@@ -96,10 +121,11 @@ module _ {State : Type 0} (does : HandlerRelation State) (fault_reply : FaultRep
       → FeedsSession (flat_map (λ turn. turn.0) turns) old (flat_map (λ turn. turn.1) turns) new
       session
 
-  -- all octets received determine whether a session is open and what it holds
+  -- if the handler refuses no head, all octets received determine whether a session is open and
+  -- what it holds
   abbrev pub CutsMakeNoDifference : Type 0
   CutsMakeNoDifference =
-      (octets : List ℕ) (old new left : State) (replies others : List ℕ)
+      ScreensNothing → (octets : List ℕ) (old new left : State) (replies others : List ℕ)
       → (session other : Option (List ℕ))
       → FeedsSession octets old replies new session → FeedsSession octets old others left other
       → session ≡ other

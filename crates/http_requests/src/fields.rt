@@ -15,7 +15,7 @@ use crate::head_fault::HeadFault;
 use httparse::spans::{HeaderSpan, Span};
 
 /// Whether the field has the name, in any case.
-fn field_is_named(text: &[u8], field: HeaderSpan, name: &str) -> bool
+pub(crate) fn field_is_named(text: &[u8], field: HeaderSpan, name: &str) -> bool
     requires { IsHeaderWithin (length text.now) field }
     ensures { result ≡ field_is_named name.now (header_bytes text.now field) }
 {
@@ -37,7 +37,7 @@ fn count_fields_named(text: &[u8], fields: &[HeaderSpan], name: &str) -> usize
 }
 
 /// The first field with the name.
-fn first_field_named(text: &[u8], fields: &[HeaderSpan], name: &str) -> Option<HeaderSpan>
+pub(crate) fn first_field_named(text: &[u8], fields: &[HeaderSpan], name: &str) -> Option<HeaderSpan>
     requires { All (IsHeaderWithin (length text.now)) fields.now }
     ensures { MatchOption result
         (first_field_named name.now (map (header_bytes text.now) fields.now) ≡ None)
@@ -52,7 +52,7 @@ fn first_field_named(text: &[u8], fields: &[HeaderSpan], name: &str) -> Option<H
     None
 }
 
-fn all_digits(value: &[u8]) -> bool
+pub(crate) fn all_digits(value: &[u8]) -> bool
     ensures { result ≡ list_all is_ascii_digit value.now }
 {
     value.iter().all(|octet| octet.is_ascii_digit())

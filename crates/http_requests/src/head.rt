@@ -1,10 +1,12 @@
 //! Parses a request head.
 ghost use Rattle.std.specs.Prelude.{◌≡◌, ◌≤◌, length, IfOk};
 ghost use Rattle.http_requests.specs.ParsedHeads.{IsParsedHead};
+ghost use Rattle.http_requests.specs.HandlerRuns.{screened};
 ghost use Rattle.http_requests.specs.HeadEnds.{EndsAtLastOctet};
 ghost use Rattle.http_requests.specs.Requests.{longest_head};
 
 use crate::fields::{closes, length_or_fault};
+use crate::handler::Handler;
 use crate::head_fault::HeadFault;
 use base_types::{NoMemory, Text};
 use httparse::Status;
@@ -29,19 +31,26 @@ pub struct Head {
 pub enum ParsedHead {
     /// A head without a fault.
     Good(Head),
-    /// A head whose fields have a fault: `BadHost` or a later one.
+    /// A head whose fields have a fault: `BadHost` to `BodyTooLarge`.
     Faulty(HeadFault),
+    /// A head without a fault that the handler refuses.
+    Screened(HeadFault),
     /// No head, or a head with more than 64 fields.
     Unreadable,
 }
 
-/// Parses a head. The octets are at most 16,384, and end where the head ends.
+/// Parses a head, and asks the handler whether it refuses it. The octets are at most 16,384, and end
+/// where the head ends.
 ///
 /// `NoMemory` if an allocation fails.
-pub fn read_head(alloc: Global, text: &[u8]) -> Result<ParsedHead, NoMemory>
+pub fn read_head<H: Handler>(
+    alloc: Global,
+    handler: &H,
+    text: &[u8],
+) -> Result<ParsedHead, NoMemory>
     requires ends { EndsAtLastOctet text.now }
     requires short { length text.now ≤ longest_head }
-    ensures { IfOk result (IsParsedHead text.now) }
+    ensures { IfOk result (IsParsedHead (screened H.does handler.now) text.now) }
 {
     let mut spans = [EMPTY_HEADER_SPAN; 64];
     match parse_request(text, &mut spans) {
@@ -50,6 +59,9 @@ pub fn read_head(alloc: Global, text: &[u8]) -> Result<ParsedHead, NoMemory>
             match length_or_fault(parts.version, text, fields) {
                 Err(fault) => Ok(ParsedHead::Faulty(fault)),
                 Ok(length) => {
+                    if let Some(fault) = handler.screen(parts.method.of(text), text, fields) {
+                        return Ok(ParsedHead::Screened(fault));
+                    }
                     let close = closes(parts.version, text, fields);
                     let method = String::from_utf8_lossy(alloc, parts.method.of(text))?;
                     let target = String::from_utf8_lossy(alloc, parts.path.of(text))?;

@@ -18,10 +18,16 @@ pub enum HeadFault {
     BadLength,
     /// The body's length is above 8,388,608.
     BodyTooLarge,
+    /// The Host field has a name that isn't this server's.
+    ForeignHost,
+    /// A page of another site sent the request.
+    ForeignSite,
+    /// A field has a precondition, which this server doesn't evaluate.
+    Precondition,
 }
 
 impl HeadFault {
-    /// The number of the fault: 21 to 26, in the order of the variants.
+    /// The number of the fault: 21 to 26, and 31 to 33, in the order of the variants.
     pub fn number(self) -> u8
         ensures { result ≡ head_fault_number self }
     {
@@ -32,6 +38,9 @@ impl HeadFault {
             HeadFault::TransferEncoding => 24,
             HeadFault::BadLength => 25,
             HeadFault::BodyTooLarge => 26,
+            HeadFault::ForeignHost => 31,
+            HeadFault::ForeignSite => 32,
+            HeadFault::Precondition => 33,
         }
     }
 
@@ -46,6 +55,9 @@ impl HeadFault {
             HeadFault::TransferEncoding => 501,
             HeadFault::BadLength => 400,
             HeadFault::BodyTooLarge => 413,
+            HeadFault::ForeignHost => 421,
+            HeadFault::ForeignSite => 403,
+            HeadFault::Precondition => 501,
         }
     }
 
@@ -60,6 +72,9 @@ impl HeadFault {
             HeadFault::TransferEncoding => "transfer-encoding",
             HeadFault::BadLength => "bad-length",
             HeadFault::BodyTooLarge => "body-too-large",
+            HeadFault::ForeignHost => "foreign-host",
+            HeadFault::ForeignSite => "foreign-site",
+            HeadFault::Precondition => "precondition",
         }
     }
 }

@@ -3,14 +3,20 @@
 #![tactic(auto)]
 
 mod fields;
+mod guarded;
+mod guarding;
 mod handler;
 mod head;
 mod head_fault;
 mod head_state;
+mod hosts;
 pub mod laws;
+mod origins;
 mod progress;
 mod session;
 
+pub use guarded::Guarded;
+pub use guarding::guard;
 pub use handler::Handler;
 pub use head::{Head, ParsedHead, read_head};
 pub use head_fault::HeadFault;

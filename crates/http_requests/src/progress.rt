@@ -8,7 +8,8 @@ ghost use Rattle.http_requests.specs.SessionFeeding.{FeedsPiece};
 ghost use Rattle.http_requests.specs.ParsedHeads.{IsBoundFault};
 ghost use Rattle.http_requests.specs.Requests.{longest_head};
 ghost use Rattle.http_requests.specs.internal.Progress.{MatchesStage, IsPartialHead, IsClosed};
-ghost use Rattle.http_requests.specs.internal.Progress.{IsOpen, IsPartialBody, IsCompleteRequest};
+ghost use Rattle.http_requests.specs.internal.Progress.{HoldsBody, IsCompleteRequest, IsOpen};
+ghost use Rattle.http_requests.specs.internal.Progress.{IsPartialBody};
 ghost use Rattle.http_requests.specs.internal.Progress.{HoldsNoneIfClosed, StepsSession};
 ghost use Rattle.http_requests.specs.internal.Progress.{open_octets};
 ghost use Rattle.http_requests.specs.internal.HeadScans.{Scans};
@@ -33,7 +34,7 @@ pub(crate) enum Stage {
     /// The start of a head.
     Head(HeadState),
     /// A head and part of its body. The numbers are where the body starts and ends.
-    Body(Head, usize, usize),
+    Body(usize, usize),
     /// The session is closed and ignores further octets.
     Closed,
 }
@@ -112,7 +113,7 @@ impl Progress {
     {
         match &self.stage {
             Stage::Head(_) => self.held.len(),
-            Stage::Body(_, _, _) => 0,
+            Stage::Body(_, _) => 0,
             Stage::Closed => 0,
         }
     }
@@ -140,7 +141,7 @@ impl Progress {
         head: &Head,
         start: usize,
     ) -> Result<bool, NoMemory>
-        requires whole { IsCompleteRequest self.old.held.items head.now start }
+        requires whole { IsCompleteRequest H.does handler.old self.old.held.items head.now start }
         requires closed { IsClosed self.old.stage }
         ensures ok { IfOk result (StepsSession H.does H.fault_reply self.old.held.items handler.old
             out.old.items out.new.items handler.new self.new) }
@@ -175,18 +176,21 @@ impl Progress {
             handler.old handler.new) }
         ensures err_closed { OnErr result (IsClosed self.new.stage) }
     {
-        match read_head(alloc, &self.held)? {
+        match read_head(alloc, &*handler, &self.held)? {
             ParsedHead::Good(head) => {
                 let start = self.held.len();
                 if head.length == 0 {
                     self.handle(alloc, handler, out, &head, start)
                 } else {
-                    let end = start + head.length as usize;
-                    self.stage = Stage::Body(head, start, end);
+                    self.stage = Stage::Body(start, start + head.length as usize);
                     Ok(true)
                 }
             }
             ParsedHead::Faulty(fault) => {
+                Progress::refuse(alloc, &*handler, out, fault)?;
+                Ok(false)
+            }
+            ParsedHead::Screened(fault) => {
                 Progress::refuse(alloc, &*handler, out, fault)?;
                 Ok(false)
             }
@@ -232,18 +236,48 @@ impl Progress {
         }
     }
 
+    /// Handles the request once its body is complete. Its head is parsed again, since the handler
+    /// is asked again whether it refuses it. Returns whether the session stays open.
+    fn finish_body<H: Handler>(
+        &mut self,
+        alloc: Global,
+        handler: &mut H,
+        out: &mut Vec<u8>,
+        start: usize,
+        end: usize,
+    ) -> Result<bool, NoMemory>
+        requires holds { HoldsBody self.old.held.items start end }
+        requires whole { length self.old.held.items ≡ end }
+        requires closed { IsClosed self.old.stage }
+        ensures ok { IfOk result (StepsSession H.does H.fault_reply self.old.held.items handler.old
+            out.old.items out.new.items handler.new self.new) }
+        ensures err { OnErr result (HandlesSomePrefix H.does H.fault_reply self.old.held.items
+            handler.old handler.new) }
+        ensures err_closed { OnErr result (IsClosed self.new.stage) }
+    {
+        match read_head(alloc, &*handler, &self.held[..start])? {
+            ParsedHead::Good(head) => self.handle(alloc, handler, out, &head, start),
+            ParsedHead::Screened(fault) => {
+                Progress::refuse(alloc, &*handler, out, fault)?;
+                Ok(false)
+            }
+            // The head was parsed before, and had no fault.
+            ParsedHead::Faulty(_) => Ok(false),
+            ParsedHead::Unreadable => Ok(false),
+        }
+    }
+
     /// Consumes octets of a body. Returns how many, and whether the session stays open.
     fn consume_body<H: Handler>(
         &mut self,
         alloc: Global,
         handler: &mut H,
         out: &mut Vec<u8>,
-        head: Head,
         start: usize,
         end: usize,
         piece: &[u8],
     ) -> Result<(usize, bool), NoMemory>
-        requires holds { IsPartialBody self.old.held.items head start end }
+        requires holds { IsPartialBody self.old.held.items start end }
         requires closed { IsClosed self.old.stage }
         requires some { 0 < length piece.now }
         ensures used { IfOk result (λ outcome. (0 < outcome.0) × (outcome.0 ≤ length piece.now)) }
@@ -257,10 +291,10 @@ impl Progress {
         let used = (end - self.held.len()).min(piece.len());
         self.held.extend_from_slice(&piece[..used])?;
         if self.held.len() < end {
-            self.stage = Stage::Body(head, start, end);
+            self.stage = Stage::Body(start, end);
             Ok((used, true))
         } else {
-            let stays_open = self.handle(alloc, handler, out, &head, start)?;
+            let stays_open = self.finish_body(alloc, handler, out, start, end)?;
             Ok((used, stays_open))
         }
     }
@@ -286,9 +320,7 @@ impl Progress {
     {
         match mem::replace(&mut self.stage, Stage::Closed) {
             Stage::Head(state) => self.consume_head(alloc, handler, out, state, piece),
-            Stage::Body(head, start, end) => {
-                self.consume_body(alloc, handler, out, head, start, end, piece)
-            }
+            Stage::Body(start, end) => { self.consume_body(alloc, handler, out, start, end, piece) }
             Stage::Closed => Ok((piece.len(), false)),
         }
     }

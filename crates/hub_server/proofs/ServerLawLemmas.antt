@@ -453,7 +453,7 @@ module _ {S : Type 0} (does : HandlerRelation S) (fault_reply : FaultReplies) wh
       (λ held_now unfed_now. law_from limits steps b c v x held_now unfed_now runs) done.fed
 
   pub server_runs_are_hub_runs : ServerRunsAreHubRuns does fault_reply
-  server_runs_are_hub_runs limits old new steps after runs =
+  server_runs_are_hub_runs keeps limits old new steps after runs =
       let run = law_from limits steps (new_server limits.together) after old new (λ serial. []) (new_unfed limits.together) runs in
       record {
         hub_steps = run.hub_steps;
@@ -461,5 +461,5 @@ module _ {S : Type 0} (does : HandlerRelation S) (fault_reply : FaultReplies) wh
         rest = run.rest;
         fed = run.fed;
         written = run.written;
-        separate = hubs_separate_connections does fault_reply limits.together old new run.hub_steps after.hub run.runs;
+        separate = hubs_separate_connections does fault_reply keeps limits.together old new run.hub_steps after.hub run.runs;
       }

@@ -1,6 +1,6 @@
 -- What a run of a server means for each of its connections. This project's own.
 use Rattle.std.specs.Prelude.{◌≡◌, ◌==◌, ℕ, List, [], ◌∷◌, ◌++◌, cond, take}
-use Rattle.http_requests.specs.HandlerRuns.{HandlerRelation, FaultReplies}
+use Rattle.http_requests.specs.HandlerRuns.{HandlerRelation, FaultReplies, KeepsScreens}
 use Rattle.http_hub.specs.FedPieces.{octets_in, pieces_of}
 use Rattle.http_hub.specs.HubRuns.{HubRuns, HubStep, SeparatesConnections, pieces_in, sent_to}
 use Rattle.http_hub.specs.Hubs.{new_hub}
@@ -70,6 +70,6 @@ module _ {State : Type 0} (does : HandlerRelation State) (fault_reply : FaultRep
   -- every run of a server from its start on is such a run
   abbrev pub ServerRunsAreHubRuns : Type 0
   ServerRunsAreHubRuns =
-      (limits : ServeLimits) (old new : State) (steps : List ServerStep) (after : ServerValue)
+      KeepsScreens does → (limits : ServeLimits) (old new : State) (steps : List ServerStep) (after : ServerValue)
       → ServerRuns does fault_reply limits (new_server limits.together) old steps new after
       → IsRunOfHub limits old steps new after

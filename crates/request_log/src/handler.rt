@@ -5,6 +5,7 @@ use crate::log::RequestLog;
 use crate::notes::{note_handled, note_refused};
 use base_types::NoMemory;
 use http_requests::{Handler, Head, HeadFault};
+use httparse::spans::HeaderSpan;
 use std::alloc::Global;
 use std::marker::Model;
 
@@ -46,6 +47,10 @@ impl<'a, H: Handler, L: RequestLog> Handler for LoggedHandler<'a, H, L> {
         let handled = self.handler.handle(alloc, head, body);
         note_handled(alloc, log, start, head, &handled);
         handled
+    }
+
+    fn screen(&self, method: &[u8], text: &[u8], fields: &[HeaderSpan]) -> Option<HeadFault> {
+        self.handler.screen(method, text, fields)
     }
 
     fn refuse(&self, alloc: Global, fault: HeadFault) -> Result<Vec<u8>, NoMemory> {

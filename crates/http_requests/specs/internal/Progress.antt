@@ -2,11 +2,12 @@
 use Rattle.std.specs.Prelude.{◌≡◌, ◌≢◌, ◌<◌, ◌≤◌, ◌+◌, ℕ, Bool, true, false, List, [], ◌++◌, length}
 use Rattle.std.specs.Prelude.{Option, Some, None, ⊤}
 use Rattle.httparse.specs.Grammar.{RequestHead, print_request}
-use Rattle.http_requests.specs.Fields.{fault_of_head, longest_body}
+use Rattle.http_requests.specs.Fields.{body_length, fault_of_head, longest_body}
 use Rattle.http_requests.specs.ParsedHeads.{head_of}
 use Rattle.http_requests.specs.SessionFeeding.{ClosesSession}
 use Rattle.http_requests.specs.HandlerRuns.{HandlerRelation, FaultReplies, HandlesPrefix}
-use Rattle.http_requests.specs.HeadEnds.{head_state_after}
+use Rattle.http_requests.specs.HandlerRuns.{screened}
+use Rattle.http_requests.specs.HeadEnds.{EndsAtLastOctet, head_state_after}
 use Rattle.http_requests.specs.Requests.{StartsWithHead, longest_head}
 use Rattle.http_requests.specs.declared.head.Head.{Head}
 use Rattle.http_requests.specs.declared.head_state.HeadState.{HeadState}
@@ -24,35 +25,33 @@ pub record IsPartialHead (held : List ℕ) (state : HeadState) : Type 0 where
   pub short : length held < longest_head
 
 -- the octets are a good head, which ends at `start`, and the octets after it
-pub record HoldsHead (held : List ℕ) (head : Head) (start : ℕ) (body : List ℕ) : Type 0 where
+pub record HoldsHead (held : List ℕ) (start : ℕ) (body : List ℕ) : Type 0 where
   pub whole_head : RequestHead
   pub begins : StartsWithHead held whole_head body
   pub good : fault_of_head whole_head ≡ None
-  pub head_is : head ≡ head_of whole_head
+  pub ends : EndsAtLastOctet (print_request whole_head)
   pub start_is : start ≡ length (print_request whole_head)
 
--- the octets are a good head and an incomplete body
-pub record IsPartialBody (held : List ℕ) (head : Head) (start end : ℕ) : Type 0 where
+-- the octets are a good head and a part of its body, which ends at `end`
+pub record HoldsBody (held : List ℕ) (start end : ℕ) : Type 0 where
   pub body : List ℕ
-  pub has_head : HoldsHead held head start body
-  pub end_is : end ≡ start + head.length
-  pub small : head.length ≤ longest_body
-  pub not_whole : length held < end
+  pub has_head : HoldsHead held start body
+  pub end_is : end ≡ start + body_length has_head.whole_head
+  pub small : body_length has_head.whole_head ≤ longest_body
 
--- the octets are one complete request without a fault
-pub record IsCompleteRequest (held : List ℕ) (head : Head) (start : ℕ) : Type 0 where
-  pub body : List ℕ
-  pub has_head : HoldsHead held head start body
-  pub all : length body ≡ head.length
+-- the same, and the body is incomplete
+pub record IsPartialBody (held : List ℕ) (start end : ℕ) : Type 0 where
+  pub holds : HoldsBody held start end
+  pub not_whole : length held < end
 
 abbrev pub MatchesStage : List ℕ → Stage → Type 0
 MatchesStage held (stage.Head state) = IsPartialHead held state
-MatchesStage held (stage.Body head start end) = IsPartialBody held head start end
+MatchesStage held (stage.Body start end) = IsPartialBody held start end
 MatchesStage held stage.Closed = ⊤
 
 abbrev pub IsClosed : Stage → Type 0
 IsClosed (stage.Head state) = ⊥
-IsClosed (stage.Body head start end) = ⊥
+IsClosed (stage.Body start end) = ⊥
 IsClosed stage.Closed = ⊤
 
 abbrev pub IsOpen : Stage → Type 0
@@ -65,10 +64,20 @@ HoldsNoneIfClosed held at = IsClosed at → held ≡ []
 -- the value of a session in contracts
 abbrev pub open_octets : List ℕ → Stage → Option (List ℕ)
 open_octets held (stage.Head state) = Some held
-open_octets held (stage.Body head start end) = Some held
+open_octets held (stage.Body start end) = Some held
 open_octets held stage.Closed = None
 
 -- ---- one step
+
+-- the octets are one complete request without a fault, and the handler doesn't refuse its head
+pub record IsCompleteRequest
+    {State : Type 0} (does : HandlerRelation State) (now : State)
+    (held : List ℕ) (head : Head) (start : ℕ) : Type 0 where
+  pub body : List ℕ
+  pub has_head : HoldsHead held start body
+  pub head_is : head ≡ head_of has_head.whole_head
+  pub all : length body ≡ head.length
+  pub admitted : screened does now has_head.whole_head ≡ None
 
 module _ {State : Type 0} (does : HandlerRelation State) (fault_reply : FaultReplies) where
   -- the octets were handled up to what is held, and these replies were appended

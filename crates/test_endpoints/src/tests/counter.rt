@@ -1,6 +1,7 @@
 //! A handler that counts the requests.
 use base_types::NoMemory;
 use http_requests::{Handler, Head, HeadFault};
+use httparse::spans::HeaderSpan;
 use std::alloc::Global;
 
 /// The number of octets of a long reply.
@@ -33,9 +34,12 @@ pub struct Counter {
 }
 
 impl Handler for Counter {
-    ghost use Rattle.std.specs.Prelude.{⊤, []};
+    ghost use Rattle.std.specs.Prelude.{⊤, [], None};
 
-    ghost does = { λ old head body reply new. ⊤ };
+    ghost does = { record {
+      step = λ old head body reply new. ⊤;
+      screens = λ now method fields. None;
+    } };
 
     ghost fault_reply = { λ fault. [] };
 
@@ -44,6 +48,10 @@ impl Handler for Counter {
         let reply = reply_to(alloc, count, head.target.as_str(), body.len())?;
         self.count = count;
         Ok(reply)
+    }
+
+    fn screen(&self, _method: &[u8], _text: &[u8], _fields: &[HeaderSpan]) -> Option<HeadFault> {
+        None
     }
 
     fn refuse(&self, alloc: Global, _fault: HeadFault) -> Result<Vec<u8>, NoMemory> {

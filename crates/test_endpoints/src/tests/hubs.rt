@@ -2,6 +2,7 @@
 use base_types::NoMemory;
 use http_hub::Hub;
 use http_requests::{Handler, Head, HeadFault};
+use httparse::spans::HeaderSpan;
 use std::alloc::Global;
 use std::process::Abort;
 use std::rt::HostRuntime;
@@ -15,15 +16,22 @@ struct Counter {
 }
 
 impl Handler for Counter {
-    ghost use Rattle.std.specs.Prelude.{⊤, []};
+    ghost use Rattle.std.specs.Prelude.{⊤, [], None};
 
-    ghost does = { λ old head body reply new. ⊤ };
+    ghost does = { record {
+      step = λ old head body reply new. ⊤;
+      screens = λ now method fields. None;
+    } };
 
     ghost fault_reply = { λ fault. [] };
 
     fn handle(&mut self, alloc: Global, _head: &Head, _body: &[u8]) -> Result<Vec<u8>, NoMemory> {
         self.count = self.count.wrapping_add(1);
         reply_of(alloc, self.count, self.fails_at)
+    }
+
+    fn screen(&self, _method: &[u8], _text: &[u8], _fields: &[HeaderSpan]) -> Option<HeadFault> {
+        None
     }
 
     fn refuse(&self, alloc: Global, _fault: HeadFault) -> Result<Vec<u8>, NoMemory> {

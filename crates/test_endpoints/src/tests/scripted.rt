@@ -1,6 +1,7 @@
 //! Serves connections of a scripted endpoint, of which the time is a number.
 use base_types::NoMemory;
 use http_requests::{Handler, Head, HeadFault};
+use httparse::spans::HeaderSpan;
 use hub_server::{
     Accepted, Endpoint, EndpointFault, Received, Sent, ServeLimits, WaitFailed, Woken,
     serve_endpoint,
@@ -17,9 +18,12 @@ struct Counter {
 }
 
 impl Handler for Counter {
-    ghost use Rattle.std.specs.Prelude.{⊤, []};
+    ghost use Rattle.std.specs.Prelude.{⊤, [], None};
 
-    ghost does = { λ old head body reply new. ⊤ };
+    ghost does = { record {
+      step = λ old head body reply new. ⊤;
+      screens = λ now method fields. None;
+    } };
 
     ghost fault_reply = { λ fault. [] };
 
@@ -29,6 +33,10 @@ impl Handler for Counter {
         let reply = format!(in alloc; "reply {count} to {length}\n")?;
         self.count = count;
         Ok(reply.into_bytes())
+    }
+
+    fn screen(&self, _method: &[u8], _text: &[u8], _fields: &[HeaderSpan]) -> Option<HeadFault> {
+        None
     }
 
     fn refuse(&self, alloc: Global, _fault: HeadFault) -> Result<Vec<u8>, NoMemory> {

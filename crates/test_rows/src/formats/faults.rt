@@ -34,6 +34,9 @@ fn head_fault_of(number: &str) -> HeadFault {
         "23" => HeadFault::BadHost,
         "24" => HeadFault::TransferEncoding,
         "25" => HeadFault::BadLength,
+        "31" => HeadFault::ForeignHost,
+        "32" => HeadFault::ForeignSite,
+        "33" => HeadFault::Precondition,
         _ => HeadFault::BodyTooLarge,
     }
 }

@@ -4,6 +4,7 @@ ghost use Rattle.std.specs.Prelude.{◌<◌};
 use base_types::NoMemory;
 use http_requests::laws::{cuts_make_no_difference, pieces_are_fed_as_one, streams_can_be_cut};
 use http_requests::{Handler, Head, HeadFault, Session};
+use httparse::spans::HeaderSpan;
 use std::alloc::Global;
 
 /// Replies to each request with its method, its target, whether it closes, and its body; to a fault
@@ -14,16 +15,23 @@ struct Echo {
 }
 
 impl Handler for Echo {
-    ghost use Rattle.std.specs.Prelude.{⊤};
+    ghost use Rattle.std.specs.Prelude.{⊤, None};
     ghost use Rattle.http_requests.specs.HeadFaults.{head_fault_text};
 
-    ghost does = { λ _ _ _ _ _. ⊤ };
+    ghost does = { record {
+      step = λ _ _ _ _ _. ⊤;
+      screens = λ _ _ _. None;
+    } };
 
     ghost fault_reply = { head_fault_text };
 
     fn handle(&mut self, alloc: Global, head: &Head, body: &[u8]) -> Result<Vec<u8>, NoMemory> {
         self.handled = self.handled.wrapping_add(1);
         reply_of(alloc, head, body)
+    }
+
+    fn screen(&self, _method: &[u8], _text: &[u8], _fields: &[HeaderSpan]) -> Option<HeadFault> {
+        None
     }
 
     fn refuse(&self, alloc: Global, fault: HeadFault) -> Result<Vec<u8>, NoMemory> {

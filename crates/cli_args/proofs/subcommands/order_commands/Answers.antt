@@ -1,6 +1,6 @@
 use Rattle.std.proofs.Common.{List, [], ◌∷◌, ◌++◌}
 use Rattle.clap.specs.Simple.{Shape}
-use Rattle.cli_args.specs.Subcommands.{book_command, books_command, check_command, convert_command, expand_command, export_command, forget_command, import_command, init_command, migrate_command, mirror_command, serve_command, tally_command, try_command, verify_command}
+use Rattle.cli_args.specs.Subcommands.{book_command, books_command, check_command, convert_command, expand_command, export_command, forget_command, import_command, init_command, migrate_command, mirror_command, run_command, serve_command, tally_command, try_command, verify_command}
 use Rattle.cli_args.proofs.subcommands.order_commands.Goals as goal
 
 -- the list of orders up to each of them
@@ -13,8 +13,11 @@ up_to_init = up_to_try ++ init_command ∷ []
 abbrev up_to_book : List Shape
 up_to_book = up_to_init ++ book_command ∷ []
 
+abbrev up_to_run : List Shape
+up_to_run = up_to_book ++ run_command ∷ []
+
 abbrev up_to_serve : List Shape
-up_to_serve = up_to_book ++ serve_command ∷ []
+up_to_serve = up_to_run ++ serve_command ∷ []
 
 abbrev up_to_import : List Shape
 up_to_import = up_to_serve ++ import_command ∷ []
@@ -51,15 +54,16 @@ returns c =
     let tries = c.in_ok-lines.ensures [] try_command (rw c.new.ensures.items tt) c.try_command.ensures in
     let inits = c.in_ok-lines-2.ensures up_to_try init_command tries c.init_command.ensures in
     let books = c.in_ok-lines-3.ensures up_to_init book_command inits c.book_command.ensures in
-    let serves = c.in_ok-lines-4.ensures up_to_book serve_command books c.serve_command.ensures in
-    let imports = c.in_ok-lines-5.ensures up_to_serve import_command serves c.import_command.ensures in
-    let exports = c.in_ok-lines-6.ensures up_to_import export_command imports c.export_command.ensures in
-    let tallies = c.in_ok-lines-7.ensures up_to_export tally_command exports c.tally_command.ensures in
-    let forgets = c.in_ok-lines-8.ensures up_to_tally forget_command tallies c.forget_command.ensures in
-    let mirrors = c.in_ok-lines-9.ensures up_to_forget mirror_command forgets c.mirror_command.ensures in
-    let expands = c.in_ok-lines-10.ensures up_to_mirror expand_command mirrors c.expand_command.ensures in
-    let migrates = c.in_ok-lines-11.ensures up_to_expand migrate_command expands c.migrate_command.ensures in
-    let checks = c.in_ok-lines-12.ensures up_to_migrate check_command migrates c.check_command.ensures in
-    let converts = c.in_ok-lines-13.ensures up_to_check convert_command checks c.convert_command.ensures in
-    let lists = c.in_ok-lines-14.ensures up_to_convert books_command converts c.books_command.ensures in
-    c.with_command-15.ensures up_to_books verify_command lists c.verify_command.ensures
+    let runs = c.in_ok-lines-4.ensures up_to_book run_command books c.run_command.ensures in
+    let serves = c.in_ok-lines-5.ensures up_to_run serve_command runs c.serve_command.ensures in
+    let imports = c.in_ok-lines-6.ensures up_to_serve import_command serves c.import_command.ensures in
+    let exports = c.in_ok-lines-7.ensures up_to_import export_command imports c.export_command.ensures in
+    let tallies = c.in_ok-lines-8.ensures up_to_export tally_command exports c.tally_command.ensures in
+    let forgets = c.in_ok-lines-9.ensures up_to_tally forget_command tallies c.forget_command.ensures in
+    let mirrors = c.in_ok-lines-10.ensures up_to_forget mirror_command forgets c.mirror_command.ensures in
+    let expands = c.in_ok-lines-11.ensures up_to_mirror expand_command mirrors c.expand_command.ensures in
+    let migrates = c.in_ok-lines-12.ensures up_to_expand migrate_command expands c.migrate_command.ensures in
+    let checks = c.in_ok-lines-13.ensures up_to_migrate check_command migrates c.check_command.ensures in
+    let converts = c.in_ok-lines-14.ensures up_to_check convert_command checks c.convert_command.ensures in
+    let lists = c.in_ok-lines-15.ensures up_to_convert books_command converts c.books_command.ensures in
+    c.with_command-16.ensures up_to_books verify_command lists c.verify_command.ensures

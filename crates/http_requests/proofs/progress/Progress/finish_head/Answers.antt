@@ -3,7 +3,7 @@ use Rattle.std.proofs.lemmas.List.{append-nil}
 use Rattle.http_requests.specs.declared.head_fault.HeadFault.TheVariants.{BadHead}
 use Rattle.http_requests.proofs.RunLemmas.{run_none, part_none}
 use Rattle.base_types.proofs.TextMapLemmas.{on_err_from}
-use Rattle.http_requests.proofs.StepLemmas.{waiting, fault_stop, unreadable_stop}
+use Rattle.http_requests.proofs.StepLemmas.{waiting, head_whole, fault_stop, screened_stop, unreadable_stop}
 use Rattle.http_requests.proofs.progress.Progress.finish_head.Goals as goal
 
 pub returns-in_err-head-clause-err : goal.returns-in_err-head-clause-err
@@ -14,23 +14,33 @@ pub returns-in_err-refuse-in-Faulty-clause-err : goal.returns-in_err-refuse-in-F
 returns-in_err-refuse-in-Faulty-clause-err g c = on_err_from c.from_residual-in_err-refuse-in-Faulty.result
     (part_none g.H.Handler.does g.H.Handler.fault_reply c.args.self.now.held.items c.args.handler.now c.args.handler.now refl)
 
+pub returns-in_err-refuse-in-Screened-clause-err : goal.returns-in_err-refuse-in-Screened-clause-err
+returns-in_err-refuse-in-Screened-clause-err g c = on_err_from c.from_residual-in_err-refuse-in-Screened.result
+    (part_none g.H.Handler.does g.H.Handler.fault_reply c.args.self.now.held.items c.args.handler.now c.args.handler.now refl)
+
 pub returns-in_err-refuse-in-Unreadable-clause-err : goal.returns-in_err-refuse-in-Unreadable-clause-err
 returns-in_err-refuse-in-Unreadable-clause-err g c = on_err_from c.from_residual-in_err-refuse-in-Unreadable.result
     (part_none g.H.Handler.does g.H.Handler.fault_reply c.args.self.now.held.items c.args.handler.now c.args.handler.now refl)
 
-pub returns-else-head-eq0-clause-ok : goal.returns-else-head-eq0-clause-ok
-returns-else-head-eq0-clause-ok g c =
+pub handle-requires-clause-whole : goal.handle-requires-clause-whole
+handle-requires-clause-whole g c =
+    let found = rw (c.deref.ensures.value, c.in-Good.is) at c.in_ok-head.ensures in
+    head_whole g.H.Handler.does g.H.Handler.fault_reply c.args.self.now.held.items c.in-Good.head c.len-start.result c.args.handler.now found.0 c.requires.ends found.1 found.2 found.3 found.4
+    (omega (arith, c.len-start.ensures, c.args.self.now.held.ok)) c.if-head-eq0.true
+
+pub returns-in-Good-clause-ok : goal.returns-in-Good-clause-ok
+returns-in-Good-clause-ok g c =
     let found = rw (c.deref.ensures.value, c.in-Good.is) at c.in_ok-head.ensures in
     record {
-      holds = waiting c.args.self.now.held.items c.in-Good.head c.len-start.result _ found.0 found.1 found.2 found.3 found.4 (omega (arith, c.len-start.ensures, c.args.self.now.held.ok)) refl c.if-head-eq0.false;
+      holds = waiting c.args.self.now.held.items c.in-Good.head c.len-start.result _ found.0 c.requires.ends found.1 found.2 found.4 found.5 (omega (arith, c.len-start.ensures, c.args.self.now.held.ok)) refl c.if-head-eq0.false;
       is_open = λ h. h;
       added = [];
       out_is = sym (append-nil c.args.out.now.items);
       runs = run_none g.H.Handler.does g.H.Handler.fault_reply c.args.self.now.held.items c.args.handler.now;
     }
 
-pub returns-in_ok-refuse-in-Faulty-clause-ok : goal.returns-in_ok-refuse-in-Faulty-clause-ok
-returns-in_ok-refuse-in-Faulty-clause-ok g c =
+pub returns-in-Faulty-clause-ok : goal.returns-in-Faulty-clause-ok
+returns-in-Faulty-clause-ok g c =
     let found = rw (c.deref.ensures.value, c.in-Faulty.is) at c.in_ok-head.ensures in
     record {
       is_closed = c.requires.closed;
@@ -39,8 +49,18 @@ returns-in_ok-refuse-in-Faulty-clause-ok g c =
       stopped = fault_stop g.H.Handler.does g.H.Handler.fault_reply c.args.self.now.held.items c.args.handler.now found.0 c.in-Faulty.fault found.1 found.2;
     }
 
-pub returns-in_ok-refuse-in-Unreadable-clause-ok : goal.returns-in_ok-refuse-in-Unreadable-clause-ok
-returns-in_ok-refuse-in-Unreadable-clause-ok g c =
+pub returns-in-Screened-clause-ok : goal.returns-in-Screened-clause-ok
+returns-in-Screened-clause-ok g c =
+    let found = rw (c.deref.ensures.value, c.in-Screened.is) at c.in_ok-head.ensures in
+    record {
+      is_closed = c.requires.closed;
+      added = g.H.Handler.fault_reply c.in-Screened.fault;
+      out_is = c.in_ok-refuse-in-Screened.ensures;
+      stopped = screened_stop g.H.Handler.does g.H.Handler.fault_reply c.args.self.now.held.items c.args.handler.now found.0 [] c.in-Screened.fault found.1 found.2 found.3;
+    }
+
+pub returns-clause-ok : goal.returns-clause-ok
+returns-clause-ok g c =
     let found = rw (c.deref.ensures.value, c.in-Unreadable.is) at c.in_ok-head.ensures in
     record {
       is_closed = c.requires.closed;

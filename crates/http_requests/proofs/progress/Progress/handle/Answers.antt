@@ -5,14 +5,14 @@ use Rattle.http_requests.proofs.progress.Progress.handle.Goals as goal
 
 pub returns-in_err-reply-clause-err : goal.returns-in_err-reply-clause-err
 returns-in_err-reply-clause-err g c = on_err_from c.from_residual.result
-    (failed_part g.H.Handler.does g.H.Handler.fault_reply c.args.self.now.held.items c.args.head.now c.args.start c.deref.result.now c.requires.whole c.deref.ensures.value
-    c.args.handler.now c.handle.new.self c.in_err-reply.ensures.no_memory)
+    (failed_part g.H.Handler.does g.H.Handler.fault_reply c.args.self.now.held.items c.args.head.now c.args.start c.deref.result.now c.args.handler.now c.requires.whole c.deref.ensures.value
+    c.handle.new.self c.in_err-reply.ensures.no_memory)
 
 pub returns-in_err-append_reply-clause-err : goal.returns-in_err-append_reply-clause-err
 returns-in_err-append_reply-clause-err g c = on_err_from c.from_residual-in_err-append_reply.result
     (run_part g.H.Handler.does g.H.Handler.fault_reply c.args.self.now.held.items c.args.handler.now c.in_ok-reply.reply.items c.handle.new.self c.args.head.now.close []
-    (whole_run g.H.Handler.does g.H.Handler.fault_reply c.args.self.now.held.items c.args.head.now c.args.start c.deref.result.now c.requires.whole c.deref.ensures.value
-    c.args.handler.now c.in_ok-reply.reply.items c.handle.new.self c.in_ok-reply.ensures.done))
+    (whole_run g.H.Handler.does g.H.Handler.fault_reply c.args.self.now.held.items c.args.head.now c.args.start c.deref.result.now c.args.handler.now c.requires.whole c.deref.ensures.value
+    c.in_ok-reply.reply.items c.handle.new.self c.in_ok-reply.ensures.done))
 
 pub returns-then-head-clause-ok : goal.returns-then-head-clause-ok
 returns-then-head-clause-ok g c = record {
@@ -20,8 +20,8 @@ returns-then-head-clause-ok g c = record {
   added = c.in_ok-reply.reply.items;
   out_is = c.in_ok-append_reply.ensures;
   stopped = ended_stop g.H.Handler.does g.H.Handler.fault_reply c.args.self.now.held.items c.args.handler.now c.in_ok-reply.reply.items c.handle.new.self c.args.head.now.close []
-      (whole_run g.H.Handler.does g.H.Handler.fault_reply c.args.self.now.held.items c.args.head.now c.args.start c.deref.result.now c.requires.whole c.deref.ensures.value
-      c.args.handler.now c.in_ok-reply.reply.items c.handle.new.self c.in_ok-reply.ensures.done) c.if-head.true;
+      (whole_run g.H.Handler.does g.H.Handler.fault_reply c.args.self.now.held.items c.args.head.now c.args.start c.deref.result.now c.args.handler.now c.requires.whole c.deref.ensures.value
+      c.in_ok-reply.reply.items c.handle.new.self c.in_ok-reply.ensures.done) c.if-head.true;
 }
 
 pub returns-else-head-clause-ok : goal.returns-else-head-clause-ok
@@ -31,6 +31,6 @@ returns-else-head-clause-ok g c = record {
   added = c.in_ok-reply.reply.items;
   out_is = c.in_ok-append_reply.ensures;
   runs = going_run g.H.Handler.does g.H.Handler.fault_reply c.args.self.now.held.items c.args.handler.now c.in_ok-reply.reply.items c.handle.new.self c.args.head.now.close [] c.clear.new.self.items
-      (whole_run g.H.Handler.does g.H.Handler.fault_reply c.args.self.now.held.items c.args.head.now c.args.start c.deref.result.now c.requires.whole c.deref.ensures.value
-      c.args.handler.now c.in_ok-reply.reply.items c.handle.new.self c.in_ok-reply.ensures.done) c.if-head.false (sym c.clear.ensures.items);
+      (whole_run g.H.Handler.does g.H.Handler.fault_reply c.args.self.now.held.items c.args.head.now c.args.start c.deref.result.now c.args.handler.now c.requires.whole c.deref.ensures.value
+      c.in_ok-reply.reply.items c.handle.new.self c.in_ok-reply.ensures.done) c.if-head.false (sym c.clear.ensures.items);
 }
