@@ -8,3 +8,4 @@ pub mod StepLemmas
 pub mod FeedLemmas
 pub mod PieceLemmas
 pub mod HeldHeadLemmas
+pub mod AskingLemmas

@@ -1,7 +1,7 @@
 -- What a session does with the octets of a connection, however they are cut into pieces. A
 -- session's value is the octets that it holds, or `None` once it is closed. This project's own.
 use Rattle.std.specs.Prelude.{◌≡◌, ◌≢◌, ◌<◌, ◌≤◌, ◌⊎◌, ℕ, Bool, true, false, List, [], ◌∷◌, ◌++◌}
-use Rattle.std.specs.Prelude.{length, take, Option, Some, None}
+use Rattle.std.specs.Prelude.{length, take, Option, Some, None, ⊤}
 use Rattle.std.specs.List.{flat_map}
 use Rattle.httparse.specs.Grammar.{MayBecomeRequest, RequestHead}
 use Rattle.http_requests.specs.Fields.{fault_of_head}
@@ -28,6 +28,27 @@ HeadIsTooLong octets =
 abbrev pub IsPartialRequest : List ℕ → Type 0
 IsPartialRequest rest =
     ((head_state_after Blank rest ≢ Ended) × (length rest < longest_head)) ⊎ StartsWithGoodHead rest
+
+-- the handler doesn't refuse the head that the octets start with, if they start with one
+abbrev pub AdmitsHead : {State : Type 0} → HandlerRelation State → State → List ℕ → Type 0
+AdmitsHead does now octets =
+    (head : RequestHead) (rest : List ℕ) → StartsWithHead octets head rest
+    → screened does now head ≡ None
+
+-- a whole head, and all octets of the piece after it, are what the session held before and the piece
+abbrev pub HeldWholeHead : Option (List ℕ) → List ℕ → List ℕ → Type 0
+HeldWholeHead None piece held = ⊥
+HeldWholeHead (Some before) piece held =
+    (held ≡ before ++ piece) × (head_state_after Blank before ≡ Ended)
+
+-- After a piece the handler doesn't refuse the head that a session holds, unless the session held it
+-- whole before. So a head is refused with the piece in which it ends, before its body comes.
+abbrev pub AsksAtOnce :
+    {State : Type 0} → HandlerRelation State → Option (List ℕ) → List ℕ → State
+    → Option (List ℕ) → Type 0
+AsksAtOnce does before piece now None = ⊤
+AsksAtOnce does before piece now (Some held) =
+    AdmitsHead does now held ⊎ HeldWholeHead before piece held
 
 module _ {State : Type 0} (does : HandlerRelation State) (fault_reply : FaultReplies) where
   -- all requests of the octets were handled in turn, and nothing else

@@ -1,15 +1,15 @@
 //! The state of a session: the octets of the incomplete request at the front.
-ghost use Rattle.std.specs.Prelude.{◌≡◌, ◌≢◌, ◌≤◌, ◌<◌, ◌-◌, ◌↔◌, [], ◌++◌, length, take, IfOk};
-ghost use Rattle.std.specs.Prelude.{OnErr, IsTrue};
+ghost use Rattle.std.specs.Prelude.{◌≡◌, ◌≢◌, ◌≤◌, ◌<◌, ◌-◌, ◌↔◌, ◌⊎◌, [], ◌++◌, length, take};
+ghost use Rattle.std.specs.Prelude.{IfOk, OnErr, IsTrue};
 ghost use Rattle.http_requests.specs.HeadEnds.{head_state_after, EndsAtLastOctet};
 ghost use Rattle.http_requests.specs.HeldHeads.{partial_head_length};
 ghost use Rattle.http_requests.specs.SessionFeeding.{HandlesSomePrefix, FeedsPieceInPart};
-ghost use Rattle.http_requests.specs.SessionFeeding.{FeedsPiece};
+ghost use Rattle.http_requests.specs.SessionFeeding.{AdmitsHead, AsksAtOnce, FeedsPiece};
 ghost use Rattle.http_requests.specs.ParsedHeads.{IsBoundFault};
 ghost use Rattle.http_requests.specs.Requests.{longest_head};
 ghost use Rattle.http_requests.specs.internal.Progress.{MatchesStage, IsPartialHead, IsClosed};
 ghost use Rattle.http_requests.specs.internal.Progress.{HoldsBody, IsCompleteRequest, IsOpen};
-ghost use Rattle.http_requests.specs.internal.Progress.{IsPartialBody};
+ghost use Rattle.http_requests.specs.internal.Progress.{AwaitsBody, IsPartialBody};
 ghost use Rattle.http_requests.specs.internal.Progress.{HoldsNoneIfClosed, StepsSession};
 ghost use Rattle.http_requests.specs.internal.Progress.{open_octets};
 ghost use Rattle.http_requests.specs.internal.HeadScans.{Scans};
@@ -148,6 +148,7 @@ impl Progress {
         ensures err { OnErr result (HandlesSomePrefix H.does H.fault_reply self.old.held.items
             handler.old handler.new) }
         ensures err_closed { OnErr result (IsClosed self.new.stage) }
+        ensures over { IfOk result (λ _. AwaitsBody self.new.stage → ⊥) }
     {
         let reply = handler.handle(alloc, head, &self.held[start..])?;
         append_reply(out, reply)?;
@@ -175,6 +176,8 @@ impl Progress {
         ensures err { OnErr result (HandlesSomePrefix H.does H.fault_reply self.old.held.items
             handler.old handler.new) }
         ensures err_closed { OnErr result (IsClosed self.new.stage) }
+        ensures asked { IfOk result (λ _. AwaitsBody self.new.stage
+            → AdmitsHead H.does handler.new self.new.held.items) }
     {
         match read_head(alloc, &*handler, &self.held)? {
             ParsedHead::Good(head) => {
@@ -220,6 +223,8 @@ impl Progress {
         ensures err { OnErr result (HandlesSomePrefix H.does H.fault_reply
             (self.old.held.items ++ piece.now) handler.old handler.new) }
         ensures err_closed { OnErr result (IsClosed self.new.stage) }
+        ensures asked { IfOk result (λ _. AwaitsBody self.new.stage
+            → AdmitsHead H.does handler.new self.new.held.items) }
     {
         let (used, state) = scan(state, piece, HEAD_OCTETS_MAX - self.held.len());
         self.held.extend_from_slice(&piece[..used])?;
@@ -254,6 +259,7 @@ impl Progress {
         ensures err { OnErr result (HandlesSomePrefix H.does H.fault_reply self.old.held.items
             handler.old handler.new) }
         ensures err_closed { OnErr result (IsClosed self.new.stage) }
+        ensures over { IfOk result (λ _. AwaitsBody self.new.stage → ⊥) }
     {
         match read_head(alloc, &*handler, &self.held[..start])? {
             ParsedHead::Good(head) => self.handle(alloc, handler, out, &head, start),
@@ -287,6 +293,9 @@ impl Progress {
         ensures err { OnErr result (HandlesSomePrefix H.does H.fault_reply
             (self.old.held.items ++ piece.now) handler.old handler.new) }
         ensures err_closed { OnErr result (IsClosed self.new.stage) }
+        ensures more { IfOk result (λ outcome. AwaitsBody self.new.stage →
+            (handler.new ≡ handler.old)
+            × (self.new.held.items ≡ self.old.held.items ++ take outcome.0 piece.now)) }
     {
         let used = (end - self.held.len()).min(piece.len());
         self.held.extend_from_slice(&piece[..used])?;
@@ -317,6 +326,11 @@ impl Progress {
         ensures err { OnErr result (HandlesSomePrefix H.does H.fault_reply
             (self.old.held.items ++ piece.now) handler.old handler.new) }
         ensures err_closed { OnErr result (IsClosed self.new.stage) }
+        ensures asked { IfOk result (λ outcome. AwaitsBody self.new.stage →
+            AdmitsHead H.does handler.new self.new.held.items
+            ⊎ ((handler.new ≡ handler.old)
+            × (self.new.held.items ≡ self.old.held.items ++ take outcome.0 piece.now)
+            × AwaitsBody self.old.stage)) }
     {
         match mem::replace(&mut self.stage, Stage::Closed) {
             Stage::Head(state) => self.consume_head(alloc, handler, out, state, piece),
@@ -353,6 +367,9 @@ impl Progress {
         ensures fed_in_part { OnErr result (FeedsPieceInPart H.does H.fault_reply
             (open_octets self.old.held.items self.old.stage) handler.old piece.now handler.new) }
         ensures err_closed { OnErr result (IsClosed self.new.stage) }
+        ensures asks_at_once { IfOk result (λ _. AsksAtOnce H.does
+            (open_octets self.old.held.items self.old.stage) piece.now handler.new
+            (open_octets self.new.held.items self.new.stage)) }
     {
         let mut out = Vec::new(alloc);
         if self.is_closed() {

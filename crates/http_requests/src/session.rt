@@ -1,7 +1,7 @@
 //! The requests of one connection, received in pieces.
 ghost use Rattle.std.specs.Prelude.{◌≡◌, ◌↔◌, [], Some, None, IfOk, OnErr, IsTrue};
 ghost use Rattle.http_requests.specs.HeldHeads.{partial_head_length};
-ghost use Rattle.http_requests.specs.SessionFeeding.{FeedsPiece, FeedsPieceInPart};
+ghost use Rattle.http_requests.specs.SessionFeeding.{AsksAtOnce, FeedsPiece, FeedsPieceInPart};
 
 use crate::handler::Handler;
 use crate::progress::Progress;
@@ -69,6 +69,8 @@ impl Session {
     ) -> Result<Vec<u8>, NoMemory>
         ensures fed { IfOk result (λ replies. FeedsPiece H.does H.fault_reply
             self.old handler.old piece.now replies.items handler.new self.new) }
+        ensures asks_at_once { IfOk result (λ _. AsksAtOnce H.does
+            self.old piece.now handler.new self.new) }
         ensures fed_in_part { OnErr result (FeedsPieceInPart H.does H.fault_reply
             self.old handler.old piece.now handler.new) }
         ensures no_memory_closes { OnErr result (self.new ≡ None) }

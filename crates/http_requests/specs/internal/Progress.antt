@@ -54,6 +54,12 @@ IsClosed (stage.Head state) = ⊥
 IsClosed (stage.Body start end) = ⊥
 IsClosed stage.Closed = ⊤
 
+-- a head is held whole, and octets of its body are awaited
+abbrev pub AwaitsBody : Stage → Type 0
+AwaitsBody (stage.Head state) = ⊥
+AwaitsBody (stage.Body start end) = ⊤
+AwaitsBody stage.Closed = ⊥
+
 abbrev pub IsOpen : Stage → Type 0
 IsOpen at = ¬ (IsClosed at)
 

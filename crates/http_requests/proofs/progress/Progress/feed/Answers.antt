@@ -2,7 +2,8 @@ use Rattle.std.proofs.Common.{◌∙◌, sym, length}
 use Rattle.std.proofs.lemmas.Bool.{eqb-true}
 use Rattle.http_requests.specs.internal.Progress.{IsOpen}
 use Rattle.base_types.proofs.TextMapLemmas.{on_err_from}
-use Rattle.http_requests.proofs.FeedLemmas.{so_far_start, so_far_cut, takes_nothing, takes_stop, takes_all, loses_part, closed_holds, empty_rest}
+use Rattle.http_requests.proofs.AskingLemmas.{asked_end, asked_start, asked_step}
+use Rattle.http_requests.proofs.FeedLemmas.{cut_rest, so_far_start, so_far_cut, takes_nothing, takes_stop, takes_all, loses_part, closed_holds, empty_rest}
 use Rattle.http_requests.proofs.progress.Progress.feed.Goals as goal
 
 pub returns-then-is_closed-clause-fed : goal.returns-then-is_closed-clause-fed
@@ -18,6 +19,7 @@ loop-rest-init g c =
       is_open = was_open;
       was_open = was_open;
       far = so_far_start g.H.Handler.does g.H.Handler.fault_reply c.args.self.now.held.items c.args.piece.now c.args.handler.now c.new-out.result.items c.new-out.ensures.items;
+      asked = asked_start g.H.Handler.does c.args.handler.now c.args.self.now.held.items c.args.piece.now c.args.self.now.stage;
     }
 
 pub returns-in_err-used-clause-holds : goal.returns-in_err-used-clause-holds
@@ -48,6 +50,8 @@ loop-rest-preserved g c =
       was_open = c.loop-rest.invariant.was_open;
       far = so_far_cut g.H.Handler.does g.H.Handler.fault_reply c.args.self.now.held.items c.args.piece.now c.args.handler.now c.loop-rest.out.items c.loop-rest.handler c.loop-rest.self.held.items c.loop-rest.rest.now c.in_ok-used.used
           c.advance.new.out.items c.advance.new.handler c.advance.new.self c.loop-rest.invariant.far step;
+      asked = asked_step g.H.Handler.does c.args.self.now.held.items c.args.self.now.stage c.args.piece.now c.loop-rest.handler c.advance.new.handler c.loop-rest.self.held.items c.advance.new.self.held.items c.loop-rest.self.stage
+          c.advance.new.self.stage c.loop-rest.rest.now c.in_ok-used.used _ c.loop-rest.invariant.holds (cut_rest c.loop-rest.rest.now c.in_ok-used.used) c.loop-rest.invariant.asked c.in_ok-used.ensures.asked;
     }
 
 pub returns-clause-holds : goal.returns-clause-holds
@@ -58,3 +62,8 @@ returns-clause-fed g c =
     takes_all g.H.Handler.does g.H.Handler.fault_reply c.args.self.now.held.items c.args.piece.now c.args.self.now.stage c.args.handler.now c.loop-rest.out.items c.loop-rest.handler c.loop-rest.self c.loop-rest.rest.now c.loop-rest.invariant.was_open
     c.loop-rest.invariant.holds c.loop-rest.invariant.is_open c.loop-rest.invariant.far
     (empty_rest c.loop-rest.rest.now (eqb-true (length c.loop-rest.rest.now) 0 (sym c.is_empty.ensures ∙ c.loop-rest-test.false)))
+
+pub returns-clause-asks_at_once : goal.returns-clause-asks_at_once
+returns-clause-asks_at_once g c =
+    asked_end g.H.Handler.does c.args.self.now.held.items c.args.self.now.stage c.args.piece.now c.loop-rest.handler c.loop-rest.self.held.items c.loop-rest.self.stage c.loop-rest.rest.now c.requires.holds c.loop-rest.invariant.holds
+    (empty_rest c.loop-rest.rest.now (eqb-true (length c.loop-rest.rest.now) 0 (sym c.is_empty.ensures ∙ c.loop-rest-test.false))) c.loop-rest.invariant.asked

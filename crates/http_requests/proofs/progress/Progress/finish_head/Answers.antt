@@ -1,6 +1,7 @@
 use Rattle.std.proofs.Common.{sym, refl, [], arith, inl}
 use Rattle.std.proofs.lemmas.List.{append-nil}
 use Rattle.http_requests.specs.declared.head_fault.HeadFault.TheVariants.{BadHead}
+use Rattle.http_requests.proofs.AskingLemmas.{admits}
 use Rattle.http_requests.proofs.RunLemmas.{run_none, part_none}
 use Rattle.base_types.proofs.TextMapLemmas.{on_err_from}
 use Rattle.http_requests.proofs.StepLemmas.{waiting, head_whole, fault_stop, screened_stop, unreadable_stop}
@@ -68,3 +69,8 @@ returns-clause-ok g c =
       out_is = c.in_ok-refuse-in-Unreadable.ensures;
       stopped = unreadable_stop g.H.Handler.does g.H.Handler.fault_reply c.args.self.now.held.items c.args.handler.now (inl c.requires.ends.ended) found;
     }
+
+pub returns-in-Good-clause-asked : goal.returns-in-Good-clause-asked
+returns-in-Good-clause-asked g c =
+    let found = rw (c.deref.ensures.value, c.in-Good.is) at c.in_ok-head.ensures in
+    λ awaits. admits g.H.Handler.does c.args.handler.now c.args.self.now.held.items found.0 [] found.1 found.3
