@@ -1,5 +1,5 @@
 -- Any number of connections are one run of the service.
-use Rattle.std.proofs.Common.{◌≡◌, ◌∙◌, ℕ, Bool, List, [], ◌∷◌, ◌++◌, Option, None, Result, Ok, Err, refl, sym, ap, subst}
+use Rattle.std.proofs.Common.{◌≡◌, ◌∙◌, ℕ, Bool, List, [], ◌∷◌, ◌++◌, Option, None, Result, Ok, Err, refl, sym, ap, ap₂, subst}
 use Rattle.std.proofs.lemmas.List.{append-nil}
 use Rattle.book_http.proofs.OctetRunLemmas.{all_limits, all_premise, requests_run}
 use Rattle.book_http.specs.OctetPromise.{ServiceStep, StartsAt}
@@ -14,10 +14,10 @@ use Rattle.http_hub.proofs.HubLemmas.{hubs_separate_connections}
 use Rattle.http_hub.specs.HandledRequests.{HandledInTurn, HandledRequest}
 use Rattle.http_replies.specs.Replies.{head_fault_octets}
 use Rattle.http_requests.specs.Fields.{fault_of_head}
-use Rattle.http_requests.specs.HandlerRuns.{HandlerRelation, HandlesAdmitted, HandlesRequests, KeepsScreens, RepliesGivenFault}
+use Rattle.http_requests.specs.HandlerRuns.{HandlerRelation, HandlesAdmitted, HandlesRequests, KeepsScreens, RepliesGivenFault, Screen}
 use Rattle.http_requests.specs.ParsedHeads.{head_of}
 use Rattle.http_requests.specs.GuardedHandlers.{first_fault, guarded}
-use Rattle.http_requests.specs.Guards.{Field, guard}
+use Rattle.http_requests.specs.Guards.{guard}
 use Rattle.http_requests.specs.Requests.{Request}
 use Rattle.http_requests.specs.declared.head.Head.{Head}
 use Rattle.http_routes.specs.Commands.{requested_command}
@@ -37,7 +37,7 @@ own_reply request run reply (own, more, first, rest, replied, none, run_is, repl
 
 -- two pairs with the same parts
 pair_path : {A B : Type 0} (p q : A × B) → p.0 ≡ q.0 → p.1 ≡ q.1 → p ≡ q
-pair_path p q first second = cc (first, second)
+pair_path {A} {B} p q first second = let pair : A → B → A × B = λ x y. (x, y) in ap₂ pair first second
 
 module _ {S : Type 0} (model : StoreModel S) where
   -- a handled request as a list of one
@@ -128,7 +128,9 @@ module _ {S : Type 0} (model : StoreModel S) where
       answered old new (requested_command head.method head.target body) head.close reply done.0 done.1
 
   guard_keeps : KeepsScreens (guarded (ServiceStep model))
-  guard_keeps old new head body reply done = ap (λ (names : List (List ℕ)) (method : List ℕ) (fields : List Field). first_fault (guard names method fields) None) done.0
+  guard_keeps old new head body reply done =
+      let screen : List (List ℕ) → Screen = λ names method fields. first_fault (guard names method fields) None in
+      ap screen done.0
 
   pub guarded_hubs : HubsAreOneRun (behind_guard model) (guarded (ServiceStep model))
   guarded_hubs = hubs_are_one_run (behind_guard model) (guarded (ServiceStep model)) guard_serves guard_keeps

@@ -1,5 +1,5 @@
 -- Worked examples: the orders of some command lines.
-use Rattle.std.specs.Prelude.{◌≡◌, List, [], ◌∷◌, Some, None, codes}
+use Rattle.std.specs.Prelude.{◌≡◌, true, false, List, [], ◌∷◌, Some, None, codes}
 use Rattle.csv_cards.specs.declared.form.Form.TheVariants.{Cards, Columns}
 use Rattle.clap.specs.Walk.{Text}
 use Rattle.cli_args.specs.ParsedOrders.{order_from}

@@ -5,7 +5,7 @@ ghost use Rattle.cli_args.specs.ParsedOrders as parsed;
 ghost use Rattle.cli_args.specs.ParsedOrders.{ParsesTo};
 
 use crate::fault::LineFault;
-use base_types::{Items, Text};
+use base_types::{Items, NoMemory, Text};
 use clap::ArgMatches;
 use clap::parser::ValueSource;
 use csv_cards::Form;
@@ -61,7 +61,7 @@ pub(crate) fn given_text(
 }
 
 /// Copies of these texts.
-fn copies_of(alloc: Global, texts: &[&str]) -> Result<Items<Text>, AllocError>
+fn copies_of(alloc: Global, texts: &[&str]) -> Result<Items<Text>, NoMemory>
     ensures { IfOk result (λ copies. copies ≡ map (λ text. text.now) texts.now) }
 {
     let mut copies = Vec::new(alloc);

@@ -1,4 +1,5 @@
-use Rattle.std.proofs.Common.{◌≡◌, refl, arith, inr, ◌∙◌, ◌+◌, subst, take}
+use Rattle.std.proofs.Common.{◌≡◌, refl, arith, inr, ◌∙◌, ◌+◌, Bool, false, subst, sym, take, true}
+use Rattle.std.proofs.lemmas.Bool.{false≢true}
 use Rattle.std.proofs.lemmas.Result.{err_from_is_err_and}
 use Rattle.book_http.specs.ConnectionCalls.{LeadsOn, Waits}
 use Rattle.book_http.specs.Pieces.{pieces_max}
@@ -96,6 +97,10 @@ returns-then-branch-clause-ended_in_order g c =
           (c.in_ok-answer_piece.ensures.order (c.loop-piece._piece + 1)),
     )
 
+-- no truth value is both
+not_both : (b : Bool) → b ≡ true → b ≡ false → ⊥
+not_both b is_true is_false = false≢true (sym is_false ∙ is_true)
+
 pub loop-piece-preserved : goal.loop-piece-preserved
 loop-piece-preserved g c = (
   step_on g.H.Handler.does g.H.Handler.fault_reply c.loop-piece._piece c.in_ok-count.count c.read_piece.new.room
@@ -104,7 +109,7 @@ loop-piece-preserved g c = (
       c.args.handler.now c.loop-piece.handler c.answer_piece.new.handler c.loop-piece.session c.answer_piece.new.session
       c.loop-piece.invariant.0 c.in_ok-count.ensures.read c.in_ok-count.ensures.kept c.in_ok-answer_piece.ensures.kept c.if-count-eq0.false c.in_ok-count.ensures.bound
       (omega (arith, c.read_piece.auto.room, c.loop-piece.invariant.4))
-      c.in_ok-answer_piece.ensures.answered (λ e. absurd (cc (c.in_ok-answer_piece.ensures.closed.1 e, c.if-branch.false))),
+      c.in_ok-answer_piece.ensures.answered (λ e. not_both c.in_ok-answer_piece.field-0 (c.in_ok-answer_piece.ensures.closed.1 e) c.if-branch.false),
   replied
       (g.C.Connection.model.calls c.args.connection.now) (g.C.Connection.model.calls c.read_piece.new.connection) (g.C.Connection.model.calls c.answer_piece.new.connection) c.loop-piece._piece
       c.in_ok-answer_piece.field-0
