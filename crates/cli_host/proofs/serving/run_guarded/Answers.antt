@@ -25,11 +25,11 @@ returns-in_err-service-clause-stopped g c =
 pub returns-clause-done : goal.returns-clause-done
 returns-clause-done g c =
     let got : LogsCalls g.M.Host.calls c.args.host.now c.get_store.new.host (GetsStore c.args.file c.args.creates (Ok c.in_ok-store.store)) = search (rules) in
-    let serves = subst (λ state. OnOk c.serve_at.result (LogsCalls g.M.Host.calls c.get_store.new.host c.serve_at.new.host (ServesAt (guarded (ServiceStep g.S.BookStore.model)) head_fault_octets g.P.Endpoint.calls c.args.port c.args.limits state (g.W.Write.contents c.args.writer.now) (g.W.Write.contents c.serve_at.new.writer)))) (c.new-handler.ensures ∙ ap (λ (store : g.S). (c.args.names, store)) c.in_ok-service.ensures) c.serve_at.ensures.done in
+    let serves = rw (c.new-handler.ensures, c.in_ok-service.ensures) at c.serve_at.ensures.done in
     store_served (guarded (ServiceStep g.S.BookStore.model)) g.P.Endpoint.calls (λ store. (c.args.names, store)) g.M.Host.calls c.serve_at.result c.args.host.now c.get_store.new.host c.serve_at.new.host c.args.file c.args.creates c.args.port c.args.limits c.in_ok-store.store (g.W.Write.contents c.args.writer.now) (g.W.Write.contents c.serve_at.new.writer) got serves
 
 pub returns-clause-stopped : goal.returns-clause-stopped
 returns-clause-stopped g c =
     let got : LogsCalls g.M.Host.calls c.args.host.now c.get_store.new.host (GetsStore c.args.file c.args.creates (Ok c.in_ok-store.store)) = search (rules) in
-    let stops = subst (λ state. IfErr c.serve_at.result (λ stop. LogsCalls g.M.Host.calls c.get_store.new.host c.serve_at.new.host (StopsAt (guarded (ServiceStep g.S.BookStore.model)) head_fault_octets g.P.Endpoint.calls c.args.port c.args.limits stop state (g.W.Write.contents c.args.writer.now) (g.W.Write.contents c.serve_at.new.writer)))) (c.new-handler.ensures ∙ ap (λ (store : g.S). (c.args.names, store)) c.in_ok-service.ensures) c.serve_at.ensures.stopped in
+    let stops = rw (c.new-handler.ensures, c.in_ok-service.ensures) at c.serve_at.ensures.stopped in
     store_unserved (guarded (ServiceStep g.S.BookStore.model)) g.P.Endpoint.calls (λ store. (c.args.names, store)) g.M.Host.calls c.serve_at.result c.args.host.now c.get_store.new.host c.serve_at.new.host c.args.file c.args.creates c.args.port c.args.limits c.in_ok-store.store (g.W.Write.contents c.args.writer.now) (g.W.Write.contents c.serve_at.new.writer) got stops
