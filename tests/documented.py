@@ -26,7 +26,7 @@ def record():
     exchanges = Page("docs/API.md").exchanges()
     with Folder() as folder:
         run("init", folder / "office.db")
-        with Server(folder / "office.db") as server:
+        with Server(folder / "office.db", order="run", more=["--host", "office"]) as server:
             shown = ask_in_turn(server, [it.request for it in exchanges])
             requests = [*PREPARED, *BOOKS_MADE]
             prepared = ask_in_turn(server, requests)

@@ -127,7 +127,7 @@ class Document:
         return self.misfits(json.loads(reply.body), fault, "body")
 
     def _of_heads(self, reply):
-        return [] if reply.status in (400, 413, 431, 501) else [f"no method {reply.method}"]
+        return [] if reply.status in (400, 403, 413, 421, 431, 501) else [f"no method {reply.method}"]
 
     def _complaints_on_fields(self, reply, response, item):
         wrong = [

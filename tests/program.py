@@ -52,11 +52,24 @@ class Folder:
 class Server:
     """`contacts serve FILE`, which is killed at the end of the context unless it has ended."""
 
-    def __init__(self, file, connections=1_000_000, port=0, more=(), arguments=None, **options):
-        """`more` are further arguments. If `arguments` are given, nothing else follows `serve`."""
-        whole = [file, "--port", port, "--connections", connections, *more]
+    def __init__(
+        self,
+        file,
+        connections=1_000_000,
+        port=0,
+        more=(),
+        arguments=None,
+        order="serve",
+        **options,
+    ):
+        """`more` are further arguments. If `arguments` are given, nothing else follows the order.
+
+        The order `run` has no number of connections.
+        """
+        counted = ["--connections", connections] if order == "serve" else []
+        whole = [file, "--port", port, *counted, *more]
         self.process = subprocess.Popen(
-            [PROGRAM, "serve", *map(str, arguments or whole)],
+            [PROGRAM, order, *map(str, arguments or whole)],
             stdin=subprocess.DEVNULL,
             stdout=subprocess.PIPE,
             stderr=subprocess.PIPE,

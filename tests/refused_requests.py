@@ -110,4 +110,8 @@ ROWS = [
     Row(29, {}, request("GET", "/books/%FF/tally")),
     Row(30, {}, request("GET", "/books/staff/sync?limit=ten")),
     Row(30, {}, request("POST", "/books/clients/import", COLUMNS)),
+    Row(31, {}, request("GET", "/books", fields=["Host: other"], host=False)),
+    Row(32, {}, request("PUT", "/books/more", fields=["Sec-Fetch-Site: cross-site"])),
+    Row(32, {}, request("PUT", "/books/more", fields=["Origin: https://other"])),
+    Row(33, {}, request("PUT", "/books/staff/cards/q", card("q", "Quin"), ["If-Match: *"])),
 ]

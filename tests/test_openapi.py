@@ -128,7 +128,7 @@ class Replies(unittest.TestCase):
                             self.assertIn(text, bodies)
 
     def test_each_operation_has_the_common_responses(self):
-        common = {"405", "413", "431", "501", "503", "default"}
+        common = {"405", "413", "421", "431", "501", "503", "default"}
         for path, method, operation in DOCUMENT.operations():
             with self.subTest(path=path, method=method):
                 self.assertLessEqual(common, set(operation["responses"]))
