@@ -213,8 +213,26 @@ class Pages(unittest.TestCase):
     def test_pages_of_other_sites(self):
         with Folder() as folder:
             run("init", folder / "office.db")
-            with Server(folder / "office.db") as server:
+            with Server(folder / "office.db", order="run") as server:
                 self.try_all(Front(folder, server.address[1]))
+
+    @unittest.skipIf(missing_tool(), f"no {missing_tool()} on this machine")
+    def test_names(self):
+        """nginx passes the name on by which it is reached, and the server knows its own."""
+        with Folder() as folder:
+            run("init", folder / "office.db")
+            more = ["--host", "contacts.example"]
+            with Server(folder / "office.db", order="run", more=more) as server:
+                front = Front(folder, server.address[1])
+                try:
+                    for host, status in ("contacts.example", 201), ("other.example", 421):
+                        fields = {"Host": host, "Origin": f"https://{host}"}
+                        with self.subTest(host):
+                            self.assertEqual(
+                                status, front.ask("PUT", f"/books/b{status}", b"", fields))
+                    self.assertEqual(404, front.ask("GET", "/books/b421/tally"))
+                finally:
+                    front.stop()
 
     def try_all(self, front):
         try:
