@@ -12,6 +12,7 @@ TOP = "[COMMAND]"
 TRY = "try"
 INIT = "init <FILE>"
 BOOK = "book <FILE> <BOOK>"
+RUN = "run [OPTIONS] <FILE>"
 SERVE = "serve [OPTIONS] <FILE>"
 IMPORT = "import <FILE> <BOOK> <KEY> <CSV>"
 EXPORT = "export [OPTIONS] <FILE> <BOOK>"
@@ -95,6 +96,11 @@ MISSING = [
     ("init", missing("<FILE>", INIT)),
     ("book", missing("<FILE> <BOOK>", BOOK)),
     ("book a.db", missing("<BOOK>", BOOK)),
+    ("run", missing("<FILE>", "run <FILE>")),
+    ("run --create", missing("<FILE>", "run --create <FILE>")),
+    ("run --host office --host a.example", missing("<FILE>", "run --host <NAME> <FILE>")),
+    ("run --log --max-open 2 --port=1 --idle-timeout 5",
+     missing("<FILE>", "run --log --max-open <M> --port <P> --idle-timeout <S> <FILE>")),
     ("serve", missing("<FILE>", "serve <FILE>")),
     ("serve --port 1", missing("<FILE>", "serve --port <P> <FILE>")),
     ("serve --connections=2 --port=1",
@@ -124,6 +130,9 @@ TOO_MANY = [
     ("try -- x", unexpected("x", TRY)),
     ("init a.db b.db", unexpected("b.db", INIT)),
     ("book a.db staff more", unexpected("more", BOOK)),
+    ("run a.db 8080", unexpected("8080", RUN)),
+    ("run a.db --create yes", unexpected("yes", RUN)),
+    ("run --host office a.db example", unexpected("example", RUN)),
     ("serve a.db 8080", unexpected("8080", SERVE)),
     ("import a.db staff k a.csv b.csv", unexpected("b.csv", IMPORT)),
     ("export a.db staff columns", unexpected("columns", EXPORT)),
@@ -148,6 +157,7 @@ UNKNOWN_ORDERS = [
     ("tell a.db", no_order("tell", "a similar subcommand exists: 'tally'")),
     ("tal a.db staff", no_order("tal", "a similar subcommand exists: 'tally'")),
     ("ex a.db", no_order("ex", "some similar subcommands exist: 'export', 'expand'")),
+    ("rum a.db", no_order("rum", "a similar subcommand exists: 'run'")),
     ("help nobody", no_order("nobody")),
     ("help --help", no_order("--help")),
     ("help tally more", error("unrecognized subcommand 'more'", TALLY)),
@@ -163,10 +173,19 @@ UNKNOWN_OPTIONS = [
     ("--port 1", unexpected("--port", TOP)),
     ("--port serve a.db", error("unexpected argument '--port' found", TOP,
                                 "'serve --port' exists")),
+    ("--host run a.db", error("unexpected argument '--host' found", TOP, "'run --host' exists")),
     ("try -x", unexpected("-x", TRY)),
     ("try --limit 3", unexpected("--limit", TRY)),
     ("tally -x a.db staff", unexpected_hyphen("-x", TALLY)),
     ("tally a.db staff --form cards", unexpected_hyphen("--form", TALLY)),
+    ("run a.db -c", unexpected_hyphen("-c", RUN)),
+    # For a long option clap's usage has what came before it, if anything did.
+    ("run --connections 2 a.db", unexpected_hyphen("--connections", RUN)),
+    ("run a.db --connections 2", unexpected_hyphen("--connections", "run <FILE>")),
+    ("run a.db --together 2", unexpected_hyphen("--together", "run <FILE>")),
+    ("run a.db --hots office", near("--hots", "--host", "run --host <NAME> <FILE>")),
+    ("run a.db --max-opens 2", near("--max-opens", "--max-open", "run --max-open <M> <FILE>")),
+    ("run a.db --creates", near("--creates", "--create", "run --create <FILE>")),
     ("serve -p 1 a.db", unexpected_hyphen("-p", SERVE)),
     ("serve a.db --po 1", near("--po", "--port", "serve --port <P> <FILE>")),
     ("serve a.db --connection 2",
@@ -183,6 +202,11 @@ UNKNOWN_OPTIONS = [
 ]
 
 DOUBLED = [
+    ("run a.db --port 1 --port 2", twice("--port <P>", RUN)),
+    ("run a.db --max-open 1 --max-open 1", twice("--max-open <M>", RUN)),
+    ("run --idle-timeout=1 a.db --idle-timeout=2", twice("--idle-timeout <S>", RUN)),
+    ("run --create a.db --create", twice("--create", RUN)),
+    ("run a.db --log --log", twice("--log", RUN)),
     ("serve a.db --port 1 --port 2", twice("--port <P>", SERVE)),
     ("serve --port=1 a.db --port=1", twice("--port <P>", SERVE)),
     ("serve a.db --connections 1 --connections 2", twice("--connections <N>", SERVE)),
@@ -194,6 +218,12 @@ DOUBLED = [
 ]
 
 NO_VALUES = [
+    ("run a.db --port", no_value("--port <P>")),
+    ("run a.db --host", no_value("--host <NAME>")),
+    ("run --host --create a.db", no_value("--host <NAME>")),
+    ("run a.db --host office --host", no_value("--host <NAME>")),
+    ("run a.db --max-open", no_value("--max-open <M>")),
+    ("run --idle-timeout --log a.db", no_value("--idle-timeout <S>")),
     ("serve a.db --port", no_value("--port <P>")),
     ("serve a.db --port --", no_value("--port <P>")),
     ("serve --port --connections 1 a.db", no_value("--port <P>")),
@@ -208,6 +238,16 @@ NO_VALUES = [
 
 # Numbers outside their ranges, and texts that are no numbers.
 NO_NUMBERS = [
+    ("run a.db --port 65536", out_of_range(65536, "--port <P>", 0, 65535)),
+    ("run a.db --port=", empty("--port <P>")),
+    ("run a.db --port=http", no_digits("http", "--port <P>")),
+    ("run a.db --max-open 0", out_of_range(0, "--max-open <M>", 1, 1000)),
+    ("run a.db --max-open 1001", out_of_range(1001, "--max-open <M>", 1, 1000)),
+    ("run a.db --max-open=all", no_digits("all", "--max-open <M>")),
+    ("run a.db --idle-timeout 0", out_of_range(0, "--idle-timeout <S>", 1, 3600)),
+    ("run a.db --idle-timeout 3601", out_of_range(3601, "--idle-timeout <S>", 1, 3600)),
+    ("run a.db --idle-timeout=60s", no_digits("60s", "--idle-timeout <S>")),
+    ("run a.db --idle-timeout=", empty("--idle-timeout <S>")),
     ("serve a.db --port 65536", out_of_range(65536, "--port <P>", 0, 65535)),
     ("serve a.db --port=18446744073709551615",
      out_of_range(18446744073709551615, "--port <P>", 0, 65535)),
@@ -264,6 +304,17 @@ NO_FORMS = [
 # Arguments that ask for an order on a.db, whatever the values of its options.
 GOOD = [
     "book a.db staff",
+    "run a.db",
+    "run a.db --port 0",
+    "run --port=65535 a.db",
+    "run a.db --max-open 1",
+    "run a.db --max-open=1000",
+    "run a.db --idle-timeout 1",
+    "run a.db --idle-timeout=3600",
+    "run a.db --host office",
+    "run --host=office a.db --host office --host= --host a.example:8080",
+    "run --log -- a.db",
+    "run --idle-timeout 5 a.db --host office --max-open 2 --log --port 0",
     "serve a.db",
     "serve a.db --port 8 --connections 9",
     "serve --connections=9 a.db --port=8",

@@ -17,6 +17,7 @@ Commands:
 book's initial report
   init     Create a store file; an existing file must be empty
   book     Create an empty book and print its id
+  run      Serve the books over HTTP on 127.0.0.1 until it is stopped
   serve    Serve the books over HTTP on 127.0.0.1
   import   Import cards from a CSV file into a book
   export   Write the cards of a book to standard output as CSV
@@ -90,6 +91,33 @@ Example:
   contacts book office.db staff
 
 A store may have up to 100 books, and a book up to 10,000 cards.
+"""
+
+HELP["run"] = """\
+Serve the books over HTTP on 127.0.0.1 until it is stopped
+
+Usage: contacts run [OPTIONS] <FILE>
+
+Arguments:
+  <FILE>  Path of the store file
+
+Options:
+      --port <P>          Port to listen on, 0 to 65535; 0 picks a free port [default: 8080]
+      --host <NAME>       A name of this server, which requests may have in their Host field; \
+127.0.0.1, localhost and [::1] are always allowed. May be given more than once
+      --max-open <M>      Maximum number of connections open at once, 1 to 1000 [default: 256]
+      --idle-timeout <S>  Seconds after which an idle connection is closed, or one whose request \
+headers are incomplete, 1 to 3600 [default: 60]
+      --create            Create the file if it isn't there
+      --log               Print a line for each request on standard error when it is answered
+  -h, --help              Print help
+
+Example:
+  contacts run office.db --create
+
+Prints the address and port before accepting connections. A request is refused if its Host is none \
+of the server's names, if a page of another site sends a change, or if a change has a precondition \
+such as If-Match. A request body may have up to 8,388,608 bytes.
 """
 
 HELP["serve"] = """\
