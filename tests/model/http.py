@@ -39,6 +39,7 @@ PHRASES = {
     409: "Conflict",
     412: "Precondition Failed",
     413: "Payload Too Large",
+    421: "Misdirected Request",
     431: "Request Header Fields Too Large",
     501: "Not Implemented",
     503: "Service Unavailable",
@@ -47,6 +48,13 @@ PHRASES = {
 
 BAD_HEAD, HEAD_TOO_LARGE, BAD_HOST, TRANSFER_ENCODING, BAD_LENGTH, BODY_TOO_LARGE = range(21, 27)
 NO_ROUTE, BAD_METHOD, BAD_PATH, BAD_QUERY = range(27, 31)
+FOREIGN_HOST, FOREIGN_SITE, PRECONDITION = range(31, 34)
+
+# The names that each server has which looks at Host, and the fields that are preconditions.
+LOOPBACK = ["127.0.0.1", "localhost", "[::1]"]
+PRECONDITIONS = {
+    b"if-match", b"if-none-match", b"if-modified-since", b"if-unmodified-since", b"if-range"
+}
 
 # The refusals of commands and the faults of requests: number, status, text.
 FAULTS = {
@@ -80,6 +88,9 @@ FAULTS = {
     BAD_METHOD: (405, "bad-method"),
     BAD_PATH: (400, "bad-path"),
     BAD_QUERY: (400, "bad-query"),
+    FOREIGN_HOST: (421, "foreign-host"),
+    FOREIGN_SITE: (403, "foreign-site"),
+    PRECONDITION: (501, "precondition"),
 }
 
 
@@ -204,6 +215,24 @@ def read_head(lines):
     return Head(method.decode(), target, length, close)
 
 
+def guard(names, method, fields):
+    """Fault if a server with these names refuses a request with these fields, by `read_fields`."""
+    hosts = [value for name, value in fields if name == b"host"]
+    known = b"|".join(re.escape(it.encode()) for it in [*LOOPBACK, *names] if it)
+    if not hosts or not all(re.fullmatch(rb"(?i:%s)(:[0-9]*)?" % known, it) for it in hosts):
+        raise Fault(FOREIGN_HOST)
+    if method not in ("POST", "PUT", "DELETE"):
+        return
+    own = re.compile(rb"https?://" + re.escape(hosts[0]), re.IGNORECASE)
+    for name, value in fields:
+        if name == b"sec-fetch-site" and value != b"same-origin":
+            raise Fault(FOREIGN_SITE)
+        if name == b"origin" and not own.fullmatch(value):
+            raise Fault(FOREIGN_SITE)
+    if PRECONDITIONS & {name for name, _ in fields}:
+        raise Fault(PRECONDITION)
+
+
 # Routes: each path's methods. A method has the kind of its command, what its query may have, and
 # how the command's arguments follow from the path's parts, the query and the body.
 
@@ -311,10 +340,10 @@ def read_command(head, body):
 
 
 class Session:
-    """A connection of its own to an office."""
+    """A connection of its own to an office; with a list of names, to one behind a guard."""
 
-    def __init__(self, office):
-        self.office, self.closed, self.rest = office, False, b""
+    def __init__(self, office, names=None):
+        self.office, self.names, self.closed, self.rest = office, names, False, b""
 
     def feed(self, octets):
         """The octets of the replies to all requests that these octets make whole."""
@@ -340,6 +369,8 @@ class Session:
                 return None
             raise Fault(HEAD_TOO_LARGE if is_begun(lines, last) else BAD_HEAD)
         head = read_head(lines)
+        if self.names is not None:
+            guard(self.names, head.method, read_fields(lines[1:]))
         if len(self.rest) < end + head.length:
             return None
         body = self.rest[end:end + head.length]
