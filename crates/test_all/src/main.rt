@@ -8,7 +8,8 @@ use std::io::{Read, Write};
 use std::process::ExitCode;
 use test_oom::{run_all_cases, run_chosen};
 use test_rows::{check_cards, check_formats, run_connection_rows};
-use test_stores::{run_lines, run_sections, run_sweeps};
+use test_stops::run_sweeps;
+use test_stores::{run_lines, run_sections};
 
 fn print(rt: &HostRuntime, octets: &[u8]) -> bool {
     rt.stdout().write_all(octets).is_ok()

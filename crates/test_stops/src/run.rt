@@ -1,6 +1,6 @@
 //! Performs the list over disks, one of which fails.
 
-use crate::stops::disks::{FuseAt, FusedDisk, Work, empty_disks, over_disks};
+use crate::disks::{FuseAt, FusedDisk, Work, empty_disks, over_disks};
 use book_service::{Reply, perform};
 use book_store::{OpenFault, SqlStore};
 use sqlite::{Alter, Connection, Error, Files};

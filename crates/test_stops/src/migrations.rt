@@ -1,11 +1,11 @@
 //! Migrates tables of the first schema to the second over a disk that fails.
 
-use crate::stops::disks::{
+use crate::disks::{
     CrashKind, FuseAt, FusedDisk, NO_FUSE, Place, Work, copy_disks, crash_disks, empty_disks,
     is_burnt, over_disks,
 };
-use crate::stops::run::store_over;
-use crate::stops::sweep::{CALLS_MAX, Sweep};
+use crate::run::store_over;
+use crate::sweep::{CALLS_MAX, Sweep};
 use book_store::OpenFault;
 use sqlite::{Alter, Connection, Error, Files, params};
 use std::alloc::Global;
