@@ -308,7 +308,7 @@ export class Desk {
     this.list.top();
     this.settle();
     this.draw();
-    if (!this.frame.isNarrow) this.frame.search.focus();
+    this.frame.goToSearch();
   }
 
   /** Two cards are of different people, whatever they have in common. */
