@@ -46,7 +46,8 @@ def dialogs(trial):
     search(page, "viktor")
     page.wait(f"{TITLE} === 'Viktor Sokolov'")
     for item, title in (("Groups…", "Groups of Viktor"), ("Move…", "Move Viktor"),
-                        ("Earlier versions…", "Earlier versions"), ("Delete", "Delete Viktor")):
+                        ("Changed in this browser…", "Changed in this browser"),
+                        ("Delete", "Delete Viktor")):
         card_menu(hands, page, item)
         look(page, hands, item, title)
         page.key("Escape")

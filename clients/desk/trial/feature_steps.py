@@ -249,7 +249,7 @@ def trash(trial):
     page.press("Save")
     stored(office, "c22", "NOTE:A note that was a mistake")
     page.wait("document.querySelector('#waiting').hidden")
-    more(page, "Earlier versions")
+    more(page, "Changed in this browser")
     page.press("Put back", DIALOG)
     until(lambda: office.card("clients", "c22")["card"] == text)
 

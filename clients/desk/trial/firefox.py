@@ -25,6 +25,7 @@ EVENTS = ["log.entryAdded", "network.beforeRequestSent", "browsingContext.userPr
 SETTINGS = {
     # Dark: Firefox has no command for another scheme, and Chromium shows both.
     "layout.css.prefers-color-scheme.content-override": 0,
+    "intl.accept_languages": "en-GB",
     "app.normandy.enabled": False, "app.update.disabledForTesting": True,
     "browser.safebrowsing.downloads.enabled": False,
     "browser.aboutwelcome.enabled": False, "browser.download.alwaysOpenPanel": False,

@@ -220,6 +220,7 @@ export class Pane {
 
   fillCard(book, uid, { text, entry }) {
     const { shelf } = this.desk;
+    this.desk.memory.shown(book, uid);
     const person = describe(readCard(text));
     const row = shelf.get(book, uid) ?? rowOf(book, uid, 0, text);
     fill(this.node, this.back(), cardView({
