@@ -298,6 +298,7 @@ export class Actions {
     const { desk, files } = this;
     const book = await desk.store.book(name);
     return showBook(book, {
+      cards: desk.shelf.count(name),
       tally: () => this.api.tally(name).catch((fault) => { throw words(fault); }),
       update: () => desk.follow(name),
       tryChanges: book.rights === "read" ? () => desk.setRights(name, "") : null,
