@@ -376,7 +376,7 @@ OLD_TABLES = """(async () => {
 })()"""
 
 
-@step
+@fault
 def older_desk(trial):
     """A browser with the copy of an older desk: names of books and drafts are taken over."""
     office = trial.office
@@ -429,7 +429,7 @@ SECOND_TABLES = """(async () => {
 })()"""
 
 
-@step
+@fault
 def second_desk(trial):
     """A browser with the copy of the desk before this one: all of it stays, and what waits goes."""
     office = trial.office

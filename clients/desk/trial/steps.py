@@ -129,7 +129,7 @@ def look_up(trial):
     assert admin.run("document.querySelector('img.photo').src").startswith("data:image/png")
 
 
-@step
+@fault
 def edit(trial):
     """An edit keeps what the form doesn't know, and reaches the other desk."""
     admin, ann = trial.desks["admin"], trial.desks["ann"]
@@ -174,7 +174,7 @@ def new_card(trial):
     assert "N:van Dijk;Petra;;;" in text, text
 
 
-@step
+@fault
 def conflict(trial):
     """Two desks and curl edit one card: both are shown, and somebody chooses."""
     admin, ann, office = trial.desks["admin"], trial.desks["ann"], trial.office
@@ -211,7 +211,7 @@ def conflict(trial):
     admin.wait("document.querySelector('.card')?.innerText.includes('Rings before nine')")
 
 
-@step
+@fault
 def removed_meanwhile(trial):
     """Somebody deletes the card that is edited: the edit isn't lost."""
     ann, office = trial.desks["ann"], trial.office
@@ -227,7 +227,7 @@ def removed_meanwhile(trial):
     assert "Master glazier" in office.card("clients", "c16")["card"]
 
 
-@step
+@fault
 def lost_reply(trial):
     """The reply to a PUT is lost: the desk asks again and finds its edit made, once."""
     admin, office = trial.desks["admin"], trial.office
@@ -252,7 +252,7 @@ def lost_reply(trial):
     assert office.ask("GET", "/clients/tally")["number"] == was + 1
 
 
-@step
+@fault
 def delete_move_undo(trial):
     """Delete with undo, a deletion of a card that changed, and a move."""
     admin, office = trial.desks["admin"], trial.office
