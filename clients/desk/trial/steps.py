@@ -257,6 +257,7 @@ def delete_move_undo(trial):
     """Delete with undo, a deletion of a card that changed, and a move."""
     admin, office = trial.desks["admin"], trial.office
     text = office.card("clients", "c23")["card"]
+    admin.front()  # nothing is asked at a desk that isn't seen
     search(admin, "xanthe")
     admin.wait(f"{TITLE} === 'Xanthe Papadaki'")
     more(admin, "Delete")
