@@ -382,7 +382,7 @@ def older_desk(trial):
     office = trial.office
     page = trial.browser.page(trial.browser.context())
     trial.desks["older"] = page
-    page.enter(office.front, "ann", "manifest.json")
+    page.enter(office.front, "ann", "style/base.css")
     page.run(OLD_TABLES)
     page.go(office.front)
     page.wait(f"{STATE}.startsWith('Up to date')")
@@ -435,7 +435,7 @@ def second_desk(trial):
     office = trial.office
     page = trial.browser.page(trial.browser.context())
     trial.desks["second"] = page
-    page.enter(office.front, "ann", "manifest.json")
+    page.enter(office.front, "ann", "style/base.css")
     page.run(SECOND_TABLES)
     # The rows have categories, before the server says anything.
     page.go(f"{office.front}?")
