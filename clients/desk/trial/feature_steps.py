@@ -82,6 +82,9 @@ def search_further(trial):
 def groups_of_a_person(trial):
     """Boxes to tick put a person into groups; a group is a list of its members; one undo."""
     page, office = at_desk(trial), trial.office
+    page.front()
+    page.press("clients", "document.querySelector('#books')")
+    search(page, "")
     show(page, "c21", "Viktor Sokolov")
     more(page, "Groups…")
     page.press("Accounts and law", DIALOG)
