@@ -14,7 +14,7 @@ DAY = {}
 BOOKS = "[...document.querySelectorAll('#books .choose')].map((it) => it.innerText)"
 CARD = "document.querySelector('.card').innerText"
 DIALOG = "document.querySelector('dialog').innerText"
-CAPTION = "document.querySelector('dialog .tally caption')?.textContent"
+CAPTION = "document.querySelector('dialog .card-total')?.textContent"
 SAID = "document.querySelector('dialog .import').innerText"
 
 
@@ -332,10 +332,14 @@ def tally(day):
     page, hands = day.mine
     menu(page, "clients")
     wanted = json.loads(day.office.curl("ann", "/clients/tally"))
+    page.wait(f"{CAPTION} === '{wanted['cards']} cards'")
+    hands.to("Details", kind="summary")
+    page.key("Enter")
+    page.wait("document.querySelector('.tally').innerText.includes('Since the book was made')")
     shown = page.run("document.querySelector('.tally').innerText")
-    assert shown.startswith(f"{wanted['cards']} cards"), shown
-    for name, words in (("created", "created"), ("imported", "imported"), ("number", "in all"),
-                        ("moved_in", "moved in"), ("edited", "edited")):
+    for name, words in (("created", "one by one"), ("imported", "New cards from files"),
+                        ("number", "together"), ("moved_in", "came from other books"),
+                        ("edited", "Changes of a card")):
         line = next(it for it in shown.splitlines() if it.split("\t")[0].endswith(words))
         assert line.split("\t")[1] == str(wanted[name]), (name, shown, wanted)
     day.picture(page, "tally")

@@ -5,7 +5,7 @@ from browser import SHIFT
 from hands import Hands
 from loss_steps import at_desk
 from office import card
-from steps import TITLE, search, step
+from steps import MENU, TITLE, fill, search, step, up_to_date
 
 IS_OPEN = "Boolean(document.querySelector('dialog[open]'))"
 IS_IN = "Boolean(document.activeElement.closest('dialog, #toast')) " \
@@ -46,7 +46,8 @@ def dialogs(trial):
     search(page, "viktor")
     page.wait(f"{TITLE} === 'Viktor Sokolov'")
     for item, title in (("Groups…", "Groups of Viktor"), ("Move…", "Move Viktor"),
-                        ("Earlier versions…", "Earlier versions"), ("Delete", "Delete Viktor")):
+                        ("Changed in this browser…", "Changed in this browser"),
+                        ("Delete", "Delete Viktor")):
         card_menu(hands, page, item)
         look(page, hands, item, title)
         page.key("Escape")
@@ -103,3 +104,67 @@ def menus(trial):
     page.key("Escape")
     hands.press("Cancel")
     page.wait("!document.querySelector('.form')")
+
+
+# The copy was away from 1 to 2 November 2025, 9:00 each.
+LONG_AGO = """(async () => {
+    const db = await new Promise((resolve) => {
+        const request = indexedDB.open('desk');
+        request.onsuccess = () => resolve(request.result);
+    });
+    const books = db.transaction('books', 'readwrite').objectStore('books');
+    books.get('staff').onsuccess = ({ target }) => books.put({ ...target.result,
+        after: new Date(2025, 10, 1, 9).getTime(), changed: new Date(2025, 10, 2, 9).getTime() });
+    await new Promise((resolve) => { books.transaction.oncomplete = resolve; });
+    db.close();
+})()"""
+SIZES = [("wide", 1280, 800), ("narrow", 390, 780)]
+
+
+@step
+def book_in_short(trial):
+    """A book says how many cards it has and when it changed; other numbers are behind Details."""
+    office = trial.office
+    page = trial.desk("ann", "short")
+    said = "document.querySelector('dialog').innerText"
+    look = f"({MENU}).click()"
+
+    def opened(words):
+        page.run(look)
+        page.wait(f"{said}.includes({words!r})")
+        assert "New cards" not in page.run(said), page.run(said)
+
+    fill(page, "Name of the book", "staff")
+    page.key("Enter")
+    page.wait(f"Boolean({MENU})")
+    up_to_date(page)
+    opened("No change since ")
+    page.key("Escape")
+    office.put("staff", "short", card("short", "FN:Short Said"))
+    up_to_date(page)
+    opened("Last changed: ")
+    number = office.ask("GET", "/staff/tally")["cards"]
+    page.wait(f"document.querySelector('.card-total').textContent === '{number} cards'")
+    for name, width, height in SIZES:
+        page.size(width, height)
+        for scheme in page.schemes:
+            page.scheme(scheme)
+            page.run("new Promise((done) => setTimeout(done, 300))")
+            page.picture(trial.pictures / f"book-{name}-{scheme}.png")
+        audit(page, f"a book in short, {name}")
+    Hands(page).to("Details", kind="summary")
+    page.key("Enter")
+    page.wait(f"{said}.includes('New cards from files')")
+    page.picture(trial.pictures / "book-details.png")
+    audit(page, "a book with its details")
+    assert not page.run("document.documentElement.scrollWidth > innerWidth")
+    page.size(1280, 800)
+    page.key("Escape")
+    page.run(LONG_AGO)
+    opened("Last changed between 1 Nov 2025, 09:00 and 2 Nov 2025, 09:00")
+    page.key("Escape")
+    # Without the network the number is that of the copy.
+    office.shut()
+    opened(f"{number} cards")
+    office.open()
+    page.key("Escape")

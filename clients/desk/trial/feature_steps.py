@@ -6,7 +6,7 @@ import re
 
 from loss_steps import CARD, at_desk, names
 from office import card, logical
-from steps import ROWS, TITLE, more, search, step, stored, toast, until
+from steps import ROWS, TITLE, fault, more, search, step, stored, toast, until
 
 LIST_MENU = "document.querySelector('#list-menu')"
 DIALOG = "document.querySelector('dialog')"
@@ -78,10 +78,13 @@ def search_further(trial):
         search(page, "")
 
 
-@step
+@fault
 def groups_of_a_person(trial):
     """Boxes to tick put a person into groups; a group is a list of its members; one undo."""
     page, office = at_desk(trial), trial.office
+    page.front()
+    page.press("clients", "document.querySelector('#books')")
+    search(page, "")
     show(page, "c21", "Viktor Sokolov")
     more(page, "Groups…")
     page.press("Accounts and law", DIALOG)
@@ -96,7 +99,7 @@ def groups_of_a_person(trial):
     page.press("clients", "document.querySelector('#books')")
 
 
-@step
+@fault
 def several(trial):
     """Shift and Ctrl select; delete, with one undo; put into a group; write to files."""
     page, office = at_desk(trial), trial.office
@@ -170,7 +173,7 @@ FAILS_LATE = """(() => {
 })()"""
 
 
-@step
+@fault
 def duplicates(trial):
     """Two cards of one person are put together value by value, and taken apart by Undo."""
     page, office = at_desk(trial), trial.office
@@ -222,7 +225,7 @@ def duplicates(trial):
     search(page, "")
 
 
-@step
+@fault
 def trash(trial):
     """What was deleted or overwritten here can be put back, after the message is gone too."""
     page, office = at_desk(trial), trial.office
@@ -249,7 +252,7 @@ def trash(trial):
     page.press("Save")
     stored(office, "c22", "NOTE:A note that was a mistake")
     page.wait("document.querySelector('#waiting').hidden")
-    more(page, "Earlier versions")
+    more(page, "Changed in this browser")
     page.press("Put back", DIALOG)
     until(lambda: office.card("clients", "c22")["card"] == text)
 

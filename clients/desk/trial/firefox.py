@@ -25,6 +25,7 @@ EVENTS = ["log.entryAdded", "network.beforeRequestSent", "browsingContext.userPr
 SETTINGS = {
     # Dark: Firefox has no command for another scheme, and Chromium shows both.
     "layout.css.prefers-color-scheme.content-override": 0,
+    "intl.accept_languages": "en-GB",
     "app.normandy.enabled": False, "app.update.disabledForTesting": True,
     "browser.safebrowsing.downloads.enabled": False,
     "browser.aboutwelcome.enabled": False, "browser.download.alwaysOpenPanel": False,
@@ -98,6 +99,11 @@ class Firefox:
         elif event["method"] == "browsingContext.userPromptOpened":
             page.dialogs.append(given["message"])
 
+    def context(self):
+        """A new profile: its own storage, as of another user."""
+        made = self.call("browser.createUserContext", acceptInsecureCerts=True)
+        return made["userContext"]
+
     def page(self, profile=None, width=1280, height=800):
         where = {"userContext": profile} if profile else {}
         tab = self.call("browsingContext.create", type="tab", **where)["context"]
@@ -108,11 +114,7 @@ class Firefox:
 
     def desk(self, address, user, isolated=True, **size):
         """A page of a user, with storage of its own unless `isolated` is false."""
-        profile = None
-        if isolated:
-            made = self.call("browser.createUserContext", acceptInsecureCerts=True)
-            profile = made["userContext"]
-        page = self.page(profile, **size)
+        page = self.page(self.context() if isolated else None, **size)
         page.enter(address, user)
         return page
 

@@ -376,13 +376,13 @@ OLD_TABLES = """(async () => {
 })()"""
 
 
-@step
+@fault
 def older_desk(trial):
     """A browser with the copy of an older desk: names of books and drafts are taken over."""
     office = trial.office
     page = trial.browser.page(trial.browser.context())
     trial.desks["older"] = page
-    page.enter(office.front, "ann", "manifest.json")
+    page.enter(office.front, "ann", "style/base.css")
     page.run(OLD_TABLES)
     page.go(office.front)
     page.wait(f"{STATE}.startsWith('Up to date')")
@@ -429,13 +429,13 @@ SECOND_TABLES = """(async () => {
 })()"""
 
 
-@step
+@fault
 def second_desk(trial):
     """A browser with the copy of the desk before this one: all of it stays, and what waits goes."""
     office = trial.office
     page = trial.browser.page(trial.browser.context())
     trial.desks["second"] = page
-    page.enter(office.front, "ann", "manifest.json")
+    page.enter(office.front, "ann", "style/base.css")
     page.run(SECOND_TABLES)
     # The rows have categories, before the server says anything.
     page.go(f"{office.front}?")

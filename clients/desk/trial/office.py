@@ -8,6 +8,7 @@ import re
 import socket
 import ssl
 import subprocess
+import sys
 import tempfile
 import time
 import urllib.parse
@@ -15,6 +16,8 @@ from pathlib import Path
 
 ROOT = Path(__file__).resolve().parents[3]
 SITE = ROOT / "clients/desk/site"
+PYTHON = ROOT / "clients/python"
+DESK = "    # The desk: without it,"  # before which an office has the versions of cards
 USERS = ("admin", "ann", "bob", "hall")
 
 
@@ -46,6 +49,7 @@ class Office:
         self.holder = tempfile.TemporaryDirectory(prefix="desk-office-")
         self.folder = Path(self.holder.name)
         self.file = self.folder / "office.db"
+        self.memory = self.folder / "memory"
         self.nginx = None
         self.server = None
         self.port = free_port()
@@ -102,6 +106,7 @@ class Office:
             if old not in text:
                 raise AssertionError(f"examples/nginx.conf has no {old}")
             text = text.replace(old, new)
+        text = text.replace(DESK, "".join(map(self.handing_out, ("staff", "clients"))) + DESK)
         temporary = "".join(
             f"{kind}_temp_path {self.folder}/{kind};\n"
             for kind in ("client_body", "proxy", "fastcgi", "uwsgi", "scgi")
@@ -110,6 +115,20 @@ class Office:
             f"user root;\ndaemon off;\npid {self.folder}/pid;\nerror_log {self.folder}/error.log;\n"
             "events {}\nhttp {\ninclude /etc/nginx/mime.types;\n"
             f"access_log off;\n{temporary}{text}}}\n"
+        )
+
+    def handing_out(self, book):
+        """docs/CLIENTS.md's lines that hand out a book's versions, with this office's paths."""
+        block, = re.findall(r"```nginx\n(.*?)```", (ROOT / "docs/CLIENTS.md").read_text(), re.S)
+        block = block.replace("/var/lib/tosculai-follow", str(self.memory))
+        return block.replace("/staff/", f"/{book}/")
+
+    def remember(self):
+        """One round of `follow`: the versions of cards that are there by now are kept."""
+        url = f"http://127.0.0.1:{self.port}"
+        subprocess.run(
+            [sys.executable, PYTHON / "follow.py", url, self.memory, "--once", "--dated"],
+            check=True, stdout=subprocess.DEVNULL,
         )
 
     def serve(self):

@@ -5,7 +5,7 @@ import { saveFile } from "./files.js";
 import { mailsOf } from "./groups.js";
 import { olderCard } from "./older.js";
 import { nameOf } from "./person.js";
-import { decide, giveUp } from "./questions.js";
+import { chooseBoth, decide, giveUp, namer } from "./questions.js";
 import { count, faultText, t } from "./say.js";
 import { mailLink, mailsLink } from "./values.js";
 import { readCard } from "./vcard.js";
@@ -15,6 +15,7 @@ import { ask, askText } from "./views/dialogs.js";
 import { printSheet } from "./views/print.js";
 import { askTicks } from "./views/ticks.js";
 import { trashView } from "./views/trash.js";
+import { versionsView } from "./views/versions.js";
 import { fill } from "./dom.js";
 
 /** What went wrong, in words. A fault that isn't of a request is thrown on. */
@@ -63,6 +64,8 @@ export class Actions {
       groups: () => this.groupsOf(book, uid, seen.name),
       earlier: () => this.trash(t("earlierTitle", { name: seen.name }),
         (it) => it.book === book && it.uid === uid),
+      hasVersions: () => desk.memory.has(book, uid),
+      versions: () => this.versions(book, uid, seen.name),
       mailAll: seen.kind === "group" ? () => this.mailAll(book, seen.members) : null,
       share: () => this.share(seen, file, text),
       print: () => this.print("card"),
@@ -120,6 +123,44 @@ export class Actions {
     await desk.changed();
     desk.pane.open(it.book, it.uid);
     desk.frame.toast(t("isBack", { name: nameIn(it.text) }));
+  }
+
+  /** The versions of a card that the office's memory has; one of them put back. */
+  async versions(book, uid, name) {
+    const { desk } = this;
+    const [versions, now] = await Promise.all([
+      this.reply(desk.memory.list(book, uid)), desk.queue.seen(book, uid),
+    ]);
+    if (!versions || !now) {
+      desk.frame.toast(t("versionsAway"));
+      return;
+    }
+    const text = await versionsView(name || t("nameless"), versions, {
+      text: (it) => desk.memory.text(book, uid, it), now: now.text, nameOf: namer(desk, book),
+      mayChange: desk.mayChange(book),
+    });
+    if (text) await this.putBack(book, uid, now, text);
+  }
+
+  /** Saves a text in place of `now`, what the user saw: a change like that of a form. */
+  async putBack(book, uid, now, text) {
+    const { desk } = this;
+    let [base, put] = [now.text, text];
+    for (;;) {
+      const { version } = now;
+      const done = await desk.queue.save({ book, uid, base, version, text: put });
+      if (done.clash === undefined) break;
+      const chosen = await chooseBoth(desk, book, base, put, done.clash);
+      if (chosen === null) return;
+      [base, put] = [done.clash, chosen];
+    }
+    // What the server has is kept when it takes the change; this is what it doesn't have.
+    if (now.entry) await desk.trash.keep(book, uid, now.text, "changed");
+    await desk.changed();
+    desk.pane.open(book, uid);
+    desk.frame.toast(t("isBack", { name: nameIn(put) }), {
+      text: t("undo"), run: () => this.restore(book, uid, now.text),
+    });
   }
 
   /** A mail to all people of a group, with groups in groups, by the device's mail program. */
@@ -257,6 +298,7 @@ export class Actions {
     const { desk, files } = this;
     const book = await desk.store.book(name);
     return showBook(book, {
+      cards: desk.shelf.count(name),
       tally: () => this.api.tally(name).catch((fault) => { throw words(fault); }),
       update: () => desk.follow(name),
       tryChanges: book.rights === "read" ? () => desk.setRights(name, "") : null,

@@ -8,6 +8,7 @@ import { ASKS } from "./entries.js";
 import { Faces } from "./faces.js";
 import { Frame } from "./frame.js";
 import { Lists } from "./lists.js";
+import { Memory } from "./memory.js";
 import { Outbox } from "./outbox.js";
 import { Pane } from "./pane.js";
 import { Queue } from "./queue.js";
@@ -29,7 +30,9 @@ export class Desk {
     this.drafts = new Drafts(store.db);
     this.trash = new Trash(store.db);
     // From the origin, as the page's own address may have a name and a password in it.
-    this.api = new Api(location.origin + document.querySelector("meta[name=books]").content);
+    const at = (name) => location.origin + document.querySelector(`meta[name=${name}]`).content;
+    this.api = new Api(at("books"));
+    this.memory = new Memory(at("versions"));
     this.shelf = new Shelf(language);
     this.frame = new Frame();
     this.actions = new Actions(this);
@@ -283,7 +286,8 @@ export class Desk {
   }
 
   mark() {
-    const id = this.list.activeId;
+    // Of a card that is far from what is in sight, the list has no row.
+    const id = document.getElementById(this.list.activeId)?.id;
     for (const node of [this.frame.search, this.frame.listRoot]) {
       if (id) node.setAttribute("aria-activedescendant", id);
       else node.removeAttribute("aria-activedescendant");
@@ -308,7 +312,7 @@ export class Desk {
     this.list.top();
     this.settle();
     this.draw();
-    if (!this.frame.isNarrow) this.frame.search.focus();
+    this.frame.goToSearch();
   }
 
   /** Two cards are of different people, whatever they have in common. */

@@ -2,6 +2,7 @@
 import { bdi, button, el, fill } from "./dom.js";
 import { icon } from "./icons.js";
 import { count, faultText, number, t, timeText } from "./say.js";
+import { openMenu } from "./views/menu.js";
 
 const by = (id) => document.getElementById(id);
 
@@ -59,6 +60,11 @@ export class Frame {
 
   get isNarrow() {
     return matchMedia("(max-width: 47.99rem)").matches;
+  }
+
+  /** Brings the focus to the search, but not on a phone, and not out of an open menu. */
+  goToSearch() {
+    if (!this.isNarrow && !openMenu()) this.search.focus();
   }
 
   /** The button for a new card is there if there is a book for one. */

@@ -9,8 +9,18 @@ import { t } from "./say.js";
 import { newUid, readCard } from "./vcard.js";
 import { cardView } from "./views/card.js";
 import { bookQuestion } from "./views/books.js";
+import { openMenu } from "./views/menu.js";
 
 const part = encodeURIComponent;
+
+/**
+ * Answers a question for later: whether the user is still where they are now. What comes into the
+ * pane takes the focus only then, and never out of an open menu, which would close.
+ */
+function staying() {
+  const was = document.activeElement;
+  return () => [was, document.body].includes(document.activeElement) && !openMenu();
+}
 
 export class Pane {
   constructor(desk) {
@@ -103,7 +113,7 @@ export class Pane {
     this.desk.frame.showPane("list");
     this.desk.draw();
     document.title = t("title");
-    if (!this.desk.frame.isNarrow) this.desk.frame.search.focus();
+    this.desk.frame.goToSearch();
   }
 
   /** Takes the card out of the pane, and leaves the user where they are. */
@@ -154,7 +164,7 @@ export class Pane {
     const seen = await this.desk.queue.seen(shown.book, shown.uid);
     if (this.shown !== shown || this.coming) return;
     // Not while something of it is pressed, or while its menu is open.
-    if (this.desk.isHeld || this.node.querySelector(".menu-list:not([hidden])")) {
+    if (this.desk.isHeld || openMenu(this.node)) {
       setTimeout(() => this.again(), 150);
       return;
     }
@@ -184,26 +194,33 @@ export class Pane {
   /** Shows a card in the pane; `isFinal` if the user goes there. */
   async show(book, uid, isFinal = false) {
     const asked = this.ask();
+    const isStaying = staying();
     this.coming = asked;
     this.comingKey = `${book}/${uid}`;
     const seen = await this.desk.queue.seen(book, uid);
     if (asked !== this.asked) return; // another card was asked for meanwhile
-    if (seen) {
+    const isThere = this.shown?.kind === "card" && keyOf(this.shown) === this.comingKey;
+    if (seen && isThere && openMenu(this.node)) {
+      this.ask();
+      this.again(); // once its menu is closed
+    } else if (seen) {
       this.set({ kind: "card", book, uid });
       this.fillCard(book, uid, seen);
+      this.node.scrollTop = 0;
     } else {
       this.gone(book, uid);
+      this.node.scrollTop = 0;
     }
-    this.node.scrollTop = 0;
     if (!isFinal) return;
     if (seen) this.desk.lists.opened(book, uid);
     this.desk.frame.showPane("card");
     this.desk.draw();
-    this.node.querySelector("#card-name")?.focus({ preventScroll: true });
+    if (isStaying()) this.node.querySelector("#card-name")?.focus({ preventScroll: true });
   }
 
   fillCard(book, uid, { text, entry }) {
     const { shelf } = this.desk;
+    this.desk.memory.shown(book, uid);
     const person = describe(readCard(text));
     const row = shelf.get(book, uid) ?? rowOf(book, uid, 0, text);
     fill(this.node, this.back(), cardView({
@@ -234,6 +251,7 @@ export class Pane {
       return;
     }
     const asked = this.ask();
+    const isStaying = staying();
     const form = await Forming.begin(desk, place);
     if (asked !== this.asked) {
       form?.free();
@@ -251,7 +269,7 @@ export class Pane {
     desk.draw();
     desk.drawWaiting();
     this.node.scrollTop = 0;
-    form.focus();
+    if (isStaying()) form.focus();
   }
 }
 

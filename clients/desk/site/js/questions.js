@@ -14,7 +14,7 @@ function nameIn(text) {
 }
 
 /** Members are shown by their names. */
-function namer(desk, book) {
+export function namer(desk, book) {
   return (value) => desk.shelf.members(book, [value])[0][1]?.name ?? value;
 }
 

@@ -10,6 +10,9 @@ const times = new Intl.DateTimeFormat(locale, { hour: "2-digit", minute: "2-digi
 const days = new Intl.DateTimeFormat(locale, {
   day: "numeric", month: "short", hour: "2-digit", minute: "2-digit",
 });
+const years = new Intl.DateTimeFormat(locale, {
+  day: "numeric", month: "short", year: "numeric", hour: "2-digit", minute: "2-digit",
+});
 
 function filled(text, values) {
   return text.replace(/\{(\w+)\}/g, (_, key) => String(values[key] ?? ""));
@@ -32,11 +35,12 @@ export function number(n) {
   return numbers.format(n);
 }
 
-/** A time of today, or a day with its time. */
-export function timeText(ms) {
-  if (!ms) return t("never");
-  const isToday = new Date(ms).toDateString() === new Date().toDateString();
-  return (isToday ? times : days).format(ms);
+/** A time of today, or a day with its time, and with its year if that isn't this one. */
+export function timeText(ms, none = t("never")) {
+  if (!ms) return none;
+  const [date, now] = [new Date(ms), new Date()];
+  if (date.toDateString() === now.toDateString()) return times.format(ms);
+  return (date.getFullYear() === now.getFullYear() ? days : years).format(ms);
 }
 
 /** A date of a card: with or without its year, its month and its day. */
@@ -57,7 +61,7 @@ export function usesText(label) {
 }
 
 export function propertyText(name) {
-  return TEXTS.properties[name] ?? name;
+  return TEXTS.properties[name] ?? t("otherProperty");
 }
 
 /** A fault in words. */

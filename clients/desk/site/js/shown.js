@@ -22,6 +22,7 @@ function valueText(line, nameOf) {
     const date = dateParts(value);
     return date ? dateText(date) : unescapeText(value);
   }
+  if (name === "CATEGORIES" || name === "NICKNAME") return componentText(value);
   if (name === "ORG") return partsOf(value, ";").map(unescapeText).filter(Boolean).join(", ");
   return unescapeText(value);
 }

@@ -175,6 +175,9 @@ export class Store {
     const whole = book.whole || !last.truncated;
     const synced = last.truncated ? book.synced : now;
     const next = { ...book, token: last.token, whole, synced };
+    if (whole) next.since ??= now;
+    // When others changed it is known no better than by when it was asked.
+    if (book.whole && changed.size) Object.assign(next, { after: book.synced, changed: now });
     books.put(next);
     const rows = [...changed.values()].filter(Boolean);
     const gone = [...changed].filter((it) => !it[1]).map((it) => it[0]);

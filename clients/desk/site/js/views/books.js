@@ -3,6 +3,7 @@ import { button, el, fill, newId } from "../dom.js";
 import { count, number, t, timeText } from "../say.js";
 import { dialog } from "./dialogs.js";
 
+const CLOSE = 120_000;
 const NAME = /^[a-z0-9-]{1,40}$/;
 
 /** What is wrong with the name of a book, or "". */
@@ -77,24 +78,42 @@ export function askFile(book, run, files = null) {
   });
 }
 
-/** A book: how its copy is, its numbers, and what can be done. `run` has the actions. */
+/** When a book last changed, as far as this browser knows. */
+function changedText({ changed, after, since }) {
+  if (!changed) return since ? t("bookSame", { time: timeText(since) }) : "";
+  const [to, from] = [timeText(changed), timeText(after)];
+  const isClose = changed - after < CLOSE || to === from;
+  return isClose ? t("bookChanged", { time: to }) : t("bookChangedBetween", { from, to });
+}
+
+/**
+ * A book: how many cards it has, when it changed, and what can be done; its other numbers for who
+ * asks for them. `run` has the actions, and the number of cards that are here.
+ */
 export function showBook(book, run) {
   return dialog(t("bookTitle", { book: book.name }), (close) => {
+    const cards = el("p", { class: "card-total" }, count("cardsCount", run.cards));
     const numbers = el("div", { "aria-live": "polite" }, tallyView(null));
     run.tally().then(
-      (tally) => fill(numbers, tallyView(tally)),
+      (tally) => {
+        fill(cards, count("cardsCount", tally.cards));
+        fill(numbers, tallyView(tally));
+      },
       (words) => fill(numbers, el("p", {}, words)),
     );
+    const changed = changedText(book);
     const doing = (text, action, kind) =>
       button(text, () => {
         close(null);
         action();
       }, { class: kind ?? null });
     return [
-      el("p", {}, book.synced ? t("copyOf", { time: timeText(book.synced) }) : t("noCopy")),
+      cards,
+      changed && el("p", {}, changed),
+      el("p", { class: "hint" },
+        book.synced ? t("copyOf", { time: timeText(book.synced) }) : t("noCopy")),
       run.tryChanges && el("p", {}, t("readOnly"), " ",
         doing(t("tryChanges"), run.tryChanges, "quiet")),
-      numbers,
       el("div", { class: "doings" },
         doing(t("update"), run.update),
         run.import && doing(t("importFiles"), run.import),
@@ -104,19 +123,20 @@ export function showBook(book, run) {
         doing(t("startAgain"), run.startAgain),
         doing(t("dropBook"), run.drop, "danger")),
       el("p", { class: "hint" }, t("bookHints")),
+      el("details", { class: "book-details" }, el("summary", {}, t("bookDetails")), numbers),
       el("div", { class: "bar" }, button(t("close"), () => close(null))),
     ];
   });
 }
 
-/** The numbers of a book. Before they come (null) they have their room, so that no button moves. */
+/** The numbers of a book. Before they come (null) they have their room, so that nothing moves. */
 function tallyView(tally) {
   const rows = [
-    "created", "imported", "moved_in", "deleted", "moved_out", "edited", "import_edited",
+    "created", "imported", "moved_in", "edited", "import_edited", "deleted", "moved_out",
     "number", "remembered", "horizon",
   ];
   return el("table", { class: "tally" },
-    el("caption", {}, tally ? count("cardsCount", tally.cards) : t("asking")),
+    el("caption", {}, t(tally ? "bookNumbers" : "asking")),
     el("tbody", {}, rows.map((it) =>
       el("tr", {}, el("th", { scope: "row" }, t(`tally_${it}`)),
         el("td", {}, tally ? number(tally[it]) : "…")),

@@ -69,6 +69,7 @@ function head(seen, mayChange, act) {
         [t(act.isFavourite() ? "unfavourite" : "favourite"), act.favourite],
         mayChange && [t("groupsOf"), act.groups],
         mayChange && [t("move"), act.move],
+        act.hasVersions() && [t("versions"), act.versions],
         mayChange && [t("earlier"), act.earlier],
         [t("saveVcf"), act.download],
         [t("saveVcf3"), act.download3],

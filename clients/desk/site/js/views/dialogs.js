@@ -19,6 +19,8 @@ export function dialog(title, make, kind = "") {
     fill(box, el("h2", { id }, title), make(close, box));
     document.body.append(box);
     box.showModal();
+    // The focus may be at its end, and what is long begins at its title.
+    box.scrollTop = 0;
   });
 }
 

@@ -1,6 +1,11 @@
 // A button with a menu: arrows go through it, Escape and a press elsewhere close it.
 import { button, el, fill, newId } from "../dom.js";
 
+/** The menu that is open, or null. Nothing that comes by itself takes the focus from it. */
+export function openMenu(within = document) {
+  return within.querySelector(".menu-list:not([hidden])");
+}
+
 /**
  * A button that opens a menu. `items` gives, each time, a list of `[text, run, kind]`, of which
  * some may be null.
