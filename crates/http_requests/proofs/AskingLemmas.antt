@@ -55,7 +55,7 @@ module _ {S : Type 0} (does : HandlerRelation S) where
       | inl admitted ↦ inl (subst (λ (t : List ℕ). AdmitsHead does new t) (sym grown) (subst (λ (s : S). AdmitsHead does s (held ++ take n rest)) (sym same) (admits_more old held (take n rest) at is within admitted)))
       | inr (whole, began) ↦ inr (
         ap (λ (t : List ℕ). now ++ t) left_is ∙ ap (λ (t : List ℕ). t ++ drop n rest) grown ∙ append_assoc held (take n rest) (drop n rest)
-        ∙ ap (λ (t : List ℕ). held ++ t) (take-append-drop n rest) ∙ whole,
+            ∙ ap (λ (t : List ℕ). held ++ t) (take-append-drop n rest) ∙ whole,
         began,
       )
     ]

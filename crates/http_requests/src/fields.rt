@@ -37,7 +37,11 @@ fn count_fields_named(text: &[u8], fields: &[HeaderSpan], name: &str) -> usize
 }
 
 /// The first field with the name.
-pub(crate) fn first_field_named(text: &[u8], fields: &[HeaderSpan], name: &str) -> Option<HeaderSpan>
+pub(crate) fn first_field_named(
+    text: &[u8],
+    fields: &[HeaderSpan],
+    name: &str,
+) -> Option<HeaderSpan>
     requires { All (IsHeaderWithin (length text.now)) fields.now }
     ensures { MatchOption result
         (first_field_named name.now (map (header_bytes text.now) fields.now) ≡ None)

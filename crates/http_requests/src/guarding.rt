@@ -89,12 +89,7 @@ fn has_precondition(text: &[u8], fields: &[HeaderSpan]) -> bool
 }
 
 /// Why a request to this host is refused.
-fn guard_writes(
-    host: &[u8],
-    method: &[u8],
-    text: &[u8],
-    fields: &[HeaderSpan],
-) -> Option<HeadFault>
+fn guard_writes(host: &[u8], method: &[u8], text: &[u8], fields: &[HeaderSpan]) -> Option<HeadFault>
     requires { All (IsHeaderWithin (length text.now)) fields.now }
     ensures { result ≡ guard_writes host.now method.now (map (header_bytes text.now) fields.now) }
 {
