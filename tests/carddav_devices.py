@@ -135,8 +135,10 @@ class Device:
             if self.remove(uid):
                 self.ledger.removed[uid] = True
             return
-        change = self.regroup if self.random.random() < self.moves else self.change
-        change(uid, kind < 0.4)
+        if self.random.random() < self.moves:
+            self.regroup(uid, self.random.random() < 0.4)
+        else:
+            self.change(uid, kind < 0.4)
 
     def change(self, uid, takes):
         """Adds a number, or takes one away."""
