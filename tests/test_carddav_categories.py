@@ -338,6 +338,10 @@ class Between(BetweenTest, CategoriesTest):
 
     def setUp(self):
         super().setUp()
+        self.fill()
+
+    def fill(self):
+        self.cat.close()
         for it in [it.uid for it in self.staff.page("").members if it.version]:
             self.staff.remove(it)
         self.staff.put(card("a", "Ann", "TEL:+1"))
@@ -365,7 +369,7 @@ class Between(BetweenTest, CategoriesTest):
     def test_a_group_is_changed(self):
         for number in 1, 2, 3:
             with self.subTest(number):
-                self.setUp()
+                self.fill()
                 self.at(number, self.more_members)
                 self.assertEqual(204, self.edit())
                 number, groups = self.state()
@@ -389,11 +393,8 @@ class Between(BetweenTest, CategoriesTest):
         for number in range(4):
             for is_patient in False, True:
                 with self.subTest(number=number, is_patient=is_patient):
-                    self.setUp()
-                    killed = threading.Event()
-                    self.at(number, lambda: self.stack.kill_gateway() or killed.set() or "cut")
-                    self.assertRaises(OSError, self.edit)
-                    self.assertTrue(killed.wait(PATIENCE))
+                    self.fill()
+                    self.kill_at(number)
                     self.stack.start()
                     shown = self.shown() if is_patient else None
                     again = self.cat.ask("PUT", STAFF + "a.vcf", self.first.text.replace(
@@ -404,11 +405,35 @@ class Between(BetweenTest, CategoriesTest):
                     self.assertEqual(("+2", {"Board": [["b"]], "Choir": [["a", "b"]],
                                              "New": [["a"]]}), self.state())
 
-    def test_the_start_repairs(self):
+    def test_others_change_a_group_while_the_gateway_is_down(self):
+        """Theirs stays, whether the edit had been done or not; what nobody touched is repaired."""
+        for number in 2, 3:
+            with self.subTest(number):
+                self.fill()
+                self.kill_at(number)
+                self.team("g", "Board", "a", "z")
+                self.stack.start()
+                self.assertEqual(["Board", "Choir", "New"], self.shown())
+                self.assertEqual(("+2", {"Board": [["a", "z"]], "Choir": [["a", "b"]],
+                                         "New": [["a"]]}), self.state())
+
+    def test_others_change_the_person_while_the_gateway_is_down(self):
+        self.kill_at(1)
+        stored = self.staff.get("a")
+        self.staff.put(stored.text.replace("+2", "+9"), stored.version)
+        self.stack.start()
+        self.assertEqual(["Board"], self.shown())
+        self.assertEqual(("+9", {"Board": [["a", "b"]], "Choir": [["b"]]}), self.state())
+
+    def kill_at(self, number):
+        """Kills the gateway within an edit, at its request of this number."""
         killed = threading.Event()
-        self.at(2, lambda: self.stack.kill_gateway() or killed.set() or "cut")
+        self.at(number, lambda: self.stack.kill_gateway() or killed.set() or "cut")
         self.assertRaises(OSError, self.edit)
         self.assertTrue(killed.wait(PATIENCE))
+
+    def test_the_start_repairs(self):
+        self.kill_at(2)
         self.stack.start()
         self.dav.ask("GET", STAFF + "a.vcf")
         for _ in range(100):

@@ -114,10 +114,16 @@ class CategoryBook(AddressBook):
             self.refresh()
 
     def _repair(self, wish: Wish) -> None:
+        """Does what is left to do; but not with groups that were changed since.
+
+        That was done by this very wish, or by others, whose changes it mustn't undo so late.
+        """
         found = self.state.text(self.number, wish.uid)
+        same = {it for it, seen in wish.teams.items() if self.shown.versions(it) == seen}
         try:
             if found and digest_of(found[1]) == wish.digest:
-                self.settle(wish)
+                self.settle(wish._replace(joins=[it for it in wish.joins if it in same],
+                                          leaves=[it for it in wish.leaves if it in same]))
         except Failed as fault:
             self.shelf.say(f"{self.name}: {wish.uid}: {fault}")
             return
@@ -219,7 +225,8 @@ def put(view: AddressBook, name: str, sent: Sent, conditions: Conditions) -> Sto
 def _put_once(view: CategoryBook, name: str, plain: Sent, old: Optional[Entry], base: str,
               whole: str, edit: Edit) -> bool:
     """One attempt; whether nobody else was faster."""
-    wish = Wish(uid_of(whole), digest_of(whole), edit.joins, edit.leaves)
+    teams = {it: view.shown.versions(it) for it in (*edit.joins, *edit.leaves)}
+    wish = Wish(uid_of(whole), digest_of(whole), edit.joins, edit.leaves, teams)
     edits.check_uid(view.plain, name, old, wish.uid)
     has_wish = bool(wish.joins or wish.leaves)
     if has_wish:

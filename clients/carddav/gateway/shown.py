@@ -10,7 +10,7 @@ forgotten when both are done.
 
 import hashlib
 import json
-from typing import Iterable, List, NamedTuple, Optional, Set, Tuple
+from typing import Dict, Iterable, List, NamedTuple, Optional, Set, Tuple
 
 from tosculai import lines_of
 
@@ -24,8 +24,8 @@ ENTRIES = ("SELECT names.name, cards.uid, cards.version, shown.etag{more} FROM s
            " WHERE shown.book = ? AND shown.etag <> ''")
 CHANGED = ("SELECT cards.uid, cards.etag FROM cards LEFT JOIN shown ON shown.book = cards.book"
            " AND shown.uid = cards.uid WHERE cards.book = ? AND shown.stored IS NOT cards.etag")
-GONE = ("SELECT uid, '' FROM shown WHERE book = ? AND stored <> '' AND uid NOT IN"
-        " (SELECT uid FROM cards WHERE book = shown.book)")
+GONE = ("SELECT uid, '' FROM shown WHERE book = ? AND stored <> '' AND NOT EXISTS (SELECT 1"
+        " FROM cards WHERE cards.book = shown.book AND cards.uid = shown.uid)")
 NAMES = ("SELECT DISTINCT teams.name FROM members JOIN teams ON teams.book = members.book"
          " AND teams.uid = members.team WHERE members.book = ? AND members.bare = ?"
          " AND teams.name <> '' ORDER BY teams.name LIMIT ?")
@@ -36,6 +36,7 @@ class Wish(NamedTuple):
     digest: str  # of the person's card with which it comes
     joins: List[str]
     leaves: List[str]
+    teams: Dict[str, Dict[str, int]]  # by name: the groups that there were, with their versions
 
 
 class Change(NamedTuple):
@@ -93,9 +94,9 @@ class Shown:
 
     def _derive(self, bare: str, number: int) -> int:
         """Makes anew what is shown of this member; returns the number of the last change."""
-        rows = self.state.rows("SELECT uid, stored, etag, uid IN (SELECT uid FROM teams WHERE"
-                               " book = shown.book) FROM shown WHERE book = ? AND bare = ?",
-                               self.book, bare)
+        rows = self.state.rows("SELECT uid, stored, etag, EXISTS (SELECT 1 FROM teams WHERE"
+                               " teams.book = shown.book AND teams.uid = shown.uid) FROM shown"
+                               " WHERE book = ? AND bare = ?", self.book, bare)
         for uid, stored, before, is_team in rows:
             is_shown = stored and not is_team
             names = self._names(bare) if is_shown else []
@@ -147,21 +148,29 @@ class Shown:
             " AND team = teams.uid) FROM teams WHERE book = ? AND name = ? ORDER BY uid",
             bare, self.book, name)]
 
+    def versions(self, name: str) -> Dict[str, int]:
+        """The groups of this name, with their versions."""
+        return {str(uid): int(version) for uid, version in self.state.rows(
+            "SELECT cards.uid, cards.version FROM teams JOIN cards ON cards.book = teams.book AND"
+            " cards.uid = teams.uid WHERE teams.book = ? AND teams.name = ?", self.book, name)}
+
     # Wishes.
 
     def wish(self, wish: Wish) -> None:
         """Keeps a wish. It is on the disk when this returns."""
         with self.state.changing(durably=True):
-            self.state.write("INSERT OR REPLACE INTO wishes VALUES (?, ?, ?, ?, ?)", (
-                self.book, wish.uid, wish.digest, json.dumps(wish.joins), json.dumps(wish.leaves)))
+            self.state.write("INSERT OR REPLACE INTO wishes VALUES (?, ?, ?, ?, ?, ?)", (
+                self.book, wish.uid, wish.digest, *map(json.dumps, wish[2:])))
 
     def wishes(self) -> Iterable[Wish]:
-        return [Wish(str(uid), str(digest), json.loads(joins), json.loads(leaves))
-                for uid, digest, joins, leaves in self.state.rows(
-                    "SELECT uid, digest, joins, leaves FROM wishes WHERE book = ?", self.book)]
+        return [Wish(str(uid), str(digest), *map(json.loads, rest))
+                for uid, digest, *rest in self.state.rows(
+                    "SELECT uid, digest, joins, leaves, teams FROM wishes WHERE book = ?",
+                    self.book)]
 
     def forget(self, uid: str) -> None:
-        self.state.write("DELETE FROM wishes WHERE book = ? AND uid = ?", (self.book, uid))
+        with self.state.changing(durably=True):
+            self.state.write("DELETE FROM wishes WHERE book = ? AND uid = ?", (self.book, uid))
 
 
 def etag_with(stored: str, names: List[str]) -> str:

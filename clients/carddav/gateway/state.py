@@ -45,7 +45,8 @@ CREATE TABLE IF NOT EXISTS members (book INTEGER NOT NULL, bare TEXT NOT NULL, t
     PRIMARY KEY (book, bare, team)) WITHOUT ROWID;
 CREATE INDEX IF NOT EXISTS members_of_teams ON members (book, team);
 CREATE TABLE IF NOT EXISTS wishes (book INTEGER NOT NULL, uid TEXT NOT NULL, digest TEXT NOT NULL,
-    joins TEXT NOT NULL, leaves TEXT NOT NULL, PRIMARY KEY (book, uid)) WITHOUT ROWID;
+    joins TEXT NOT NULL, leaves TEXT NOT NULL, teams TEXT NOT NULL, PRIMARY KEY (book, uid))
+    WITHOUT ROWID;
 """
 VIEWS = ("views", "shown", "teams", "members", "wishes")  # what shown.py keeps
 PLAIN = re.compile(r"[A-Za-z0-9_][A-Za-z0-9_@.=+-]{0,99}")
