@@ -26,7 +26,8 @@ CHANGED = ("SELECT cards.uid, cards.etag FROM cards LEFT JOIN shown ON shown.boo
            " AND shown.uid = cards.uid WHERE cards.book = ? AND shown.stored IS NOT cards.etag")
 GONE = ("SELECT uid, '' FROM shown WHERE book = ? AND stored <> '' AND NOT EXISTS (SELECT 1"
         " FROM cards WHERE cards.book = shown.book AND cards.uid = shown.uid)")
-NAMES = ("SELECT DISTINCT teams.name FROM members JOIN teams ON teams.book = members.book"
+# CROSS JOIN and INDEXED BY, since SQLite without statistics reads whole books here.
+NAMES = ("SELECT DISTINCT teams.name FROM members CROSS JOIN teams ON teams.book = members.book"
          " AND teams.uid = members.team WHERE members.book = ? AND members.bare = ?"
          " AND teams.name <> '' ORDER BY teams.name LIMIT ?")
 
@@ -80,11 +81,12 @@ class Shown:
             "SELECT bare FROM members WHERE book = ? AND team = ?", self.book, uid)}
         after = new.members if new else set()
         self.state.write("DELETE FROM teams WHERE book = ? AND uid = ?", (self.book, uid))
-        self.state.write("DELETE FROM members WHERE book = ? AND team = ?", (self.book, uid))
         if new:
             self.state.write("INSERT INTO teams VALUES (?, ?, ?)", (self.book, uid, new.name))
-            self.state.write("INSERT INTO members VALUES (?, ?, ?)",
-                             *((self.book, it, uid) for it in after))
+        self.state.write("DELETE FROM members WHERE book = ? AND bare = ? AND team = ?",
+                         *((self.book, it, uid) for it in before - after))
+        self.state.write("INSERT INTO members VALUES (?, ?, ?)",
+                         *((self.book, it, uid) for it in after - before))
         self.state.write("INSERT OR IGNORE INTO shown VALUES (?, ?, ?, '', '', '[]', 0)",
                          (self.book, uid, bare_uid(uid)))
         self.state.write("UPDATE shown SET stored = ? WHERE book = ? AND uid = ?",
@@ -96,7 +98,7 @@ class Shown:
         """Makes anew what is shown of this member; returns the number of the last change."""
         rows = self.state.rows("SELECT uid, stored, etag, EXISTS (SELECT 1 FROM teams WHERE"
                                " teams.book = shown.book AND teams.uid = shown.uid) FROM shown"
-                               " WHERE book = ? AND bare = ?", self.book, bare)
+                               " INDEXED BY shown_members WHERE book = ? AND bare = ?", self.book, bare)
         for uid, stored, before, is_team in rows:
             is_shown = stored and not is_team
             names = self._names(bare) if is_shown else []
