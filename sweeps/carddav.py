@@ -200,6 +200,8 @@ BUGS = [
      "if since > last:", "if False:", "carddav_categories"),
     ("a page of changes has the last token", "carddav/gateway/groups.py",
      "self._token(rows[-1].number) if truncated else now", "now", "carddav_categories"),
+    ("a group may be written over by a name", "carddav/gateway/groups.py",
+     "            if old and not shown:\n", "            if False:\n", "carddav_categories"),
     ("a group comes from a program of categories", "carddav/gateway/groups.py",
      "if categories.is_group(lines_of(whole)):", "if False:", "carddav_categories"),
     ("an old edit of groups is made", "carddav/gateway/groups.py",

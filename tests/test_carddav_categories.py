@@ -253,7 +253,7 @@ class Writes(CategoriesTest):
         text = card3("n", "N", "X-ADDRESSBOOKSERVER-KIND:group")
         reply = self.cat.ask("PUT", STAFF + "n.vcf", text)
         self.assertEqual((403, "valid-address-data"), (reply.status, reply.reason[0]))
-        for uid, name in ("g", "other.vcf"), ("other", "g.vcf"):
+        for uid, name in ("g", "other.vcf"), ("other", "g.vcf"), ("g", "g.vcf"):
             reply = self.cat.ask("PUT", STAFF + name, card3(uid, "N"))
             self.assertEqual((409, "no-uid-conflict"), (reply.status, reply.reason[0]))
         self.assertEqual(["Board"], list(self.groups()))
