@@ -1,4 +1,4 @@
-"""The desk's own merge of two edits of a card, run by node; or a merge of lines where there is none.
+"""The desk's own merge of two edits of a card, run by node, or a merge of lines where none is.
 
     with Merger() as merge:
         text = merge(base, mine, theirs)

@@ -98,7 +98,8 @@ class Shown:
         """Makes anew what is shown of this member; returns the number of the last change."""
         rows = self.state.rows("SELECT uid, stored, etag, EXISTS (SELECT 1 FROM teams WHERE"
                                " teams.book = shown.book AND teams.uid = shown.uid) FROM shown"
-                               " INDEXED BY shown_members WHERE book = ? AND bare = ?", self.book, bare)
+                               " INDEXED BY shown_members WHERE book = ? AND bare = ?",
+                               self.book, bare)
         for uid, stored, before, is_team in rows:
             is_shown = stored and not is_team
             names = self._names(bare) if is_shown else []

@@ -204,7 +204,8 @@ class Session:
         if self.has_tls:
             return result(EXTENDED_REPLY, ORDER, "there is TLS already", name)
         if not self.may_start:
-            return result(EXTENDED_REPLY, PROTOCOL, "there is no StartTLS: ldap --certificate", name)
+            return result(EXTENDED_REPLY, PROTOCOL, "there is no StartTLS: ldap --certificate",
+                          name)
         if count > 1:
             return result(EXTENDED_REPLY, PROTOCOL, "StartTLS has no value", name)
         self.starts = True
