@@ -29,6 +29,7 @@ PASSWORD = "a pässword: long"
 HASH = accounts.hashed(PASSWORD, "salt")
 USERS = {"ann": {"*": "rw"}, "bob": {"staff": "rw"}, "hall": {"staff": "r"}}
 STAFF, CLIENTS = "/dav/books/staff/", "/dav/books/clients/"
+CATEGORIES = {**USERS, "cat": accounts.Account(HASH, {"*": "rw"}, True)}
 
 
 class Reply:
@@ -169,7 +170,7 @@ class Stack:
         self.state = folder / "state"
         self.state.mkdir()
         accounts.write(str(self.state / "users"), {
-            name: accounts.Account(HASH, rights)
+            name: rights if isinstance(rights, accounts.Account) else accounts.Account(HASH, rights)
             for name, rights in (USERS if users is None else users).items()})
         self.gateway = None
         self.start()

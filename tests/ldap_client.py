@@ -141,6 +141,19 @@ class Ldap:
                 one.decode(): [it.decode() for _, it in read(values)]
                 for (_, one), (_, values) in (read(row) for _, row in read(rows))}
 
+    def start_tls(self, tls, more=b""):
+        """Asks for TLS, and begins it if that is granted."""
+        name = text("1.3.6.1.4.1.1466.20037", 0x80)
+        self.number += 1
+        self.socket.sendall(write(0x30, number(self.number), write(0x77, name)) + more)
+        _, (tag, body), _ = self.message()
+        assert tag == 0x78, tag
+        result = Result(read(body), {}, [])
+        if not result.code:
+            assert result.more == [b"1.3.6.1.4.1.1466.20037"], result.more
+            self.socket = tls.wrap_socket(self.socket, server_hostname="localhost")
+        return result
+
     def bind(self, name, password, version=3):
         return self.ask(write(0x60, number(version), text(name), text(password, 0x80)))
 

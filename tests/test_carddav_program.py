@@ -149,9 +149,24 @@ class Users(unittest.TestCase):
             self.assertFalse(accounts.is_right("", nobody))
         self.user("add", "ann", "--book", "staff:r", line="\n")
         new = accounts.read(str(self.state / "users"))["ann"]
-        self.assertEqual((users["ann"].hash, {"staff": "r"}), new)
+        self.assertEqual((users["ann"].hash, {"staff": "r"}), (new.hash, new.rights))
         self.user("remove", "ann")
         self.assertEqual("hall *:r no password\n", self.user("list"))
+
+    def test_groups(self):
+        """Cards, unless categories are asked for. What isn't given stays as it was."""
+        for more, line, has in [
+            (["--book", "staff:rw"], "secret\n", False), (["--groups", "categories"], "\n", True),
+            (["--book", "staff:r"], "\n", True), (["--groups", "cards"], "\n", False),
+            (["--groups", "categories", "--no-password"], "", True)]:
+            self.user("add", "ann", *more, line=line)
+            users = accounts.Users(str(self.state / "users"), True)
+            self.assertEqual(has, users.accounts()["ann"].has_categories, more)
+            self.assertEqual(has, users.find({"x-remote-user": "ann"}, "").has_categories)
+        self.assertEqual("ann staff:r groups=categories no password\n", self.user("list"))
+        status, out, err = run("user", "add", "cal", "--book", "staff:r", "--token", "--groups",
+                               "categories", "--state", self.state)
+        self.assertEqual((3, "carddav: --groups is for users with a password\n"), (status, err))
 
     def test_readers(self):
         """A token is printed once, and kept as a digest. Neither kind has a password."""
@@ -163,7 +178,8 @@ class Users(unittest.TestCase):
         self.assertNotIn(token, (self.state / "users").read_text())
         self.user("add", "cal", "--book", "clients:r")  # its token stays
         users = accounts.Users(str(self.state / "users"), False)
-        self.assertEqual(("cal", {"clients": "r"}), readers.find(users, f"/find/{token}", {}, ""))
+        who = readers.find(users, f"/find/{token}", {}, "")
+        self.assertEqual(("cal", {"clients": "r"}), (who.user, who.rights))
         other = self.user("add", "cal", "--book", "clients:r", "--token").strip()
         self.assertIsNone(readers.find(users, f"/find?token={token}", {}, ""))
         self.assertEqual("cal", readers.find(users, f"/find?q=&token={other}", {}, "").user)

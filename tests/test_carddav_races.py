@@ -12,6 +12,7 @@ from http.server import BaseHTTPRequestHandler, ThreadingHTTPServer
 
 from carddav_client import CLIENTS, STAFF, GatewayTest
 from http_requests import card
+from program import PATIENCE
 
 from tosculai import lines_of
 
@@ -220,13 +221,15 @@ class Moves(BetweenTest):
         for number in range(WRITES):
             with self.subTest(number):
                 self.fill()
-                self.at(number, lambda: self.stack.kill_gateway() or "cut")
+                killed = threading.Event()
+                self.at(number, lambda: self.stack.kill_gateway() or killed.set() or "cut")
                 try:
                     self.move(is_conditional=True)
                 except OSError:
                     self.dav.close()
                 if self.between.changes:
                     continue
+                self.assertTrue(killed.wait(PATIENCE))
                 self.stack.start()
                 here, there = self.notes()
                 self.assertEqual("NOTE:new", here)

@@ -6,7 +6,8 @@ A line of the file is a user, the hash of the password, and the rights by book:
 
 The hash is scrypt's in the form that crypt(3) of Debian's libxcrypt knows, so nginx can check it,
 too. `-` is no password: such a user comes by a front server alone. `token:` and `from:` are none,
-either: readers.py has them. The book `*` is all others.
+either: readers.py has them. The book `*` is all others. `groups=categories` after the rights shows
+groups as categories.
 """
 
 import hashlib
@@ -24,6 +25,7 @@ LETTERS = "./0123456789ABCDEFGHIJKLMNOPQRSTUVWXYZabcdefghijklmnopqrstuvwxyz"
 COST, BLOCK, LANES = 14, 8, 1  # 2 ** 14 rounds: 16 MB and some 50 ms for a password
 NAME = re.compile(r"[A-Za-z0-9][A-Za-z0-9._@+-]{0,63}")
 RIGHT = re.compile(r"(\*|[a-z0-9-]{1,40}):(r|rw)")
+CATEGORIES = "groups=categories"
 NO_PASSWORD, BY_TOKEN, BY_ADDRESS = "-", "token:", "from:"
 TRIES, TRIES_OF_ADDRESS, WINDOW = 10, 100, 300.0  # wrong passwords in so many seconds
 KNOWN_MAX = 4096
@@ -32,6 +34,7 @@ KNOWN_MAX = 4096
 class Account(NamedTuple):
     hash: str
     rights: Dict[str, str]  # "r" or "rw" by book
+    has_categories: bool = False  # whether groups are shown as categories
 
 
 class BadUsers(ValueError):
@@ -87,7 +90,9 @@ def read(path: str) -> Dict[str, Account]:
         if row and not row[0].startswith("#"):
             if not NAME.fullmatch(row[0]) or len(row) < 2:
                 raise BadUsers(f"{path}, line {at}: a line is NAME HASH BOOK:RIGHT ..")
-            found[row[0]] = Account(row[1], rights_of(row[2:], f"{path}, line {at}: "))
+            words = [it for it in row[2:] if it != CATEGORIES]
+            found[row[0]] = Account(row[1], rights_of(words, f"{path}, line {at}: "),
+                                    CATEGORIES in row[2:])
     return found
 
 
@@ -104,7 +109,8 @@ def write(path: str, users: Dict[str, Account]) -> None:
     lines = ["# NAME HASH BOOK:RIGHT .. (carddav user add NAME --book BOOK:rw)\n"]
     for name, account in sorted(users.items()):
         rights = (f"{book}:{right}" for book, right in sorted(account.rights.items()))
-        lines.append(" ".join([name, account.hash, *rights]) + "\n")
+        form = [CATEGORIES] if account.has_categories else []
+        lines.append(" ".join([name, account.hash, *rights, *form]) + "\n")
     aside = f"{path}.new"
     descriptor = os.open(aside, os.O_WRONLY | os.O_CREAT | os.O_TRUNC, 0o600)
     with open(descriptor, "w", encoding="utf-8") as file:
@@ -119,6 +125,7 @@ class Who(NamedTuple):
 
     user: str
     rights: Dict[str, str]
+    has_categories: bool = False
 
 
 class Refusal(Exception):
@@ -165,7 +172,7 @@ class Users:
         if not self._is_right(user, password, account.hash if account else "", address):
             raise Refusal(401, "the user or the password is wrong")
         assert account
-        return Who(user, account.rights)
+        return Who(user, account.rights, account.has_categories)
 
     def _named_by_front(self, fields: Dict[str, str], accounts: Dict[str, Account]) -> Who:
         user = fields.get("x-remote-user", "")
@@ -173,7 +180,7 @@ class Users:
             raise Refusal(403, "the front server sends no X-Remote-User")
         if user not in accounts:
             raise Refusal(403, f"{user[:64]} isn't in the file of users: carddav user add")
-        return Who(user, accounts[user].rights)
+        return Who(user, accounts[user].rights, accounts[user].has_categories)
 
     def _is_right(self, user: str, password: str, stored: str, address: str) -> bool:
         """Whether the password is right. One that was right before costs no scrypt again."""

@@ -7,7 +7,7 @@ sent with the version that the client saw, so nobody's edit is overwritten unsee
 
 import threading
 import time
-from typing import Callable, Dict, Iterator, List, NamedTuple, Optional
+from typing import Callable, Dict, Iterator, List, NamedTuple, Optional, Tuple
 
 from tosculai import Card, InvalidToken, NoSuchBook, Page
 
@@ -81,6 +81,12 @@ class AddressBook:
         self.state = shelf.state
         self.lock = threading.RLock()  # for a refresh, and for a change from its test to its end
         self._people: Optional[People] = None  # once they are asked for
+        self.view: Optional["AddressBook"] = None  # with categories, once it is asked for
+
+    @property
+    def plain(self) -> "AddressBook":
+        """The book as the server has it; this may be a view of it."""
+        return self
 
     # Following the server.
 
@@ -145,7 +151,8 @@ class AddressBook:
         """After a conflict: a copy in which nothing has changed is that of another file."""
         with self.lock:
             self.refresh()
-            if self.state.entry(self.number, uid) == old:
+            found = self.state.entry(self.number, uid)
+            if (found and found.version) == (old and old.version):
                 self.shelf.say(f"{self.name}: the copy isn't the server's; all cards anew")
                 self._clear()
                 self.refresh()
@@ -165,6 +172,10 @@ class AddressBook:
         """The stored text of exactly this card; None if it was changed meanwhile."""
         found = self.state.text(self.number, entry.uid)
         return found[1] if found and found[0] == entry.etag else None
+
+    def card(self, column: str, value: str) -> Optional[Tuple[Entry, str]]:
+        """The card of this `cards.uid` or present `names.name`, with its text."""
+        return self.state.card(self.number, column, value)
 
     def people(self) -> People:
         """The people of the copy as it is. Hold the lock while you use them."""

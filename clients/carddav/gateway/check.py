@@ -6,7 +6,7 @@ a gateway that serves.
 
 import os
 import xml.etree.ElementTree as ET
-from typing import Dict, Iterator, List
+from typing import Iterator, List
 
 from tosculai import Error
 
@@ -31,12 +31,14 @@ class Wrong(Exception):
 class Phone:
     """One user's phone, without a network."""
 
-    def __init__(self, gateway: Dav, user: str, rights: Dict[str, str]) -> None:
-        self.gateway, self.user, self.rights = gateway, user, rights
+    def __init__(self, gateway: Dav, user: str, account: accounts.Account) -> None:
+        self.gateway, self.user, self.rights = gateway, user, account.rights
+        self.has_categories = account.has_categories
 
     def ask(self, method: str, path: str, body: str = "", **fields: str) -> Reply:
         return self.gateway.reply(Request(method, path, fields, body.encode(), self.user,
-                                          self.rights, "http://localhost/dav"))
+                                          self.rights, "http://localhost/dav",
+                                          self.has_categories))
 
     def propfind(self, path: str, props: str, depth: str = "0") -> ET.Element:
         body = f"<D:propfind{SPACES}><D:prop>{props}</D:prop></D:propfind>"
@@ -121,7 +123,7 @@ def check(server: str, folder: str, trusts_front: bool) -> int:
                 can_come = trusts_front or accounts.has_password(account)
                 print(f"{name}'s phone" + ("" if can_come else ", which has no password: not "
                                            "served"))
-                phone = Phone(Dav(shelf), name, account.rights)
+                phone = Phone(Dav(shelf), name, account)
                 print(*phone.books(), sep="\n")
             for book in sorted(set(account.rights) - set(names) - {"*"}):
                 faults += 1

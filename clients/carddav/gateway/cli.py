@@ -18,6 +18,7 @@ from gateway.check import check
 from gateway.dav import Dav
 from gateway.feeds import Feeds
 from gateway.front import Server, say
+from gateway.groups import view_of
 from gateway.numbers import COUNTRY
 from gateway.office import Offices, new_office
 from gateway.photos import Photos
@@ -28,6 +29,7 @@ USAGE = """Phones and mail programs use the books of Tosculai as address books, 
   carddav --server URL --state DIR --port P      serves at 127.0.0.1:P
   carddav --server unix:PATH --state DIR --socket PATH
   carddav user add NAME --book BOOK:rw --state DIR    then enter the password
+  carddav user add NAME --groups categories      for programs that know no other groups
   carddav user add NAME --book BOOK:r --token         reads phone books, birthdays and searches
   carddav user add NAME --book BOOK:r --from 10.0.0.0/8   the same, for addresses
   carddav user remove NAME --state DIR
@@ -135,6 +137,8 @@ def load(shelf: Shelf, users: accounts.Users) -> None:
     """Reads all books aside, so that no phone waits for that; and people, if any are asked for."""
     try:
         shelf.load()
+        for name in shelf.names():
+            view_of(shelf.book(name)).repair()
         for account in filter(accounts.is_reader, users.accounts().values()):
             for name in shelf.names():
                 if account.rights.get(name, account.rights.get("*")):
@@ -173,6 +177,8 @@ def user_parser() -> argparse.ArgumentParser:
                              help="a right; * is all other books")
             one.add_argument("--no-password", action="store_true",
                              help="for a user whom a front server checks (--trust-front)")
+            one.add_argument("--groups", choices=["cards", "categories"], help="how groups are "
+                             "shown: as cards of their own, or as categories of people (cards)")
             one.add_argument("--token", action="store_true", help="print a new token, by which "
                              "phone books, birthdays and searches are read")
             one.add_argument("--from", action="append", metavar="RANGE", dest="ranges",
@@ -188,7 +194,8 @@ def change_users(given: argparse.Namespace) -> int:
             rights = " ".join(f"{book}:{right}" for book, right in sorted(account.rights.items()))
             how = " no password" if account.hash == accounts.NO_PASSWORD else \
                 " " + readers.told(account) if accounts.is_reader(account) else ""
-            print(f"{name} {rights}{how}")
+            form = " " + accounts.CATEGORIES if account.has_categories else ""
+            print(f"{name} {rights}{form}{how}")
         return 0
     old = accounts.find_account(users, given.name)
     if given.order == "remove":
@@ -196,7 +203,7 @@ def change_users(given: argparse.Namespace) -> int:
             raise accounts.BadUsers(f"there is no user {given.name}")
         del users[given.name]
     else:
-        users[given.name] = new_account(given, old)
+        users[given.name] = with_groups(new_account(given, old), given.groups, old)
     os.makedirs(given.state, exist_ok=True)
     accounts.write(path, users)
     return 0
@@ -219,6 +226,15 @@ def new_account(given: argparse.Namespace, old: Optional[accounts.Account]) -> a
     if not password:
         raise accounts.BadUsers("an empty password isn't taken")
     return accounts.Account(accounts.hashed(password, secrets.token_hex(8)), rights)
+
+
+def with_groups(new: accounts.Account, groups: Optional[str],
+                old: Optional[accounts.Account]) -> accounts.Account:
+    """The account with the form of groups that is given, or else that of before."""
+    if groups == "categories" and accounts.is_reader(new):
+        raise accounts.BadUsers("--groups is for users with a password")
+    has = groups == "categories" if groups else bool(old and old.has_categories)
+    return new._replace(has_categories=has and not accounts.is_reader(new))
 
 
 def new_reader(given: argparse.Namespace, rights: Dict[str, str],

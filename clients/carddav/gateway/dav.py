@@ -8,7 +8,7 @@ from urllib.parse import urlsplit
 from tosculai import (BadCard, BookFull, ChangesSpent, Error, FrontAnswer, LostReply, NoSuchBook,
                       Refused, Unreachable)
 
-from gateway import cards, edits
+from gateway import cards, edits, groups
 from gateway.books import Missing, Shelf
 from gateway.davxml import element, href, prop_status
 from gateway.edits import Conditions, Failed, UidInUse
@@ -183,7 +183,8 @@ class Dav:
         sent = edits.Sent(card_text(request), request.program, request.address,
                           self.keeps_unknown)
         try:
-            stored = edits.put(place.book, place.name, sent, conditions_of(request))
+            make = groups.put if isinstance(place.book, groups.CategoryBook) else edits.put
+            stored = make(place.book, place.name, sent, conditions_of(request))
         except UidInUse as fault:
             raise self.conflict(place, fault) from None
         # RFC 6352, 6.3.2.3: an ETag only if what is read is what was sent.

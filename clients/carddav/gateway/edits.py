@@ -8,7 +8,7 @@ again over the new card.
 
 import re
 from contextlib import ExitStack
-from typing import NamedTuple, Optional
+from typing import FrozenSet, NamedTuple, Optional
 
 from tosculai import (Book, Conflict, Error, LostReply, NoSuchCard, Refused, UidTaken, lines_of,
                       uid_of)
@@ -69,6 +69,7 @@ class Sent(NamedTuple):
     program: str
     address: str
     keeps_unknown: bool
+    known: FrozenSet[str] = frozenset()  # properties that the program is known to show and edit
 
 
 class Stored(NamedTuple):
@@ -88,10 +89,10 @@ def put(book: AddressBook, name: str, sent: Sent, conditions: Conditions) -> Sto
             fault = conditions.fault(old)
             if fault and not (old and conditions.match):
                 raise fault
-            whole = _merged(book, name, sent, old, base)
+            whole = merged(book, name, sent, old, base)
             if fault and lines_of(whole) != lines_of(base):
                 raise fault  # else the edit was made before, and its reply was lost
-            stored = _put_once(book, name, sent, old, base, whole)
+            stored = put_once(book, name, sent, old, base, whole)
             if stored:
                 return stored
             book.suspect(uid_of(whole), old)
@@ -111,11 +112,11 @@ def is_version4(text: str) -> bool:
     return re.search(r"^VERSION:4\.0\r?$", text, re.MULTILINE | re.IGNORECASE) is not None
 
 
-def _put_once(book: AddressBook, name: str, sent: Sent, old: Optional[Entry], base: str,
+def put_once(book: AddressBook, name: str, sent: Sent, old: Optional[Entry], base: str,
               whole: str) -> Optional[Stored]:
     """One attempt; None if somebody else was faster."""
     uid = uid_of(whole)
-    _check_uid(book, name, old, uid)
+    check_uid(book, name, old, uid)
     if old and lines_of(whole) == lines_of(base):
         return Stored(False, old.etag if is_same(book, base, sent.text) else "")
     # The name is kept first: if a stop comes in between, the card has the client's name.
@@ -135,18 +136,19 @@ def _put_once(book: AddressBook, name: str, sent: Sent, old: Optional[Entry], ba
     return Stored(old is None, new.etag if new and is_read else "")
 
 
-def _merged(book: AddressBook, name: str, sent: Sent, old: Optional[Entry], base: str) -> str:
+def merged(book: AddressBook, name: str, sent: Sent, old: Optional[Entry], base: str) -> str:
     """The card for the server. Large files stay beside it."""
 
     def knows(line_name: str) -> bool:
-        return not sent.keeps_unknown or book.state.knows(sent.program, line_name)
+        return (not sent.keeps_unknown or line_name in sent.known
+                or book.state.knows(sent.program, line_name))
 
     uid = old.uid if old else re.sub(r"\.vcf$", "", name)
     whole = cards.newer(sent.text, book.whole(base), book.has, uid, knows)
     return book.shelf.photos.fitted(whole, base, sent.address)
 
 
-def _check_uid(book: AddressBook, name: str, old: Optional[Entry], uid: str) -> None:
+def check_uid(book: AddressBook, name: str, old: Optional[Entry], uid: str) -> None:
     """A UID has one name in a book, and a name one UID (RFC 6352, 5.1 and 6.3.2.1)."""
     if old and uid != old.uid:
         raise UidInUse("the card of this name has another UID", name)
@@ -184,17 +186,25 @@ def move(book: AddressBook, name: str, to: AddressBook, to_name: str, overwrite:
         for _ in range(ROUNDS):
             book.refresh()
             to.refresh()
-            old, there = book.named(name), to.named(to_name)
+            old = book.named(name)
             if not old:
                 raise Missing(f"there is no card {name}")
             conditions.check(old)
+            there = to.plain.named(to_name)
             _check_target(old, there, to, to_name, overwrite)
-            stale = _overwrite(book, old, to, there) if there else \
-                _move_once(book, old, to, to_name)
+            stale = _move(book.plain, name, to.plain, to_name)
             if not stale:
                 return there is None
-            stale.suspect(old.uid, old if stale is book else there)
+            stale.suspect(old.uid, old if stale is book.plain else there)
     raise Failed("others change the card all the time")
+
+
+def _move(book: AddressBook, name: str, to: AddressBook, to_name: str) -> Optional[AddressBook]:
+    """One attempt; returns the book in which somebody else was faster, if any."""
+    old, there = book.named(name), to.named(to_name)
+    if not old:
+        return book
+    return _overwrite(book, old, to, there) if there else _move_once(book, old, to, to_name)
 
 
 def _check_target(old: Entry, there: Optional[Entry], to: AddressBook, to_name: str,

@@ -96,7 +96,7 @@ class Handler(BaseHTTPRequestHandler):
         with place:
             body = self._body(fields, most)
             request = Request(self.command, self.path, fields, body, who.user, who.rights,
-                              self._address(fields))
+                              self._address(fields), who.has_categories)
             return (self.server.feeds if is_feed(self.path) else self.server.dav).reply(request)
 
     def _who(self, fields: Dict[str, str]) -> Who:

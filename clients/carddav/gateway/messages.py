@@ -24,6 +24,7 @@ class Request(NamedTuple):
     user: str
     rights: Dict[str, str]  # of the user: "r" or "rw" by book, and "*" for all others
     address: str = ""  # of the gateway for clients, as https://office.example/dav
+    has_categories: bool = False  # whether the user's programs know groups as categories alone
 
     def field(self, name: str) -> str:
         return self.fields.get(name, "")

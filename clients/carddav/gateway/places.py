@@ -18,6 +18,7 @@ from typing import NamedTuple, Optional, Tuple
 from urllib.parse import quote, unquote, urlsplit
 
 from gateway.books import AddressBook, Shelf
+from gateway.groups import view_of
 from gateway.messages import NO_RIGHT, Fault, Request
 
 PREFIX = "/dav"
@@ -84,6 +85,8 @@ def _within(request: Request, shelf: Shelf, base: Tuple[str, ...],
     if len(rest) > 2:
         raise Fault(404, "there is nothing at this path")
     book = shelf.book(rest[0])
+    if request.has_categories:
+        book = view_of(book)
     return Place("book", base, book) if len(rest) == 1 else Place("card", base, book, rest[1])
 
 

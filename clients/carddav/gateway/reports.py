@@ -106,7 +106,7 @@ class Answer(NamedTuple):
     def of(self, entry: Entry) -> str:
         """The response for a card. One that was changed meanwhile is read again."""
         if self.wanted.has_data:
-            found = self.book.state.card(self.book.number, "cards.uid", entry.uid)
+            found = self.book.card("cards.uid", entry.uid)
             return self.full(*found) if found else self.gone(self.path(entry.name))
         it = Resource(self.request, self.card_place(entry.name), self.has4, entry)
         return respond(it, self.wanted.tags, self.wanted.minimal)
@@ -177,7 +177,7 @@ def _got(answer: Answer, shelf: Shelf, path: str) -> str:
         return answer.gone(path)
     if place.kind != "card" or place.book is not answer.book:
         return answer.gone(path)
-    found = answer.book.state.card(answer.book.number, "names.name", place.name)
+    found = answer.book.card("names.name", place.name)
     return answer.full(*found) if found else answer.gone(path)
 
 

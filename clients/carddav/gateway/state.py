@@ -4,6 +4,7 @@
   A name is kept for good, also of a card that was removed: its removal is told under that name.
 - **Copies.** The cards of each book with the server's token, so that memory holds no texts and a
   start reads nothing again. They can be lost: they are made anew.
+- **Views.** What is shown to programs whose groups are categories (shown.py).
 - **The epoch** is a part of each token for clients. If this file is lost, so are the names; then
   there is another epoch, all tokens are refused, and clients list all names again.
 
@@ -30,7 +31,24 @@ CREATE TABLE IF NOT EXISTS cards (book INTEGER NOT NULL, uid TEXT NOT NULL,
     version INTEGER NOT NULL, etag TEXT NOT NULL, card TEXT NOT NULL, UNIQUE (book, uid));
 CREATE TABLE IF NOT EXISTS known (program TEXT NOT NULL, property TEXT NOT NULL,
     PRIMARY KEY (program, property)) WITHOUT ROWID;
+CREATE TABLE IF NOT EXISTS views (book INTEGER PRIMARY KEY, token TEXT NOT NULL,
+    number INTEGER NOT NULL);
+CREATE TABLE IF NOT EXISTS shown (book INTEGER NOT NULL, uid TEXT NOT NULL, bare TEXT NOT NULL,
+    stored TEXT NOT NULL, etag TEXT NOT NULL, names TEXT NOT NULL, number INTEGER NOT NULL,
+    PRIMARY KEY (book, uid)) WITHOUT ROWID;
+CREATE INDEX IF NOT EXISTS shown_members ON shown (book, bare);
+CREATE INDEX IF NOT EXISTS shown_changes ON shown (book, number);
+CREATE TABLE IF NOT EXISTS teams (book INTEGER NOT NULL, uid TEXT NOT NULL, name TEXT NOT NULL,
+    PRIMARY KEY (book, uid)) WITHOUT ROWID;
+CREATE INDEX IF NOT EXISTS teams_by_name ON teams (book, name);
+CREATE TABLE IF NOT EXISTS members (book INTEGER NOT NULL, bare TEXT NOT NULL, team TEXT NOT NULL,
+    PRIMARY KEY (book, bare, team)) WITHOUT ROWID;
+CREATE INDEX IF NOT EXISTS members_of_teams ON members (book, team);
+CREATE TABLE IF NOT EXISTS wishes (book INTEGER NOT NULL, uid TEXT NOT NULL, digest TEXT NOT NULL,
+    joins TEXT NOT NULL, leaves TEXT NOT NULL, teams TEXT NOT NULL, PRIMARY KEY (book, uid))
+    WITHOUT ROWID;
 """
+VIEWS = ("views", "shown", "teams", "members", "wishes")  # what shown.py keeps
 PLAIN = re.compile(r"[A-Za-z0-9_][A-Za-z0-9_@.=+-]{0,99}")
 ENTRIES = ("SELECT names.name, cards.uid, cards.version, cards.etag FROM cards JOIN names"
            " ON names.book = cards.book AND names.uid = cards.uid AND names.old = 0"
@@ -92,14 +110,19 @@ class State:
                 raise
             self._db.execute("COMMIT")
 
-    def _rows(self, statement: str, *values: object) -> List[Tuple]:  # type: ignore[type-arg]
+    def rows(self, statement: str, *values: object) -> List[Tuple]:  # type: ignore[type-arg]
         with self._lock:
             return self._db.execute(statement, values).fetchall()
+
+    def write(self, statement: str, *rows: Tuple[object, ...]) -> None:
+        """Executes the statement once for each row, within the transaction that there is."""
+        with self.changing():
+            self._db.executemany(statement, rows)
 
     def start_over(self) -> None:
         """Drops the copies and begins another epoch, so that each client lists all names again."""
         with self.changing(durably=True):
-            for table in "books", "cards":
+            for table in ("books", "cards", *VIEWS):
                 self._db.execute(f"DELETE FROM {table}")
             self.epoch = secrets.token_hex(4)
             self._db.execute("UPDATE facts SET value = ? WHERE name = 'epoch'", (self.epoch,))
@@ -108,13 +131,14 @@ class State:
 
     def token(self, book: int) -> str:
         """The server's token of the copy; empty if there is none."""
-        found = self._rows("SELECT token FROM books WHERE book = ?", book)
+        found = self.rows("SELECT token FROM books WHERE book = ?", book)
         return str(found[0][0]) if found else ""
 
     def clear(self, book: int) -> None:
         with self.changing():
             self._db.execute("DELETE FROM cards WHERE book = ?", (book,))
             self._db.execute("DELETE FROM books WHERE book = ?", (book,))
+            self._db.execute("UPDATE views SET token = '' WHERE book = ?", (book,))
 
     def apply(self, book: int, rows: List[Row], token: str) -> None:
         """Puts a page of the server into the copy, and keeps its token, in one transaction."""
@@ -128,36 +152,36 @@ class State:
             self._db.execute("INSERT OR REPLACE INTO books VALUES (?, ?)", (book, token))
 
     def entries(self, book: int) -> List[Entry]:
-        return [Entry(*row) for row in self._rows(ENTRIES, book)]
+        return [Entry(*row) for row in self.rows(ENTRIES, book)]
 
     def count(self, book: int) -> int:
-        return int(self._rows("SELECT count(*) FROM cards WHERE book = ?", book)[0][0])
+        return int(self.rows("SELECT count(*) FROM cards WHERE book = ?", book)[0][0])
 
     def entry(self, book: int, uid: str) -> Optional[Entry]:
-        found = self._rows(ENTRIES + " AND cards.uid = ?", book, uid)
+        found = self.rows(ENTRIES + " AND cards.uid = ?", book, uid)
         return Entry(*found[0]) if found else None
 
     def named(self, book: int, name: str) -> Optional[Entry]:
         """The card whose present name this is."""
-        found = self._rows(ENTRIES + " AND names.name = ?", book, name)
+        found = self.rows(ENTRIES + " AND names.name = ?", book, name)
         return Entry(*found[0]) if found else None
 
     def card(self, book: int, column: str, value: str) -> Optional[Tuple[Entry, str]]:
         """The card of this `cards.uid` or present `names.name`, with its text."""
-        found = self._rows(ENTRIES.replace(" FROM", ", cards.card FROM", 1)
+        found = self.rows(ENTRIES.replace(" FROM", ", cards.card FROM", 1)
                            + f" AND {column} = ?", book, value)
         return (Entry(*found[0][:4]), str(found[0][4])) if found else None
 
     def text(self, book: int, uid: str) -> Optional[Tuple[str, str]]:
         """The ETag and the text of a card that is there."""
-        found = self._rows("SELECT etag, card FROM cards WHERE book = ? AND uid = ?", book, uid)
+        found = self.rows("SELECT etag, card FROM cards WHERE book = ? AND uid = ?", book, uid)
         return (str(found[0][0]), str(found[0][1])) if found else None
 
     def texts(self, book: int) -> Iterator[Tuple[str, int, str]]:
         """The UID, the version and the text of each card, some read at a time."""
         at = ""
         while True:
-            rows = self._rows("SELECT uid, version, card FROM cards WHERE book = ? AND uid > ?"
+            rows = self.rows("SELECT uid, version, card FROM cards WHERE book = ? AND uid > ?"
                               " ORDER BY uid LIMIT 100", book, at)
             for uid, version, text in rows:
                 yield str(uid), int(version), str(text)
@@ -169,13 +193,13 @@ class State:
 
     def name(self, book: int, uid: str) -> Optional[str]:
         """The present name of a card, also if it was removed."""
-        found = self._rows("SELECT name FROM names WHERE book = ? AND uid = ? AND old = 0",
+        found = self.rows("SELECT name FROM names WHERE book = ? AND uid = ? AND old = 0",
                            book, uid)
         return str(found[0][0]) if found else None
 
     def names(self, book: int, uid: str) -> List[str]:
         """All names that the card has ever had, its present one among them."""
-        found = self._rows("SELECT name FROM names WHERE book = ? AND uid = ?", book, uid)
+        found = self.rows("SELECT name FROM names WHERE book = ? AND uid = ?", book, uid)
         return [str(name) for name, in found]
 
     def assign(self, book: int, uids: Iterable[str]) -> None:
@@ -189,7 +213,7 @@ class State:
                 self._db.execute("INSERT INTO names VALUES (?, ?, ?, 0)", (book, name, uid))
 
     def _is_free(self, book: int, name: str) -> bool:
-        return not self._rows("SELECT 1 FROM names WHERE book = ? AND name = ?", book, name)
+        return not self.rows("SELECT 1 FROM names WHERE book = ? AND name = ?", book, name)
 
     def give(self, book: int, name: str, uid: str) -> "Undo":
         """Makes this the present name of the card. It is on the disk when this returns.
@@ -199,7 +223,7 @@ class State:
         if self.name(book, uid) == name:
             return []
         with self.changing(durably=True):
-            rows = self._rows("SELECT name, uid, old FROM names WHERE book = ? AND"
+            rows = self.rows("SELECT name, uid, old FROM names WHERE book = ? AND"
                               " (uid = ? OR name = ?)", book, uid, name)
             self._db.execute("UPDATE names SET old = 1 WHERE book = ? AND (uid = ? OR name = ?)",
                              (book, uid, name))

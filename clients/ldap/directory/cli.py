@@ -40,7 +40,11 @@ def parser() -> argparse.ArgumentParser:
     made.add_argument("--address", default="127.0.0.1", help="listen here (%(default)s)")
     made.add_argument("--port", type=int, required=True, metavar="P", help="0 chooses one")
     made.add_argument("--cert", metavar="FILE", help="a certificate: TLS from the first octet on")
+    made.add_argument("--certificate", metavar="FILE",
+                      help="a certificate: TLS when a program asks for it (StartTLS)")
     made.add_argument("--key", metavar="FILE", help="its key, if it isn't in the same file")
+    made.add_argument("--require-tls", action="store_true",
+                      help="take no password without TLS, from this machine neither")
     made.add_argument("--plain-passwords", action="store_true",
                       help="take passwords without TLS from other machines, too")
     made.add_argument("--country", default="", metavar="CODE",
@@ -53,13 +57,28 @@ def main(arguments: List[str]) -> int:
     given = made.parse_args(arguments)
     if given.country and not COUNTRY.fullmatch(given.country):
         made.error(f"--country {given.country}: a code has one to three digits, as 353")
-    if given.key and not given.cert:
-        made.error("--key needs --cert")
+    fault = wrong_tls(given)
+    if fault:
+        made.error(fault)
     try:
         return serve(given)
     except (accounts.BadUsers, OSError, ValueError, Error) as fault:
         print(f"ldap: {fault}", file=sys.stderr)
         return 3
+
+
+def wrong_tls(given: argparse.Namespace) -> str:
+    """What is wrong with the options for TLS, if anything."""
+    has_certificate = given.cert or given.certificate
+    if given.key and not has_certificate:
+        return "--key needs --cert or --certificate"
+    if given.cert and given.certificate:
+        return "choose --cert (TLS from the first octet on) or --certificate (StartTLS)"
+    if given.require_tls and not has_certificate:
+        return "--require-tls needs --cert or --certificate"
+    if given.require_tls and given.plain_passwords:
+        return "choose --require-tls or --plain-passwords"
+    return ""
 
 
 def serve(given: argparse.Namespace) -> int:
@@ -71,11 +90,11 @@ def serve(given: argparse.Namespace) -> int:
     if not users.accounts():
         say(accounts.how_to_begin(users.path))
     tls = None
-    if given.cert:
+    if given.cert or given.certificate:
         tls = ssl.SSLContext(ssl.PROTOCOL_TLS_SERVER)
-        tls.load_cert_chain(given.cert, given.key)
+        tls.load_cert_chain(given.cert or given.certificate, given.key)
     server = Server(given.address, given.port, Directory(shelf, given.base), users, tls,
-                    given.plain_passwords)
+                    given.plain_passwords, bool(given.certificate), given.require_tls)
     print(f"listening {given.address}:{server.server_address[1]}", flush=True)
     threading.Thread(target=load, args=(shelf,), daemon=True).start()
     signal.signal(signal.SIGTERM, lambda *_: sys.exit(0))

@@ -70,6 +70,7 @@ class Directory:
 
     def __init__(self, shelf: Shelf, base: str) -> None:
         self.shelf, self.base = shelf, base
+        self.starts_tls = False  # whether a connection may go on with TLS
         key = key_of(base)
         if not key:
             raise ValueError(f"{base} isn't a name of a directory, as o=office")
@@ -78,10 +79,11 @@ class Directory:
 
     def root(self) -> Entry:
         """What a program asks first (RFC 4512, 5.1)."""
+        starts = ["1.3.6.1.4.1.1466.20037"] if self.starts_tls else []
         return Entry("", {"objectClass": ["top"], "namingContexts": [self.base],
                           "supportedLDAPVersion": ["3"], "vendorName": ["Tosculai"],
                           "supportedControl": ["1.2.840.113556.1.4.319"],
-                          "supportedExtension": ["1.3.6.1.4.1.4203.1.11.3"]})
+                          "supportedExtension": ["1.3.6.1.4.1.4203.1.11.3", *starts]})
 
     def find(self, rights: Dict[str, str], name: str, scope: int) -> Iterator[Entry]:
         """The entries within the scope. Raises Missing, as soon as it is asked for one."""

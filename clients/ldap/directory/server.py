@@ -27,18 +27,21 @@ class Handler(socketserver.BaseRequestHandler):
     server: "Server"
 
     def handle(self) -> None:
-        place, self._until = self.request, time.monotonic() + STRANGER
+        self._place, self._until = self.request, time.monotonic() + STRANGER
         self._is_stranger = True
         try:
-            place.settimeout(HANDSHAKE)
-            if self.server.tls:
-                place = self.server.tls.wrap_socket(place, server_side=True)
-            self._serve(place)
+            if self.server.tls and not self.server.starts_tls:
+                self._begin_tls(self.server.tls)
+            self._serve()
         except (OSError, End):
             pass  # who breaks off, or says nothing
         finally:
             self._is_known()
-            place.close()
+            self._place.close()
+
+    def _begin_tls(self, tls: ssl.SSLContext) -> None:
+        self._place.settimeout(HANDSHAKE)
+        self._place = tls.wrap_socket(self._place, server_side=True)
 
     def _is_known(self) -> None:
         """It is counted as a stranger no more."""
@@ -57,13 +60,18 @@ class Handler(socketserver.BaseRequestHandler):
             raise End
         place.settimeout(left)
 
-    def _serve(self, place: Any) -> None:
-        own = self.server
-        peer = str(self.client_address[0])
-        is_private = own.tls is not None or own.plain_passwords or is_local(peer)
-        session = Session(own.directory, own.users, peer, is_private)
-        held = b""
+    def _session(self) -> Session:
+        own, peer = self.server, str(self.client_address[0])
+        has_tls = own.tls is not None and not own.starts_tls
+        is_trusted = not own.requires_tls and (own.plain_passwords or is_local(peer))
+        session = Session(own.directory, own.users, peer, has_tls or is_trusted, own.starts_tls)
+        session.has_tls = has_tls
+        return session
+
+    def _serve(self) -> None:
+        session, held = self._session(), b""
         while True:
+            place = self._place
             held, message = self._message(place, held, session)
             if message is None:
                 return
@@ -76,6 +84,11 @@ class Handler(socketserver.BaseRequestHandler):
                         replies.clear()
             finally:
                 place.sendall(bytes(replies))
+            if session.starts and self.server.tls:
+                if held:  # it was sent before the reply: anybody between may have added it
+                    return
+                self._begin_tls(self.server.tls)
+                session.started()
 
     def _message(self, place: Any, held: bytes, session: Session) -> Any:
         """What is held after the next message, and that; None if the client has ended."""
@@ -127,10 +140,14 @@ class Server(socketserver.ThreadingMixIn, socketserver.TCPServer):
     request_queue_size = 64
 
     def __init__(self, address: str, port: int, directory: Directory, users: Users,
-                 tls: Optional[ssl.SSLContext], plain_passwords: bool) -> None:
+                 tls: Optional[ssl.SSLContext], plain_passwords: bool, starts_tls: bool = False,
+                 requires_tls: bool = False) -> None:
         self.address_family = socket.AF_INET6 if ":" in address else socket.AF_INET
         self.directory, self.users = directory, users
         self.tls, self.plain_passwords = tls, plain_passwords
+        self.starts_tls, self.requires_tls = starts_tls, requires_tls
+        if starts_tls:
+            directory.starts_tls = True
         self._places, self.strangers = threading.BoundedSemaphore(CONNECTIONS), Strangers()
         super().__init__((address, port), Handler)
 

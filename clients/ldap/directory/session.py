@@ -21,11 +21,12 @@ BIND, UNBIND, SEARCH, ABANDON, EXTENDED = 0x60, 0x42, 0x63, 0x50, 0x77
 # Changes, and a comparison, with the tags of their replies.
 CHANGES = {0x66: 0x67, 0x68: 0x69, 0x4A: 0x6B, 0x6C: 0x6D, 0x6E: 0x6F}
 BIND_REPLY, ENTRY, DONE, EXTENDED_REPLY = 0x61, 0x64, 0x65, 0x78
-OK, PROTOCOL, TOO_MANY, NO_METHOD, NO_CONTROL, NOT_PRIVATE = 0, 2, 4, 7, 12, 13
+OK, ORDER, PROTOCOL, TOO_MANY, NO_METHOD, NO_CONTROL, NOT_PRIVATE = 0, 1, 2, 4, 7, 12, 13
 NO_ENTRY, WRONG_PASSWORD, NO_RIGHT, BUSY, AWAY, READ_ONLY, OTHER = 32, 49, 50, 51, 52, 53, 80
 PAGES = "1.2.840.113556.1.4.319"  # RFC 2696
 WHO_AM_I = "1.3.6.1.4.1.4203.1.11.3"  # RFC 4532
 GOODBYE = "1.3.6.1.4.1.1466.20036"
+START_TLS = "1.3.6.1.4.1.1466.20037"  # RFC 4511, 4.14
 MOST, NAMES_MAX = 1000, 100  # entries of a reply, and attributes that are asked for
 UNREADABLE = (BadUsers, UnicodeError, OSError)  # what the file of users may raise
 
@@ -56,9 +57,13 @@ class Pages(NamedTuple):
 class Session:
     """One connection: who it is, and what is left of its search."""
 
-    def __init__(self, directory: Directory, users: Users, peer: str, is_private: bool) -> None:
+    def __init__(self, directory: Directory, users: Users, peer: str, is_private: bool,
+                 may_start: bool = False) -> None:
         self.directory, self.users, self.peer = directory, users, peer
         self.is_private = is_private  # whether a password may be sent
+        self.may_start = may_start  # whether TLS may begin
+        self.starts = False  # whether it begins now, after the reply
+        self.has_tls = False
         self.who = Who("", {})
         self._accounts: Optional[Dict[str, Account]] = None  # for which `who` has these rights
         self._bound: Optional[Tuple[str, Account]] = None  # who has bound
@@ -163,8 +168,9 @@ class Session:
         if not password:
             return result(BIND_REPLY, READ_ONLY, "a password is needed")  # RFC 4513, 5.1.2
         if not self.is_private:
-            return result(BIND_REPLY, NOT_PRIVATE, "no password without TLS: ldap --cert, or "
-                          "--plain-passwords")
+            return result(BIND_REPLY, NOT_PRIVATE, "begin with StartTLS: no password without TLS"
+                          if self.may_start else "no password without TLS: ldap --cert, "
+                          "--certificate, or --plain-passwords")
         accounts = self.users.accounts()  # if it changes from here on, the next request looks it up
         try:
             self.who = self._user(user_of(name.text()), password)
@@ -188,7 +194,31 @@ class Session:
         if parts and parts[0].tag == 0x80 and parts[0].text() == WHO_AM_I:
             own = f"u:{self.who.user}" if self.who.user else ""
             return result(EXTENDED_REPLY, OK, "", ber.text(own, 0x8B))
+        if parts and parts[0].tag == 0x80 and parts[0].text() == START_TLS:
+            return self._start_tls(len(parts))
         return result(EXTENDED_REPLY, PROTOCOL, "this request isn't known")
+
+    def _start_tls(self, count: int) -> bytes:
+        """RFC 4511, 4.14: who begins TLS is nobody until the next bind."""
+        name = ber.text(START_TLS, 0x8A)
+        if self.has_tls:
+            return result(EXTENDED_REPLY, ORDER, "there is TLS already", name)
+        if not self.may_start:
+            return result(EXTENDED_REPLY, PROTOCOL, "there is no StartTLS: ldap --certificate",
+                          name)
+        if count > 1:
+            return result(EXTENDED_REPLY, PROTOCOL, "StartTLS has no value", name)
+        self.starts = True
+        return result(EXTENDED_REPLY, OK, "", name)
+
+    def started(self) -> None:
+        """TLS has begun. What was said before it, anybody between may have said."""
+        self.starts, self.may_start, self.has_tls, self.is_private = False, False, True, True
+        self._bound, self._pages, self._accounts = None, None, None
+        try:
+            self._look_up()
+        except UNREADABLE:
+            self.who = Who("", {})  # each request says so
 
     # Searches.
 
