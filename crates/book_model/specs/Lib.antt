@@ -16,6 +16,7 @@ pub mod BookChanges
 pub mod Pages
 pub mod BookQueries
 pub mod Devices
+pub mod Resyncing
 pub mod WellFormed
 pub mod Counts
 pub mod CountLaws

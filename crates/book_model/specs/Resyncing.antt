@@ -1,0 +1,86 @@
+-- Taking many numbers at once, so that every device starts again: after a store was put back from a
+-- backup, each token of the lost time has a number below the new horizon, and is refused as too old
+-- (RFC 6578, section 3.2, the precondition valid-sync-token). The way it is done is this project's
+-- own.
+use Rattle.std.specs.Prelude.{ℕ, ◌+◌, ◌*◌, Bool, nat_le, nat_lt, List, map, slice_get}
+use Rattle.std.specs.Prelude.{Option, Some, None, Result, Ok, if◌then◌else◌}
+use Rattle.std.specs.List.{list_all}
+use Rattle.std.specs.FinMap as finite
+use Rattle.base_types.specs.TextMaps.{text_cmp}
+use Rattle.book_model.specs.declared.answers.Stored.{Stored}
+use Rattle.book_model.specs.declared.counts.Counts.{Counts}
+use Rattle.book_model.specs.declared.refusal.Refusal.{Refusal}
+use Rattle.book_model.specs.declared.refusal.Refusal.TheVariants.{ChangesSpent, BookFull}
+use Rattle.book_model.specs.declared.row.Row.{Row}
+use Rattle.book_model.specs.Bounds.{Bounds}
+use Rattle.book_model.specs.Books.{Book, Books}
+use Rattle.book_model.specs.BookQueries.{live_cards}
+use Rattle.book_model.specs.CallOutcomes.{◌>>=◌, refuse_unless}
+use Rattle.book_model.specs.Counting.{live_count}
+use Rattle.book_model.specs.Forgetting.{book_after_forget}
+
+-- ---- one book
+
+-- each pair is a creation and a removal, and takes two numbers
+abbrev pub number_after_resync : Book → ℕ → ℕ
+number_after_resync book pairs = book.number + 2 * pairs
+
+abbrev pub counts_after_pairs : Counts → ℕ → Counts
+counts_after_pairs c pairs =
+    record c { created = c.created + pairs; deleted = c.deleted + pairs }
+
+-- the live card with the least UID
+abbrev pub first_live_card : Book → Option (List ℕ × Stored)
+first_live_card book = slice_get (finite.entries (live_cards book)) 0
+
+-- The live card that each pair removes and creates again. None in a book with room for one more
+-- card: there each pair creates a card whose UID isn't live, and removes it.
+abbrev pub renewed_card : Bounds → Book → Option (List ℕ × Stored)
+renewed_card limits book =
+    if nat_lt (live_count book.counts) limits.cards_max then None else first_live_card book
+
+-- a renewed card is unchanged, and this number is its version
+abbrev pub rows_after_renewal
+    : finite.FinMap text_cmp Row → Option (List ℕ × Stored) → ℕ → finite.FinMap text_cmp Row
+rows_after_renewal members None number = members
+rows_after_renewal members (Some renewed) number =
+    finite.insert members renewed.0 (record { changed = number; card = Some renewed.1.card })
+
+-- the book after the pairs
+abbrev pub book_after_pairs : Book → Option (List ℕ × Stored) → ℕ → Book
+book_after_pairs book renewed pairs = record book {
+  number = number_after_resync book pairs;
+  counts = counts_after_pairs book.counts pairs;
+  members = rows_after_renewal book.members renewed (number_after_resync book pairs);
+}
+
+-- the book after the pairs has forgotten every removal
+abbrev pub book_after_resync : Bounds → Book → ℕ → Book
+book_after_resync limits book pairs =
+    book_after_forget (book_after_pairs book (renewed_card limits book) pairs)
+    (number_after_resync book pairs)
+
+-- ---- all books
+
+abbrev pub books_after_resync : Bounds → Books → ℕ → Books
+books_after_resync limits books pairs =
+    finite.from_sorted
+    (map (λ named. (named.0, book_after_resync limits named.1 pairs)) (finite.entries books))
+
+-- each book has as many numbers left
+abbrev pub has_numbers_left : Bounds → Books → ℕ → Bool
+has_numbers_left limits books pairs =
+    list_all (λ named. nat_le (number_after_resync named.1 pairs) limits.changes_max)
+    (finite.entries books)
+
+-- no book has more live cards than the limit, so a card that is removed can be created again
+abbrev pub fits_limit : Bounds → Books → Bool
+fits_limit limits books =
+    list_all (λ named. nat_le (live_count named.1.counts) limits.cards_max) (finite.entries books)
+
+-- how many books there are, and the books afterwards; each takes the numbers of this many pairs
+abbrev pub resync_step : Bounds → Books → ℕ → Result (ℕ × Books) Refusal
+resync_step limits books pairs = do
+  left ← refuse_unless (has_numbers_left limits books pairs) ChangesSpent
+  room ← refuse_unless (fits_limit limits books) BookFull
+  Ok (finite.len books, books_after_resync limits books pairs)
