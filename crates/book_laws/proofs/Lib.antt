@@ -34,3 +34,4 @@ pub mod WellFormedSteps
 pub mod WellFormedCalls
 pub mod WellFormedPages
 pub mod TombstoneLemmas
+pub mod ResyncLemmas

@@ -46,7 +46,7 @@ written_or_there m k v q x e =
 
 -- ---- the live cards of a book
 
-get-live_cards : (book : Book) (q : List ℕ) → finite.get (live_cards book) q ≡ live_at book q
+pub get-live_cards : (book : Book) (q : List ℕ) → finite.get (live_cards book) q ≡ live_at book q
 get-live_cards book q = get-from_entries text_total _ q ∙ find_live q (finite.entries book.members) (finite.entries_sorted book.members) ∙ ap (option_and_then stored_in_row) (sym (finite.get-entries book.members q))
 
 -- books with the same at each UID have the same live cards

@@ -162,7 +162,7 @@ module _ (limits : Bounds) (a b : FoundMember) (expect : Option ℕ) where
       (λ numbers left. record { stored = stored; live = p; free = q; card_is = refl; source_left = left.0; target_left = left.1 }))
 
 -- a live card of a well-formed book has its UID
-own_live : (limits : Bounds) (book : Book) (uid : List ℕ) (stored : Stored) → IsWellFormedBook limits book → live_at book uid ≡ Some stored → uid_of stored.card ≡ uid
+pub own_live : (limits : Bounds) (book : Book) (uid : List ℕ) (stored : Stored) → IsWellFormedBook limits book → live_at book uid ≡ Some stored → uid_of stored.card ≡ uid
 own_live limits book uid stored is e = by_row (finite.get book.members uid) refl e
   where
     no_card : ◌≡◌ {A = Option Stored} None (Some stored) → ⊥

@@ -31,5 +31,7 @@ pub mod TombstoneLaws
 pub mod TokenLaws
 pub mod MoveLaws
 pub mod RowsAfterCalls
+pub mod Resyncs
+pub mod ResyncLaws
 pub mod WellFormedPages
 pub mod WellFormedLaws

@@ -6,6 +6,7 @@
 pub mod devices;
 pub mod logs;
 pub mod refinement;
+pub mod resyncs;
 pub mod runs;
 pub mod tombstones;
 pub mod well_formed;
