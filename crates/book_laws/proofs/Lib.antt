@@ -35,3 +35,5 @@ pub mod WellFormedCalls
 pub mod WellFormedPages
 pub mod TombstoneLemmas
 pub mod ResyncLemmas
+pub mod ResyncAllLemmas
+pub mod ResyncedLemmas

@@ -1,10 +1,10 @@
 -- The commands of a resync are accepted, and leave the book in closed form.
-use Rattle.std.proofs.Common.{◌≡◌, ℕ, zero, suc, ◌+◌, ◌*◌, ◌<◌, ◌≤◌, Bool, true, false, cond, ◌||◌, List, [], ◌∷◌, ◌++◌, slice_get, length, Option, Some, None, is_some, nat_lt, nat_le, Result, Ok, Err, refl, sym, ap, ◌∙◌, subst, ⊎_elim, arith}
+use Rattle.std.proofs.Common.{◌≡◌, ℕ, zero, suc, ◌+◌, ◌<◌, ◌≤◌, Bool, true, false, cond, ◌||◌, List, [], ◌∷◌, ◌++◌, slice_get, length, Option, Some, None, is_some, nat_lt, nat_le, Result, Ok, Err, refl, sym, ap, ◌∙◌, subst, ⊎_elim, arith}
 use Rattle.std.specs.Option.{option_map, option_map_or, option_and_then}
 use Rattle.std.specs.FinMap as finite
 use Rattle.std.specs.FinMap.{get-insert, get-retain_keys, same_map}
 use Rattle.std.specs.FinMap.Entries.{find}
-use Rattle.std.proofs.lemmas.Bool.{cases_Bool, cond-true, cond-false, lt-ltb, le-leb, ltb-true, ltb-false, leb-true}
+use Rattle.std.proofs.lemmas.Bool.{cases_Bool, cond-true, cond-false, lt-ltb, le-leb, ltb-true, ltb-false}
 use Rattle.std.proofs.lemmas.Map.Lookups.{exact_bytes}
 use Rattle.std.proofs.lemmas.Option.{same_Some}
 use Rattle.base_types.specs.TextMaps.{text_cmp}
@@ -16,12 +16,11 @@ use Rattle.book_model.specs.declared.answers.Stored.{Stored}
 use Rattle.book_model.specs.declared.change.Change.TheVariants.{Stores, TakesAway}
 use Rattle.book_model.specs.declared.change.StoreReason.TheVariants.{Creation}
 use Rattle.book_model.specs.declared.change.RemovalReason.TheVariants.{Deletion}
-use Rattle.book_model.specs.declared.counts.Counts.{Counts}
 use Rattle.book_model.specs.declared.refusal.Refusal.{Refusal}
-use Rattle.book_model.specs.declared.refusal.Refusal.TheVariants.{NoSuchBook, VersionMismatch, BookFull, ChangesSpent, BadForget}
+use Rattle.book_model.specs.declared.refusal.Refusal.TheVariants.{NoSuchBook, BookFull, ChangesSpent, BadForget}
 use Rattle.book_model.specs.declared.row.Row.{Row}
-use Rattle.book_model.specs.Bounds.{Bounds, IsInRange}
-use Rattle.book_model.specs.Books.{Book, Books, book_named, live_at, live_or_no_such_card, same_name, stored_in_row}
+use Rattle.book_model.specs.Bounds.{Bounds}
+use Rattle.book_model.specs.Books.{Book, Books, book_named, live_at, same_name, stored_in_row}
 use Rattle.book_model.specs.BookChanges.{book_with_row, forced_horizon, horizon_after_drop, rows_after_drop, book_after_change}
 use Rattle.book_model.specs.BookQueries.{live_cards}
 use Rattle.book_model.specs.Counting.{live_count}
@@ -29,7 +28,7 @@ use Rattle.book_model.specs.Forgetting.{is_row_kept, rows_after_forget, book_aft
 use Rattle.book_model.specs.CallOutcomes.{◌>>=◌, refuse_unless}
 use Rattle.book_model.specs.Putting.{FoundMember, found_in_book, put_answer, put_store_reason, books_after_put}
 use Rattle.book_model.specs.Removing.{remove_number}
-use Rattle.book_model.specs.Resyncing.{number_after_resync, counts_after_pairs, first_live_card, renewed_card, rows_after_renewal, book_after_pairs, book_after_resync}
+use Rattle.book_model.specs.Resyncing.{number_after_resync, first_live_card, rows_after_renewal, book_after_pairs}
 use Rattle.book_model.specs.WellFormed.{IsWellFormedBook}
 use Rattle.book_laws.specs.Calls.{Call, PutCall, RemoveCall, ForgetCall}
 use Rattle.book_laws.specs.RowsAfterCalls.{rows_of_step, rows_after_accepted_call}
@@ -85,14 +84,14 @@ module _ (limits : Bounds) (books : Books) (name : List ℕ) (book : Book) (at :
 
 -- ---- rows that a forget keeps
 
-abbrev Rows : Type 0
+abbrev pub Rows : Type 0
 Rows = finite.FinMap text_cmp Row
 
 -- what is left under a UID
-abbrev kept : ℕ → Option Row → Option Row
+abbrev pub kept : ℕ → Option Row → Option Row
 kept upto o = cond (option_map_or (is_row_kept upto) o false) o None
 
-get-forgotten : (members : Rows) (upto : ℕ) (q : List ℕ) → finite.get (rows_after_forget members upto) q ≡ kept upto (finite.get members q)
+pub get-forgotten : (members : Rows) (upto : ℕ) (q : List ℕ) → finite.get (rows_after_forget members upto) q ≡ kept upto (finite.get members q)
 get-forgotten members upto q =
     let test : List ℕ → Bool = λ uid. option_map_or (is_row_kept upto) (finite.get members uid) false in
     get-retain_keys members test q (λ x e. ap test (sym (exact_bytes q x e)))
@@ -442,7 +441,7 @@ module _ (limits : Bounds) (base : Books) (name : List ℕ) (card : List Line) w
 
 -- the first live card is live, and there is one in a full book
 module _ (limits : Bounds) (book : Book) (form : IsWellFormedBook limits book) where
-  first_is_live : (renewed : List ℕ × Stored) → first_live_card book ≡ Some renewed → live_at book renewed.0 ≡ Some renewed.1
+  pub first_is_live : (renewed : List ℕ × Stored) → first_live_card book ≡ Some renewed → live_at book renewed.0 ≡ Some renewed.1
   first_is_live renewed is =
       sym (get-live_cards book renewed.0) ∙ finite.get-entries (live_cards book) renewed.0 ∙ by (finite.entries (live_cards book)) is
     where

@@ -50,7 +50,7 @@ pub get-live_cards : (book : Book) (q : List ℕ) → finite.get (live_cards boo
 get-live_cards book q = get-from_entries text_total _ q ∙ find_live q (finite.entries book.members) (finite.entries_sorted book.members) ∙ ap (option_and_then stored_in_row) (sym (finite.get-entries book.members q))
 
 -- books with the same at each UID have the same live cards
-same_live : (cards : LiveCards) (book : Book) → ((q : List ℕ) → live_at book q ≡ finite.get cards q) → live_cards book ≡ cards
+pub same_live : (cards : LiveCards) (book : Book) → ((q : List ℕ) → live_at book q ≡ finite.get cards q) → live_cards book ≡ cards
 same_live cards book is = same_map text_total exact_bytes _ _ (λ q. get-live_cards book q ∙ is q)
 
 module _ (book : Book) (uid : List ℕ) where

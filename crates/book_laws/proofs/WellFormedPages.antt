@@ -28,9 +28,9 @@ use Rattle.book_laws.proofs.ReportLemmas.{each_found}
 
 -- ---- the request
 
-record IsAsked (books : Books) (name : List ℕ) (asked : ReportRequest) : Type 0 where
-  found : finite.get books name ≡ Some asked.book
-  within_log : asked.mark.base ≤ asked.book.number
+pub record IsAsked (books : Books) (name : List ℕ) (asked : ReportRequest) : Type 0 where
+  pub found : finite.get books name ≡ Some asked.book
+  pub within_log : asked.mark.base ≤ asked.book.number
 
 base_past : (id number horizon : ℕ) (token : Option Token) → IfOk (requested_mark id number horizon token) (λ mark. mark.base ≤ number)
 base_past id number horizon None = omega arith
@@ -41,7 +41,7 @@ base_past id number horizon (Some token) =
     after_test P (nat_le horizon token.mark.base) (BadToken TooOld) (Ok token.mark) (λ remembered.
     leb-true token.mark.base number (and_parts _ _ known).1)))
 
-is_asked : (limits : Bounds) (books : Books) (name : List ℕ) (token : Option Token) (limit : Option ℕ) → IfOk (report_step limits books name token limit) (IsAsked books name)
+pub is_asked : (limits : Bounds) (books : Books) (name : List ℕ) (token : Option Token) (limit : Option ℕ) → IfOk (report_step limits books name token limit) (IsAsked books name)
 is_asked limits books name token limit =
     let P = IsAsked books name in
     after_named P books name _ (λ book at.

@@ -1,5 +1,12 @@
 use Rattle.book_laws.proofs.ResyncLemmas.{book_resyncs_are_commands}
+use Rattle.book_laws.proofs.ResyncAllLemmas.{resyncs_are_commands, spare_cards_exist}
 use Rattle.book_laws.proofs.resyncs.resync_is_commands.Goals as goal
 
-pub returns : goal.returns
-returns c = record { book = book_resyncs_are_commands }
+pub returns-clause-book : goal.returns-clause-book
+returns-clause-book c = book_resyncs_are_commands
+
+pub returns-clause-books : goal.returns-clause-books
+returns-clause-books c = resyncs_are_commands
+
+pub returns-clause-spare : goal.returns-clause-spare
+returns-clause-spare c = spare_cards_exist
