@@ -33,11 +33,23 @@ counts_after_pairs c pairs =
 abbrev pub first_live_card : Book → Option (List ℕ × Stored)
 first_live_card book = slice_get (finite.entries (live_cards book)) 0
 
+-- a book with this number has the numbers of this many pairs left
+abbrev pub has_pairs_left : Bounds → ℕ → ℕ → Bool
+has_pairs_left limits number pairs = nat_le (number + 2 * pairs) limits.changes_max
+
+-- a book with this many live cards has room for one more
+abbrev pub has_room : Bounds → ℕ → Bool
+has_room limits cards = nat_lt cards limits.cards_max
+
+-- it has no more than the limit, so a card that is removed can be created again
+abbrev pub is_within_room : Bounds → ℕ → Bool
+is_within_room limits cards = nat_le cards limits.cards_max
+
 -- The live card that each pair removes and creates again. None in a book with room for one more
 -- card: there each pair creates a card whose UID isn't live, and removes it.
 abbrev pub renewed_card : Bounds → Book → Option (List ℕ × Stored)
 renewed_card limits book =
-    if nat_lt (live_count book.counts) limits.cards_max then None else first_live_card book
+    if has_room limits (live_count book.counts) then None else first_live_card book
 
 -- a renewed card is unchanged, and this number is its version
 abbrev pub rows_after_renewal
@@ -67,16 +79,15 @@ books_after_resync limits books pairs =
     finite.from_sorted
     (map (λ named. (named.0, book_after_resync limits named.1 pairs)) (finite.entries books))
 
--- each book has as many numbers left
+-- each book has the numbers left
 abbrev pub has_numbers_left : Bounds → Books → ℕ → Bool
 has_numbers_left limits books pairs =
-    list_all (λ named. nat_le (number_after_resync named.1 pairs) limits.changes_max)
-    (finite.entries books)
+    list_all (λ named. has_pairs_left limits named.1.number pairs) (finite.entries books)
 
--- no book has more live cards than the limit, so a card that is removed can be created again
+-- no book has more live cards than the limit
 abbrev pub fits_limit : Bounds → Books → Bool
 fits_limit limits books =
-    list_all (λ named. nat_le (live_count named.1.counts) limits.cards_max) (finite.entries books)
+    list_all (λ named. is_within_room limits (live_count named.1.counts)) (finite.entries books)
 
 -- how many books there are, and the books afterwards; each takes the numbers of this many pairs
 abbrev pub resync_step : Bounds → Books → ℕ → Result (ℕ × Books) Refusal

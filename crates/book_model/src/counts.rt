@@ -1,7 +1,8 @@
 //! The changes of a book, counted by reason.
-ghost use Rattle.std.specs.Prelude.{◌≡◌, ◌<◌, ◌^◌};
+ghost use Rattle.std.specs.Prelude.{◌≡◌, ◌<◌, ◌+◌, ◌*◌, ◌^◌};
 ghost use Rattle.book_model.specs.Counting.{no_counts, counts_after_change, total_changes};
 ghost use Rattle.book_model.specs.Counting.{live_count};
+ghost use Rattle.book_model.specs.Resyncing.{counts_after_pairs};
 
 use crate::change::{Change, RemovalReason, StoreReason};
 
@@ -54,6 +55,15 @@ impl Counts {
             Change::TakesAway(RemovalReason::Deletion) => self.deleted += 1,
             Change::TakesAway(RemovalReason::MoveOut) => self.moved_out += 1,
         }
+    }
+
+    /// Counts this many more creations, and as many removals.
+    pub fn add_pairs(&mut self, pairs: u64)
+        requires { total_changes self.old + 2 * pairs < 2 ^ 63 }
+        ensures { self.new ≡ counts_after_pairs self.old pairs }
+    {
+        self.created += pairs;
+        self.deleted += pairs;
     }
 
     /// How many cards are live after these changes.

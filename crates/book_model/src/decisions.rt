@@ -8,6 +8,7 @@ mod moving;
 mod putting;
 mod removing;
 mod reporting;
+mod resyncing;
 
 pub use creating::{id_of_new_book, is_book_name};
 pub use forgetting::{is_row_kept, may_forget};
@@ -17,3 +18,4 @@ pub use moving::answer_to_move;
 pub use putting::{answer_to_put, reason_of};
 pub use removing::number_of_removal;
 pub use reporting::{is_due, mark_of, size_of_page, truncated_page, whole_page};
+pub use resyncing::{has_pairs_left, has_room, is_within_room};
