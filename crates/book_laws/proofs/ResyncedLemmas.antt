@@ -1,10 +1,11 @@
 -- What a resync leaves: the rows, the live cards, and what devices are answered.
-use Rattle.std.proofs.Common.{◌≡◌, ℕ, ◌<◌, ◌≤◌, ◌==◌, ◌&&◌, ◌||◌, Bool, true, false, cond, List, Option, Some, None, is_some, nat_lt, nat_le, Result, Ok, Err, refl, sym, ap, ◌∙◌, subst, ⊎_elim, arith}
+use Rattle.std.proofs.Common.{◌≡◌, ℕ, ◌+◌, ◌<◌, ◌≤◌, ◌⊎◌, inl, inr, ◌==◌, ◌&&◌, ◌||◌, Bool, true, false, cond, List, [], ◌∷◌, ◌++◌, length, Option, Some, None, is_some, nat_lt, nat_le, Result, Ok, Err, refl, sym, ap, ◌∙◌, subst, ⊎_elim, arith}
 use Rattle.std.specs.Option.{option_map, option_map_or, option_and_then}
 use Rattle.std.specs.FinMap as finite
 use Rattle.std.specs.FinMap.{get-insert}
 use Rattle.std.proofs.lemmas.Bool.{cases_Bool, cond-true, cond-false, or_cases, le-leb, lt-ltb, ltb-true, leb-true}
 use Rattle.std.proofs.lemmas.Bool.Decides.{Decides-eqb}
+use Rattle.std.proofs.lemmas.List.{length-append}
 use Rattle.std.proofs.lemmas.Option.{same_Some, cond_some}
 use Rattle.std.proofs.lemmas.Result.{IfOk-at_ok}
 use Rattle.vcard_lines.specs.declared.line.Line.{Line}
@@ -15,7 +16,8 @@ use Rattle.book_model.specs.declared.refusal.Refusal.TheVariants.{NoSuchBook, Ba
 use Rattle.book_model.specs.declared.refusal.TokenCause.TheVariants.{OtherBook, TooNew, TooOld}
 use Rattle.book_model.specs.declared.row.Row.{Row}
 use Rattle.book_model.specs.declared.token.Mark.{Mark}
-use Rattle.book_model.specs.Bounds.{Bounds}
+use Rattle.book_model.specs.declared.token.Token.{Token}
+use Rattle.book_model.specs.Bounds.{Bounds, IsInRange}
 use Rattle.book_model.specs.Books.{Book, Books, live_at, same_name, stored_in_row}
 use Rattle.book_model.specs.BookQueries.{live_cards}
 use Rattle.book_model.specs.CallOutcomes.{◌>>=◌, refuse_unless}
@@ -24,19 +26,23 @@ use Rattle.book_model.specs.Devices.{DeviceState}
 use Rattle.book_model.specs.Forgetting.{is_row_kept}
 use Rattle.book_model.specs.Pages.{ReportRequest, IsReport, page_size, requested_mark, report_step}
 use Rattle.book_model.specs.Resyncing.{number_after_resync, first_live_card, renewed_card, rows_after_renewal, book_after_resync}
-use Rattle.book_model.specs.WellFormed.{IsWellFormedBook}
-use Rattle.book_laws.specs.Calls.{histories_after_calls}
-use Rattle.book_laws.specs.EventLogs.{live}
+use Rattle.book_model.specs.WellFormed.{IsWellFormedBook, IsWellFormed}
+use Rattle.book_laws.specs.Calls.{Call, histories_after_calls}
+use Rattle.book_laws.specs.EventLogs.{BookEvent, same_uid, live}
+use Rattle.book_laws.specs.HistoryExtension.{Extends}
 use Rattle.book_laws.specs.HistorySteps.{report_on_histories}
 use Rattle.book_laws.specs.Refinement.{PagesRefineHistories}
 use Rattle.book_laws.specs.Resyncs.{resync_calls}
-use Rattle.book_laws.specs.ResyncLaws.{ResyncedRowsAreLive, ResyncsKeepCards, ResyncsKeepVersions, ResyncsExpireTokens, InitialPagesCompleteCopies}
-use Rattle.book_laws.specs.StoreHistories.{AreSoundHistories, StoreHistory, book_of_history, rows_of}
+use Rattle.book_laws.specs.RowsAfterCalls.{rows_after_calls}
+use Rattle.book_laws.specs.ResyncLaws.{IsResync, ResyncedRowsAreLive, ResyncsKeepCards, ResyncsKeepVersions, ResyncsExpireTokens, InitialPagesCompleteCopies, LostVersionsNeverReturn, ExpiredTokensStayRefused}
+use Rattle.book_laws.specs.StoreHistories.{BookHistory, BookHistories, AreSoundHistories, StoreHistory, book_of_history, rows_of}
 use Rattle.book_model.proofs.BasicLemmas.{both}
 use Rattle.base_types.proofs.TextLemmas.{text_total, same-equal}
 use Rattle.book_laws.proofs.DeviceLemmas.{devices_start_consistent, last_pages_complete_all}
+use Rattle.book_laws.proofs.ExtensionLemmas.{calls_extend_histories}
+use Rattle.book_laws.proofs.HistoryLemmas.{last_here, get-changed, version_is}
 use Rattle.book_laws.proofs.RowLemmas.{live_by_row}
-use Rattle.book_laws.proofs.RunLemmas.{stays_sound}
+use Rattle.book_laws.proofs.RunLemmas.{stays_sound, rows_match_histories_after_calls}
 use Rattle.book_laws.proofs.StoreHistoryLemmas.{get-rows, reports_follow}
 use Rattle.book_laws.proofs.WellFormedBooks.{get-live_cards, same_live, written_or_there}
 use Rattle.book_laws.proofs.WellFormedPages.{IsAsked, is_asked}
@@ -129,19 +135,19 @@ resyncs_keep_versions limits book pairs form room =
 
 -- ---- devices
 
-pub resyncs_expire_tokens : ResyncsExpireTokens
-resyncs_expire_tokens limits books left pairs name book token limit is at own known old =
-    let number = number_after_resync book pairs in
-    let there : finite.get left name ≡ Some (book_after_resync limits book pairs) = resyncs_change_each_book limits books left pairs name is ∙ ap (option_map (λ (b : Book). book_after_resync limits b pairs)) at in
-    ap (λ (o : Option Book). option_map_or Ok o (Err NoSuchBook) >>= asking) there
-    ∙ refused (token.book == book.id) (nat_le token.mark.at number && nat_le token.mark.base number) (nat_le number token.mark.base)
-    ((Decides-eqb token.book book.id).1 own) (both _ _ (le-leb _ _ known) (le-leb _ _ (omega (arith, old)))) (not_le number token.mark.base old)
+-- a token of the book is too old where its base is below the horizon
+pub too_old : (limits : Bounds) (books : Books) (name : List ℕ) (book : Book) (token : Token) (limit : Option ℕ) → finite.get books name ≡ Some book → token.book ≡ book.id → token.mark.at ≤ book.number → token.mark.base ≤ book.number → token.mark.base < book.horizon
+    → report_step limits books name (Some token) limit ≡ Err (BadToken TooOld)
+too_old limits books name book token limit at own known also old =
+    ap (λ (o : Option Book). option_map_or Ok o (Err NoSuchBook) >>= asking) at
+    ∙ refused (token.book == book.id) (nat_le token.mark.at book.number && nat_le token.mark.base book.number) (nat_le book.horizon token.mark.base)
+    ((Decides-eqb token.book book.id).1 own) (both _ _ (le-leb _ _ known) (le-leb _ _ also)) (not_le book.horizon token.mark.base old)
   where
     asking : Book → Result ReportRequest Refusal
     asking b = requested_mark b.id b.number b.horizon (Some token) >>= λ mark. page_size limits.page_max limit >>= λ size. Ok (record { book = b; mark = mark; size = size })
 
     rest : Mark → Result ReportRequest Refusal
-    rest mark = page_size limits.page_max limit >>= λ size. Ok (record { book = book_after_resync limits book pairs; mark = mark; size = size })
+    rest mark = page_size limits.page_max limit >>= λ size. Ok (record { book = book; mark = mark; size = size })
 
     refused : (a b c : Bool) → a ≡ true → b ≡ true → c ≡ false → ((refuse_unless a (BadToken OtherBook) >>= λ _. refuse_unless b (BadToken TooNew) >>= λ _. refuse_unless c (BadToken TooOld) >>= λ _. Ok token.mark) >>= rest) ≡ Err (BadToken TooOld)
     refused true true false p q r = refl
@@ -155,6 +161,11 @@ resyncs_expire_tokens limits books left pairs name book token limit is at own kn
         by : (b : Bool) → nat_le n base ≡ b → b ≡ false
         by false e = refl
         by true e = let le : n ≤ base = leb-true n base e in absurd (omega (arith, le, lt))
+
+pub resyncs_expire_tokens : ResyncsExpireTokens
+resyncs_expire_tokens limits books left pairs name book token limit is at own known old =
+    let there : finite.get left name ≡ Some (book_after_resync limits book pairs) = resyncs_change_each_book limits books left pairs name is ∙ ap (option_map (λ (b : Book). book_after_resync limits b pairs)) at in
+    too_old limits left name (book_after_resync limits book pairs) token limit there own known (omega (arith, old)) old
 
 -- a page of the rows of sound histories is the page of the histories
 page_of_histories : (store : StoreHistory) (name : List ℕ) (limit : Option ℕ) (asked : ReportRequest) (page : Page) → AreSoundHistories store.books → report_step store.limits (rows_of store.books) name None limit ≡ Ok asked → IsReport asked page
@@ -185,3 +196,120 @@ initial_pages_complete_copies store left pairs name limit asked page range sound
     up.copy
     ∙ sym (same_live (live up.history.log) (book_of_history up.history) (λ q. live_by_row up.history.log up.history.horizon q))
     ∙ ap live_cards same
+
+-- ---- after any calls
+
+-- the history of a book's rows
+history_at : (histories : BookHistories) (name : List ℕ) (book : Book) → finite.get (rows_of histories) name ≡ Some book → (history : BookHistory) × (finite.get histories name ≡ Some history) × (book_of_history history ≡ book)
+history_at histories name book e = by (finite.get histories name) refl (sym (get-rows histories name) ∙ e)
+  where
+    by : (o : Option BookHistory) → finite.get histories name ≡ o → option_map book_of_history o ≡ Some book → (history : BookHistory) × (finite.get histories name ≡ Some history) × (book_of_history history ≡ book)
+    by (Some history) at e = (history, at, same_Some (book_of_history history) book e)
+    by None at e = cc
+
+-- a live card was stored by a later event, or was live before
+later_or_live : (later h : List BookEvent) (uid : List ℕ) (stored : Stored) → finite.get (live (later ++ h)) uid ≡ Some stored → (length h < stored.version) ⊎ (finite.get (live h) uid ≡ Some stored)
+later_or_live [] h uid stored e = inr e
+later_or_live (event ∷ later) h uid stored e = ⊎_elim
+    (λ here.
+    let version = version_is (event ∷ later ++ h) uid stored e in
+    let newest = last_here (later ++ h) event uid here in
+    let long = length-append later h in
+    inl (omega (arith, version, newest, long)))
+    (λ other. later_or_live later h uid stored (sym (get-changed (live (later ++ h)) event.uid uid event.change (length (later ++ h) + 1) other) ∙ e))
+    (cases_Bool (same_uid uid event.uid))
+
+-- what is live after a resync was live before it, or has the new number as its version
+live_or_renewed : (limits : Bounds) (book : Book) (pairs : ℕ) (renewed : Option (List ℕ × Stored)) (uid : List ℕ) (stored : Stored)
+    → option_and_then stored_in_row (finite.get (rows_after_renewal book.members renewed (number_after_resync book pairs)) uid) ≡ Some stored → (live_at book uid ≡ Some stored) ⊎ (number_after_resync book pairs ≤ stored.version)
+live_or_renewed limits book pairs None uid stored e = inl e
+live_or_renewed limits book pairs (Some renewed) uid stored e =
+    let number = number_after_resync book pairs in
+    let row : Row = record { changed = number; card = Some renewed.1.card } in
+    let is = ap (option_and_then stored_in_row) (sym (get-insert text_total book.members renewed.0 row uid)) ∙ e in
+    ⊎_elim
+    (λ here.
+    let written : stored_in_row row ≡ Some stored = ap (option_and_then stored_in_row) (sym (cond-true (same_name uid renewed.0) (Some row) (finite.get book.members uid) here)) ∙ is in
+    let version = ap (λ (s : Stored). s.version) (same_Some (record { version = number; card = renewed.1.card }) stored written) in
+    inr (omega (arith, version)))
+    (λ other. inl (ap (option_and_then stored_in_row) (sym (cond-false (same_name uid renewed.0) (Some row) (finite.get book.members uid) other)) ∙ is))
+    (cases_Bool (same_name uid renewed.0))
+
+module _ (store : StoreHistory) (left : Books) (pairs : ℕ) (calls : List Call) (name : List ℕ) (book : Book)
+    (range : IsInRange store.limits) (sound : AreSoundHistories store.books) (form : IsWellFormed store.limits (rows_of store.books)) (is : IsResync store.limits (rows_of store.books) pairs left) (at : finite.get (rows_of store.books) name ≡ Some book) where
+  abbrev commands : List Call
+  commands = resync_calls store.limits (spare_cards_exist (rows_of store.books)).0 pairs (rows_of store.books)
+
+  abbrev then : StoreHistory
+  then = record { limits = store.limits; books = histories_after_calls store.limits store.books commands }
+
+  abbrev resynced : Book
+  resynced = book_after_resync store.limits book pairs
+
+  rows_then : left ≡ rows_of then.books
+  rows_then = let spare = spare_cards_exist (rows_of store.books) in resyncs_match_histories store left spare.0 pairs range sound form spare.1 is
+
+  resynced_at : finite.get (rows_of then.books) name ≡ Some resynced
+  resynced_at =
+      ap (λ (b : Books). finite.get b name) (sym rows_then)
+      ∙ resyncs_change_each_book store.limits (rows_of store.books) left pairs name is ∙ ap (option_map (λ (b : Book). book_after_resync store.limits b pairs)) at
+
+  rows_later : rows_after_calls store.limits left calls ≡ rows_of (histories_after_calls store.limits then.books calls)
+  rows_later =
+      ap (λ (b : Books). rows_after_calls store.limits b calls) rows_then
+      ∙ rows_match_histories_after_calls then calls range (stays_sound store commands range sound)
+
+  -- the history of the book after the resync, and after the calls
+  record HasGrown : Type 0 where
+    first : BookHistory
+    first_is : book_of_history first ≡ resynced
+    last : BookHistory
+    last_at : finite.get (rows_after_calls store.limits left calls) name ≡ Some (book_of_history last)
+    extended : Extends first last
+
+  has_grown : HasGrown
+  has_grown =
+      let history = history_at then.books name resynced resynced_at in
+      let grown = calls_extend_histories store.limits then.books calls name history.0 history.1 in
+      record {
+        first = history.0;
+        first_is = history.2;
+        last = grown.0;
+        last_at =
+            ap (λ (b : Books). finite.get b name) rows_later
+            ∙ get-rows (histories_after_calls store.limits then.books calls) name
+            ∙ ap (option_map book_of_history) grown.1;
+        extended = grown.2;
+      }
+
+  tokens_stay_refused : (token : Token) (limit : Option ℕ) → token.book ≡ book.id → token.mark.at ≤ number_after_resync book pairs → token.mark.base < number_after_resync book pairs
+      → report_step store.limits (rows_after_calls store.limits left calls) name (Some token) limit ≡ Err (BadToken TooOld)
+  tokens_stay_refused token limit own known old =
+      let grown = has_grown in
+      let id = ap (λ (b : Book). b.id) grown.first_is in
+      let number = ap (λ (b : Book). b.number) grown.first_is in
+      let horizon = ap (λ (b : Book). b.horizon) grown.first_is in
+      let long = ap length grown.extended.log ∙ length-append grown.extended.later grown.first.log in
+      let rises = grown.extended.horizon in
+      too_old store.limits (rows_after_calls store.limits left calls) name (book_of_history grown.last) token limit grown.last_at
+      (own ∙ sym id ∙ sym grown.extended.id)
+      (omega (arith, known, number, long)) (omega (arith, old, number, long)) (omega (arith, old, horizon, rises))
+
+  versions_stay_apart : (uid : List ℕ) (later : Book) (stored : Stored) → finite.get (rows_after_calls store.limits left calls) name ≡ Some later → live_at later uid ≡ Some stored
+      → (live_at book uid ≡ Some stored) ⊎ (number_after_resync book pairs ≤ stored.version)
+  versions_stay_apart uid later stored later_at lives =
+      let grown = has_grown in
+      let number = ap (λ (b : Book). b.number) grown.first_is in
+      let same : later ≡ book_of_history grown.last = same_Some _ _ (sym later_at ∙ grown.last_at) in
+      let live_last : finite.get (live grown.last.log) uid ≡ Some stored = sym (live_by_row grown.last.log grown.last.horizon uid) ∙ ap (λ (b : Book). live_at b uid) (sym same) ∙ lives in
+      ⊎_elim
+      (λ new. inr (omega (arith, new, number)))
+      (λ old. live_or_renewed store.limits book pairs (renewed_card store.limits book) uid stored
+      (sym (live_then store.limits book pairs uid) ∙ ap (λ (b : Book). live_at b uid) (sym grown.first_is) ∙ live_by_row grown.first.log grown.first.horizon uid ∙ old))
+      (later_or_live grown.extended.later grown.first.log uid stored (ap (λ (h : List BookEvent). finite.get (live h) uid) (sym grown.extended.log) ∙ live_last))
+
+pub lost_versions_never_return : LostVersionsNeverReturn
+lost_versions_never_return store left pairs calls name uid book later stored range sound form is at later_at lives = versions_stay_apart store left pairs calls name book range sound form is at uid later stored later_at lives
+
+pub expired_tokens_stay_refused : ExpiredTokensStayRefused
+expired_tokens_stay_refused store left pairs calls name book token limit range sound form is at own known old = tokens_stay_refused store left pairs calls name book range sound form is at token limit own known old

@@ -1,10 +1,11 @@
 -- What a resync is, and what it leaves. This project's own.
-use Rattle.std.specs.Prelude.{ℕ, ◌≡◌, ◌<◌, ◌≤◌, false, true, List, Option, Some, None, is_some}
-use Rattle.std.specs.Prelude.{Ok, Err}
+use Rattle.std.specs.Prelude.{ℕ, ◌≡◌, ◌<◌, ◌≤◌, ◌⊎◌, false, true, List, Option, Some, None}
+use Rattle.std.specs.Prelude.{is_some, Ok, Err}
 use Rattle.std.specs.Option.{option_map}
 use Rattle.std.specs.FinMap as finite
 use Rattle.vcard_lines.specs.declared.line.Line.{Line}
 use Rattle.vcard_text.specs.Cards.{uid_of}
+use Rattle.book_model.specs.declared.answers.Stored.{Stored}
 use Rattle.book_model.specs.declared.page.Page.{Page}
 use Rattle.book_model.specs.declared.refusal.Refusal.TheVariants.{BadToken}
 use Rattle.book_model.specs.declared.refusal.TokenCause.TheVariants.{TooOld}
@@ -18,8 +19,9 @@ use Rattle.book_model.specs.Devices.{copy_after_entries}
 use Rattle.book_model.specs.Pages.{ReportRequest, IsReport, report_step}
 use Rattle.book_model.specs.Resyncing.{number_after_resync, book_after_resync, resync_step}
 use Rattle.book_model.specs.WellFormed.{IsWellFormedBook, IsWellFormed}
-use Rattle.book_laws.specs.Calls.{histories_after_calls}
+use Rattle.book_laws.specs.Calls.{Call, histories_after_calls}
 use Rattle.book_laws.specs.Resyncs.{rows_after_accepted_calls, resync_calls_of_book, resync_calls}
+use Rattle.book_laws.specs.RowsAfterCalls.{rows_after_calls}
 use Rattle.book_laws.specs.StoreHistories.{AreSoundHistories, StoreHistory, rows_of}
 
 -- ---- the commands of a resync
@@ -130,3 +132,33 @@ InitialPagesCompleteCopies =
     report_step store.limits after name None limit ≡ Ok asked → IsReport asked page →
     page.truncated ≡ false →
     copy_after_entries finite.empty page.entries ≡ live_cards asked.book
+
+-- ---- after a resync and any calls
+
+-- No version of the lost time comes again: a live card has the version that it had before the
+-- resync, or one that isn't below the new number.
+abbrev pub LostVersionsNeverReturn : Type 0
+LostVersionsNeverReturn =
+    (store : StoreHistory) (after : Books) (pairs : ℕ) (calls : List Call) (name uid : List ℕ) →
+    (book later : Book) (stored : Stored) →
+    IsInRange store.limits → AreSoundHistories store.books →
+    IsWellFormed store.limits (rows_of store.books) →
+    IsResync store.limits (rows_of store.books) pairs after →
+    finite.get (rows_of store.books) name ≡ Some book →
+    finite.get (rows_after_calls store.limits after calls) name ≡ Some later →
+    live_at later uid ≡ Some stored →
+    (live_at book uid ≡ Some stored) ⊎ (number_after_resync book pairs ≤ stored.version)
+
+-- and a token that the resync expired stays refused
+abbrev pub ExpiredTokensStayRefused : Type 0
+ExpiredTokensStayRefused =
+    (store : StoreHistory) (after : Books) (pairs : ℕ) (calls : List Call) (name : List ℕ) →
+    (book : Book) (token : Token) (limit : Option ℕ) →
+    IsInRange store.limits → AreSoundHistories store.books →
+    IsWellFormed store.limits (rows_of store.books) →
+    IsResync store.limits (rows_of store.books) pairs after →
+    finite.get (rows_of store.books) name ≡ Some book → token.book ≡ book.id →
+    token.mark.at ≤ number_after_resync book pairs →
+    token.mark.base < number_after_resync book pairs →
+    report_step store.limits (rows_after_calls store.limits after calls) name (Some token) limit
+    ≡ Err (BadToken TooOld)

@@ -4,7 +4,8 @@ ghost use Rattle.book_laws.specs.ResyncLaws.{SpareCardsExist, ResyncsMatchHistor
 ghost use Rattle.book_laws.specs.ResyncLaws.{ResyncsKeepWellFormed, ResyncsChangeEachBook};
 ghost use Rattle.book_laws.specs.ResyncLaws.{ResyncedRowsAreLive, ResyncsKeepCards};
 ghost use Rattle.book_laws.specs.ResyncLaws.{ResyncsKeepVersions, ResyncsExpireTokens};
-ghost use Rattle.book_laws.specs.ResyncLaws.{InitialPagesCompleteCopies};
+ghost use Rattle.book_laws.specs.ResyncLaws.{InitialPagesCompleteCopies, LostVersionsNeverReturn};
+ghost use Rattle.book_laws.specs.ResyncLaws.{ExpiredTokensStayRefused};
 
 /// A resync is the commands that it stands for.
 /// - `book`: the commands of a book are accepted, and leave it in closed form.
@@ -42,4 +43,12 @@ pub fn resyncs_keep_cards()
 pub fn resyncs_restart_devices()
     ensures tokens { ResyncsExpireTokens }
     ensures initial { InitialPagesCompleteCopies }
+{}
+
+/// After a resync and any calls, nothing of the lost time comes again.
+/// - `versions`: a live card has its version from before, or one that isn't below the new number.
+/// - `tokens`: a token that the resync expired is still refused as too old.
+pub fn lost_times_never_return()
+    ensures versions { LostVersionsNeverReturn }
+    ensures tokens { ExpiredTokensStayRefused }
 {}
