@@ -1,6 +1,6 @@
 //! A book held in memory: one row per member, change counts, and the results of imports.
 ghost use Rattle.std.specs.Prelude.{◌≡◌, ◌+◌, ◌<◌, ◌≤◌, ◌↔◌, ◌^◌, IfOk, IfSome, IsSome, IsTrue};
-ghost use Rattle.std.specs.Prelude.{OnOk, OnErr, [], min, string_bytes};
+ghost use Rattle.std.specs.Prelude.{OnOk, OnErr, [], min, string_bytes, None, ◌*◌};
 ghost use Rattle.std.specs.FinMap as finite;
 ghost use Rattle.std.specs.Option.{option_map_or};
 ghost use Rattle.book_model.specs.Books.{fresh_book, live_at, as_stored};
@@ -15,6 +15,7 @@ ghost use Rattle.book_model.specs.declared.change.StoreReason.TheVariants.{MoveI
 ghost use Rattle.book_model.specs.Forgetting.{book_after_forget, dropped_row_count};
 ghost use Rattle.book_model.specs.Forgetting.{rows_after_forget};
 ghost use Rattle.book_model.specs.Pages.{due_rows};
+ghost use Rattle.book_model.specs.Resyncing.{book_after_pairs, number_after_resync};
 ghost use Rattle.book_model.specs.Putting.{as_found_member, found_in_book};
 ghost use Rattle.book_model.specs.BookQueries.{is_tombstone_after, tombstone_count_after};
 ghost use Rattle.book_model.specs.BookQueries.{book_tally, live_cards, with_live};
@@ -359,6 +360,19 @@ impl PlainBook {
         self.horizon = upto;
         self.remembered_bound = self.members.len() as u64;
         dropped
+    }
+
+    /// Takes the numbers of this many pairs, each of them a creation and a removal of a card whose
+    /// UID isn't live, and forgets every removal. Reads all rows once and allocates nothing.
+    pub fn take_pairs(&mut self, alloc: Global, pairs: u64)
+        requires { number_after_resync self.old pairs < 2 ^ 63 }
+        ensures { self.new ≡ book_after_forget (book_after_pairs self.old None pairs)
+            (number_after_resync self.old pairs) }
+    {
+        let number = self.number + 2 * pairs;
+        self.counts.add_pairs(pairs);
+        self.number = number;
+        self.forget(alloc, number);
     }
 
     /// Inserts an empty row for the UID if there is none, so that a later change of it can't fail.
