@@ -5,3 +5,4 @@ mod ForgetLemmas
 mod LiveCardLemmas
 mod DropLemmas
 mod ImportLemmas
+pub mod RenewLemmas

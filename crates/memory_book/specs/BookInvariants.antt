@@ -1,6 +1,6 @@
 -- The invariant of a book in memory. This project's own.
 use Rattle.std.specs.Prelude.{ℕ, ◌≡◌, ◌≤◌, List, map, filter, Option}
-use Rattle.std.specs.Option.{option_and_then}
+use Rattle.std.specs.Option.{option_and_then, option_map_or}
 use Rattle.std.specs.List.{AllByRecursion}
 use Rattle.std.specs.FinMap as finite
 use Rattle.base_types.specs.TextMaps.{text_cmp}
@@ -26,3 +26,15 @@ card_at book uid = option_and_then (λ row. row.card) (finite.get book.members u
 abbrev pub removal_numbers : finite.FinMap text_cmp Row → ℕ → List ℕ
 removal_numbers members horizon = map (λ member. member.1.changed)
     (filter (λ member. is_tombstone_after horizon member.1) (finite.entries members))
+
+-- the rows where the UID's row, if there is one, has this number
+abbrev pub row_renumbered
+    : finite.FinMap text_cmp Row → List ℕ → ℕ → finite.FinMap text_cmp Row
+row_renumbered members uid number =
+    option_map_or (λ row. finite.insert members uid (record row { changed = number }))
+    (finite.get members uid) members
+
+-- the book where the UID's row, if there is one, has the book's number
+abbrev pub book_renumbered : Book → List ℕ → Book
+book_renumbered book uid =
+    record book { members = row_renumbered book.members uid book.number }

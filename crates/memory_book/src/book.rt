@@ -20,7 +20,8 @@ ghost use Rattle.book_model.specs.Putting.{as_found_member, found_in_book};
 ghost use Rattle.book_model.specs.BookQueries.{is_tombstone_after, tombstone_count_after};
 ghost use Rattle.book_model.specs.BookQueries.{book_tally, live_cards, with_live};
 ghost use Rattle.book_model.specs.Counting.{one_if};
-ghost use Rattle.memory_book.specs.BookInvariants.{card_at, removal_numbers};
+ghost use Rattle.memory_book.specs.BookInvariants.{card_at, removal_numbers, row_renumbered};
+ghost use Rattle.memory_book.specs.BookInvariants.{book_renumbered};
 ghost use Rattle.base_types.specs.TextMaps.{octet_map};
 
 mod importing;
@@ -153,6 +154,23 @@ fn put_live(
     let card = card.try_copy()?;
     let version = row.changed;
     cards.insert(String::from_str(alloc, uid)?, Stored { version, card })
+}
+
+/// Gives the UID's row, if there is one, this number. Allocates nothing.
+fn renumber_row(members: &mut TextMap<Row>, uid: &str, number: u64)
+    ensures { members.new ≡ row_renumbered members.old uid.now number }
+{
+    let emptied = Row {
+        changed: 0,
+        card: None,
+    };
+    if let Some(row) = members.replace(uid, emptied) {
+        let renumbered = Row {
+            changed: number,
+            card: row.card,
+        };
+        members.replace(uid, renumbered);
+    }
 }
 
 impl PlainBook {
@@ -373,6 +391,18 @@ impl PlainBook {
         self.counts.add_pairs(pairs);
         self.number = number;
         self.forget(alloc, number);
+    }
+
+    /// The same for a book without room: each pair removes and creates the card of this UID, which
+    /// ends with the last number as its version.
+    pub fn renew_pairs(&mut self, alloc: Global, uid: &str, pairs: u64)
+        requires { number_after_resync self.old pairs < 2 ^ 63 }
+        ensures { self.new ≡ book_renumbered (book_after_forget
+            (book_after_pairs self.old None pairs) (number_after_resync self.old pairs)) uid.now }
+    {
+        self.take_pairs(alloc, pairs);
+        let number = self.number;
+        renumber_row(&mut self.members, uid, number);
     }
 
     /// Inserts an empty row for the UID if there is none, so that a later change of it can't fail.
