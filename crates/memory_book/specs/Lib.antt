@@ -1,2 +1,3 @@
 pub mod BookInvariants
 pub mod ImportedRows
+pub mod RenewLaws

@@ -22,6 +22,7 @@ ghost use Rattle.book_model.specs.BookQueries.{book_tally, live_cards, with_live
 ghost use Rattle.book_model.specs.Counting.{one_if};
 ghost use Rattle.memory_book.specs.BookInvariants.{card_at, removal_numbers, row_renumbered};
 ghost use Rattle.memory_book.specs.BookInvariants.{book_renumbered};
+ghost use Rattle.memory_book.specs.RenewLaws.{RenumberedCardsAreRenewed};
 ghost use Rattle.base_types.specs.TextMaps.{octet_map};
 
 mod importing;
@@ -155,6 +156,12 @@ fn put_live(
     let version = row.changed;
     cards.insert(String::from_str(alloc, uid)?, Stored { version, card })
 }
+
+/// Where the card of the UID is live, `PlainBook::renew_pairs` leaves the book after pairs that
+/// renew this card.
+pub fn renumbered_cards_are_renewed()
+    ensures { RenumberedCardsAreRenewed }
+{}
 
 /// Gives the UID's row, if there is one, this number. Allocates nothing.
 fn renumber_row(members: &mut TextMap<Row>, uid: &str, number: u64)
