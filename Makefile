@@ -1,5 +1,5 @@
 # Short names for common tasks. CONTRIBUTING.md explains each task and how long it takes.
-.PHONY: help check test part edits gate graph release links
+.PHONY: help check test part edits gate graph release package links
 
 help:
 	@echo 'make check C=crate    prove one crate'
@@ -10,6 +10,7 @@ help:
 	@echo 'make gate             the merge gate'
 	@echo 'make graph            draw docs/crates.svg'
 	@echo 'make release          build the program and pack it into dist/'
+	@echo 'make package          pack dist/ and the clients into out/, as a .deb and an archive'
 	@echo 'make links            check the links of all pages'
 
 check:
@@ -35,6 +36,9 @@ graph:
 
 release:
 	tools/release
+
+package:
+	tools/package
 
 links:
 	tools/check-links
