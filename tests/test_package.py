@@ -1,0 +1,442 @@
+"""`tools/package`: the archives octet for octet and file by file, and the office of 200 people.
+
+It packs the program under test twice: from this tree, and from a copy with another umask, time zone
+and home. What the program's orders and options are is said by help_texts, and by nothing of the
+package. The archives are read by Python alone, and by dpkg-deb, make, man and bash where these are.
+"""
+
+import csv
+import gzip
+import hashlib
+import io
+import lzma
+import os
+import re
+import shlex
+import shutil
+import subprocess
+import sys
+import tarfile
+import unittest
+from functools import lru_cache
+from importlib.machinery import SourceFileLoader
+from importlib.util import module_from_spec, spec_from_loader
+from pathlib import Path
+
+from help_texts import HELP
+from program import PATIENCE, PROGRAM, ROOT, Folder, run
+
+EPOCH = "1790000000"
+# What a copy of the tree has: all that goes into the package, and what packs it.
+PARTS = ["tools", "packaging", "examples", "clients", "docs", "dist"]
+FILES = ["crates.txt", "README.md", "SECURITY.md", "CHANGELOG.md"]
+UNITS = ["carddav.service", "contacts-backup.service", "contacts-backup.timer",
+         "contacts-follow.service", "contacts.service", "ldap.service"]
+WRAPPERS = ["tosculai", "tosculai-carddav", "tosculai-follow", "tosculai-ldap"]
+# The fields of a control file that are tested one by one.
+FIELDS = {"Package": "tosculai", "Architecture": "amd64", "Priority": "optional",
+          "Depends": "adduser, libc6 (>= 2.34), python3 (>= 3.8)"}
+
+
+def setUpModule():
+    """Packs in both places at once."""
+    global FOLDER, FIRST, SECOND
+    FOLDER = Folder(in_memory=True)
+    path = FOLDER.__enter__()
+    unittest.addModuleCleanup(FOLDER.__exit__)
+    copy = path / "another tree"
+    for part in PARTS:
+        shutil.copytree(ROOT / part, copy / part, ignore=shutil.ignore_patterns("*.png", "trial"))
+    shutil.copytree(ROOT / "clients/desk/site", copy / "clients/desk/site", dirs_exist_ok=True)
+    for name in FILES:
+        shutil.copy(ROOT / name, copy)
+    for file in copy.rglob("*"):
+        # As a checkout under that umask has them.
+        file.chmod(file.stat().st_mode & 0o700)
+    FIRST, SECOND = path / "first", path / "second out"
+    both = [pack(ROOT, FIRST, 0o022, TZ="UTC"),
+            pack(copy, SECOND, 0o077, TZ="Pacific/Kiritimati", HOME="/nowhere", USER="ann")]
+    for process in both:
+        said = process.communicate(timeout=PATIENCE)[0]
+        if process.returncode:
+            raise AssertionError(said.decode())
+
+
+def pack(tree, out, mask, *more, **environment):
+    """Starts tools/package of a tree, in a hurry."""
+    command = [sys.executable, str(tree / "tools/package"), "--program", PROGRAM, "--preset", "0"]
+    return subprocess.Popen(
+        [*command, "--out", str(out), *more], cwd=tree,
+        env={**os.environ, "SOURCE_DATE_EPOCH": EPOCH, **environment},
+        preexec_fn=lambda: os.umask(mask), stdout=subprocess.PIPE, stderr=subprocess.STDOUT)
+
+
+def only(pattern):
+    """The one file of the first packing that has such a name."""
+    found, = FIRST.glob(pattern)
+    return found
+
+
+@lru_cache(maxsize=None)
+def members(packed):
+    """The members of a tar.xz by their paths, without the root's name, and their octets."""
+    with tarfile.open(fileobj=io.BytesIO(lzma.decompress(packed))) as archive:
+        return {it.name: (it, archive.extractfile(it).read() if it.isfile() else b"")
+                for it in archive.getmembers()}
+
+
+@lru_cache(maxsize=None)
+def deb():
+    """The three members of the .deb by their names, read as deb(5) says."""
+    octets, found, at = only("*.deb").read_bytes(), {}, 8
+    assert octets[:8] == b"!<arch>\n"
+    while at < len(octets):
+        name, date, user, group, mode, size = octets[at:at + 58].decode().split()
+        assert (date, user, group, mode) == (EPOCH, "0", "0", "100644")
+        at += 60
+        found[name] = octets[at:at + int(size)]
+        at += int(size) + int(size) % 2
+    return found
+
+
+def installed():
+    """The octets of each file that the .deb installs, by its path."""
+    found = members(deb()["data.tar.xz"])
+    return {path[2:]: octets for path, (it, octets) in found.items() if it.isfile()}
+
+
+def options_of(order):
+    """All options that the help of an order names."""
+    lines = re.findall(r"^ +(-\S.*?)  ", HELP[order], re.M)
+    return {it for line in lines for it in re.findall(r"(?<!\S)--?[\w-]+", line)}
+
+
+ORDERS = [it for it in HELP if it]
+
+
+def load_tool():
+    """tools/package as a module."""
+    loader = SourceFileLoader("package", str(ROOT / "tools/package"))
+    module = module_from_spec(spec_from_loader("package", loader))
+    loader.exec_module(module)
+    return module
+
+
+class Octets(unittest.TestCase):
+    def test_two_packings_are_the_same(self):
+        names = sorted(it.name for it in FIRST.iterdir())
+        self.assertEqual(names, sorted(it.name for it in SECOND.iterdir()))
+        self.assertEqual(4, len(names))
+        for name in names:
+            with self.subTest(file=name):
+                self.assertTrue((FIRST / name).read_bytes() == (SECOND / name).read_bytes())
+
+    def test_the_digests_are_those_of_the_files(self):
+        lines = (FIRST / "SHA256SUMS").read_text().splitlines()
+        self.assertEqual(3, len(lines))
+        for line in lines:
+            digest, name = line.split("  ")
+            self.assertEqual(digest, hashlib.sha256((FIRST / name).read_bytes()).hexdigest())
+
+    def test_a_program_that_has_not_the_digest_of_dist_is_not_packed(self):
+        tree = FOLDER.path / "another tree"
+        sources = tree / "dist/SOURCES"
+        sources.write_text(re.sub(r"(?m)^program .*$", "program " + "0" * 64, sources.read_text()))
+        done = subprocess.run([sys.executable, str(tree / "tools/package"), "--out", "none"],
+                              cwd=tree, stdout=subprocess.PIPE, stderr=subprocess.PIPE)
+        self.assertEqual(1, done.returncode)
+        self.assertIn(b"is not the program that dist/SOURCES names", done.stderr)
+        self.assertFalse((tree / "none").exists())
+
+    def test_the_list_names_each_file_and_crate(self):
+        text = only("*.txt").read_text()
+        listed = re.findall(r"^(\d+) +(\d+) ([0-9a-f]{64}) /(.*)$", text, re.M)
+        files = installed()
+        self.assertEqual(sorted(files), [path for *_, path in listed])
+        for _, size, digest, path in listed:
+            self.assertEqual((int(size), digest),
+                             (len(files[path]), hashlib.sha256(files[path]).hexdigest()), path)
+        for line in (ROOT / "crates.txt").read_text().splitlines():
+            if re.match(r"(contacts|book_model|store_tables):", line):
+                self.assertIn(f"\n{line.strip()}\n", text)
+        self.assertIn("\nkit " + re.search(r"(?m)^kit (.*)$", run("--version").out.decode())[1],
+                      text)
+
+
+    def test_the_version_is_the_programs_once_it_has_one(self):
+        tool = load_tool()
+        more = "\nschema 2\nkit k\n"
+        self.assertEqual("0.9.0", tool.version_of("contacts 0.9.0" + more))
+        self.assertEqual("1.10.2", tool.version_of("contacts 1.10.2" + more))
+        self.assertRegex(tool.version_of("contacts unreleased" + more), r"^\d+\.\d+\.\d+~dev\d+$")
+        for wrong in "contacts", "contacts \n", "contacts 1-2\n", "other 1.0\n":
+            self.assertRaises(ValueError, tool.version_of, wrong)
+
+
+    def test_paths_of_any_length_that_a_tar_has(self):
+        tar = load_tool().tar
+        for count in 99, 100, 101, 102, 103, 150, 200, 254, 255:
+            path = ("ab/" * 90 + "f" * 3)[-count:].lstrip("/")
+            with tarfile.open(fileobj=io.BytesIO(tar({path: (b"x", 0o644)}, 0))) as archive:
+                files = [it for it in archive if it.isfile()]
+                self.assertEqual([path], [it.name for it in files])
+                self.assertEqual(b"x", archive.extractfile(files[0]).read())
+        self.assertRaises(ValueError, tar, {"f" * 101: (b"", 0o644)}, 0)
+        self.assertRaises(ValueError, tar, {"ab/" * 90 + "f": (b"", 0o644)}, 0)
+
+
+class Deb(unittest.TestCase):
+    def test_members(self):
+        found = deb()
+        self.assertEqual(["debian-binary", "control.tar.xz", "data.tar.xz"], list(found))
+        self.assertEqual(b"2.0\n", found["debian-binary"])
+
+    def test_each_file_is_roots_and_has_its_mode(self):
+        programs = {f"./usr/bin/{it}" for it in ["contacts", *WRAPPERS]}
+        programs.add("./usr/sbin/contacts-backup")
+        for path, (it, octets) in members(deb()["data.tar.xz"]).items():
+            with self.subTest(path=path):
+                self.assertEqual((0, 0, "root", "root"), (it.uid, it.gid, it.uname, it.gname))
+                self.assertEqual(int(EPOCH), it.mtime)
+                self.assertTrue(it.isdir() or it.isfile())
+                is_program = it.isdir() or path in programs or octets.startswith(b"#!")
+                self.assertEqual(0o755 if is_program else 0o644, it.mode)
+
+    def test_each_folder_comes_before_what_is_in_it(self):
+        seen = set()
+        for path in members(deb()["data.tar.xz"]):
+            above = path.rstrip("/").rpartition("/")[0]
+            self.assertTrue(not above or above in seen, path)
+            seen.add(path.rstrip("/"))
+
+    def test_what_is_where(self):
+        files = installed()
+        units = [f"usr/lib/systemd/system/{it}" for it in UNITS]
+        scripts = ["python/tosculai.py", "carddav/carddav", "ldap/ldap", "desk/index.html",
+                   "desk/sw.js", "python/tosculai_tools/follow.py", "carddav/gateway/cli.py"]
+        examples = ["nginx.conf", "office.sh", "sample-office.csv"]
+        for path in [*units, *(f"usr/share/tosculai/{it}" for it in scripts),
+                     *(f"usr/share/doc/tosculai/examples/{it}" for it in examples),
+                     "usr/share/doc/tosculai/copyright", "usr/lib/sysusers.d/tosculai.conf",
+                     "etc/default/tosculai", *(f"usr/bin/{it}" for it in WRAPPERS)]:
+            self.assertIn(path, files)
+        self.assertEqual(Path(PROGRAM).read_bytes(), files["usr/bin/contacts"])
+        wrong = re.compile(r"__pycache__|\.pyc$|/trial/|/packaging/|wheels|pyproject")
+        self.assertEqual([], [it for it in files if wrong.search(it)])
+
+    def test_no_installed_program_names_usr_local(self):
+        for path, octets in installed().items():
+            if not re.search(r"\.(md|json|gz)$", path) and path != "usr/bin/contacts":
+                self.assertNotIn(b"/usr/local", octets, path)
+            self.assertNotIn(b"@PREFIX@", octets, path)
+
+    def test_what_a_unit_or_a_wrapper_starts_is_there(self):
+        files = installed()
+        for path, octets in files.items():
+            if path.startswith(("usr/lib/systemd", "usr/bin/tosculai")):
+                named = re.findall(rb"(?<![\w/])/(usr/(?:s?bin|share)/\S+)", octets)
+                system = {b"usr/bin/systemctl", b"usr/bin/python3"}
+                for it in set(named) - system:
+                    self.assertIn(it.decode(), files, path)
+
+    def test_the_users_of_the_units_are_made(self):
+        files = installed()
+        users = set(re.findall(rb"(?m)^u (\S+) ", files["usr/lib/sysusers.d/tosculai.conf"]))
+        units = b"".join(octets for path, octets in files.items() if "/systemd/" in path)
+        self.assertEqual(users, set(re.findall(rb"(?m)^User=(.*)$", units)))
+        postinst = members(deb()["control.tar.xz"])["./postinst"][1]
+        self.assertEqual(users, set(re.findall(rb"(?m)^    account (\S+) ", postinst)))
+        folders = set(re.findall(rb"(?m)^StateDirectory=(.*)$", units))
+        self.assertEqual({b"/var/lib/" + it for it in folders},
+                         set(re.findall(rb"(?m)^    account \S+ (\S+) ", postinst)))
+
+    def test_the_options_of_the_server(self):
+        files = installed()
+        text = files["etc/default/tosculai"].decode()
+        self.assertEqual(options_of("run") - {"--create", "-h", "--help"},
+                         set(re.findall(r"(?m)^#   (--[\w-]+)", text)))
+        read = subprocess.run(["sh"], input=f"{text}\necho $CONTACTS_OPTIONS".encode(), check=True,
+                              stdout=subprocess.PIPE).stdout
+        self.assertEqual(b"--port 8080\n", read)
+        unit = files["usr/lib/systemd/system/contacts.service"].decode()
+        self.assertIn("\nEnvironmentFile=-/etc/default/tosculai\nExecStart=/usr/bin/contacts run "
+                      "/var/lib/tosculai/office.db --create $CONTACTS_OPTIONS\n", unit)
+
+    def test_the_control_files(self):
+        found = {path[2:]: (it, octets) for path, (it, octets)
+                 in members(deb()["control.tar.xz"]).items()}
+        control = found["control"][1].decode()
+        fields = dict(re.findall(r"(?m)^([\w-]+): (.*)$", control))
+        version = re.fullmatch(r"tosculai_(.*)_amd64\.deb", only("*.deb").name)[1]
+        wanted = {**FIELDS, "Version": version}
+        self.assertEqual(wanted, {it: fields[it] for it in wanted})
+        self.assertEqual(b"/etc/default/tosculai\n", found["conffiles"][1])
+        sums = dict(reversed(it.split("  ")) for it in found["md5sums"][1].decode().splitlines())
+        files = {path: octets for path, octets in installed().items() if path[:4] != "etc/"}
+        self.assertEqual({it: hashlib.md5(files[it]).hexdigest() for it in files}, sums)
+        for script in "postinst", "prerm", "postrm":
+            it, octets = found[script]
+            self.assertEqual(0o755, it.mode)
+            self.assertNotRegex(octets, rb"@[A-Z]+@")
+            checked = subprocess.run(["sh", "-n"], input=octets, stderr=subprocess.PIPE)
+            self.assertEqual((0, b""), (checked.returncode, checked.stderr))
+
+    def test_no_script_removes_what_an_office_has_entered(self):
+        for path, (_, octets) in members(deb()["control.tar.xz"]).items():
+            if path in ("./postinst", "./prerm", "./postrm"):
+                self.assertNotRegex(octets, rb"\b(rm|rmdir|unlink|deluser|userdel|mv)\b *[-/$\"]")
+
+    def test_dpkg_deb_reads_it(self):
+        if not shutil.which("dpkg-deb"):
+            self.skipTest("no dpkg-deb on this machine")
+        said = subprocess.run(["dpkg-deb", "--contents", only("*.deb")], check=True,
+                              stdout=subprocess.PIPE, universal_newlines=True).stdout
+        listed = [it.split(None, 5)[5] for it in said.splitlines()]
+        self.assertEqual({f"./{it}" for it in installed()},
+                         {it for it in listed if not it.endswith("/")})
+        said = subprocess.run(["dpkg-deb", "--field", only("*.deb"), "Package"], check=True,
+                              stdout=subprocess.PIPE).stdout
+        self.assertEqual(b"tosculai\n", said)
+
+
+class Archive(unittest.TestCase):
+    def test_make_install_installs_the_same_files(self):
+        if not shutil.which("make"):
+            self.skipTest("no make on this machine")
+        packed = members(only("*.tar.xz").read_bytes())
+        with Folder(in_memory=True) as folder:
+            with tarfile.open(only("*.tar.xz")) as archive:
+                archive.extractall(folder)
+            stem, = folder.iterdir()
+            place = folder / "root of it"
+            command = ["make", "-s", "-C", stem, "install", f"DESTDIR={place}", "PREFIX=/opt/t"]
+            subprocess.run(command, check=True, stdout=subprocess.PIPE,
+                           preexec_fn=lambda: os.umask(0o077))
+            self.compare(place, {path.partition("/")[2]: it for path, it in packed.items()})
+            program = place / "opt/t/bin/contacts"
+            said = subprocess.run([program, "--version"], stdout=subprocess.PIPE, check=True).stdout
+            self.assertEqual(run("--version").out, said)
+            unit = (place / "opt/t/lib/systemd/system/contacts.service").read_text()
+            self.assertIn("\nExecStart=/opt/t/bin/contacts run /var/lib/tosculai/office.db ", unit)
+
+    def compare(self, place, packed):
+        """Each file that the .deb has is there with its octets, its mode, and the other prefix."""
+        found = {str(it.relative_to(place)): it for it in place.rglob("*") if it.is_file()}
+        wanted = installed()
+        moved = {re.sub("^usr/", "opt/t/", path): path for path in wanted}
+        self.assertEqual(sorted(moved), sorted(found))
+        for path, file in found.items():
+            it, octets = packed[f"tree/{moved[path]}"]
+            if b"@PREFIX@" in octets and path != "opt/t/bin/contacts":
+                self.assertEqual(wanted[moved[path]], octets.replace(b"@PREFIX@", b"/usr"))
+                octets = octets.replace(b"@PREFIX@", b"/opt/t")
+            self.assertTrue(octets == file.read_bytes(), path)
+            self.assertEqual(it.mode, file.stat().st_mode & 0o7777, path)
+        self.assertEqual(0o755, (place / "opt/t/bin").stat().st_mode & 0o7777)
+
+
+class Manuals(unittest.TestCase):
+    def pages(self):
+        return {Path(path).stem: octets for path, octets in installed().items()
+                if path.startswith("usr/share/man/")}
+
+    def test_each_order_and_option_is_named(self):
+        pages = {name: gzip.decompress(it).decode() for name, it in self.pages().items()}
+        for order in ORDERS:
+            self.assertIn(rf"\fBcontacts\-{order}\fR(1)", pages["contacts.1"])
+            page = pages[f"contacts-{order}.1"].replace(r"\-", "-")
+            bold = [it for line in re.findall(r"(?m)^\\fB(-.*)\\fR$", page) for it in line.split()]
+            self.assertEqual(set(), options_of(order) - {it.rstrip(",") for it in bold}, order)
+        for option in options_of(""):
+            self.assertIn(option, pages["contacts.1"].replace(r"\-", "-"))
+        for said in "262,144", "fault store\\-fault 19", "/etc/default/tosculai":
+            self.assertIn(said, pages["tosculai.7"])
+
+    def test_they_are_packed_without_a_time(self):
+        for name, octets in self.pages().items():
+            self.assertEqual((b"\x1f\x8b\x08\0", b"\0" * 4), (octets[:4], octets[4:8]), name)
+
+    def test_each_program_has_its_page(self):
+        names = {Path(it).name for it in installed() if re.match(r"usr/s?bin/", it)}
+        self.assertEqual(set(), names - {it.rpartition(".")[0] for it in self.pages()})
+
+    def test_groff_warns_of_none(self):
+        if not shutil.which("man"):
+            self.skipTest("no man on this machine")
+        with Folder(in_memory=True) as folder:
+            # One page of all, since each start takes its time.
+            whole = folder / "all.1"
+            whole.write_bytes(b"".join(gzip.decompress(it) for it in self.pages().values()))
+            done = subprocess.run(
+                ["man", "-l", "--warnings", "-E", "UTF-8", "-Tutf8", "-Z", whole],
+                env={**os.environ, "LC_ALL": "C.UTF-8", "MANWIDTH": "80"},
+                stdout=subprocess.PIPE, stderr=subprocess.PIPE)
+        self.assertEqual((0, b""), (done.returncode, done.stderr))
+
+
+class Completion(unittest.TestCase):
+    def completed(self, *rows):
+        """What bash offers after each of these rows of words, of which the last is completed."""
+        file = only("*.deb").parent / "completion"
+        file.write_bytes(installed()["usr/share/bash-completion/completions/contacts"])
+        script = [f"source {shlex.quote(str(file))}"]
+        for words in rows:
+            listed = " ".join(map(shlex.quote, words))
+            script.append(f"COMP_WORDS=({listed}); COMP_CWORD={len(words) - 1}; _contacts; "
+                          'echo "${COMPREPLY[*]}"')
+        done = subprocess.run(["bash", "--norc", "-c", "\n".join(script)], check=True,
+                              stdout=subprocess.PIPE, stderr=subprocess.PIPE)
+        file.unlink()
+        self.assertEqual(b"", done.stderr)
+        return [set(it.split()) for it in done.stdout.decode().split("\n")[:-1]]
+
+    def setUp(self):
+        if not shutil.which("bash"):
+            self.skipTest("no bash on this machine")
+
+    def test_orders_and_options(self):
+        rows = [["contacts", ""], ["contacts", "help", ""], ["contacts", "-"]]
+        rows += [["contacts", order, "-"] for order in ORDERS]
+        wanted = [set(ORDERS), set(ORDERS), options_of("")] + [options_of(it) for it in ORDERS]
+        for row, want, offered in zip(rows, wanted, self.completed(*rows)):
+            self.assertEqual(want, offered, row)
+
+    def test_values(self):
+        rows = [(["contacts", "export", "--form", ""], {"cards", "columns"}),
+                (["contacts", "export", "--form", "co"], {"columns"}),
+                (["contacts", "run", "--port", ""], set()),
+                (["contacts", "c"], {"check", "convert"}),
+                (["contacts", "run", "a.db", "--max"], {"--max-open"}),
+                (["contacts", "tally", "a.db", ""], set())]
+        found = self.completed(*(words for words, _ in rows))
+        self.assertEqual([want for _, want in rows], found)
+
+
+class SampleOffice(unittest.TestCase):
+    def test_it_is_what_its_script_prints(self):
+        made = subprocess.run([sys.executable, str(ROOT / "examples/sample-office.py")], check=True,
+                              stdout=subprocess.PIPE).stdout
+        self.assertTrue(made == (ROOT / "examples/sample-office.csv").read_bytes())
+
+    def test_it_can_be_imported(self):
+        file = ROOT / "examples/sample-office.csv"
+        self.assertEqual(b"rows 212\n", run("check", file).out)
+        with Folder(in_memory=True) as folder:
+            book = [folder / "office.db", "staff"]
+            run("init", book[0])
+            run("book", *book)
+            self.assertEqual(b"new 212 edited 0 same 0 number 212\n",
+                             run("import", *book, "sample", file).out)
+            with open(file, encoding="utf-8", newline="") as opened:
+                rows = list(csv.reader(opened))
+            exported = run("export", *book).out.decode()
+            self.assertEqual(sorted(rows), sorted(csv.reader(io.StringIO(exported, newline=""))))
+            groups = [uid for uid, card in rows if "\r\nKIND:group\r\n" in card]
+            self.assertEqual(12, len(groups))
+            people = run("expand", *book, groups[-1]).out.splitlines()
+            self.assertEqual(200, len({it for it in people if it.startswith(b"person ")}))
+            self.assertEqual(7, sum("\r\nPHOTO:data:image/png;base64," in card for _, card in rows))
+
+
+if __name__ == "__main__":
+    unittest.main()
