@@ -93,6 +93,9 @@ class NoRoute(Refused, number=27): """The server doesn't have this path."""
 class BadMethod(Refused, number=28): """The path doesn't have this method."""
 class BadPath(Refused, number=29): """A part of the path isn't UTF-8."""
 class BadQuery(Refused, number=30): """The query is wrong."""
+class ForeignHost(Refused, number=31): """The URL's host is none of the server's names (--host)."""
+class ForeignSite(Refused, number=32): """A field says that a page of another site sends this."""
+class Precondition(Refused, number=33): """A field such as If-Match, in place of `version`."""
 
 
 class Card(NamedTuple):
