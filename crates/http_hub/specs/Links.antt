@@ -3,17 +3,17 @@ use Rattle.std.specs.Prelude.{◌≡◌, ◌<◌, ◌+◌, ◌-◌, ◌*◌, ◌
 use Rattle.std.specs.Prelude.{[], ◌∷◌, Option, Some, None, drop, length, nat_eq, nat_le, nat_lt}
 use Rattle.std.specs.Prelude.{if◌then◌else◌}
 use Rattle.http_requests.specs.HandlerRuns.{HandlerRelation, FaultReplies}
-use Rattle.http_requests.specs.HeldRequests.{IsHeldBodyLength, held_length}
+use Rattle.http_requests.specs.HeldRequests.{IsHeldRequestLength, held_length}
 use Rattle.http_requests.specs.SessionFeeding.{FeedsPiece}
 
 -- a connection: its session's value, the octets that are not sent yet, when it was last active,
--- since when the rest of a request is awaited, and how long the body of that request is
+-- since when the rest of a request is awaited, and how long that request is
 pub record LinkValue : Type 0 where
   pub session : Option (List ℕ)
   pub pending : List ℕ
   pub active_at : ℕ
   pub request_since : Option ℕ
-  pub body_length : ℕ
+  pub request_length : ℕ
 
 -- the link of a new connection
 abbrev pub new_link : ℕ → LinkValue
@@ -22,7 +22,7 @@ new_link now = record {
   pending = [];
   active_at = now;
   request_since = None;
-  body_length = 0;
+  request_length = 0;
 }
 
 -- ---- since when the rest of a request is awaited
@@ -58,7 +58,7 @@ link_after_sent link count now = record {
   pending = drop count link.pending;
   active_at = now;
   request_since = since_after_sent (held_length link.session) (drop count link.pending) now;
-  body_length = link.body_length;
+  request_length = link.request_length;
 }
 
 -- the session is closed, and the rest is unchanged
@@ -68,19 +68,19 @@ link_after_failure link = record {
   pending = link.pending;
   active_at = link.active_at;
   request_since = link.request_since;
-  body_length = link.body_length;
+  request_length = link.request_length;
 }
 
--- the link after a piece, with these replies, this session, and a body of this length
+-- the link after a piece, with these replies, this session, and a request of this length
 abbrev pub link_after_piece :
     LinkValue → List ℕ → List ℕ → Option (List ℕ) → ℕ → ℕ → LinkValue
-link_after_piece link piece replies session body_length now = record {
+link_after_piece link piece replies session request_length now = record {
   session = session;
   pending = replies;
   active_at = now;
   request_since = since_after_piece link.request_since (held_length link.session) (length piece)
       (held_length session) replies now;
-  body_length = body_length;
+  request_length = request_length;
 }
 
 module _ {State : Type 0} (does : HandlerRelation State) (fault_reply : FaultReplies) where
@@ -92,19 +92,19 @@ module _ {State : Type 0} (does : HandlerRelation State) (fault_reply : FaultRep
     pub session : Option (List ℕ)
     pub feeds : FeedsPiece does fault_reply before.session old piece replies new session
     pub none_pending : before.pending ≡ []
-    pub body_length : ℕ
-    pub is_body_length : IsHeldBodyLength session body_length
-    pub after_is : after ≡ link_after_piece before piece replies session body_length now
+    pub request_length : ℕ
+    pub is_request_length : IsHeldRequestLength session request_length
+    pub after_is : after ≡ link_after_piece before piece replies session request_length now
 
 -- ---- expiry
 
--- the octets of a body for which a request has one more second
+-- the octets of a request for which it has one more second
 abbrev pub octets_a_second : ℕ
 octets_a_second = 4096
 
--- the milliseconds that a request with a body of this length may take beyond the patience
+-- the milliseconds that a request of this length may take beyond the patience
 abbrev pub extra_time : ℕ → ℕ
-extra_time body_length = body_length / octets_a_second * 1000
+extra_time request_length = request_length / octets_a_second * 1000
 
 -- that time is more than this many milliseconds ago
 abbrev pub is_long_ago : Option ℕ → ℕ → ℕ → Bool
@@ -116,7 +116,7 @@ is_long_ago (Some time) now most = nat_lt most (now - time)
 abbrev pub has_expired : LinkValue → ℕ → ℕ → Bool
 has_expired link now patience =
     nat_lt patience (now - link.active_at)
-    || is_long_ago link.request_since now (patience + extra_time link.body_length)
+    || is_long_ago link.request_since now (patience + extra_time link.request_length)
 
 -- the test holds from this time on and not before; without a time it holds at no time below 2^64
 abbrev pub IsFirstTime : (ℕ → Bool) → Option ℕ → Type 0

@@ -12,11 +12,11 @@ use http_requests::{Handler, Session};
 use std::alloc::Global;
 use std::marker::Model;
 
-/// The octets of a body for which a request has one more second.
+/// The octets of a request for which it has one more second.
 const OCTETS_A_SECOND: u64 = 4_096;
 
 /// The session of a connection, the pending octets of its replies, when it was last active, since
-/// when the rest of a request is awaited, and how long the body of that request is.
+/// when the rest of a request is awaited, and how long that request is.
 #[derive(Debug, Drop)]
 pub struct Link {
     session: Session,
@@ -24,7 +24,7 @@ pub struct Link {
     sent_count: usize,
     active_at: u64,
     request_since: Option<u64>,
-    body_len: usize,
+    request_len: usize,
 }
 
 impl Model for Link {
@@ -38,7 +38,7 @@ impl Model for Link {
       pending = drop link.sent_count link.out.items;
       active_at = link.active_at;
       request_since = link.request_since;
-      body_length = link.body_len;
+      request_length = link.request_len;
     } };
 
     ghost invariant = { λ link. link.sent_count ≤ length link.out.items };
@@ -77,11 +77,11 @@ fn awaited_after_sent(held: usize, pending: &[u8], now: u64) -> Option<u64>
     }
 }
 
-/// The milliseconds that a request with a body of this length may take beyond the patience.
-fn extra_time(body_len: usize) -> u64
-    ensures { result ≡ extra_time body_len }
+/// The milliseconds that a request of this length may take beyond the patience.
+fn extra_time(request_len: usize) -> u64
+    ensures { result ≡ extra_time request_len }
 {
-    body_len as u64 / OCTETS_A_SECOND * 1_000
+    request_len as u64 / OCTETS_A_SECOND * 1_000
 }
 
 /// Whether that time is more than `patience` and `extra` milliseconds ago.
@@ -122,7 +122,7 @@ impl Link {
             sent_count: 0,
             active_at: now,
             request_since: None,
-            body_len: 0,
+            request_len: 0,
         }
     }
 
@@ -142,12 +142,12 @@ impl Link {
 
     /// Whether for more than `patience` milliseconds the connection was not active, or the rest of
     /// a request has been awaited for longer than the request may take: for `patience`
-    /// milliseconds, and one second more for each 4,096 octets of its body once its head is there.
+    /// milliseconds, and once its head is complete one second more for each 4,096 octets of it.
     pub fn has_expired(&self, now: u64, patience: u64) -> bool
         ensures { result ≡ has_expired self.now now patience }
     {
         patience < now.saturating_sub(self.active_at)
-            || is_long_ago(self.request_since, now, patience, extra_time(self.body_len))
+            || is_long_ago(self.request_since, now, patience, extra_time(self.request_len))
     }
 
     /// The first time at which the connection has expired, if nothing comes before. `None` if there
@@ -156,7 +156,7 @@ impl Link {
         ensures { IsFirstTime (λ now. has_expired self.now now patience) result }
     {
         let silent = first_after(Some(self.active_at), patience, 0);
-        let slow = first_after(self.request_since, patience, extra_time(self.body_len));
+        let slow = first_after(self.request_since, patience, extra_time(self.request_len));
         earlier(silent, slow)
     }
 
@@ -191,7 +191,7 @@ impl Link {
             &replies,
             now,
         );
-        self.body_len = self.session.held_body_len();
+        self.request_len = self.session.held_request_len();
         self.out = replies;
         self.sent_count = 0;
         self.active_at = now;

@@ -1,7 +1,7 @@
--- The incomplete request that a session holds: how many octets of it there are, and how long its
--- body is.
-use Rattle.std.specs.Prelude.{◌≡◌, ℕ, List, Option, Some, None, length}
-use Rattle.httparse.specs.Grammar.{RequestHead}
+-- The incomplete request that a session holds: how many octets of it there are, and how long it is
+-- with its body.
+use Rattle.std.specs.Prelude.{◌≡◌, ◌+◌, ℕ, List, Option, Some, None, length}
+use Rattle.httparse.specs.Grammar.{RequestHead, print_request}
 use Rattle.http_requests.specs.Fields.{body_length}
 use Rattle.http_requests.specs.Requests.{HasNoHead, StartsWithHead}
 
@@ -10,11 +10,15 @@ abbrev pub held_length : Option (List ℕ) → ℕ
 held_length None = 0
 held_length (Some held) = length held
 
--- The length that the held head gives to the body of its request (RFC 9112, section 6.3): 0 while
--- no head is complete, and 0 once the session is closed.
-abbrev pub IsHeldBodyLength : Option (List ℕ) → ℕ → Type 0
-IsHeldBodyLength None count = count ≡ 0
-IsHeldBodyLength (Some held) count =
+-- the length of a request with this head, as its head gives it (RFC 9112, section 6.3)
+abbrev pub request_length : RequestHead → ℕ
+request_length head = length (print_request head) + body_length head
+
+-- the length of the request whose head is held: 0 while no head is complete, and once the session is
+-- closed
+abbrev pub IsHeldRequestLength : Option (List ℕ) → ℕ → Type 0
+IsHeldRequestLength None count = count ≡ 0
+IsHeldRequestLength (Some held) count =
     ((head : RequestHead) (rest : List ℕ) → StartsWithHead held head rest
-    → count ≡ body_length head)
+    → count ≡ request_length head)
     × (HasNoHead held → count ≡ 0)

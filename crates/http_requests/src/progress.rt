@@ -2,7 +2,7 @@
 ghost use Rattle.std.specs.Prelude.{◌≡◌, ◌≢◌, ◌≤◌, ◌<◌, ◌-◌, ◌↔◌, ◌⊎◌, [], ◌++◌, length, take};
 ghost use Rattle.std.specs.Prelude.{IfOk, OnErr, IsTrue};
 ghost use Rattle.http_requests.specs.HeadEnds.{head_state_after, EndsAtLastOctet};
-ghost use Rattle.http_requests.specs.HeldRequests.{IsHeldBodyLength, held_length};
+ghost use Rattle.http_requests.specs.HeldRequests.{IsHeldRequestLength, held_length};
 ghost use Rattle.http_requests.specs.SessionFeeding.{HandlesSomePrefix, FeedsPieceInPart};
 ghost use Rattle.http_requests.specs.SessionFeeding.{AdmitsHead, AsksAtOnce, FeedsPiece};
 ghost use Rattle.http_requests.specs.ParsedHeads.{IsBoundFault};
@@ -116,15 +116,15 @@ impl Progress {
         }
     }
 
-    /// The length of the body whose head is held.
-    pub(crate) fn held_body_len(&self) -> usize
+    /// The length of the request whose head is held.
+    pub(crate) fn held_request_len(&self) -> usize
         requires holds { MatchesStage self.now.held.items self.now.stage }
-        ensures { IsHeldBodyLength
+        ensures { IsHeldRequestLength
             (open_octets self.now.held.items self.now.stage) result }
     {
         match &self.stage {
             Stage::Head(_) => 0,
-            Stage::Body(start, end) => *end - *start,
+            Stage::Body(_, end) => *end,
             Stage::Closed => 0,
         }
     }

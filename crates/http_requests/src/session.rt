@@ -1,6 +1,6 @@
 //! The requests of one connection, received in pieces.
 ghost use Rattle.std.specs.Prelude.{◌≡◌, ◌↔◌, [], Some, None, IfOk, OnErr, IsTrue};
-ghost use Rattle.http_requests.specs.HeldRequests.{IsHeldBodyLength, held_length};
+ghost use Rattle.http_requests.specs.HeldRequests.{IsHeldRequestLength, held_length};
 ghost use Rattle.http_requests.specs.SessionFeeding.{AsksAtOnce, FeedsPiece, FeedsPieceInPart};
 
 use crate::handler::Handler;
@@ -56,13 +56,13 @@ impl Session {
         self.progress.held_len()
     }
 
-    /// The length of the body of the incomplete request that the session holds, in octets, as its
-    /// head gives it (RFC 9112, section 6.3). It is 0 while the head is incomplete, between
-    /// requests, and once the session is closed.
-    pub fn held_body_len(&self) -> usize
-        ensures { IsHeldBodyLength self.now result }
+    /// The length of the incomplete request that the session holds, in octets, with its head and
+    /// its body, as the head gives it (RFC 9112, section 6.3). It is 0 while the head is incomplete,
+    /// between requests, and once the session is closed.
+    pub fn held_request_len(&self) -> usize
+        ensures { IsHeldRequestLength self.now result }
     {
-        self.progress.held_body_len()
+        self.progress.held_request_len()
     }
 
     /// Consumes the next piece of the stream, passes each request that it completes to the
