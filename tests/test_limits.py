@@ -79,6 +79,17 @@ class Limits(ServedTest):
         self.serve(move("a", "clients", "staff"), tally("clients"), tally("staff"))
         self.serve(export("clients"))
 
+    def test_full_book_goes_out_and_comes_back(self):
+        """The rows of a full book, in each form, make another book with the same cards."""
+        rows = "".join(f'n{it:05},Name {it},"Lee, {it}",Pat,n{it}@example.test,,Office,'
+                       '"so ""said"""\n' for it in reversed(range(CARDS_MAX)))
+        self.serve(create("staff"), import_rows("staff", "all", COLUMNS + rows))
+        for form in ("cards", "columns"):
+            head, _, exported = self.serve(export("staff", form)).partition(b"\r\n\r\n")
+            self.assertTrue(head.startswith(b"HTTP/1.1 200 "))
+            self.serve(create(form), import_rows(form, "back", exported.decode()))
+            self.serve(export(form), export(form, "columns"))
+
     def test_members_of_a_page(self):
         """A page has 100 members at most, whatever more is asked for."""
         self.fill("staff", 250)

@@ -31,7 +31,8 @@ pub fn earlier(first: Option<u64>, second: Option<u64>) -> Option<u64>
 
 impl Hub {
     /// Whether the connection at the place has expired: for more than `patience` milliseconds it
-    /// was not active, or the rest of a head has been awaited.
+    /// was not active, or the rest of a request has been awaited for longer than it may take
+    /// (`Link::has_expired`).
     pub fn has_expired(&self, place: usize, now: u64, patience: u64) -> bool
         requires { IsOpenAt self.now place }
         ensures { (slot : Slot) → IsAt self.now place slot

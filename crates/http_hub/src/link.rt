@@ -1,25 +1,30 @@
 //! One connection, without its socket.
-ghost use Rattle.std.specs.Prelude.{◌≡◌, ◌↔◌, ◌≤◌, ◌<◌, [], None, length};
+ghost use Rattle.std.specs.Prelude.{◌≡◌, ◌↔◌, ◌≤◌, ◌<◌, ◌+◌, [], None, length};
 ghost use Rattle.std.specs.Prelude.{IfOk, OnErr, IsTrue};
 ghost use Rattle.http_requests.specs.SessionFeeding.{FeedsPieceInPart};
-ghost use Rattle.http_hub.specs.Links.{IsFirstTime, ReceivesPiece, has_expired, new_link};
-ghost use Rattle.http_hub.specs.Links.{link_after_failure, link_after_sent, since_after_piece};
-ghost use Rattle.http_hub.specs.Links.{since_after_sent};
+ghost use Rattle.http_hub.specs.Links.{IsFirstTime, ReceivesPiece, extra_time, has_expired};
+ghost use Rattle.http_hub.specs.Links.{is_long_ago, link_after_failure, link_after_sent, new_link};
+ghost use Rattle.http_hub.specs.Links.{since_after_piece, since_after_sent};
 
+use crate::expiry::earlier;
 use base_types::NoMemory;
 use http_requests::{Handler, Session};
 use std::alloc::Global;
 use std::marker::Model;
 
-/// The session of a connection, the pending octets of its replies, when it was last active, and
-/// since when the rest of a head is awaited.
+/// The octets of a request for which it has one more second.
+const OCTETS_A_SECOND: u64 = 4_096;
+
+/// The session of a connection, the pending octets of its replies, when it was last active, since
+/// when the rest of a request is awaited, and how long that request is.
 #[derive(Debug, Drop)]
 pub struct Link {
     session: Session,
     out: Vec<u8>,
     sent_count: usize,
     active_at: u64,
-    head_since: Option<u64>,
+    request_since: Option<u64>,
+    request_len: usize,
 }
 
 impl Model for Link {
@@ -32,14 +37,15 @@ impl Model for Link {
       session = link.session;
       pending = drop link.sent_count link.out.items;
       active_at = link.active_at;
-      head_since = link.head_since;
+      request_since = link.request_since;
+      request_length = link.request_len;
     } };
 
     ghost invariant = { λ link. link.sent_count ≤ length link.out.items };
 }
 
-/// Since when the rest of a head is awaited, after a piece of `added` octets. The session held
-/// `before` octets of an incomplete head, and now it holds `held`.
+/// Since when the rest of a request is awaited, after a piece of `added` octets. The session held
+/// `before` octets of a request, and now it holds `held`.
 fn awaited_after_piece(
     since: Option<u64>,
     before: usize,
@@ -60,7 +66,7 @@ fn awaited_after_piece(
     }
 }
 
-/// Since when the rest of a head is awaited, after octets were sent.
+/// Since when the rest of a request is awaited, after octets were sent.
 fn awaited_after_sent(held: usize, pending: &[u8], now: u64) -> Option<u64>
     ensures { result ≡ since_after_sent held pending.now now }
 {
@@ -68,6 +74,40 @@ fn awaited_after_sent(held: usize, pending: &[u8], now: u64) -> Option<u64>
         Some(now)
     } else {
         None
+    }
+}
+
+/// The milliseconds that a request of this length may take beyond the patience.
+fn extra_time(request_len: usize) -> u64
+    ensures { result ≡ extra_time request_len }
+{
+    request_len as u64 / OCTETS_A_SECOND * 1_000
+}
+
+/// Whether that time is more than `patience` and `extra` milliseconds ago.
+fn is_long_ago(time: Option<u64>, now: u64, patience: u64, extra: u64) -> bool
+    ensures { result ≡ is_long_ago time now (patience + extra) }
+{
+    match time {
+        // No sum, which might overflow.
+        Some(time) => patience < now.saturating_sub(time).saturating_sub(extra),
+        None => false,
+    }
+}
+
+/// The first time that is more than `patience` and `extra` milliseconds after that time.
+fn first_after(time: Option<u64>, patience: u64, extra: u64) -> Option<u64>
+    ensures { IsFirstTime (λ now. is_long_ago time now (patience + extra)) result }
+{
+    match time {
+        Some(time) => match time.checked_add(patience) {
+            Some(time) => match time.checked_add(extra) {
+                Some(time) => time.checked_add(1),
+                None => None,
+            },
+            None => None,
+        },
+        None => None,
     }
 }
 
@@ -81,7 +121,8 @@ impl Link {
             out: Vec::new(alloc),
             sent_count: 0,
             active_at: now,
-            head_since: None,
+            request_since: None,
+            request_len: 0,
         }
     }
 
@@ -100,29 +141,23 @@ impl Link {
     }
 
     /// Whether for more than `patience` milliseconds the connection was not active, or the rest of
-    /// a head has been awaited.
+    /// a request has been awaited for longer than the request may take: for `patience`
+    /// milliseconds, and once its head is complete one second more for each 4,096 octets of it.
     pub fn has_expired(&self, now: u64, patience: u64) -> bool
         ensures { result ≡ has_expired self.now now patience }
     {
         patience < now.saturating_sub(self.active_at)
-            || match self.head_since {
-                Some(since) => patience < now.saturating_sub(since),
-                None => false,
-            }
+            || is_long_ago(self.request_since, now, patience, extra_time(self.request_len))
     }
 
-    /// The first time at which the connection has expired, if nothing comes before.
+    /// The first time at which the connection has expired, if nothing comes before. `None` if there
+    /// is no such time below 2^64.
     pub fn expiry(&self, patience: u64) -> Option<u64>
         ensures { IsFirstTime (λ now. has_expired self.now now patience) result }
     {
-        let since = match self.head_since {
-            Some(since) => since.min(self.active_at),
-            None => self.active_at,
-        };
-        match since.checked_add(patience) {
-            Some(time) => time.checked_add(1),
-            None => None,
-        }
+        let silent = first_after(Some(self.active_at), patience, 0);
+        let slow = first_after(self.request_since, patience, extra_time(self.request_len));
+        earlier(silent, slow)
     }
 
     /// Feeds a piece to the session. Its replies are then pending. No octets may be pending before,
@@ -145,17 +180,18 @@ impl Link {
             self.old.session handler.old piece.now handler.new) }
         ensures no_memory_closes { OnErr result (self.new ≡ link_after_failure self.old) }
     {
-        let before = self.session.partial_head_len();
+        let before = self.session.held_len();
         let replies = self.session.feed(alloc, handler, piece)?;
-        let held = self.session.partial_head_len();
-        self.head_since = awaited_after_piece(
-            self.head_since,
+        let held = self.session.held_len();
+        self.request_since = awaited_after_piece(
+            self.request_since,
             before,
             piece.len(),
             held,
             &replies,
             now,
         );
+        self.request_len = self.session.held_request_len();
         self.out = replies;
         self.sent_count = 0;
         self.active_at = now;
@@ -170,7 +206,7 @@ impl Link {
     {
         self.sent_count += count;
         self.active_at = now;
-        let held = self.session.partial_head_len();
-        self.head_since = awaited_after_sent(held, &self.out[self.sent_count..], now);
+        let held = self.session.held_len();
+        self.request_since = awaited_after_sent(held, &self.out[self.sent_count..], now);
     }
 }

@@ -7,5 +7,5 @@ pub mod RunLemmas
 pub mod StepLemmas
 pub mod FeedLemmas
 pub mod PieceLemmas
-pub mod HeldHeadLemmas
+pub mod HeldRequestLemmas
 pub mod AskingLemmas

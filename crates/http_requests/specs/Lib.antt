@@ -2,7 +2,7 @@ pub mod HeadFaults
 pub mod Fields
 pub mod Guards
 pub mod HeadEnds
-pub mod HeldHeads
+pub mod HeldRequests
 pub mod Requests
 pub mod RequestLaws
 pub mod ParsedHeads

@@ -2,7 +2,7 @@
 ghost use Rattle.std.specs.Prelude.{◌≡◌, ◌≢◌, ◌≤◌, ◌<◌, ◌-◌, ◌↔◌, ◌⊎◌, [], ◌++◌, length, take};
 ghost use Rattle.std.specs.Prelude.{IfOk, OnErr, IsTrue};
 ghost use Rattle.http_requests.specs.HeadEnds.{head_state_after, EndsAtLastOctet};
-ghost use Rattle.http_requests.specs.HeldHeads.{partial_head_length};
+ghost use Rattle.http_requests.specs.HeldRequests.{IsHeldRequestLength, held_length};
 ghost use Rattle.http_requests.specs.SessionFeeding.{HandlesSomePrefix, FeedsPieceInPart};
 ghost use Rattle.http_requests.specs.SessionFeeding.{AdmitsHead, AsksAtOnce, FeedsPiece};
 ghost use Rattle.http_requests.specs.ParsedHeads.{IsBoundFault};
@@ -105,15 +105,26 @@ impl Progress {
         matches!(&self.stage, Stage::Closed)
     }
 
-    /// The number of octets of an incomplete head that are held.
-    pub(crate) fn partial_head_len(&self) -> usize
-        requires holds { MatchesStage self.now.held.items self.now.stage }
-        ensures { result ≡ partial_head_length
-            (open_octets self.now.held.items self.now.stage) }
+    /// The number of octets that are held.
+    pub(crate) fn held_len(&self) -> usize
+        ensures { result ≡ held_length (open_octets self.now.held.items self.now.stage) }
     {
         match &self.stage {
             Stage::Head(_) => self.held.len(),
-            Stage::Body(_, _) => 0,
+            Stage::Body(_, _) => self.held.len(),
+            Stage::Closed => 0,
+        }
+    }
+
+    /// The length of the request whose head is held.
+    pub(crate) fn held_request_len(&self) -> usize
+        requires holds { MatchesStage self.now.held.items self.now.stage }
+        ensures { IsHeldRequestLength
+            (open_octets self.now.held.items self.now.stage) result }
+    {
+        match &self.stage {
+            Stage::Head(_) => 0,
+            Stage::Body(_, end) => *end,
             Stage::Closed => 0,
         }
     }

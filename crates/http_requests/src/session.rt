@@ -1,6 +1,6 @@
 //! The requests of one connection, received in pieces.
 ghost use Rattle.std.specs.Prelude.{◌≡◌, ◌↔◌, [], Some, None, IfOk, OnErr, IsTrue};
-ghost use Rattle.http_requests.specs.HeldHeads.{partial_head_length};
+ghost use Rattle.http_requests.specs.HeldRequests.{IsHeldRequestLength, held_length};
 ghost use Rattle.http_requests.specs.SessionFeeding.{AsksAtOnce, FeedsPiece, FeedsPieceInPart};
 
 use crate::handler::Handler;
@@ -48,12 +48,21 @@ impl Session {
         self.progress.is_closed()
     }
 
-    /// The number of octets of an incomplete head that the session holds. It is 0 between requests,
-    /// within a body, and once the session is closed.
-    pub fn partial_head_len(&self) -> usize
-        ensures { result ≡ partial_head_length self.now }
+    /// The number of octets of the incomplete request that the session holds. It is 0 between
+    /// requests, and once the session is closed.
+    pub fn held_len(&self) -> usize
+        ensures { result ≡ held_length self.now }
     {
-        self.progress.partial_head_len()
+        self.progress.held_len()
+    }
+
+    /// The length of the incomplete request that the session holds, in octets, with its head and
+    /// its body, as the head gives it (RFC 9112, section 6.3). It is 0 while the head is incomplete,
+    /// between requests, and once the session is closed.
+    pub fn held_request_len(&self) -> usize
+        ensures { IsHeldRequestLength self.now result }
+    {
+        self.progress.held_request_len()
     }
 
     /// Consumes the next piece of the stream, passes each request that it completes to the

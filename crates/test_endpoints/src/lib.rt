@@ -1,5 +1,4 @@
-//! Tests of a server over sockets: an endpoint, and clients in the same process that act while it
-//! waits.
+//! Tests of an endpoint over sockets call by call, and of the service over streams and listeners.
 #![tactic(auto)]
 
 #[cfg(test)]

@@ -1,8 +1,2 @@
-mod clients;
-mod counter;
 mod endpoints;
-mod hubs;
-mod scripted;
 mod service;
-mod serving;
-mod stage;

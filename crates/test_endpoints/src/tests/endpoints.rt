@@ -1,13 +1,22 @@
 //! Single calls of an endpoint.
-use super::stage::{any_port, bind};
 use hub_server::{Accepted, Endpoint, Received, Sent};
 use socket_endpoint::{BindFault, SocketEndpoint};
 use std::io::{ErrorKind, Read, Write};
-use std::net::{Shutdown, TcpStream};
+use std::net::{Ipv4Addr, Shutdown, SocketAddr, TcpStream};
 use std::process::Abort;
 use std::rt::HostRuntime;
 use std::time::{Duration, Instant};
 use std::{io, str};
+
+/// An address of this host, with any free port.
+fn any_port() -> SocketAddr {
+    SocketAddr::from((Ipv4Addr::LOCALHOST, 0))
+}
+
+/// An endpoint at any free port.
+fn bind(rt: &HostRuntime, together: usize) -> Result<SocketEndpoint, BindFault> {
+    SocketEndpoint::bind(rt, rt.alloc(), any_port(), together)
+}
 
 /// A client that gives up after 5 seconds.
 fn connect(rt: &HostRuntime, endpoint: &SocketEndpoint) -> io::Result<TcpStream> {

@@ -3,7 +3,6 @@ mod calls;
 mod connections;
 mod event_lists;
 mod failing;
-mod large_book;
 mod sockets;
 
 use book_http::Service;
