@@ -77,10 +77,14 @@ class LdapTest(unittest.TestCase):
     @classmethod
     def start(cls, *more):
         cls.process = subprocess.Popen(
-            [sys.executable, str(LDAP), "--server", cls.stack.url, "--state",
+            [sys.executable, str(LDAP), "--server", cls.url(), "--state",
              str(cls.stack.state), "--port", "0", "--country", "353", *map(str, more)],
             stdout=subprocess.PIPE, stderr=open(cls.folder / "ldap.log", "ab"))
         cls.port = int(cls.process.stdout.readline().decode().rpartition(":")[2])
+
+    @classmethod
+    def url(cls):
+        return cls.stack.url
 
     @classmethod
     def tearDownClass(cls):
