@@ -16,7 +16,7 @@ class Sockets(LdapTest):
         return "unix:" + path
 
     def test_a_search(self):
-        self.assertEqual("a", self.found("(cn=mue*)"))
+        self.assertEqual("a", self.found("(sn=mue*)"))
         self.staff.put(card("a", "Anna Weiß"))
         self.assertEqual(("a", ""), (self.found("(sn=weiss)"), self.found("(sn=müller)")))
 
