@@ -205,6 +205,19 @@ def photos(peer):
     return day.memory(), taken
 
 
+def large(peer):
+    """How much more memory the gateway needs for a photo of 10 MB, which is sent and read."""
+    photo, day = base64.b64encode(os.urandom(10_000_000)), Day(peer, 0)
+    before, path = day.memory(), f"{peer.other}{uid(300_000)}.vcf"
+    text = card(300_000).replace(b"VERSION:4.0", b"VERSION:3.0").replace(
+        b"TITLE:", b"PHOTO;ENCODING=b;TYPE=JPEG:" + photo + b"\r\nTITLE:")
+    day.ask("PUT", path, text)
+    reply = day.ask("REPORT", peer.other, sync("", PROPERTIES), XML)[1]
+    if len(reply) < len(photo):
+        raise Failure("the photo is missing")
+    return day.memory() - before
+
+
 ROWS = [
     ("nothing", "a sync where nothing is new"), ("poll", "PROPFIND of the sync token"),
     ("etags", "all ETags, by PROPFIND"), ("all", "a first sync, all ETags"),
@@ -232,6 +245,8 @@ def report(count, days, more):
     if more:
         lines.append(f"| most memory with {PHOTOS} photos of 100 kB, read by one request |"
                      f" {octets(more[0])}, in {more[1]:.1f} s |" + " |" * (len(names) - 1))
+        lines.append("| more memory for a photo of 10 MB, which is sent and read |"
+                     f" {octets(more[2])} |" + " |" * (len(names) - 1))
     return "".join(it + "\n" for it in lines)
 
 
@@ -248,7 +263,7 @@ def measure(count, few, folder):
                     peer.put(number)
                 day.run(few)
                 if kind is Gateway:
-                    more = photos(peer)
+                    more = (*photos(peer), large(peer))
                 days.append(day)
                 print(f"measured {peer.name}", file=sys.stderr, flush=True)
             finally:

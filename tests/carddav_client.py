@@ -4,7 +4,10 @@ The client knows no more of the gateway than a phone does: it reads replies by t
 """
 
 import base64
+import functools
 import os
+import re
+import shutil
 import signal
 import subprocess
 import sys
@@ -13,13 +16,14 @@ import xml.etree.ElementTree as ET
 from http.client import HTTPConnection, HTTPException
 from urllib.parse import quote, unquote
 
+from http_requests import card
 from program import PATIENCE, ROOT, Folder, Server, run
 from python_client import office
 
 FOLDER = ROOT / "clients/carddav"
 sys.path.insert(0, str(FOLDER))
 from gateway import accounts  # noqa: E402 (it is found by the line before)
-from gateway.office import UnixConnection  # noqa: E402
+from tosculai_urls import UnixConnection  # noqa: E402
 
 D, C, CS = "{DAV:}", "{urn:ietf:params:xml:ns:carddav}", "{http://calendarserver.org/ns/}"
 SPACES = ('xmlns:D="DAV:" xmlns:C="urn:ietf:params:xml:ns:carddav"'
@@ -155,6 +159,12 @@ class Client:
                            f"<D:prop><D:getetag/>{data}</D:prop>{inside}{limit}", depth="1")
 
 
+@functools.lru_cache(maxsize=None)
+def has_resync():
+    """Whether the program has the order `resync`."""
+    return run("resync", "--help").status == 0
+
+
 class Stack:
     """A server and a gateway over a folder; each may be killed and started again."""
 
@@ -212,6 +222,49 @@ class Stack:
     def stop(self):
         self.kill_gateway()
         self.server.kill()
+
+    # Restores.
+
+    FILES = ("office.db", "office.db-wal")
+
+    def back_up(self):
+        """Keeps the server's file as it is."""
+        self.server.kill()
+        for name in self.FILES:
+            if (self.folder / name).exists():
+                shutil.copy(self.folder / name, self.folder / f"old-{name}")
+        self.start_server()
+
+    def restore(self):
+        """Puts the kept file back, and starts nothing."""
+        self.server.kill()
+        for name in self.FILES:
+            (self.folder / name).unlink(missing_ok=True)
+            if (self.folder / f"old-{name}").exists():
+                shutil.copy(self.folder / f"old-{name}", self.folder / name)
+
+    def resync(self, skip=20):
+        """Makes all devices start again, with the server stopped; then starts it.
+
+        Where the program doesn't have that order yet, the commands are sent for which it stands.
+        """
+        if has_resync():
+            self.server.kill()
+            ended = run("resync", self.folder / "office.db", "--skip", skip)
+            assert ended.status == 0, ended
+            self.start_server()
+            return
+        self.start_server()
+        for book in self.books:
+            for _ in range(skip // 2):
+                book.put(card("resync", "Resync"), 0)
+                book.remove("resync")
+            book.forget(book.tally()["number"])
+
+    def memory(self):
+        """The most memory that the gateway has had, in octets."""
+        with open(f"/proc/{self.gateway.pid}/status", encoding="ascii") as file:
+            return int(re.search(r"VmHWM:\s+(\d+) kB", file.read())[1]) * 1024
 
     def client(self, user="ann", **more):
         return Client(self.place, user, **more)

@@ -230,7 +230,7 @@ class Phone(Device):
         path = self.paths[uid]
         if self.version == "3.0":  # it drops what it doesn't know
             text = "".join(it + "\r\n" for it in lines_of(text)
-                           if not it.startswith(("X-ODD", "KEY")))
+                           if not it.startswith(("X-", "KEY")))
         return self.sent("PUT", path, text, If_Match=self.copy[path][0])
 
     def make(self, uid, number):

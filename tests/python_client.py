@@ -99,6 +99,38 @@ def is_killed(call, seconds):
     return os.WIFSIGNALED(status)
 
 
+class Forwarder:
+    """A socket of the file system whose connections go on to a server."""
+
+    def __init__(self, path, address):
+        self.address = address
+        self.listener = socket.socket(socket.AF_UNIX, socket.SOCK_STREAM)
+        self.listener.bind(path)
+        self.listener.listen(16)
+        threading.Thread(target=self.run, daemon=True).start()
+
+    def run(self):
+        while True:
+            try:
+                one, _ = self.listener.accept()
+            except OSError:
+                return
+            other = socket.create_connection(self.address)
+            for pair in (one, other), (other, one):
+                threading.Thread(target=self.carry, args=pair, daemon=True).start()
+
+    def carry(self, one, other):
+        try:
+            while True:
+                octets = one.recv(1 << 16)
+                if not octets:
+                    break
+                other.sendall(octets)
+            other.shutdown(socket.SHUT_WR)
+        except OSError:
+            pass
+
+
 class Lossy:
     """A proxy that loses requests and replies. It serves one connection at a time.
 

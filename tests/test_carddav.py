@@ -210,7 +210,7 @@ class Synchronizer(Program):
     agent = "CalDavSynchronizer/4.4"
     adds = ["PRODID:-//Outlook//EN", "REV:2026-11-27T10:00:00Z"]
     # Outlook's contact has no place for these.
-    drops = ("X-ODD", "TZ")
+    drops = ("X-", "TZ")
     find_books = ('<?xml version="1.0"?><D:propfind xmlns:D="DAV:" '
                   'xmlns:C="urn:ietf:params:xml:ns:carddav"><D:prop><D:resourcetype/>'
                   "<D:displayname/><D:current-user-privilege-set/></D:prop></D:propfind>")

@@ -1,12 +1,9 @@
-"""Cards between programs and the server: merges, groups, photos, and what a program leaves out."""
+"""Cards between programs and the server: merges, groups, and what a program leaves out."""
 
-import base64
-import hashlib
-import random
 import time
 import unittest
 
-from carddav_client import STAFF, Client, GatewayTest, card3
+from carddav_client import STAFF, GatewayTest, card3
 from histories import UIDS, Drawing
 from http_requests import card
 from model.cards import read_card
@@ -17,8 +14,6 @@ from gateway.books import Shelf
 from gateway.office import Offices
 from gateway.state import State
 from tosculai import lines_of, same
-
-LARGE = bytes(random.Random(1).getrandbits(8) for _ in range(400_000))
 
 
 def nobody(name):
@@ -115,8 +110,37 @@ class LeftOut(unittest.TestCase):
 
     def test_lines_that_a_program_does_not_know_stay(self):
         for form in "3.0", "4.0":
-            lines = self.edited(("X-ODD", "KEY", "item1.X-AB", "item2.X-AB"), form=form)
+            lines = self.edited(("X-", "KEY", "item1.X-AB", "item2.X-AB"), form=form)
             self.assertEqual([*lines_of(self.BASE)[:-1], "TEL:+2", "END:VCARD"], lines)
+
+    def test_what_a_user_removes_goes_if_the_program_sends_back_what_it_does_not_know(self):
+        """It sends the gateway's own line, too, which names the lines that it was shown."""
+        for form in "3.0", "4.0":
+            self.assertIn("X-TOSCULAI-SHOWN:X-ABLABEL,X-ODD",
+                          lines_of(cards.written(self.BASE, form == "4.0")))
+            for gone in ("X-ODD",), ("item2.X-AB",):
+                lines = self.edited(gone, form=form)
+                wanted = [it for it in lines_of(self.BASE) if not it.startswith(gone)]
+                self.assertEqual([*wanted[:-1], "TEL:+2", "END:VCARD"], lines)
+            # Of others than X- lines it says nothing, and of those that came later neither.
+            self.assertIn("KEY:https://k.test/", self.edited("KEY", form=form))
+            later = self.BASE.replace("X-ODD:1", "X-ODD:1\r\nX-NEW:1")
+            text = cards.written(self.BASE, form == "4.0")
+            self.assertIn("X-NEW:1", lines_of(cards.newer(text, later, nobody, "a", nobody)))
+
+    def test_the_line_of_the_gateway(self):
+        """It is never stored, no card without X- lines has it, and respellings are understood."""
+        plain = card("a", "Ann", "TEL:+1", "NOTE:X-ODD")
+        self.assertEqual(plain, cards.written(plain, True))
+        self.assertNotIn("TOSCULAI", cards.written(plain, False))
+        read = cards.written(self.BASE, False)
+        for text in (read, read.replace("X-ABLABEL,X-ODD", "x-ablabel\\,x-odd"),
+                     read.replace("X-TOSCULAI-SHOWN:", "x-tosculai-shown;TYPE=a:")):
+            self.assertEqual(lines_of(self.BASE), lines_of(cards.newer(text, self.BASE, nobody,
+                                                                       "a", nobody)))
+            gone = "".join(it + "\r\n" for it in lines_of(text) if not it.startswith("X-ODD"))
+            self.assertNotIn("X-ODD", cards.newer(gone, self.BASE, nobody, "a", nobody))
+        self.assertNotIn("TOSCULAI", cards.newer(read, "", nobody, "a", nobody))
 
     def test_lines_that_every_program_knows_go(self):
         lines = self.edited(("NOTE", "TEL:+1"))
@@ -173,69 +197,6 @@ class Groups(GatewayTest):
         text = card3("c", "C", "CATEGORIES:Board,Paris")
         self.dav.ask("PUT", STAFF + "c.vcf", text)
         self.assertIn("CATEGORIES:Board,Paris", lines_of(self.staff.get("c").text))
-
-
-class Photos(GatewayTest):
-    """A photo that no card can hold is kept beside, and given back in full."""
-
-    def photo(self, octets):
-        return "PHOTO;ENCODING=b;TYPE=JPEG:" + base64.b64encode(octets).decode()
-
-    def test_a_large_photo(self):
-        path, digest = STAFF + "p.vcf", hashlib.sha256(LARGE).hexdigest()
-        text = card3("p", "Pat", "TEL;TYPE=CELL:1", self.photo(LARGE))
-        self.assertEqual(201, self.dav.ask("PUT", path, text, If_None_Match="*").status)
-        address = f"http://127.0.0.1:{self.stack.place[1]}/dav/photos/{digest}/image/jpeg"
-        self.assertIn("PHOTO:" + address, lines_of(self.staff.get("p").text))
-        self.stack.restart()
-        self.dav.close()
-        got = self.dav.ask("GET", path)
-        self.assertIn(self.photo(LARGE), lines_of(got.text))
-        four = self.dav.multiget(STAFF, [path], '<C:address-data content-type="text/vcard" '
-                                 'version="4.0"/>').cards()[path]
-        self.assertIn("PHOTO:data:image/jpeg;base64," + base64.b64encode(LARGE).decode(),
-                      lines_of(four))
-        shown = self.dav.ask("GET", address[address.index("/dav"):])
-        self.assertEqual((200, "image/jpeg", LARGE),
-                         (shown.status, shown.fields["Content-Type"], shown.body))
-        self.edit(path, got, address)
-
-    def edit(self, path, got, address):
-        """An edit of a number leaves the photo, also under another name of the front server."""
-        edited = got.text.replace("TEL;TYPE=cell:1", "TEL;TYPE=cell:2")
-        reply = self.dav.ask("PUT", path, edited, If_Match=got.etag, Host="other.example")
-        self.assertEqual(204, reply.status)
-        lines = lines_of(self.staff.get("p").text)
-        self.assertIn("PHOTO:" + address, lines)
-        self.assertIn("TEL;TYPE=cell:2", lines)
-        small = self.dav.ask("GET", path).text.replace("\r\n ", "").replace(
-            self.photo(LARGE), self.photo(b"small"))
-        self.assertEqual(204, self.dav.ask("PUT", path, small).status)
-        self.assertIn("PHOTO:data:image/jpeg;base64,c21hbGw=", lines_of(self.staff.get("p").text))
-
-    def test_what_is_within_the_limit_stays_within(self):
-        octets = LARGE[:150_000]
-        self.dav.ask("PUT", STAFF + "q.vcf", card3("q", "Q", self.photo(octets)))
-        self.assertIn("PHOTO:data:image/jpeg;base64," + base64.b64encode(octets).decode(),
-                      lines_of(self.staff.get("q").text))
-
-    def test_a_photo_is_no_page(self):
-        """Octets of a client are never shown by a browser as anything but a picture."""
-        text = card3("s", "S", "PHOTO;ENCODING=b;TYPE=SVG+XML:" + base64.b64encode(
-            b"<script>" + LARGE).decode())
-        self.assertEqual(201, self.dav.ask("PUT", STAFF + "s.vcf", text).status)
-        line = next(it for it in lines_of(self.staff.get("s").text) if it.startswith("PHOTO"))
-        path = line[line.index("/dav"):]
-        for kind in path, path.replace("image/svg+xml", "text/html"):
-            shown = self.dav.ask("GET", kind)
-            self.assertEqual(("application/octet-stream", "attachment", "nosniff"), tuple(
-                shown.fields[it] for it in ("Content-Type", "Content-Disposition",
-                                            "X-Content-Type-Options")))
-        self.assertEqual(404, self.dav.ask("GET", "/dav/photos/" + "0" * 64 + "/image/png").status)
-        self.assertEqual(404, self.dav.ask("GET", "/dav/photos/../users/x").status)
-        stranger = Client(self.stack.place, "ann", "no")
-        self.addCleanup(stranger.close)
-        self.assertEqual(401, stranger.ask("GET", path).status)
 
 
 class States(unittest.TestCase):
@@ -314,6 +275,32 @@ class Following(GatewayTest):
             self.count += 1
             if self.count == at:
                 self.staff.put(card("a", f"Anna {at}"))
+            return self.one()
+        return one
+
+    def test_a_book_that_forgets_between_two_pages(self):
+        """The token of the first page is refused at the second one: the book is read anew."""
+        for number in range(130):
+            self.staff.put(card(f"u{number:03}", "U"))
+        # The first load has two pages; after that the copy's own token is refused before them.
+        for at in 2, 3:
+            with self.subTest(at=at):
+                self.shelf.offices.one, self.count = self.forgets_at(at), 0
+                self.book.refresh()
+                self.assertGreater(self.count, at)
+                self.assertEqual(self.members(self.staff), {it.uid for it in self.book.entries()})
+                self.forget(f"u{at + 100}")
+
+    def forget(self, uid):
+        self.staff.remove(uid)
+        self.staff.forget(self.staff.tally()["number"])
+
+    def forgets_at(self, at):
+        """The offices; before the request of this number the book forgets a card."""
+        def one():
+            self.count += 1
+            if self.count == at:
+                self.forget(f"u{at:03}")
             return self.one()
         return one
 

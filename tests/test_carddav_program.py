@@ -3,18 +3,17 @@
 import base64
 import io
 import os
-import shutil
-import socket
 import sys
-import threading
 import unittest
 import warnings
 from contextlib import redirect_stderr, redirect_stdout
 from unittest import mock
 
-from carddav_client import CLIENTS, PASSWORD, STAFF, Client, GatewayTest, Stack, card3
+from carddav_client import (CATEGORIES, CLIENTS, PASSWORD, STAFF, Client, GatewayTest, Stack,
+                            card3)
 from http_requests import card
 from program import ROOT, Folder
+from python_client import Forwarder
 
 from gateway import accounts, cli, readers
 from tosculai import lines_of
@@ -30,38 +29,6 @@ def run(*arguments, line=""):
         except SystemExit as end:
             status = end.code
     return status, out.getvalue(), err.getvalue()
-
-
-class Forwarder:
-    """A socket of the file system whose connections go on to a server."""
-
-    def __init__(self, path, address):
-        self.address = address
-        self.listener = socket.socket(socket.AF_UNIX, socket.SOCK_STREAM)
-        self.listener.bind(path)
-        self.listener.listen(16)
-        threading.Thread(target=self.run, daemon=True).start()
-
-    def run(self):
-        while True:
-            try:
-                one, _ = self.listener.accept()
-            except OSError:
-                return
-            other = socket.create_connection(self.address)
-            for pair in (one, other), (other, one):
-                threading.Thread(target=self.carry, args=pair, daemon=True).start()
-
-    def carry(self, one, other):
-        try:
-            while True:
-                octets = one.recv(1 << 16)
-                if not octets:
-                    break
-                other.sendall(octets)
-            other.shutdown(socket.SHUT_WR)
-        except OSError:
-            pass
 
 
 class Sockets(GatewayTest):
@@ -100,7 +67,7 @@ class Program(GatewayTest):
             (["--state", state], 2, "one of --port and --socket is needed"),
             (["--state", state, "--port", "0", "--server", "ftp://x"], 3, "not the URL"),
             (["--state", state, "--port", "0"], 3, "another gateway uses it"),
-            (["--state", state, "--port", "0", "--server", "unix:"], 3, "the path of a socket"),
+            (["--state", state, "--port", "0", "--server", "unix:"], 3, "a socket's path"),
             (["user", "add", "eve", "--state", state, "--book", "staff:x"], 3, "isn't BOOK:r"),
             (["user", "add", "a b", "--state", state, "--book", "staff:r"], 3, "a user's name"),
             (["user", "add", "eve", "--state", state], 3, "a user needs a right"),
@@ -282,6 +249,7 @@ class States(unittest.TestCase):
         dav.close()
         self.assertEqual(("valid-sync-token", True), dav.sync(STAFF, token).reason)
         self.assertEqual([STAFF + "mine.vcf"], list(dav.sync(STAFF).etags()))
+        self.forget(stack, dav)
         token = dav.sync(STAFF).token
         stack.kill_gateway()
         for name in os.listdir(stack.state):
@@ -293,6 +261,28 @@ class States(unittest.TestCase):
         self.assertEqual([STAFF + "a.vcf"], list(dav.sync(STAFF).etags()))
         dav.close()
 
+    def forget(self, stack, dav):
+        """The name of a card that is gone is forgotten by it, once the books were read again."""
+        dav.ask("PUT", STAFF + "zoe-secret.vcf", card3("z", "Zoe"))
+        dav.ask("DELETE", STAFF + "zoe-secret.vcf")
+        dav.close()
+        self.assertIn(b"zoe-secret", self.octets_after(stack, "--tidy"))
+        self.octets_after(stack, "--start-over")
+        self.assertNotIn(b"zoe-secret", self.octets_after(stack, "--tidy"))
+        self.assertEqual([STAFF + "mine.vcf"], list(dav.sync(STAFF).etags()))
+        stack.books[0].put(card("z", "Zoe"))
+        self.assertEqual({STAFF + "mine.vcf", STAFF + "z.vcf"}, set(dav.sync(STAFF).etags()))
+        stack.books[0].remove("z")
+
+    def octets_after(self, stack, order):
+        """Gives an order with the gateway stopped; returns the octets of the state's file then."""
+        stack.kill_gateway()
+        given = ["--state", stack.state, "--server", stack.url, order]
+        self.assertEqual((0, "", ""), run(*given))
+        octets = b"".join(it.read_bytes() for it in stack.state.glob("names.db*"))
+        stack.start()
+        return octets
+
     def test_a_restored_server(self):
         """An older file was put back, and changed since: the copy isn't its book any more."""
         with Folder(in_memory=True) as folder:
@@ -303,17 +293,12 @@ class States(unittest.TestCase):
                 stack.stop()
 
     def restore(self, stack):
-        dav, staff, files = stack.client(), stack.books[0], ("office.db", "office.db-wal")
+        dav, staff = stack.client(), stack.books[0]
         staff.put(card("a", "Ann"))
-        stack.server.kill()
-        for name in files:
-            shutil.copy(stack.folder / name, stack.folder / f"old-{name}")
-        stack.start_server()
+        stack.back_up()
         staff.put(card("a", "Anna"))
         got = dav.ask("GET", STAFF + "a.vcf")
-        stack.server.kill()
-        for name in files:
-            shutil.copy(stack.folder / f"old-{name}", stack.folder / name)
+        stack.restore()
         stack.start_server()
         staff.put(card("b", "Bob"))  # now the book has as many changes as before
         self.assertEqual([STAFF + "a.vcf"], list(dav.sync(STAFF).etags()))
@@ -326,6 +311,57 @@ class States(unittest.TestCase):
         self.assertEqual("Ann", next(it[3:] for it in lines_of(staff.get("a").text)
                                      if it.startswith("FN:")))
         dav.close()
+
+    def test_a_resync(self):
+        """After a restore with `resync` each program starts again by itself, with what is there."""
+        for is_stopped in False, True:
+            with self.subTest(is_stopped), Folder(in_memory=True) as folder:
+                stack = Stack(folder, users=CATEGORIES)
+                try:
+                    self.resync(stack, is_stopped)
+                finally:
+                    stack.stop()
+
+    def resync(self, stack, is_stopped):
+        dav, cat, staff = stack.client(), stack.client("cat"), stack.books[0]
+        for uid, name in [("a", "Ann"), ("b", "Bob"), ("g", "Gone")]:
+            staff.put(card(uid, name))
+        stack.back_up()
+        staff.put(card("a", "Anna"))
+        staff.remove("g")
+        self.assertEqual(201, dav.ask("PUT", STAFF + "lost.vcf", card3("l", "Lost")).status)
+        before = dav.sync(STAFF, props="<D:getetag/><C:address-data/>")
+        seen = cat.sync(STAFF)
+        if is_stopped:
+            stack.kill_gateway()
+        stack.restore()
+        stack.resync()
+        # The same edits as in the lost time, in another order.
+        staff.put(card("b", "Bob", "NOTE:later"))
+        staff.put(card("a", "Anna"))
+        if is_stopped:
+            stack.start()
+            dav.close()
+            cat.close()
+        self.assertEqual((403, ("valid-sync-token", True)), (
+            dav.sync(STAFF, before.token).status, dav.sync(STAFF, before.token).reason))
+        after = dav.sync(STAFF, props="<D:getetag/><C:address-data/>")
+        self.assertEqual({STAFF + "a.vcf", STAFF + "b.vcf", STAFF + "g.vcf"}, set(after.etags()))
+        self.assertEqual(after.etags(), dav.propfind(STAFF, "<D:getetag/>", "1").etags())
+        old, new = before.etags()[STAFF + "a.vcf"], after.etags()[STAFF + "a.vcf"]
+        self.assertNotEqual(old, new)  # although the text is the same again
+        edited = before.cards()[STAFF + "a.vcf"].replace("FN:Anna", "FN:Annie")
+        self.assertEqual(412, dav.ask("PUT", STAFF + "a.vcf", edited, If_Match=old).status)
+        self.assertEqual(204, dav.ask("PUT", STAFF + "a.vcf", edited, If_Match=new).status)
+        self.assertEqual(404, dav.ask("GET", STAFF + "lost.vcf").status)
+        # A program of categories is told what is different, or starts again, too.
+        told = cat.sync(STAFF, seen.token)
+        if told.status == 207:
+            self.assertEqual(404, told.statuses()[STAFF + "lost.vcf"])
+            self.assertLessEqual({STAFF + "a.vcf", STAFF + "b.vcf", STAFF + "g.vcf"},
+                                 {it for it, status in told.statuses().items() if status == 200})
+        dav.close()
+        cat.close()
 
     def test_photos_that_no_card_names(self):
         with Folder(in_memory=True) as folder:

@@ -10,7 +10,7 @@ import unittest
 from http.client import HTTPConnection
 from http.server import BaseHTTPRequestHandler, ThreadingHTTPServer
 
-from carddav_client import CLIENTS, STAFF, GatewayTest
+from carddav_client import CATEGORIES, CLIENTS, STAFF, GatewayTest, card3
 from http_requests import card
 from program import PATIENCE
 
@@ -34,6 +34,7 @@ class Between(BaseHTTPRequestHandler):
             return
         body = self.rfile.read(int(self.headers.get("Content-Length", 0)))
         change = None
+        self.server.asked.append((self.command, self.headers.get("X-Remote-User")))
         if self.command in ("PUT", "DELETE", "POST") and self.server.changes:
             change = self.server.changes.pop(0)
         made = change() if change else None
@@ -73,7 +74,7 @@ class BetweenTest(GatewayTest):
     def setUp(self):
         super().setUp()
         self.between = ThreadingHTTPServer(("127.0.0.1", 0), Between)
-        self.between.daemon_threads, self.between.changes = True, []
+        self.between.daemon_threads, self.between.changes, self.between.asked = True, [], []
         self.between.real = self.stack.server.address
         threading.Thread(target=self.between.serve_forever, daemon=True).start()
         self.addCleanup(self.between.server_close)
@@ -86,6 +87,37 @@ class BetweenTest(GatewayTest):
     def at(self, number, change):
         """Makes the change at the request of this number that writes, from 0."""
         self.between.changes = [None] * number + [change]
+
+
+class Users(BetweenTest):
+    """The server is told who makes a change, for its log; and of nothing else."""
+
+    users = CATEGORIES
+
+    def test_who_makes_a_change(self):
+        text, copy = card3("a", "Ann"), CLIENTS + "a.vcf"
+        bob, cat = self.stack.client("bob"), self.stack.client("cat")
+        self.addCleanup(bob.close)
+        self.addCleanup(cat.close)
+        place = f"http://127.0.0.1:{self.stack.place[1]}{copy}"
+        grouped = card3("c", "Cy", "CATEGORIES:Board")
+        for dav, ask, status in [
+            (bob, lambda: bob.ask("PUT", STAFF + "a.vcf", text), 201),
+            (self.dav, lambda: self.dav.ask("PUT", copy, text), 201),
+            (self.dav, lambda: self.dav.ask("MOVE", STAFF + "a.vcf", Destination=place), 204),
+            (self.dav, lambda: self.dav.ask("DELETE", copy), 204),
+            (cat, lambda: cat.ask("PUT", STAFF + "c.vcf", grouped), 201),
+            (bob, lambda: bob.ask("DELETE", STAFF + "c.vcf", X_Remote_User="ann"), 204),
+        ]:
+            self.between.asked.clear()
+            self.assertEqual(status, ask().status)
+            user = {bob: "bob", cat: "cat"}.get(dav, "ann")
+            for command, named in self.between.asked:
+                self.assertEqual(None if command == "GET" else user, named)
+            self.assertIn(user, [named for _, named in self.between.asked])
+        self.between.asked.clear()
+        self.dav.sync(STAFF)
+        self.assertEqual({("GET", None)}, set(self.between.asked))
 
 
 class Puts(BetweenTest):

@@ -3,9 +3,9 @@
 Three phones (one of vCard 3.0 that drops what it doesn't know, one of 4.0, one whose groups are
 categories) and the desk add numbers to cards, take numbers away, add and remove cards, and put
 people into groups and out of them. The desk edits older copies, and puts edits together by its own
-merge. Meanwhile the gateway and the server are killed and started again, and the book forgets
-removals. In the end all copies are equal, and each edit that got its 2xx is there, unless a later
-one took it away.
+merge. Meanwhile the gateway and the server are killed and started again, the book forgets removals,
+and the file is resynced, where the program has that order. In the end all copies are equal, and
+each edit that got its 2xx is there, unless a later one took it away.
 
 `SEEDS=20 ./test carddav_random` runs more of them.
 """
@@ -16,7 +16,7 @@ import threading
 import time
 import unittest
 
-from carddav_client import CATEGORIES, STAFF, Stack
+from carddav_client import CATEGORIES, STAFF, Stack, has_resync
 from carddav_desk import Merger
 from carddav_devices import OFFICE, CategoryPhone, Desk, Ledger, Phone, categories, numbers, teams
 from http_requests import card
@@ -73,11 +73,12 @@ class Random(unittest.TestCase):
         threads = [threading.Thread(target=live, args=(it,)) for it in devices]
         for it in threads:
             it.start()
-        kills = 0
+        kills, harms = 0, [stack.restart, stack.restart_server, lambda: self.forget(stack)]
+        harms += [stack.resync] * has_resync()
         while time.monotonic() < end and not faults and (
                 kills < KILLS or any(it.done < EDITS for it in devices)):
             time.sleep(killer.uniform(0.1, 0.5))
-            killer.choice([stack.restart, stack.restart_server, lambda: self.forget(stack)])()
+            killer.choice(harms)()
             kills += 1
         is_over.set()
         for it in threads:

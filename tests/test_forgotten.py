@@ -125,10 +125,9 @@ class Everywhere(FollowTest):
         self.assertEqual(set(), holding(self.folder))
         self.check_the_others()
 
-    def write_anew(self, file, *statements):
+    def write_anew(self, file):
         with sqlite3.connect(file, isolation_level=None) as db:
-            for statement in (*statements, "VACUUM"):
-                db.execute(statement)
+            db.execute("VACUUM")
         db.close()
 
     def tidy_gateway(self):
@@ -141,7 +140,6 @@ class Everywhere(FollowTest):
             subprocess.run([*gateway, option], check=True, timeout=PATIENCE,
                            stdout=subprocess.DEVNULL)
         self.assertEqual([], list(photos.iterdir()))
-        self.write_anew(self.stack.state / "names.db", f"DELETE FROM names WHERE uid = '{UID}'")
 
     def stack_program(self):
         from carddav_client import FOLDER

@@ -77,10 +77,14 @@ class LdapTest(unittest.TestCase):
     @classmethod
     def start(cls, *more):
         cls.process = subprocess.Popen(
-            [sys.executable, str(LDAP), "--server", cls.stack.url, "--state",
+            [sys.executable, str(LDAP), "--server", cls.url(), "--state",
              str(cls.stack.state), "--port", "0", "--country", "353", *map(str, more)],
             stdout=subprocess.PIPE, stderr=open(cls.folder / "ldap.log", "ab"))
         cls.port = int(cls.process.stdout.readline().decode().rpartition(":")[2])
+
+    @classmethod
+    def url(cls):
+        return cls.stack.url
 
     @classmethod
     def tearDownClass(cls):
@@ -339,10 +343,10 @@ class Tls(LdapTest):
     @classmethod
     def make_certificate(cls):
         cls.cert = cls.folder / "cert.pem"
+        names = "subjectAltName=DNS:localhost,IP:127.0.0.1"  # ldapsearch asks for either
         subprocess.run(["openssl", "req", "-x509", "-newkey", "rsa:2048", "-nodes", "-subj",
-                        "/CN=localhost", "-addext", "subjectAltName=DNS:localhost", "-keyout",
-                        cls.folder / "key.pem", "-out", cls.cert], check=True,
-                       stderr=subprocess.DEVNULL)
+                        "/CN=localhost", "-addext", names, "-keyout", cls.folder / "key.pem",
+                        "-out", cls.cert], check=True, stderr=subprocess.DEVNULL)
 
     @classmethod
     def start(cls, *more):
@@ -428,7 +432,7 @@ class StartTls(Tls):
     @unittest.skipUnless(shutil.which("ldapsearch"), "no ldapsearch")
     def test_ldapsearch(self):
         ran = subprocess.run(["ldapsearch", "-x", "-ZZ", "-LLL", "-H",
-                              f"ldap://localhost:{self.port}", "-D", "bob", "-w", PASSWORD, "-b",
+                              f"ldap://127.0.0.1:{self.port}", "-D", "bob", "-w", PASSWORD, "-b",
                               "o=office", "(sn=mue*)", "mail"], stdout=subprocess.PIPE,
                              check=True, env={**os.environ, "LDAPTLS_CACERT": str(self.cert)})
         self.assertIn(f"dn: uid=a,{STAFF}\n", ran.stdout.decode())

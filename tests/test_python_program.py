@@ -1,5 +1,6 @@
 """The programs of clients/python: TLS, servers that are dead, syncs that stay, and pip."""
 
+import io
 import re
 import shutil
 import signal
@@ -11,13 +12,15 @@ import threading
 import time
 import unittest
 import zipfile
+from contextlib import redirect_stdout
 
 from http_requests import card
 from program import PATIENCE, Folder, Server, run
-from python_client import FOLDER, Lossy, run_command
+from python_client import FOLDER, Forwarder, Lossy, run_command
 from test_python_client import ClientTest
 
 from tosculai import Office, Unreachable
+from tosculai_tools import follow
 
 SAID = 6  # seconds; 3 on a machine that isn't busy
 TOSCULAI = [sys.executable, str(FOLDER / "tosculai.py")]
@@ -128,6 +131,52 @@ class Watching(ClientTest):
         (self.cards / "x.vcf").write_text("x")
         said = "skipped x.vcf: it has no UID, or isn't UTF-8\n"
         self.assertEqual((1, said, ""), run_command(*sync))
+
+
+class Sockets(ClientTest):
+    """`unix:PATH` in place of a URL: the library, the commands and `follow`."""
+
+    def setUp(self):
+        super().setUp()
+        self.path = str(self.folder / "office.sock")
+        forwarder = Forwarder(self.path, self.server.address)
+        self.addCleanup(forwarder.listener.close)
+        self.url = "unix:" + self.path
+
+    def test_the_library(self):
+        there = Office(self.url)
+        with there.connected():
+            self.assertEqual(1, there.book("staff").put(card("a", "Ann"), 0))
+            self.assertEqual(card("a", "Ann"), there.book("staff").get("a").text)
+        self.assertEqual(self.url, there.url)
+        for url, context in [("unix:", None), (self.url, ssl.create_default_context())]:
+            with self.assertRaises(ValueError):
+                Office(url, context=context)
+
+    def test_the_commands(self):
+        self.assertEqual((0, "clients\nstaff\n", ""), run_command("books", self.url))
+        self.staff.put(card("a", "Ann"))
+        cards = self.folder / "cards"
+        self.assertEqual((0, "1 pulled, 0 pushed\n", ""),
+                         run_command("sync", self.url, "staff", cards))
+        (cards / "a.vcf").write_bytes(card("a", "Anna").encode())
+        self.assertEqual((0, "0 pulled, 1 pushed\n", ""),
+                         run_command("sync", self.url, "staff", cards))
+        self.assertEqual(card("a", "Anna"), self.staff.get("a").text)
+
+    def test_follow(self):
+        self.staff.put(card("a", "Ann"))
+        folder = self.folder / "memory"
+        with redirect_stdout(io.StringIO()):
+            self.assertEqual(0, follow.main([self.url, str(folder), "--once", "--dated"]))
+        self.assertEqual(card("a", "Ann").encode(), (folder / "staff/a.vcf").read_bytes())
+
+    def test_nobody_listens(self):
+        for path in self.path + "x", str(self.folder / "file"):
+            begun = time.monotonic()
+            with self.assertRaisesRegex(Unreachable, "unix:" + path):
+                Office("unix:" + path).books()
+            self.assertLess(time.monotonic() - begun, SAID)
 
 
 class DeadServers(unittest.TestCase):

@@ -7,11 +7,11 @@ sent with the version that the client saw, so nobody's edit is overwritten unsee
 
 import threading
 import time
-from typing import Callable, Dict, Iterator, List, NamedTuple, Optional, Tuple
+from typing import Callable, Collection, Dict, Iterator, List, NamedTuple, Optional, Tuple
 
-from tosculai import Card, InvalidToken, NoSuchBook, Page
+from tosculai import Card, InvalidToken, NoSuchBook, Page, lines_of
 
-from gateway import cards
+from gateway import cards, files
 from gateway.office import Offices
 from gateway.people import People
 from gateway.photos import Photos
@@ -19,6 +19,7 @@ from gateway.state import Entry, Row, State
 
 PAGE_MAX = 100  # members of a page, of the server
 PAGE_OCTETS = 4_000_000  # a page is asked to have about this size at most
+ROUNDS = 5  # attempts to read a whole book, if tokens are refused meanwhile
 PROGRESS = 2.0  # seconds between two lines of progress
 
 Say = Callable[[str], None]
@@ -104,18 +105,24 @@ class AddressBook:
                 token = page.token
             if loading:
                 loading.end()
+            self.state.whole(self.number)
             return self._wrapped(token)
 
     def _pages(self, token: str) -> Iterator[Page]:
-        """All pages since the token; since ever if it is refused, after the copy was cleared."""
-        try:
-            yield from self.pages(token)
-        except InvalidToken:
-            if not token:
-                raise
-            self.shelf.say(f"{self.name}: the server refuses the copy's token; all cards anew")
-            self._clear()
-            yield from self.pages("")
+        """All pages since the token; since ever if it is refused, after the copy was cleared.
+
+        It may be refused between two pages, too, if the book forgets or starts anew meanwhile.
+        """
+        for left in reversed(range(ROUNDS)):
+            try:
+                yield from self.pages(token)
+                return
+            except InvalidToken:
+                if not left:
+                    raise
+                self.shelf.say(f"{self.name}: the server refuses the copy's token; all cards anew")
+                self._clear()
+                token = ""
 
     def _clear(self) -> None:
         self.state.clear(self.number)
@@ -187,9 +194,19 @@ class AddressBook:
                 self._people = people
             return self._people
 
-    def whole(self, text: str) -> str:
-        """A stored text with the files that are kept beside."""
-        return self.shelf.photos.filled(text)
+    def as_read(self, text: str, as4: bool, parts: Collection[str] = ()) -> str:
+        """A stored text as a program reads it, or these properties of it.
+
+        It has marks in place of large files; `Photos.filled` puts them in, piece by piece.
+        """
+        bare = self.shelf.photos.shown(text)
+        made = cards.written(bare, as4)
+        made = cards.partial(made, set(parts)) if parts else made
+        return made if bare is text else files.with_whole_marks(lines_of(made))
+
+    def filled(self, text: str, as4: bool) -> Iterator[bytes]:
+        """A stored text as a program reads it, with its files."""
+        return self.shelf.photos.filled(self.as_read(text, as4))
 
     # Tokens of clients.
 

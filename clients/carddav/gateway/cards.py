@@ -15,9 +15,10 @@ from typing import Callable, Dict, Hashable, List, Set
 import vcard3
 from tosculai import UID, lines_of, uid_of
 
-FORM = "1"  # changes with each change of what clients read of a card, since ETags depend on it
+FORM = "2"  # changes with each change of what clients read of a card, since ETags depend on it
 MEMBER = re.compile(r"((?:[\w-]+\.)?(?:X-ADDRESSBOOKSERVER-)?MEMBER(?:;[^:]*)?:)(.*)")
 URI = re.compile(r"[A-Za-z][A-Za-z0-9+.-]*:.")
+X_NAME = re.compile(r"X-[A-Z0-9-]+")
 URN = "urn:uuid:"
 LINES_MAX = 65_536  # as many of the shortest lines have the octets of the largest card
 CACHED = 2048  # characters of a card whose 3.0 text is kept in memory
@@ -25,14 +26,20 @@ CACHED = 2048  # characters of a card whose 3.0 text is kept in memory
 LINE = re.compile(r"(?:[\w-]+\.)?[\w-]+(?:;[\w-]+=(?:\"[^\"]*\"|[^\";:,]*)"
                   r"(?:,(?:\"[^\"]*\"|[^\";:,]*))*)*:.*", re.DOTALL | re.ASCII)
 CONTROLS = re.compile(r"[\x00-\x08\x0a-\x1f\x7f]")
+# A line that only programs read: see `_with_shown`.
+SHOWN = "X-TOSCULAI-SHOWN"
 # Properties that each program shows and edits: one that is left out was removed by its user.
 COMMON = {"BEGIN", "END", "VERSION", "UID", "PRODID", "REV", "FN", "N", "NICKNAME", "TEL", "EMAIL",
           "ADR", "ORG", "TITLE", "NOTE", "URL", "BDAY", "PHOTO", "KIND", "MEMBER",
-          "X-ADDRESSBOOKSERVER-KIND", "X-ADDRESSBOOKSERVER-MEMBER"}
+          "X-ADDRESSBOOKSERVER-KIND", "X-ADDRESSBOOKSERVER-MEMBER", SHOWN}
 
 
 class BadText(ValueError):
     """A text that is no card; the message says why."""
+
+
+class TooLarge(BadText):
+    """A card that no card of the server can hold, whatever is kept beside it."""
 
 
 class OldVersion(BadText):
@@ -51,12 +58,32 @@ def written(text: str, as4: bool) -> str:
     """The card as a client reads it. A group names its members as `urn:uuid:UID`."""
     if not as4:
         return _older(text) if len(text) <= CACHED else _older.__wrapped__(text)
-    return _with_members(text, _long_member)
+    return _with_shown(_with_members(text, _long_member))
 
 
 @functools.lru_cache(maxsize=4096)
 def _older(text: str) -> str:
-    return _with_members(vcard3.write(text), _long_member)
+    return _with_shown(_with_members(vcard3.write(text), _long_member))
+
+
+def _with_shown(text: str) -> str:
+    """The text with one more line, which names its X- lines, if it has any.
+
+    No program knows that line. So one that sends it back sends back what it doesn't know, and a
+    line that is named there and isn't sent back was removed by the program's user.
+    """
+    if "\nX-" not in text and ".X-" not in text:
+        return text
+    names = sorted(it for it in uncommon(text) if it.startswith("X-"))
+    head, end, rest = text.rpartition("END:VCARD")
+    line = vcard3.folded(f"{SHOWN}:{','.join(names)}")
+    return head + line + end + rest if names else text
+
+
+def _shown(lines: List[str]) -> Set[str]:
+    """The names of the lines with which a card was shown, if its program says so."""
+    found = (it.partition(":")[2].upper() for it in lines if name_of(it) == SHOWN)
+    return {name for it in found for name in X_NAME.findall(it)}
 
 
 def partial(text: str, names: Set[str]) -> str:
@@ -74,13 +101,15 @@ def newer(text: str, base: str, has: Callable[[str], bool], uid: str,
     `has` says whether the book has a card, `uid` is for a card that has none, and `knows` says
     whether the program would have sent a property of this name.
     """
-    lines = _framed(text)
+    framed = _framed(text)
+    lines, shown = [it for it in framed if name_of(it) != SHOWN], _shown(framed)
     as4 = "VERSION:4.0" in lines
     _give_uid(lines, base, uid)
     if not any(name_of(it) == "FN" for it in lines):
         lines.insert(2, "FN:" + _made_name(lines))
     if base:
-        lines[-1:-1] = left_out(lines, lines_of(written(base, as4)), knows)
+        lines[-1:-1] = left_out(lines, lines_of(written(base, as4)),
+                                lambda it: it in shown or knows(it))
     lines = _with_stored_members(lines, lines_of(base), has)
     if as4:
         whole = merged(lines, lines_of(base))
@@ -140,8 +169,9 @@ def left_out(lines: List[str], base: List[str], knows: Callable[[str], bool]) ->
     """The lines of the base that the program left out since it doesn't know them.
 
     Whether a program sends back what it doesn't know differs. So a property that it has never sent
-    in any card wasn't removed by its user. A line of a group of lines (`item1.X-ABLABEL`) only
-    stays while another line of that group does: else it would name whatever gets the group next.
+    in any card wasn't removed by its user, unless `_with_shown` tells more. A line of a group of
+    lines (`item1.X-ABLABEL`) only stays while another line of that group does: else it would name
+    whatever gets the group next.
     """
     here = {key_of(it) for it in lines}
     names = {name_of(it) for it in lines}

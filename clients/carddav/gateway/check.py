@@ -93,7 +93,7 @@ def beside(shelf: Shelf) -> List[str]:
             text = book.text(entry) or ""
             for line in text.replace("\r\n ", "").split("\r\n"):
                 found = PATH.fullmatch(line) if "/photos/" in line else None
-                if found and shelf.photos.read(found.group(1)) is None:
+                if found and shelf.photos.size(found.group(1)) is None:
                     lines.append(f"{name}: the photo of {entry.uid} isn't in {shelf.photos.path}")
     return lines
 

@@ -8,11 +8,12 @@ import secrets
 import signal
 import sys
 import threading
-from typing import Any, Dict, List, Optional
+import time
+from typing import Any, Dict, List, Optional, Set
 
 from tosculai import Error
 
-from gateway import accounts, birthdays, readers
+from gateway import accounts, birthdays, photos, readers
 from gateway.books import Shelf
 from gateway.check import check
 from gateway.dav import Dav
@@ -21,7 +22,7 @@ from gateway.front import Server, say
 from gateway.groups import view_of
 from gateway.numbers import COUNTRY
 from gateway.office import Offices, new_office
-from gateway.photos import Photos
+from gateway.photos import SPACE, Photos
 from gateway.state import State
 
 USAGE = """Phones and mail programs use the books of Tosculai as address books, by CardDAV.
@@ -36,7 +37,9 @@ USAGE = """Phones and mail programs use the books of Tosculai as address books, 
   carddav user list --state DIR
 """
 STATE = "/var/lib/tosculai-carddav"
+MEGA = 1_000_000
 DAYS = 30  # for which a photo is kept that no card names
+DAY = 86_400.0  # seconds
 
 
 def main(arguments: List[str]) -> int:
@@ -73,6 +76,8 @@ def parser() -> argparse.ArgumentParser:
                       help="what a birthday is called (%(default)s)")
     made.add_argument("--anniversary-text", default=birthdays.Texts().anniversary, metavar="TEXT",
                       help="what an anniversary is called (%(default)s)")
+    made.add_argument("--photo-space", type=int, default=SPACE // MEGA, metavar="MB",
+                      help="how many megabytes of large photos a user may store (%(default)s)")
     made.add_argument("--log", action="store_true", help="a line for each request")
     made.add_argument("--check", action="store_true", help="say what a phone would see, and end")
     made.add_argument("--nginx", choices=["map", "passwords"],
@@ -81,7 +86,8 @@ def parser() -> argparse.ArgumentParser:
                       help="let all programs list all names again, as after this state was "
                       "restored from a backup; and end")
     made.add_argument("--tidy", action="store_true",
-                      help=f"remove photos that no card has named for {DAYS} days, and end")
+                      help=f"remove photos that no card has named for {DAYS} days, and end; a "
+                      "gateway that runs does so each day")
     return made
 
 
@@ -97,6 +103,8 @@ def run(made: argparse.ArgumentParser, arguments: List[str]) -> int:
         return 0
     if not (given.start_over or given.tidy) and (given.port is None) == (given.socket is None):
         made.error("one of --port and --socket is needed")
+    if given.photo_space < 0:
+        made.error(f"--photo-space {given.photo_space}: a number of megabytes")
     if given.country and not COUNTRY.fullmatch(given.country):
         made.error(f"--country {given.country}: a code has one to three digits, as 353")
     os.makedirs(given.state, exist_ok=True)
@@ -108,10 +116,16 @@ def run(made: argparse.ArgumentParser, arguments: List[str]) -> int:
         state = State(os.path.join(given.state, "names.db"))
         if given.start_over:
             state.start_over()
+            state.end()
             return 0
-        photos = Photos(os.path.join(given.state, "photos"))
-        shelf = Shelf(Offices(given.server), state, photos, say, given.country)
-        return tidy(shelf) if given.tidy else serve(given, shelf)
+        kept = Photos(os.path.join(given.state, "photos"), state, given.photo_space * MEGA)
+        shelf = Shelf(Offices(given.server), state, kept, say, given.country)
+        if given.tidy:
+            for name in tidied(shelf):
+                print(f"removed {name}")
+            state.end()
+            return 0
+        return serve(given, shelf)
 
 
 def serve(given: argparse.Namespace, shelf: Shelf) -> int:
@@ -125,6 +139,7 @@ def serve(given: argparse.Namespace, shelf: Shelf) -> int:
     where = given.socket or f"127.0.0.1:{server.server_address[1]}"
     print(f"listening {where}", flush=True)
     threading.Thread(target=load, args=(shelf, users), daemon=True).start()
+    threading.Thread(target=tidy_daily, args=(shelf,), daemon=True).start()
     signal.signal(signal.SIGTERM, lambda *_: os._exit(0))  # all that was replied to is kept
     try:
         server.serve_forever()
@@ -147,14 +162,25 @@ def load(shelf: Shelf, users: accounts.Users) -> None:
         say(f"the books aren't read yet: {fault}")
 
 
-def tidy(shelf: Shelf) -> int:
-    shelf.load()
-    books = [shelf.book(name) for name in shelf.names()]
-    texts = (book.text(entry) or "" for book in books for entry in book.entries())
-    for name in shelf.photos.unused(texts, DAYS):
-        os.unlink(os.path.join(shelf.photos.path, name))
-        print(f"removed {name}")
-    return 0
+def tidied(shelf: Shelf) -> List[str]:
+    """Removes the photos that no card has named for some time; returns their names."""
+    named: Set[str] = set()
+    for name in shelf.names():
+        book = shelf.book(name)
+        with book.lock:  # so that the copy is whole
+            book.refresh()
+            named |= photos.named(text for _, _, text in shelf.state.texts(book.number))
+    return shelf.photos.tidy(named, DAYS)
+
+
+def tidy_daily(shelf: Shelf) -> None:
+    while True:
+        try:
+            for name in tidied(shelf):
+                say(f"removed a photo that no card has named for {DAYS} days: {name}")
+        except Exception as fault:
+            say(f"photos stay for another day: {fault}")
+        time.sleep(DAY)
 
 
 # Users.

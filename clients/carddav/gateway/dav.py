@@ -12,9 +12,10 @@ from gateway import cards, edits, groups
 from gateway.books import Missing, Shelf
 from gateway.davxml import element, href, prop_status
 from gateway.edits import Conditions, Failed, UidInUse
+from gateway.files import Files, taken_out
 from gateway.messages import (NO_CARD, NO_DEPTH, NO_VERSION, QUOTA, RETRY_AFTER, TEXT, TOO_LARGE,
                               UID_CONFLICT, XML, Fault, Reply, Request)
-from gateway.photos import CARD_MAX, SHOWN
+from gateway.photos import CARD_MAX, SHOWN, NoRoom
 from gateway.places import PREFIX, Place, check_name, may_write, path_of, place_of
 from gateway.properties import ALL, PROPERTIES, VCARD, Resource, dav, respond
 from gateway.reports import is_minimal, multistatus, read_body, report
@@ -25,6 +26,8 @@ ALLOW = ", ".join(METHODS)
 CLASSES = "1, 3, access-control, addressbook"
 WELL_KNOWN = "/.well-known/carddav"
 VERSION4 = re.compile(r"text/vcard\s*;\s*version=\"?4\.0", re.IGNORECASE)
+# In these each line has its octets of ASCII.
+LIKE_ASCII = ("utf-8", "utf8", "us-ascii", "ascii", "iso-8859-1", "iso-8859-15", "windows-1252")
 CARD_TYPES = ("text/", "application/octet-stream", "application/vcard")
 # What is wrong with a card, by the cause that the server gives (docs/API.md).
 CAUSES = {2: "it isn't UTF-8", 3: "it has a control character", 4: "a line isn't one of a card",
@@ -59,8 +62,12 @@ class Dav:
             return Fault(404, str(fault)).reply()
         except cards.OldVersion as fault:
             return Fault(403, str(fault), NO_VERSION).reply()
+        except cards.TooLarge as fault:
+            return Fault(403, str(fault), TOO_LARGE).reply()
         except cards.BadText as fault:
             return Fault(403, f"the card isn't taken: {fault}", NO_CARD).reply()
+        except NoRoom as fault:
+            return Fault(507, str(fault), QUOTA).reply()
         except Error as error:
             return fault_of(error).reply()
 
@@ -87,7 +94,7 @@ class Dav:
         if "if-none-match" in request.fields and edits.matches(request.field("if-none-match"),
                                                                entry.etag):
             return Reply(304, head, b"")
-        return Reply(200, head, cards.written(place.book.whole(text), as4).encode())
+        return Reply(200, head, place.book.filled(text, as4))
 
     def whole(self, place: Place, as4: bool) -> Iterator[bytes]:
         """All cards of a book, one after another."""
@@ -95,7 +102,7 @@ class Dav:
         for entry in place.book.entries():
             text = place.book.text(entry)
             if text is not None:
-                yield cards.written(place.book.whole(text), as4).encode()
+                yield from place.book.filled(text, as4)
 
     def greet(self, request: Request) -> Reply:
         """What a browser shows of the address that phones use."""
@@ -108,15 +115,14 @@ class Dav:
     def photo(self, name: str) -> Reply:
         """A photo that is kept beside. Whoever knows its digest has read its card."""
         digest, _, kind = name.partition("/")
-        octets = self.shelf.photos.read(digest) if re.fullmatch("[0-9a-f]{64}", digest) else None
-        if octets is None:
+        if not re.fullmatch("[0-9a-f]{64}", digest) or self.shelf.photos.size(digest) is None:
             raise Missing("there is no such photo")
         head = {"Content-Type": kind if kind in SHOWN else "application/octet-stream",
                 "Content-Security-Policy": "default-src 'none'; sandbox",
                 "Cache-Control": "private, max-age=86400"}
         if kind not in SHOWN:
             head["Content-Disposition"] = "attachment"
-        return Reply(200, head, octets)
+        return Reply(200, head, self.shelf.photos.pieces(digest))
 
     def propfind(self, request: Request) -> Reply:
         place, root = place_of(request, self.shelf), read_body(request)
@@ -180,8 +186,9 @@ class Dav:
         assert place.book
         if not place.book.named(place.name):
             check_name(place.name)
-        sent = edits.Sent(card_text(request), request.program, request.address,
-                          self.keeps_unknown)
+        text, files = card_of(request)
+        sent = edits.Sent(text, request.program, request.address, self.keeps_unknown,
+                          request.user, files)
         try:
             make = groups.put if isinstance(place.book, groups.CategoryBook) else edits.put
             stored = make(place.book, place.name, sent, conditions_of(request))
@@ -194,7 +201,7 @@ class Dav:
     def delete(self, request: Request) -> Reply:
         place = self.writable(request, place_of(request, self.shelf))
         assert place.book
-        edits.remove(place.book, place.name, conditions_of(request))
+        edits.remove(place.book, place.name, conditions_of(request), request.user)
         return Reply(204, {}, b"")
 
     def move(self, request: Request) -> Reply:
@@ -211,7 +218,7 @@ class Dav:
         overwrites = request.field("overwrite").upper() != "F"  # RFC 4918, 10.6: T without it
         try:
             is_new = edits.move(place.book, place.name, to.book, to.name, overwrites,
-                                conditions_of(request))
+                                conditions_of(request), request.user)
         except UidInUse as fault:
             raise self.conflict(to, fault) from None
         return Reply(201 if is_new else 204, {}, b"")
@@ -255,13 +262,18 @@ def conditions_of(request: Request) -> Conditions:
     return Conditions(request.fields.get("if-match"), request.fields.get("if-none-match"))
 
 
-def card_text(request: Request) -> str:
-    """The text of a card that is sent; in UTF-8, unless the Content-Type names another charset."""
+def card_of(request: Request) -> Tuple[str, Files]:
+    """The text of a card that is sent, with marks for its large files, and these.
+
+    It is in UTF-8, unless the Content-Type names another charset.
+    """
     kind = request.field("content-type").partition(";")[0].strip().lower()
     if kind and not kind.startswith(CARD_TYPES):
         raise Fault(403, f"{kind[:60]} isn't text/vcard", NO_VERSION)
+    charset = request.charset or "utf-8"
+    text, files = taken_out(request.body) if charset in LIKE_ASCII else (request.body, {})
     try:
-        return request.body.decode(request.charset or "utf-8")
+        return text.decode(charset), files
     except (UnicodeDecodeError, LookupError):
         raise Fault(403, f"the card isn't {request.charset[:40] or 'UTF-8'}", NO_CARD) from None
 

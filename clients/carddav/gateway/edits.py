@@ -15,6 +15,8 @@ from tosculai import (Book, Conflict, Error, LostReply, NoSuchCard, Refused, Uid
 
 from gateway import cards
 from gateway.books import AddressBook, Missing
+from gateway.files import Files
+from gateway.photos import Fitted
 from gateway.state import Entry
 
 ROUNDS = 5  # attempts of a change without a condition, if others change the card meanwhile
@@ -69,6 +71,8 @@ class Sent(NamedTuple):
     program: str
     address: str
     keeps_unknown: bool
+    user: str = ""
+    files: Files = {}  # the large files of the card, for which the text has marks
     known: FrozenSet[str] = frozenset()  # properties that the program is known to show and edit
 
 
@@ -89,13 +93,13 @@ def put(book: AddressBook, name: str, sent: Sent, conditions: Conditions) -> Sto
             fault = conditions.fault(old)
             if fault and not (old and conditions.match):
                 raise fault
-            whole = merged(book, name, sent, old, base)
-            if fault and lines_of(whole) != lines_of(base):
+            fitted = merged(book, name, sent, old, base)
+            if fault and lines_of(fitted.text) != lines_of(base):
                 raise fault  # else the edit was made before, and its reply was lost
-            stored = put_once(book, name, sent, old, base, whole)
+            stored = put_once(book, name, sent, old, base, fitted)
             if stored:
                 return stored
-            book.suspect(uid_of(whole), old)
+            book.suspect(uid_of(fitted.text), old)
             if conditions.any:
                 raise Failed("somebody else changed the card at the same moment")
     raise Failed("others change the card all the time")
@@ -105,7 +109,8 @@ def is_same(book: AddressBook, stored: str, text: str) -> bool:
     """Whether a client that reads the stored card gets what was sent (RFC 6352, 6.3.2.3)."""
     if not stored:
         return False
-    return lines_of(cards.written(book.whole(stored), is_version4(text))) == lines_of(text)
+    bare = book.shelf.photos.bare(stored).text
+    return lines_of(cards.written(bare, is_version4(text))) == lines_of(text)
 
 
 def is_version4(text: str) -> bool:
@@ -113,16 +118,17 @@ def is_version4(text: str) -> bool:
 
 
 def put_once(book: AddressBook, name: str, sent: Sent, old: Optional[Entry], base: str,
-              whole: str) -> Optional[Stored]:
+             fitted: Fitted) -> Optional[Stored]:
     """One attempt; None if somebody else was faster."""
-    uid = uid_of(whole)
+    whole, uid = fitted.text, uid_of(fitted.text)
     check_uid(book, name, old, uid)
     if old and lines_of(whole) == lines_of(base):
         return Stored(False, old.etag if is_same(book, base, sent.text) else "")
+    book.shelf.photos.keep(fitted.aside, sent.user)
     # The name is kept first: if a stop comes in between, the card has the client's name.
     undo = book.state.give(book.number, name, uid)
     try:
-        with book.shelf.offices.one() as office:
+        with book.shelf.offices.one(sent.user) as office:
             version = office.book(book.name).put(whole, old.version if old else 0, uid)
     except Refused as refusal:
         book.state.take_back(book.number, undo)
@@ -136,16 +142,17 @@ def put_once(book: AddressBook, name: str, sent: Sent, old: Optional[Entry], bas
     return Stored(old is None, new.etag if new and is_read else "")
 
 
-def merged(book: AddressBook, name: str, sent: Sent, old: Optional[Entry], base: str) -> str:
-    """The card for the server. Large files stay beside it."""
+def merged(book: AddressBook, name: str, sent: Sent, old: Optional[Entry], base: str) -> Fitted:
+    """The card for the server, and the large files that have to be kept beside it."""
 
     def knows(line_name: str) -> bool:
         return (not sent.keeps_unknown or line_name in sent.known
                 or book.state.knows(sent.program, line_name))
 
     uid = old.uid if old else re.sub(r"\.vcf$", "", name)
-    whole = cards.newer(sent.text, book.whole(base), book.has, uid, knows)
-    return book.shelf.photos.fitted(whole, base, sent.address)
+    bare = book.shelf.photos.bare(base)
+    whole = cards.newer(sent.text, bare.text, book.has, uid, knows)
+    return book.shelf.photos.fitted(whole, bare, sent.files, sent.address)
 
 
 def check_uid(book: AddressBook, name: str, old: Optional[Entry], uid: str) -> None:
@@ -157,7 +164,7 @@ def check_uid(book: AddressBook, name: str, old: Optional[Entry], uid: str) -> N
         raise UidInUse("a card of another name has this UID", other.name)
 
 
-def remove(book: AddressBook, name: str, conditions: Conditions) -> None:
+def remove(book: AddressBook, name: str, conditions: Conditions, user: str) -> None:
     with book.lock:
         for _ in range(ROUNDS):
             book.refresh()
@@ -166,7 +173,7 @@ def remove(book: AddressBook, name: str, conditions: Conditions) -> None:
                 raise Missing(f"there is no card {name}")
             conditions.check(old)
             try:
-                with book.shelf.offices.one() as office:
+                with book.shelf.offices.one(user) as office:
                     return office.book(book.name).remove(old.uid, old.version)
             except NoSuchCard:
                 return None
@@ -178,7 +185,7 @@ def remove(book: AddressBook, name: str, conditions: Conditions) -> None:
 
 
 def move(book: AddressBook, name: str, to: AddressBook, to_name: str, overwrite: bool,
-         conditions: Conditions) -> bool:
+         conditions: Conditions, user: str) -> bool:
     """Moves a card to another book; returns whether its name is new there."""
     with ExitStack() as locks:
         for it in sorted((book, to), key=lambda it: it.number):  # always in this order
@@ -192,19 +199,22 @@ def move(book: AddressBook, name: str, to: AddressBook, to_name: str, overwrite:
             conditions.check(old)
             there = to.plain.named(to_name)
             _check_target(old, there, to, to_name, overwrite)
-            stale = _move(book.plain, name, to.plain, to_name)
+            stale = _move(book.plain, name, to.plain, to_name, user)
             if not stale:
                 return there is None
             stale.suspect(old.uid, old if stale is book.plain else there)
     raise Failed("others change the card all the time")
 
 
-def _move(book: AddressBook, name: str, to: AddressBook, to_name: str) -> Optional[AddressBook]:
+def _move(book: AddressBook, name: str, to: AddressBook, to_name: str,
+          user: str) -> Optional[AddressBook]:
     """One attempt; returns the book in which somebody else was faster, if any."""
     old, there = book.named(name), to.named(to_name)
     if not old:
         return book
-    return _overwrite(book, old, to, there) if there else _move_once(book, old, to, to_name)
+    if there:
+        return _overwrite(book, old, to, there, user)
+    return _move_once(book, old, to, to_name, user)
 
 
 def _check_target(old: Entry, there: Optional[Entry], to: AddressBook, to_name: str,
@@ -218,12 +228,12 @@ def _check_target(old: Entry, there: Optional[Entry], to: AddressBook, to_name: 
         raise UidInUse("the other book has a card of this UID", other.name)
 
 
-def _move_once(book: AddressBook, old: Entry, to: AddressBook,
-               to_name: str) -> Optional[AddressBook]:
+def _move_once(book: AddressBook, old: Entry, to: AddressBook, to_name: str,
+               user: str) -> Optional[AddressBook]:
     """One attempt; returns the book in which somebody else was faster, if any."""
     undo = to.state.give(to.number, to_name, old.uid)
     try:
-        with book.shelf.offices.one() as office:
+        with book.shelf.offices.one(user) as office:
             office.book(book.name).move(old.uid, to.name, old.version)
         return None
     except Refused as refusal:
@@ -233,8 +243,8 @@ def _move_once(book: AddressBook, old: Entry, to: AddressBook,
         raise
 
 
-def _overwrite(book: AddressBook, old: Entry, to: AddressBook,
-               there: Entry) -> Optional[AddressBook]:
+def _overwrite(book: AddressBook, old: Entry, to: AddressBook, there: Entry,
+               user: str) -> Optional[AddressBook]:
     """One attempt to move a card over its copy in another book; returns the same.
 
     The server has no move that overwrites. So the copy gets the card's text, and then the card is
@@ -243,7 +253,7 @@ def _overwrite(book: AddressBook, old: Entry, to: AddressBook,
     text, before = book.text(old), to.text(there)
     if text is None or before is None:
         return book if text is None else to
-    with book.shelf.offices.one() as office:
+    with book.shelf.offices.one(user) as office:
         target = office.book(to.name)
         try:
             version = target.put(text, there.version, there.uid)

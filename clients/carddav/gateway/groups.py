@@ -17,6 +17,7 @@ from gateway.books import AddressBook, Changes
 from gateway.cards import BadText, bare_uid
 from gateway.categories import Edit
 from gateway.edits import Conditions, Failed, Sent, Stored, UidInUse
+from gateway.photos import Fitted, NoRoom
 from gateway.shown import Shown, Wish, digest_of
 from gateway.state import Entry
 
@@ -133,13 +134,13 @@ class CategoryBook(AddressBook):
             self.shelf.say(f"{self.name}: the groups of {wish.uid} stay as they are: {refusal}")
         self.shown.forget(wish.uid)
 
-    def settle(self, wish: Wish) -> None:
+    def settle(self, wish: Wish, user: str = "") -> None:
         """Lets the person leave and join groups, and forgets the wish; unless the server fails."""
         try:
             for name in wish.leaves:
-                self._until(lambda it=name: self._leave(it, wish.uid))  # type: ignore[misc]
+                self._until(lambda it=name: self._leave(it, wish.uid, user))  # type: ignore[misc]
             for name in wish.joins:
-                self._until(lambda it=name: self._join(it, wish.uid))  # type: ignore[misc]
+                self._until(lambda it=name: self._join(it, wish.uid, user))  # type: ignore[misc]
         except Refused as refusal:
             if not may_pass(refusal):
                 self.shown.forget(wish.uid)
@@ -153,35 +154,35 @@ class CategoryBook(AddressBook):
                 return
         raise Failed("others change the groups all the time")
 
-    def _leave(self, name: str, uid: str) -> bool:
+    def _leave(self, name: str, uid: str, user: str) -> bool:
         """Whether no group of this name has the person; else takes it out of one after another."""
         teams = [team for team, has in self.shown.teams(name, bare_uid(uid)) if has]
         for team in teams:
-            self._rewrite(team, lambda text: categories.left(text, bare_uid(uid)))
+            self._rewrite(team, lambda text: categories.left(text, bare_uid(uid)), user)
         return not teams
 
-    def _join(self, name: str, uid: str) -> bool:
+    def _join(self, name: str, uid: str, user: str) -> bool:
         """Whether a group of this name has the person; else puts it into one, or makes one."""
         teams = self.shown.teams(name, bare_uid(uid))
         if any(has for _, has in teams):
             return True
         if teams:
-            self._rewrite(teams[0][0], lambda text: categories.joined(text, uid))
+            self._rewrite(teams[0][0], lambda text: categories.joined(text, uid), user)
         else:
             team = f"urn:uuid:{uuid.uuid4()}"
-            self._write(categories.new_team(team, name, uid), 0, team)
+            self._write(categories.new_team(team, name, uid), 0, team, user)
         return False
 
-    def _rewrite(self, team: str, change: Callable[[str], str]) -> None:
+    def _rewrite(self, team: str, change: Callable[[str], str], user: str) -> None:
         old, found = self.state.entry(self.number, team), self.state.text(self.number, team)
         if old and found:
             try:
-                self._write(change(found[1]), old.version, team)
+                self._write(change(found[1]), old.version, team, user)
             except Conflict:
                 self.plain.suspect(team, old)
 
-    def _write(self, text: str, version: int, team: str) -> None:
-        with self.shelf.offices.one() as office:
+    def _write(self, text: str, version: int, team: str, user: str) -> None:
+        with self.shelf.offices.one(user) as office:
             office.book(self.name).put(text, version, team)
 
 
@@ -209,35 +210,36 @@ def put(view: AddressBook, name: str, sent: Sent, conditions: Conditions) -> Sto
             if fault and not (shown and conditions.match):
                 raise fault
             plain = sent._replace(text=edit.text, known=frozenset(["CATEGORIES"]))
-            whole = edits.merged(view.plain, name, plain, old, base)
-            if categories.is_group(lines_of(whole)):
+            fitted = edits.merged(view.plain, name, plain, old, base)
+            lines = lines_of(fitted.text)
+            if categories.is_group(lines):
                 raise BadText("groups are categories for this user (--groups)")
-            if fault and (lines_of(whole) != lines_of(base) or edit.joins or edit.leaves):
+            if fault and (lines != lines_of(base) or edit.joins or edit.leaves):
                 raise fault  # else the edit was made before, and its reply was lost
-            if _put_once(view, name, plain, old, base, whole, edit):
+            if _put_once(view, name, plain, old, base, fitted, edit):
                 return _stored(view, name, shown is None, sent.text)
-            view.suspect(uid_of(whole), old)
+            view.suspect(uid_of(fitted.text), old)
             if conditions.any:
                 raise Failed("somebody else changed the card at the same moment")
     raise Failed("others change the card all the time")
 
 
 def _put_once(view: CategoryBook, name: str, plain: Sent, old: Optional[Entry], base: str,
-              whole: str, edit: Edit) -> bool:
+              fitted: Fitted, edit: Edit) -> bool:
     """One attempt; whether nobody else was faster."""
     teams = {it: view.shown.versions(it) for it in (*edit.joins, *edit.leaves)}
-    wish = Wish(uid_of(whole), digest_of(whole), edit.joins, edit.leaves, teams)
+    wish = Wish(uid_of(fitted.text), digest_of(fitted.text), edit.joins, edit.leaves, teams)
     edits.check_uid(view.plain, name, old, wish.uid)
     has_wish = bool(wish.joins or wish.leaves)
     if has_wish:
         view.shown.wish(wish)
     try:
-        is_done = edits.put_once(view.plain, name, plain, old, base, whole) is not None
-    except Refused:
+        is_done = edits.put_once(view.plain, name, plain, old, base, fitted) is not None
+    except (Refused, NoRoom):
         view.shown.forget(wish.uid)
         raise
     if has_wish and is_done:
-        view.settle(wish)
+        view.settle(wish, plain.user)
     elif has_wish:
         view.shown.forget(wish.uid)
     return is_done

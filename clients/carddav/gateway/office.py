@@ -1,14 +1,11 @@
-"""Connections to the contact server, by TCP or by a socket of the file system.
+"""Connections to the contact server: a pool of them, which a program with threads needs.
 
-The client itself is `clients/python/tosculai.py`. Here is what a program with threads needs
-besides: a pool of its connections, and `unix:PATH`.
+The client itself is `clients/python/tosculai.py`.
 """
 
-import socket
 import time
 from contextlib import ExitStack, contextmanager
-from http.client import HTTPConnection
-from typing import Any, Dict, Iterator, List, NamedTuple
+from typing import Iterator, List, NamedTuple
 
 from tosculai import Office
 
@@ -18,38 +15,12 @@ IDLE = 20.0
 ATTEMPTS = 2
 PAUSE = 0.2  # seconds between two attempts: a phone waits for its reply
 TIMEOUT = 20.0
-
-
-class UnixConnection(HTTPConnection):
-    """A connection to a socket of the file system."""
-
-    def __init__(self, path: str, port: Any = None, timeout: float = TIMEOUT) -> None:
-        super().__init__("localhost", timeout=timeout)
-        self._place = path
-
-    def connect(self) -> None:
-        self.sock = socket.socket(socket.AF_UNIX, socket.SOCK_STREAM)
-        self.sock.settimeout(self.timeout)
-        self.sock.connect(self._place)
-
-
-class UnixOffice(Office):
-    """A server at a socket of the file system."""
-
-    def __init__(self, path: str, **options: Any) -> None:
-        super().__init__("http://localhost", **options)
-        self._kind, self._place = UnixConnection, (path, None)
-        self.url = "unix:" + path
+USER = "X-Remote-User"  # whom a change is made for, which the server may note in its log
 
 
 def new_office(server: str) -> Office:
     """The office at a URL, or at `unix:PATH`; a ValueError if it is neither."""
-    options: Dict[str, Any] = {"timeout": TIMEOUT, "attempts": ATTEMPTS, "pause": PAUSE}
-    if server.startswith("unix:"):
-        if not server[5:]:
-            raise ValueError("unix: needs the path of a socket")
-        return UnixOffice(server[5:], **options)
-    return Office(server, **options)
+    return Office(server, timeout=TIMEOUT, attempts=ATTEMPTS, pause=PAUSE)
 
 
 class Kept(NamedTuple):
@@ -68,11 +39,15 @@ class Offices:
         self._spare: List[Kept] = []  # pop and append are atomic
 
     @contextmanager
-    def one(self) -> Iterator[Office]:
+    def one(self, user: str = "") -> Iterator[Office]:
+        """An office for this thread alone; what it asks is asked for this user, if one is named."""
         kept = self._take()
+        if user:
+            kept.office.fields[USER] = user
         try:
             yield kept.office
         finally:
+            kept.office.fields.pop(USER, None)
             self._spare.append(kept._replace(used=time.monotonic()))
 
     def _take(self) -> Kept:

@@ -2,7 +2,6 @@
 
 from typing import Callable, Dict, Iterable, List, NamedTuple, Optional
 
-from gateway import cards
 from gateway.davxml import C, CS, D, element, escaped, href, prop_status
 from gateway.messages import Request
 from gateway.photos import CARD_MAX
@@ -98,8 +97,7 @@ def length(it: Resource) -> Optional[str]:
     """The octets of what a GET without Accept returns."""
     assert it.place.book and it.entry
     text = it.place.book.text(it.entry)
-    return None if text is None else str(len(
-        cards.written(it.place.book.whole(text), False).encode()))
+    return None if text is None else str(sum(map(len, it.place.book.filled(text, False))))
 
 
 PROPERTIES: Dict[str, Made] = {

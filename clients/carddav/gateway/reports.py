@@ -11,6 +11,7 @@ from gateway.books import AddressBook, Missing, Shelf
 from gateway.davxml import HEAD, SPACES, element, escaped, href, status
 from gateway.messages import (BAD_TOKEN, NO_REPORT, NO_VERSION, TOO_MANY, XML, Fault, Reply,
                               Request)
+from gateway.photos import Photos
 from gateway.places import Place, place_of
 from gateway.properties import ADDRESS_DATA, GETETAG, REPORTS, Resource, card, dav, respond
 from gateway.state import Entry
@@ -44,7 +45,7 @@ def report(request: Request, shelf: Shelf, has4: bool) -> Reply:
         parts = multiget(answer, shelf, paths)
     else:
         parts = query(answer, root.find(card("filter")), limit)
-    return Reply(207, {"Content-Type": XML}, multistatus(parts))
+    return Reply(207, {"Content-Type": XML}, multistatus(parts, shelf.photos))
 
 
 def read_body(request: Request) -> Optional[ET.Element]:
@@ -54,11 +55,14 @@ def read_body(request: Request) -> Optional[ET.Element]:
         raise Fault(400, str(fault)) from None
 
 
-def multistatus(parts: Iterable[str]) -> Iterator[bytes]:
+def multistatus(parts: Iterable[str], photos: Optional[Photos] = None) -> Iterator[bytes]:
     """The body, piece by piece: a book with its photos is never in memory as a whole."""
     yield f"{HEAD}<D:multistatus{SPACES}>".encode()
     for part in parts:
-        yield part.encode()
+        if photos:
+            yield from photos.filled(part, escaped("\r\n"))
+        else:
+            yield part.encode()
     yield END.encode()
 
 
@@ -119,8 +123,7 @@ class Answer(NamedTuple):
 
     def data(self, text: str) -> str:
         """The card as the client wants it."""
-        whole = cards.written(self.book.whole(text), self.wanted.as4)
-        return cards.partial(whole, self.wanted.parts) if self.wanted.parts else whole
+        return self.book.as_read(text, self.wanted.as4, self.wanted.parts)
 
     def card_place(self, name: str) -> Place:
         return self.place._replace(kind="card", name=name)

@@ -4,6 +4,7 @@
   A name is kept for good, also of a card that was removed: its removal is told under that name.
 - **Copies.** The cards of each book with the server's token, so that memory holds no texts and a
   start reads nothing again. They can be lost: they are made anew.
+- **Files.** Who was the first to store each file of photos.py, and how large it is.
 - **Views.** What is shown to programs whose groups are categories (shown.py).
 - **The epoch** is a part of each token for clients. If this file is lost, so are the names; then
   there is another epoch, all tokens are refused, and clients list all names again.
@@ -27,10 +28,13 @@ CREATE TABLE IF NOT EXISTS books (book INTEGER PRIMARY KEY, token TEXT NOT NULL)
 CREATE TABLE IF NOT EXISTS names (book INTEGER NOT NULL, name TEXT NOT NULL, uid TEXT NOT NULL,
     old INTEGER NOT NULL, PRIMARY KEY (book, name, uid)) WITHOUT ROWID;
 CREATE INDEX IF NOT EXISTS names_of_cards ON names (book, uid, old, name);
+CREATE TABLE IF NOT EXISTS stale (book INTEGER PRIMARY KEY);
 CREATE TABLE IF NOT EXISTS cards (book INTEGER NOT NULL, uid TEXT NOT NULL,
     version INTEGER NOT NULL, etag TEXT NOT NULL, card TEXT NOT NULL, UNIQUE (book, uid));
 CREATE TABLE IF NOT EXISTS known (program TEXT NOT NULL, property TEXT NOT NULL,
     PRIMARY KEY (program, property)) WITHOUT ROWID;
+CREATE TABLE IF NOT EXISTS files (digest TEXT PRIMARY KEY, user TEXT NOT NULL,
+    octets INTEGER NOT NULL) WITHOUT ROWID;
 CREATE TABLE IF NOT EXISTS views (book INTEGER PRIMARY KEY, token TEXT NOT NULL,
     number INTEGER NOT NULL);
 CREATE TABLE IF NOT EXISTS shown (book INTEGER NOT NULL, uid TEXT NOT NULL, bare TEXT NOT NULL,
@@ -90,6 +94,7 @@ class State:
             raise ValueError(f"{path} is of another version of the gateway")
         self.epoch = str(found["epoch"])
         self._known = set(self._db.execute("SELECT program, property FROM known"))
+        self._stale = {int(it) for it, in self._db.execute("SELECT book FROM stale")}
 
     def close(self) -> None:
         self._db.close()
@@ -120,12 +125,36 @@ class State:
             self._db.executemany(statement, rows)
 
     def start_over(self) -> None:
-        """Drops the copies and begins another epoch, so that each client lists all names again."""
+        """Drops the copies and begins another epoch, so that each client lists all names again.
+
+        So nobody asks for removals of before, and the names of cards that aren't there are dropped
+        once a book is read.
+        """
         with self.changing(durably=True):
             for table in ("books", "cards", *VIEWS):
                 self._db.execute(f"DELETE FROM {table}")
             self.epoch = secrets.token_hex(4)
             self._db.execute("UPDATE facts SET value = ? WHERE name = 'epoch'", (self.epoch,))
+            self._db.execute("INSERT OR IGNORE INTO stale SELECT DISTINCT book FROM names")
+        self._stale = {int(it) for it, in self._db.execute("SELECT book FROM stale")}
+
+    def whole(self, book: int) -> None:
+        """Notes that the copy has the whole book, before a client gets a token of it."""
+        if book not in self._stale:
+            return
+        with self.changing(durably=True):
+            self._db.execute("DELETE FROM names WHERE book = ? AND (old = 1 OR NOT EXISTS (SELECT 1"
+                             " FROM cards WHERE cards.book = names.book AND cards.uid = names.uid))",
+                             (book,))
+            self._db.execute("DELETE FROM stale WHERE book = ?", (book,))
+        self._stale.discard(book)
+
+    def end(self) -> None:
+        """Writes the file anew, so that its octets have nothing of what was deleted; closes it."""
+        with self._lock:
+            self._db.execute("VACUUM")
+            self._db.execute("PRAGMA wal_checkpoint(TRUNCATE)")
+            self._db.close()
 
     # Copies.
 
@@ -254,6 +283,23 @@ class State:
             with self.changing():
                 self._db.executemany("INSERT OR IGNORE INTO known VALUES (?, ?)", sorted(new))
             self._known |= new
+
+
+    # What users have stored beside cards.
+
+    def stored_by(self, user: str) -> int:
+        """The octets of the files that this user was the first to store, and that are here."""
+        found = self.rows("SELECT coalesce(sum(octets), 0) FROM files WHERE user = ?", user)
+        return int(found[0][0])
+
+    def note_file(self, digest: str, user: str, octets: int) -> None:
+        with self.changing():
+            self._db.execute("INSERT OR IGNORE INTO files VALUES (?, ?, ?)",
+                             (digest, user, octets))
+
+    def forget_file(self, digest: str) -> None:
+        with self.changing():
+            self._db.execute("DELETE FROM files WHERE digest = ?", (digest,))
 
 
 Undo = List[Tuple[str, str, Optional[int]]]  # rows of names as they were; None was no row

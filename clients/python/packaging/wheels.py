@@ -11,7 +11,7 @@ import zipfile
 from typing import Any, Dict, List, Optional
 
 HERE = os.path.dirname(os.path.dirname(os.path.abspath(__file__)))
-MODULES = ["tosculai.py", "vcard3.py", "vcard4.py"]
+MODULES = ["tosculai.py", "tosculai_urls.py", "vcard3.py", "vcard4.py"]
 PACKAGE = "tosculai_tools"
 DATE = (2026, 11, 27, 0, 0, 0)  # of all members, so that the same files make the same wheel
 

@@ -22,6 +22,7 @@ import vcard3
 from tosculai import (Book, Error, LostReply, NoMemory, Office, Refused, Report, StoreFault,
                       Unreachable)
 from tosculai_tools.folder import FolderCopy, FolderError, Plain, WrongFolder
+from tosculai_urls import UNIX
 
 DONE, LOOK, FAULT = 0, 1, 3
 INTERRUPTED = 130
@@ -43,6 +44,8 @@ def trusting(ca_file: Optional[str]) -> Optional[ssl.SSLContext]:
 
 def office_at(url: str, ca_file: Optional[str] = None) -> Office:
     """The office at a URL, with the user of ~/.netrc if the URL has none."""
+    if url.startswith(UNIX):
+        return Office(url, context=trusting(ca_file))
     url = url if "://" in url else "http://" + url
     parts = urlsplit(url)
     try:
