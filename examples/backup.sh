@@ -52,8 +52,8 @@ part=$(mktemp -d "$folder/part.XXXXXX")
 
 stopped=yes
 sh -c "$stop" 9>&-
-cp -p "$file" "$part/"
-[ ! -e "$file-wal" ] || cp -p "$file-wal" "$part/"
+cp "$file" "$part/"
+[ ! -e "$file-wal" ] || cp "$file-wal" "$part/"
 # After a signal the service is started again, even if this start is done; that is harmless.
 sh -c "$start" 9>&-
 stopped=
