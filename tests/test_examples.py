@@ -9,11 +9,16 @@ import os
 import re
 import shutil
 import subprocess
+import sys
 import threading
 import unittest
+from fnmatch import fnmatch
 
+from help_texts import HELP
 from http_requests import create, get, put
+from pages import Page
 from program import PATIENCE, PROGRAM, ROOT, Folder, Server, run
+from shells import free_port
 
 EXAMPLES = ROOT / "examples"
 # The commands that a backup needs, beside the shell's own.
@@ -56,6 +61,78 @@ class MoveIn(unittest.TestCase):
         printed = done.stdout.decode()
         self.assertEqual(0, done.returncode, printed)
         self.assertTrue(printed.endswith("\nmove-in: all steps went as they should\n"), printed)
+
+
+class Listening(unittest.TestCase):
+    """listening.sh, by which a unit waits for its server."""
+
+    def wait_for(self, process, *options):
+        """Starts the script."""
+        return subprocess.Popen([str(EXAMPLES / "listening.sh"), str(process.pid), *options])
+
+    def listener(self, seconds, port):
+        """A program that listens at the port after some seconds."""
+        code = ("import socket, sys, time; time.sleep(float(sys.argv[1])); "
+                "it = socket.create_server(('127.0.0.1', int(sys.argv[2]))); time.sleep(60)")
+        process = subprocess.Popen([sys.executable, "-c", code, str(seconds), port])
+        self.addCleanup(process.wait)
+        self.addCleanup(process.kill)
+        return process
+
+    def test_a_server_that_listens(self):
+        with Folder() as folder:
+            more = ["--create", "--host", "office"]
+            with Server(folder / "office.db", order="run", more=more) as server:
+                port = str(server.address[1])
+                for options in [["--port", port], [f"--port={port}"], ["--port", "0"],
+                                ["--host", "office", "--port", port, "--log"]]:
+                    script = self.wait_for(server.process, *options)
+                    self.assertEqual(0, script.wait(PATIENCE), options)
+
+    def test_it_waits_until_the_port_is_listened_at(self):
+        port = free_port()
+        script = self.wait_for(self.listener(1, port), "--port", port)
+        with self.assertRaises(subprocess.TimeoutExpired):
+            script.wait(0.5)
+        self.assertEqual(0, script.wait(PATIENCE))
+
+    def test_a_server_that_has_ended(self):
+        ended = subprocess.Popen(["true"])
+        ended.wait()
+        self.assertEqual(1, self.wait_for(ended, "--port", free_port()).wait(PATIENCE))
+
+    def test_the_default_port_is_that_of_run(self):
+        port = re.search(r"--port <P>.*\[default: (\d+)\]", HELP["run"])[1]
+        self.assertIn(f" port={port}\n", (EXAMPLES / "listening.sh").read_text())
+
+
+class QuickStart(unittest.TestCase):
+    """README's first commands, pasted whole into a shell, twice."""
+
+    def test_each_shell(self):
+        if lacking("curl"):
+            self.skipTest("no curl on this machine")
+        shells = [it for it in ("bash", "dash", "zsh") if not lacking(it)]
+        page = Page("README.md")
+        block = next(it for it in page.blocks() if it.info == "sh")
+        for shell in shells:
+            with self.subTest(shell=shell), Folder() as folder:
+                (folder / "contacts").symlink_to(PROGRAM)
+                (folder / "examples").symlink_to(EXAMPLES)
+                text = block.text.replace("8080", free_port())
+                for again in False, True:
+                    done = subprocess.run([shell], input=text.encode(), cwd=folder,
+                                          stdout=subprocess.PIPE, stderr=subprocess.STDOUT,
+                                          timeout=PATIENCE)
+                    said = done.stdout.decode()
+                    self.assertRegex(said, r"(?m)^listening 127\.0\.0\.1:\d+$")
+                    wanted = '"put":"unchanged"' if again else '"put":"created"'
+                    self.assertIn(wanted, said)
+                    self.assertIn(r"\r\nFN:Ann\r\n", said)
+                left = {it.name for it in folder.iterdir()} - {"contacts", "examples"}
+                ignored = (ROOT / ".gitignore").read_text().split()
+                self.assertTrue(all(any(fnmatch(f"/{name}", it) for it in ignored)
+                                    for name in left), left)
 
 
 class Service:
