@@ -8,9 +8,11 @@ import fcntl
 import os
 import re
 import shutil
+import socket
 import subprocess
 import sys
 import threading
+import time
 import unittest
 from fnmatch import fnmatch
 
@@ -129,10 +131,23 @@ class QuickStart(unittest.TestCase):
                     wanted = '"put":"unchanged"' if again else '"put":"created"'
                     self.assertIn(wanted, said)
                     self.assertIn(r"\r\nFN:Ann\r\n", said)
+                    self.wait_for_the_end(re.search(r"127\.0\.0\.1:(\d+)", said)[1])
                 left = {it.name for it in folder.iterdir()} - {"contacts", "examples"}
                 ignored = (ROOT / ".gitignore").read_text().split()
                 self.assertTrue(all(any(fnmatch(f"/{name}", it) for it in ignored)
                                     for name in left), left)
+
+
+    def wait_for_the_end(self, port):
+        """Waits until the server that was told to end listens no more."""
+        ends = time.monotonic() + PATIENCE
+        while time.monotonic() < ends:
+            try:
+                socket.create_connection(("127.0.0.1", int(port)), timeout=PATIENCE).close()
+            except ConnectionRefusedError:
+                return
+            time.sleep(0.01)
+        self.fail("the server goes on")
 
 
 class Service:
@@ -248,16 +263,30 @@ class BackupTest(unittest.TestCase):
 
 class Backups(BackupTest):
     def test_all_books(self):
-        if lacking("sqlite3"):
-            self.skipTest("no sqlite3 on this machine")
         copy = self.back_up_well()
         self.assertEqual(["stop", "start"], self.service.asked)
         self.assert_serves()
         self.assert_whole(copy)
+        self.assert_lists_all_books(copy)
+
+    def assert_lists_all_books(self, copy):
         tally = (copy / "tally").read_text()
-        wanted = ["-x", "cards 0", "clients", "cards 1", "staff", "cards 2"]
-        found = re.findall(r"^(?:[a-z-]+|cards +\d+)$", tally, re.MULTILINE)
-        self.assertEqual(wanted, [re.sub(" +", " ", line) for line in found])
+        wanted = [("-x", "0"), ("clients", "1"), ("staff", "2")]
+        self.assertEqual(wanted, re.findall(r"(?m)^name (\S+) id \d+ cards (\d+) ", tally))
+        self.assertTrue(tally.endswith("\nverified 3\n"))
+
+    def test_all_books_without_sqlite3(self):
+        copy = self.back_up_well(PATH=self.path_without_sqlite3())
+        self.assert_whole(copy)
+        self.assert_lists_all_books(copy)
+
+    def test_a_file_without_a_book(self):
+        new = self.folder / "new.db"
+        run("init", new)
+        status, printed = self.back_up(new, self.copies)
+        self.assertEqual(0, status, printed)
+        copy = self.copies / printed.strip().rpartition("/")[2]
+        self.assertEqual("verified 0\n", (copy / "tally").read_text())
 
     def test_the_file_alone_is_enough_after_a_checkpoint(self):
         if lacking("sqlite3"):
@@ -356,10 +385,6 @@ class FailedBackups(BackupTest):
     def test_no_copy_would_be_kept(self):
         changed = {"KEEP": "0"}
         self.assert_fails([], self.service.file, self.copies, "staff", **changed)
-
-    def test_no_books_and_no_sqlite3(self):
-        changed = {"PATH": self.path_without_sqlite3()}
-        self.assert_fails([], self.service.file, self.copies, **changed)
 
     def test_no_folder(self):
         self.assert_fails([], self.service.file)
