@@ -36,11 +36,10 @@ UNITS = ["carddav.service", "contacts-backup.service", "contacts-backup.timer",
 TEMPLATES = {"contacts@.service": "contacts.service",
              "contacts-backup@.service": "contacts-backup.service",
              "contacts-backup@.timer": "contacts-backup.timer"}
-# The most points of `systemd-analyze security` that a service has, of 10. A backup is root's.
-EXPOSED = {"contacts.service": 1.0, "contacts@.service": 1.0, "carddav.service": 1.1,
-           "ldap.service": 1.5, "contacts-follow.service": 1.4, "contacts-backup.service": 2.0,
-           "contacts-backup@.service": 2.0}
-WRAPPERS = ["tosculai", "tosculai-carddav", "tosculai-follow", "tosculai-ldap"]
+# The most points of `systemd-analyze security` that a service has, of 10.
+EXPOSED = {"contacts.service": 1.0, "contacts@.service": 1.0, "contacts-backup.service": 1.0,
+           "contacts-backup@.service": 1.0, "carddav.service": 1.0, "ldap.service": 1.1,
+           "contacts-follow.service": 1.1}
 # The fields of a control file that are tested one by one.
 FIELDS = {"Package": "tosculai", "Architecture": "amd64", "Priority": "optional",
           "Depends": "adduser, libc6 (>= 2.34), python3 (>= 3.8)"}
