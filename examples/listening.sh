@@ -23,6 +23,7 @@ done
 sockets=/proc/self/net/tcp
 mine="0100007F:$(printf %04X "$port") 00000000:0000 0A [^ ]+ [^ ]+ [^ ]+ +$(id -u) "
 until grep -qE "$mine" "$sockets"; do
-    [ -d "/proc/$pid" ] || exit 1
+    # A unit's other processes may not see its folder in /proc.
+    kill -0 "$pid" 2> /dev/null || exit 1
     sleep 0.1
 done

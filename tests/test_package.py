@@ -40,6 +40,7 @@ TEMPLATES = {"contacts@.service": "contacts.service",
 EXPOSED = {"contacts.service": 1.0, "contacts@.service": 1.0, "contacts-backup.service": 1.0,
            "contacts-backup@.service": 1.0, "carddav.service": 1.0, "ldap.service": 1.1,
            "contacts-follow.service": 1.1}
+WRAPPERS = ["tosculai", "tosculai-carddav", "tosculai-follow", "tosculai-ldap"]
 # The fields of a control file that are tested one by one.
 FIELDS = {"Package": "tosculai", "Architecture": "amd64", "Priority": "optional",
           "Depends": "adduser, libc6 (>= 2.34), python3 (>= 3.8)"}
