@@ -249,10 +249,11 @@ class Offices(unittest.TestCase):
             # The user of this name has no rights there.
             self.assertEqual(403, front.ask("GET", "/books/staff/tally", fields=south))
             self.assertIn(front.ask("GET", "/books/staff/tally", fields=other), (403, 500))
-            (folder / "south.users").write_text("")
-            self.assertEqual(401, front.ask("GET", "/books/staff/tally", fields=south))
             nobody = {**north, "Authorization": ""}
             self.assertEqual(401, front.ask("GET", "/books/staff/tally", fields=nobody))
+            # Each office has passwords of its own.
+            (folder / "north.users").write_text("")
+            self.assertEqual(401, front.ask("GET", "/books/staff/tally", fields=north))
 
 
 class Pages(unittest.TestCase):
