@@ -208,7 +208,7 @@ def started(program, folder, count):
 
 def measure(offices, devices, seconds, folder):
     """All rows, as a table."""
-    program, found = find_program(), []
+    program, found, load = find_program(), [], os.getloadavg()[0]
     begun = perf_counter()
     with started(program, folder, offices) as servers:
         found.append(("start of all servers, over new files", duration(perf_counter() - begun)))
@@ -222,7 +222,8 @@ def measure(offices, devices, seconds, folder):
             long = max(seconds, 2 * work.pause + 1) if work.pause else seconds
             found += do(work, servers, tokens, devices, long)
     lines = "".join(f"| {title} | {text} |\n" for title, text in found)
-    return (f"{machine(folder)} The program's SHA-256 is `{digest(program)[:16]}..`.\n\n"
+    return (f"{machine(folder)} The load was {load:.1f} before. The program's SHA-256 is"
+            f" `{digest(program)[:16]}..`.\n\n"
             f"| {offices} offices of {CARDS} cards, each with {devices} devices | |\n"
             f"| --- | --- |\n{lines}")
 
