@@ -5,7 +5,7 @@
 # copies are kept, and the status isn't 0.
 #
 # Usage: backup.sh FILE FOLDER [BOOK ..]
-#   Without a BOOK it prints the tallies of all books, which needs sqlite3.
+#   With a BOOK, the copy has to have it. The file `tally` beside the copy says what it has.
 # Environment:
 #   CONTACTS  the program; by default `contacts`
 #   STOP      a shell command that stops the service and waits until it has ended
@@ -27,7 +27,6 @@ stop=${STOP:-systemctl stop contacts.service}
 start=${START:-systemctl start contacts.service}
 keep=${KEEP:-14}
 [ "$keep" -ge 1 ] || fail 'KEEP is at least 1'
-[ $# -gt 0 ] || command -v sqlite3 > /dev/null || fail 'name the books, or install sqlite3'
 
 stopped= part=
 end() {
@@ -52,8 +51,8 @@ part=$(mktemp -d "$folder/part.XXXXXX")
 
 stopped=yes
 sh -c "$stop" 9>&-
-cp -p "$file" "$part/"
-[ ! -e "$file-wal" ] || cp -p "$file-wal" "$part/"
+cp "$file" "$part/"
+[ ! -e "$file-wal" ] || cp "$file-wal" "$part/"
 # After a signal the service is started again, even if this start is done; that is harmless.
 sh -c "$start" 9>&-
 stopped=
@@ -62,14 +61,13 @@ copy=$part/$(basename "$file")
 if command -v sqlite3 > /dev/null; then
     # Write the changes of the log into the copy's file.
     sqlite3 "$copy" 'PRAGMA wal_checkpoint(TRUNCATE)' | grep -q '^0|' || fail 'no checkpoint'
-    [ $# -gt 0 ] || set -- $(sqlite3 "$copy" 'SELECT name FROM book ORDER BY name')
 fi
-[ $# -gt 0 ] || fail 'the file has no book'
+"$contacts" verify "$copy" > "$part/tally"
 for book; do
     echo "$book"
     # A name may begin with a hyphen.
     "$contacts" tally "$copy" -- "$book"
-done > "$part/tally"
+done >> "$part/tally"
 sync "$part"/*
 mv "$part" "$folder/$date"
 part=

@@ -15,6 +15,10 @@ SHARE = "usr/share/tosculai"
 DOC = "usr/share/doc/tosculai"
 UNITS = ["contacts.service", "carddav.service", "ldap.service", "contacts-follow.service",
          "contacts-backup.service", "contacts-backup.timer"]
+# Of several offices on a machine, each with a name.
+TEMPLATES = ["contacts@.service", "contacts-backup@.service", "contacts-backup@.timer"]
+# The scripts of units.
+SCRIPTS = {"backup.sh": "usr/sbin/contacts-backup", "listening.sh": f"{SHARE}/listening"}
 # Commands of the clients, with their scripts below share/tosculai.
 WRAPPERS = {"tosculai": "python/tosculai.py", "tosculai-follow": "python/follow.py",
             "tosculai-carddav": "carddav/carddav", "tosculai-ldap": "ldap/ldap"}
@@ -91,15 +95,15 @@ class Tree:
 
     def units(self) -> List[Entry]:
         found = []
-        for name in UNITS:
+        for name in UNITS + TEMPLATES:
             text = (self.root / "examples" / name).read_text("utf-8")
             if name == "contacts.service":
                 text = configured(text)
             text = re.sub(r"^Description=.*\n", r"\g<0>Documentation=man:tosculai(7)\n", text,
                           flags=re.M)
             found.append(Entry(f"usr/lib/systemd/system/{name}", adapted(text), 0o644, True))
-        script = copied(self.root / "examples/backup.sh", "usr/sbin/contacts-backup")
-        return [*found, script]
+        scripts = [copied(self.root / "examples" / name, path) for name, path in SCRIPTS.items()]
+        return found + scripts
 
     def clients(self) -> List[Entry]:
         clients = self.root / "clients"
@@ -120,7 +124,7 @@ class Tree:
     def documents(self) -> List[Entry]:
         """Pages, which stay as they are, and examples beside them, which run where they are."""
         found = [Entry(f"{DOC}/{it}", (self.root / it).read_bytes()) for it in PAGES]
-        units = {f"{DOC}/examples/{it}" for it in [*UNITS, "backup.sh"]}
+        units = {f"{DOC}/examples/{it}" for it in [*UNITS, *TEMPLATES, *SCRIPTS]}
         return found + [it for it in below(self.root / "examples", f"{DOC}/examples")
                         if it.path not in units]
 
@@ -150,8 +154,10 @@ def configured(unit: str) -> str:
         "# --create makes the file if it isn't there. Other options are in the file of defaults.\n"
         "EnvironmentFile=-/etc/default/tosculai\n"
         r"ExecStart=\1 --create $CONTACTS_OPTIONS", unit, flags=re.M)
-    if count != 1:
-        raise ValueError("examples/contacts.service doesn't start the order run")
+    made, more = re.subn(r"^(ExecStartPost=\S+ \$MAINPID) .*$", r"\1 $CONTACTS_OPTIONS", made,
+                         flags=re.M)
+    if (count, more) != (1, 1):
+        raise ValueError("examples/contacts.service doesn't start the order run, or wait for it")
     return made
 
 

@@ -8,12 +8,19 @@ import fcntl
 import os
 import re
 import shutil
+import socket
 import subprocess
+import sys
 import threading
+import time
 import unittest
+from fnmatch import fnmatch
 
+from help_texts import HELP
 from http_requests import create, get, put
+from pages import Page
 from program import PATIENCE, PROGRAM, ROOT, Folder, Server, run
+from shells import free_port
 
 EXAMPLES = ROOT / "examples"
 # The commands that a backup needs, beside the shell's own.
@@ -56,6 +63,91 @@ class MoveIn(unittest.TestCase):
         printed = done.stdout.decode()
         self.assertEqual(0, done.returncode, printed)
         self.assertTrue(printed.endswith("\nmove-in: all steps went as they should\n"), printed)
+
+
+class Listening(unittest.TestCase):
+    """listening.sh, by which a unit waits for its server."""
+
+    def wait_for(self, process, *options):
+        """Starts the script."""
+        return subprocess.Popen([str(EXAMPLES / "listening.sh"), str(process.pid), *options])
+
+    def listener(self, seconds, port):
+        """A program that listens at the port after some seconds."""
+        code = ("import socket, sys, time; time.sleep(float(sys.argv[1])); "
+                "it = socket.create_server(('127.0.0.1', int(sys.argv[2]))); time.sleep(60)")
+        process = subprocess.Popen([sys.executable, "-c", code, str(seconds), port])
+        self.addCleanup(process.wait)
+        self.addCleanup(process.kill)
+        return process
+
+    def test_a_server_that_listens(self):
+        with Folder() as folder:
+            more = ["--create", "--host", "office"]
+            with Server(folder / "office.db", order="run", more=more) as server:
+                port = str(server.address[1])
+                for options in [["--port", port], [f"--port={port}"], ["--port", "0"],
+                                ["--host", "office", "--port", port, "--log"]]:
+                    script = self.wait_for(server.process, *options)
+                    self.assertEqual(0, script.wait(PATIENCE), options)
+
+    def test_it_waits_until_the_port_is_listened_at(self):
+        port = free_port()
+        script = self.wait_for(self.listener(1, port), "--port", port)
+        with self.assertRaises(subprocess.TimeoutExpired):
+            script.wait(0.5)
+        self.assertEqual(0, script.wait(PATIENCE))
+
+    def test_a_server_that_has_ended(self):
+        ended = subprocess.Popen(["true"])
+        ended.wait()
+        self.assertEqual(1, self.wait_for(ended, "--port", free_port()).wait(PATIENCE))
+
+    def test_the_default_port_is_that_of_run(self):
+        port = re.search(r"--port <P>.*\[default: (\d+)\]", HELP["run"])[1]
+        self.assertIn(f" port={port}\n", (EXAMPLES / "listening.sh").read_text())
+
+
+class QuickStart(unittest.TestCase):
+    """README's first commands, pasted whole into a shell, twice."""
+
+    def test_each_shell(self):
+        if lacking("curl"):
+            self.skipTest("no curl on this machine")
+        shells = [it for it in ("bash", "dash", "zsh") if not lacking(it)]
+        page = Page("README.md")
+        block = next(it for it in page.blocks() if it.info == "sh")
+        for shell in shells:
+            with self.subTest(shell=shell), Folder() as folder:
+                (folder / "contacts").symlink_to(PROGRAM)
+                (folder / "examples").symlink_to(EXAMPLES)
+                text = block.text.replace("8080", free_port())
+                for again in False, True:
+                    done = subprocess.run([shell], input=text.encode(), cwd=folder,
+                                          stdout=subprocess.PIPE, stderr=subprocess.STDOUT,
+                                          timeout=PATIENCE)
+                    said = done.stdout.decode()
+                    self.assertRegex(said, r"(?m)^listening 127\.0\.0\.1:\d+$")
+                    wanted = '"put":"unchanged"' if again else '"put":"created"'
+                    self.assertIn(wanted, said)
+                    self.assertIn(r"\r\nFN:Ann\r\n", said)
+                    self.wait_for_the_end(re.search(r"127\.0\.0\.1:(\d+)", said)[1])
+                left = {it.name for it in folder.iterdir()} - {"contacts", "examples"}
+                ignored = (ROOT / ".gitignore").read_text().split()
+                self.assertTrue(all(any(fnmatch(f"/{name}", it) for it in ignored)
+                                    for name in left), left)
+
+
+    def wait_for_the_end(self, port):
+        """Waits until the server that was told to end listens no more."""
+        ends = time.monotonic() + PATIENCE
+        while time.monotonic() < ends:
+            try:
+                socket.create_connection(("127.0.0.1", int(port)), timeout=PATIENCE).close()
+            except ConnectionRefusedError:
+                return
+            time.sleep(0.01)
+        self.fail("the server goes on")
 
 
 class Service:
@@ -171,16 +263,30 @@ class BackupTest(unittest.TestCase):
 
 class Backups(BackupTest):
     def test_all_books(self):
-        if lacking("sqlite3"):
-            self.skipTest("no sqlite3 on this machine")
         copy = self.back_up_well()
         self.assertEqual(["stop", "start"], self.service.asked)
         self.assert_serves()
         self.assert_whole(copy)
+        self.assert_lists_all_books(copy)
+
+    def assert_lists_all_books(self, copy):
         tally = (copy / "tally").read_text()
-        wanted = ["-x", "cards 0", "clients", "cards 1", "staff", "cards 2"]
-        found = re.findall(r"^(?:[a-z-]+|cards +\d+)$", tally, re.MULTILINE)
-        self.assertEqual(wanted, [re.sub(" +", " ", line) for line in found])
+        wanted = [("-x", "0"), ("clients", "1"), ("staff", "2")]
+        self.assertEqual(wanted, re.findall(r"(?m)^name (\S+) id \d+ cards (\d+) ", tally))
+        self.assertTrue(tally.endswith("\nverified 3\n"))
+
+    def test_all_books_without_sqlite3(self):
+        copy = self.back_up_well(PATH=self.path_without_sqlite3())
+        self.assert_whole(copy)
+        self.assert_lists_all_books(copy)
+
+    def test_a_file_without_a_book(self):
+        new = self.folder / "new.db"
+        run("init", new)
+        status, printed = self.back_up(new, self.copies)
+        self.assertEqual(0, status, printed)
+        copy = self.copies / printed.strip().rpartition("/")[2]
+        self.assertEqual("verified 0\n", (copy / "tally").read_text())
 
     def test_the_file_alone_is_enough_after_a_checkpoint(self):
         if lacking("sqlite3"):
@@ -279,10 +385,6 @@ class FailedBackups(BackupTest):
     def test_no_copy_would_be_kept(self):
         changed = {"KEEP": "0"}
         self.assert_fails([], self.service.file, self.copies, "staff", **changed)
-
-    def test_no_books_and_no_sqlite3(self):
-        changed = {"PATH": self.path_without_sqlite3()}
-        self.assert_fails([], self.service.file, self.copies, **changed)
 
     def test_no_folder(self):
         self.assert_fails([], self.service.file)

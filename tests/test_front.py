@@ -13,10 +13,12 @@ import ssl
 import subprocess
 import time
 import unittest
+from contextlib import ExitStack
 
 from carddav_client import HASH, Client, Stack
 from carddav_client import PASSWORD as SECRET
 from nginx import configuration
+from pages import Page
 from program import PATIENCE, ROOT, Folder, Server, run
 from shells import free_port
 
@@ -47,7 +49,7 @@ FIELDS = [
 class Front:
     """nginx with the example's configuration, but for its paths and ports."""
 
-    def __init__(self, folder, port, gateway=8090):
+    def __init__(self, folder, port, gateway=8090, edit=lambda text: text):
         self.address, self.phones = (f"127.0.0.1:{free_port()}" for _ in range(2))
         self.folder = folder
         key = ["-newkey", "rsa:2048", "-nodes", "-keyout", "office.key", "-out", "office.pem"]
@@ -68,7 +70,7 @@ class Front:
         phones = PHONES.search((ROOT / "clients/carddav/README.md").read_text())[0]
         phones = phones.replace("listen 10.1.0.1:80", f"listen {self.phones}")
         phones = phones.replace("10.1.0.1", "127.0.0.1").replace(":8090", f":{gateway}")
-        self.write("contacts.conf", text + phones)
+        self.write("contacts.conf", edit(text) + phones)
         self.write("nginx.conf", configuration("    include contacts.conf;\n"))
         os.chmod(folder, 0o755)  # nginx's workers are another user, if root starts it
         self.nginx = subprocess.Popen(
@@ -206,6 +208,52 @@ class Gateway(unittest.TestCase):
             with self.subTest(target=target, fields=fields):
                 given = {"Authorization": "", **fields}
                 self.assertEqual(status, front.ask("GET", target, fields=given))
+
+
+class Offices(unittest.TestCase):
+    """The lines of docs/OPERATING.md for several offices, in the example's configuration."""
+
+    def edit(self, text, folder, ports):
+        block, = [it.text for it in Page("docs/OPERATING.md").blocks() if it.info == "nginx"]
+        head, _, settings = block.partition("    # In the map of users")
+        for old, new in zip(("8101", "8102"), ports):
+            head = head.replace(f":{old};", f":{new};")
+        text, count = re.subn(r"upstream contacts \{.*?\n\}\n", lambda _: head, text, 1, re.DOTALL)
+        for line in re.findall(r"(?m)^    (\w+ +\S.*;)$", settings):
+            line = line.replace("/etc/nginx/contacts-", f"{folder}/")
+            text, more = re.subn(rf"{line.split()[0]} +(office|\S+users|\S+contacts\$request_uri);",
+                                 lambda _: line, text)
+            count += more
+        self.assertEqual(4, count)
+        users = re.search(r'(?s)(map )("\$remote_user.*?\n\})', text)[2]
+        mine = users.replace('"$remote_user', '"$office $remote_user').replace(
+            '"~^ "', r'"~^\S+  "').replace('"~^', '"~^north ').replace(r"north \S+", r"\S+")
+        return text.replace(users, mine)
+
+    @unittest.skipIf(missing_tool(), f"no {missing_tool()} on this machine")
+    def test_each_name_leads_to_its_office(self):
+        with Folder() as folder, ExitStack() as servers:
+            ports = []
+            for name in "north", "south":
+                run("init", folder / f"{name}.db")
+                more = ["--host", f"{name}.example"]
+                server = Server(folder / f"{name}.db", order="run", more=more)
+                ports.append(servers.enter_context(server).address[1])
+            front = Front(folder, 0, edit=lambda text: self.edit(text, folder, ports))
+            servers.callback(front.stop)
+            for name in "north", "south":
+                shutil.copy(folder / "users", folder / f"{name}.users")
+            north, south, other = ({"Host": f"{it}.example"} for it in ("north", "south", "other"))
+            self.assertEqual(201, front.ask("PUT", "/books/staff", fields=north))
+            self.assertEqual(200, front.ask("GET", "/books/staff/tally", fields=north))
+            # The user of this name has no rights there.
+            self.assertEqual(403, front.ask("GET", "/books/staff/tally", fields=south))
+            self.assertIn(front.ask("GET", "/books/staff/tally", fields=other), (403, 500))
+            nobody = {**north, "Authorization": ""}
+            self.assertEqual(401, front.ask("GET", "/books/staff/tally", fields=nobody))
+            # Each office has passwords of its own.
+            (folder / "north.users").write_text("")
+            self.assertEqual(401, front.ask("GET", "/books/staff/tally", fields=north))
 
 
 class Pages(unittest.TestCase):

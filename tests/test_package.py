@@ -32,6 +32,14 @@ PARTS = ["tools", "packaging", "examples", "clients", "docs", "dist"]
 FILES = ["crates.txt", "README.md", "SECURITY.md", "CHANGELOG.md"]
 UNITS = ["carddav.service", "contacts-backup.service", "contacts-backup.timer",
          "contacts-follow.service", "contacts.service", "ldap.service"]
+# Those of one of several offices, each with that of a single office.
+TEMPLATES = {"contacts@.service": "contacts.service",
+             "contacts-backup@.service": "contacts-backup.service",
+             "contacts-backup@.timer": "contacts-backup.timer"}
+# The most points of `systemd-analyze security` that a service has, of 10.
+EXPOSED = {"contacts.service": 1.0, "contacts@.service": 1.0, "contacts-backup.service": 1.0,
+           "contacts-backup@.service": 1.0, "carddav.service": 1.0, "ldap.service": 1.1,
+           "contacts-follow.service": 1.1}
 WRAPPERS = ["tosculai", "tosculai-carddav", "tosculai-follow", "tosculai-ldap"]
 # The fields of a control file that are tested one by one.
 FIELDS = {"Package": "tosculai", "Architecture": "amd64", "Priority": "optional",
@@ -148,6 +156,17 @@ class Octets(unittest.TestCase):
         self.assertIn(b"is not the program that dist/SOURCES names", done.stderr)
         self.assertFalse((tree / "none").exists())
 
+    def test_without_xz_and_python_the_program_is_not_unpacked(self):
+        commands = FOLDER.path / "few commands"
+        commands.mkdir()
+        for name in "sh", "dirname", "readlink", "rm":
+            (commands / name).symlink_to(shutil.which(name))
+        done = subprocess.run([ROOT / "tools/unpack", FOLDER.path / "unpacked"],
+                              env={"PATH": str(commands)}, stderr=subprocess.PIPE)
+        self.assertEqual(1, done.returncode)
+        self.assertIn(b"xz and python3 are missing", done.stderr)
+        self.assertFalse((FOLDER.path / "unpacked").exists())
+
     def test_the_list_names_each_file_and_crate(self):
         text = only("*.txt").read_text()
         listed = re.findall(r"^(\d+) +(\d+) ([0-9a-f]{64}) /(.*)$", text, re.M)
@@ -211,7 +230,7 @@ class Deb(unittest.TestCase):
 
     def test_what_is_where(self):
         files = installed()
-        units = [f"usr/lib/systemd/system/{it}" for it in UNITS]
+        units = [f"usr/lib/systemd/system/{it}" for it in [*UNITS, *TEMPLATES]]
         scripts = ["python/tosculai.py", "carddav/carddav", "ldap/ldap", "desk/index.html",
                    "desk/sw.js", "python/tosculai_tools/follow.py", "carddav/gateway/cli.py"]
         examples = ["nginx.conf", "office.sh", "sample-office.csv"]
@@ -246,7 +265,7 @@ class Deb(unittest.TestCase):
         self.assertEqual(users, set(re.findall(rb"(?m)^User=(.*)$", units)))
         postinst = members(deb()["control.tar.xz"])["./postinst"][1]
         self.assertEqual(users, set(re.findall(rb"(?m)^    account (\S+) ", postinst)))
-        folders = set(re.findall(rb"(?m)^StateDirectory=(.*)$", units))
+        folders = set(re.findall(rb"(?m)^StateDirectory=([\w-]+)", units))
         self.assertEqual({b"/var/lib/" + it for it in folders},
                          set(re.findall(rb"(?m)^    account \S+ (\S+) ", postinst)))
 
@@ -261,6 +280,47 @@ class Deb(unittest.TestCase):
         unit = files["usr/lib/systemd/system/contacts.service"].decode()
         self.assertIn("\nEnvironmentFile=-/etc/default/tosculai\nExecStart=/usr/bin/contacts run "
                       "/var/lib/tosculai/office.db --create $CONTACTS_OPTIONS\n", unit)
+        self.assertIn("\nExecStartPost=/usr/share/tosculai/listening $MAINPID $CONTACTS_OPTIONS\n",
+                      unit)
+
+    def settings(self, unit):
+        """The lines of an installed unit that set something."""
+        text = installed()[f"usr/lib/systemd/system/{unit}"].decode()
+        return re.findall(r"(?m)^(\w+)=(.*)$", text)
+
+    def test_the_units_of_several_offices_are_as_those_of_one(self):
+        own = {"Description", "ExecStart", "ExecStopPost", "Environment", "EnvironmentFile",
+               "StateDirectory", "TemporaryFileSystem", "BindPaths"}
+        for template, single in TEMPLATES.items():
+            self.assertEqual([it for it in self.settings(single) if it[0] not in own],
+                             [it for it in self.settings(template) if it[0] not in own])
+            changed = [value for name, value in self.settings(template) if name in own]
+            self.assertTrue(all("%i" in it for it in changed if "tosculai/" in it), changed)
+
+    def test_a_service_that_fails_is_started_again_for_ever(self):
+        for unit in EXPOSED:
+            settings = dict(self.settings(unit))
+            if settings.get("Type") != "oneshot":
+                wanted = ("0", "always", "1")
+                names = "StartLimitIntervalSec", "Restart", "RestartSec"
+                self.assertEqual(wanted, tuple(settings.get(it) for it in names), unit)
+                self.assertRegex(settings["MemoryMax"], r"^\d+[MG]$")
+
+    def test_what_a_service_could_still_do(self):
+        if not shutil.which("systemd-analyze"):
+            self.skipTest("no systemd-analyze on this machine")
+        with Folder(in_memory=True) as folder:
+            for unit, most in EXPOSED.items():
+                file = folder / unit
+                file.write_bytes(installed()[f"usr/lib/systemd/system/{unit}"])
+                done = subprocess.run(
+                    ["systemd-analyze", "security", "--offline=true", "--no-pager", str(file)],
+                    stdout=subprocess.PIPE, stderr=subprocess.PIPE, universal_newlines=True)
+                if "unrecognized option" in done.stderr:
+                    self.skipTest("systemd-analyze is older than 250")
+                points = re.search(r"exposure level for .*: ([\d.]+) ", done.stdout)
+                self.assertIsNotNone(points, done.stdout + done.stderr)
+                self.assertLessEqual(float(points[1]), most, unit)
 
     def test_the_control_files(self):
         found = {path[2:]: (it, octets) for path, (it, octets)
