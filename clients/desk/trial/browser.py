@@ -1,17 +1,7 @@
 """Drives a headless Chromium by its DevTools protocol, with Python's standard library alone."""
 
-import base64
-import json
-import os
-import shutil
-import socket
-import struct
-import subprocess
-import tempfile
-import time
-from pathlib import Path
-
 import pages
+from driver import Driver, Socket
 
 KEYS = {
     "Enter": (13, "\r"),
@@ -26,7 +16,6 @@ KEYS = {
     " ": (32, " "),
 }
 ALT, CTRL, SHIFT = 1, 2, 8
-INVERSE = bytes(range(255, -1, -1))
 
 
 class Socket:
@@ -93,37 +82,21 @@ class Browser:
             "--accept-lang=en-GB",
             f"--user-data-dir={self.folder}", *self.arguments, "about:blank",
         ]
-        port_file = self.folder / "DevToolsActivePort"
-        port_file.unlink(missing_ok=True)
-        log = open(self.folder / "log", "ab")
-        self.process = subprocess.Popen(command, stdout=log, stderr=log)
-        for _ in range(900):
-            if port_file.exists() and port_file.read_text().count("\n"):
-                break
-            time.sleep(0.1)
-        port, path = port_file.read_text().split("\n")[:2]
+        said = self.start(command, "DevToolsActivePort", lambda it: it.count("\n"))
+        port, path = said.split("\n")[:2]
         self.socket = Socket(int(port), path)
-        self.number = 0
-        self.pages = {}
-        self.events = []
 
     def call(self, method, session=None, **parameters):
-        self.number += 1
-        number = self.number
-        message = {"id": number, "method": method, "params": parameters}
-        if session:
-            message["sessionId"] = session
-        self.socket.send(json.dumps(message))
-        while True:
-            reply = json.loads(self.socket.receive())
-            if reply.get("id") == number:
-                if "error" in reply:
-                    raise RuntimeError(f"{method}: {reply['error']}")
-                return reply["result"]
-            self.events.append(reply)
-            page = self.pages.get(reply.get("sessionId"))
-            if page:
-                page.heard(reply)
+        message = {"method": method, "params": parameters}
+        reply = self.ask({**message, "sessionId": session} if session else message)
+        if "error" in reply:
+            raise RuntimeError(f"{method}: {reply['error']}")
+        return reply["result"]
+
+    def heard(self, event):
+        page = self.pages.get(event.get("sessionId"))
+        if page:
+            page.heard(event)
 
     def context(self):
         """A new profile: its own storage, as of another user."""
@@ -158,13 +131,7 @@ class Browser:
         self.process.wait()
 
     def close(self):
-        try:
-            self.call("Browser.close")
-            self.process.wait(20)
-        except Exception:
-            self.process.kill()
-            self.process.wait()
-        shutil.rmtree(self.folder, ignore_errors=True)
+        self.end("Browser.close")
 
 
 class Page(pages.Page):
@@ -258,6 +225,5 @@ class Page(pages.Page):
             downloadPath=str(folder),
         )
 
-    def picture(self, path):
-        data = self.call("Page.captureScreenshot", format="png")["data"]
-        Path(path).write_bytes(base64.b64decode(data))
+    def shot(self):
+        return self.call("Page.captureScreenshot", format="png")["data"]

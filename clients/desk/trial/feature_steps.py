@@ -4,6 +4,7 @@ import base64
 import json
 import re
 
+from between import fill_disk
 from loss_steps import CARD, at_desk, names
 from office import card, logical
 from steps import ROWS, TITLE, fault, more, search, step, stored, toast, until
@@ -160,19 +161,6 @@ def several(trial):
     until(lambda: {"Aab Several0", "Aab Several1"} <= set(names(office)))
 
 
-# The second thing that is written into the queue can't be kept.
-FAILS_LATE = """(() => {
-    const real = IDBObjectStore.prototype.put;
-    let count = 0;
-    IDBObjectStore.prototype.put = function (...all) {
-        count += this.name === 'queue' ? 1 : 0;
-        if (count > 1) throw new DOMException('full', 'QuotaExceededError');
-        return real.apply(this, all);
-    };
-    window.putAgain = () => { IDBObjectStore.prototype.put = real; };
-})()"""
-
-
 @fault
 def duplicates(trial):
     """Two cards of one person are put together value by value, and taken apart by Undo."""
@@ -195,7 +183,7 @@ def duplicates(trial):
     page.run("[...document.querySelectorAll('dialog .clash label')]"
              ".find((it) => it.textContent.includes('Head baker')).click()")
     # If the browser can't keep all of it, it keeps none of it.
-    page.run(FAILS_LATE)
+    fill_disk(page, 1)
     page.press("Save what is chosen", DIALOG)
     toast(page, "couldn’t keep it")
     page.run("window.putAgain()")

@@ -54,7 +54,7 @@ def earlier_versions(trial):
     office.put("clients", "ver 1", first)
     page.press("Update now")
     again(trial, page, "ver%201", "Vera Versions")
-    page.run("new Promise((done) => setTimeout(done, 1500))")
+    page.rest(1500)
     assert "Earlier versions…" not in menu(page), "nothing is served yet"
     office.remember()
     office.put("clients", "ver 1", second)
@@ -85,7 +85,7 @@ def earlier_versions(trial):
         page.size(width, height)
         for scheme in page.schemes:
             page.scheme(scheme)
-            page.run("new Promise((done) => setTimeout(done, 300))")
+            page.rest(300)
             page.picture(trial.pictures / f"versions-{name}-{scheme}.png")
         audit(page, f"versions, {name}")
         assert not page.run("document.documentElement.scrollWidth > innerWidth"), name
@@ -179,7 +179,7 @@ def hostile_versions(trial):
     more(page, "Earlier versions")
     page.wait("document.querySelector('#toast').textContent.includes('can’t be reached')")
     again(trial, page, "verh", "Hostile Versions")
-    page.run("new Promise((done) => setTimeout(done, 1500))")
+    page.rest(1500)
     assert "Earlier versions…" not in menu(page)
     assert page.run(CARD) and page.run(TITLE) == "Hostile Versions"
     search(page, "")

@@ -39,7 +39,7 @@ def nobody_shown(trial):
     search(page, "miriam")
     page.wait(f"{TITLE} === 'Miriam O’Hara'")
     # A card that comes late doesn't take the place of one that was chosen after it.
-    page.run(f"{HOLD}(1500)")
+    hold(page, 1500)
     for name in ("nadia", "gwen"):
         search(page, name)
         time.sleep(0.3)
@@ -65,6 +65,7 @@ def rights(trial):
     page = trial.desk("hall")
     page.wait(f"{PANE}.includes('Which book is yours?')", 20)
     page.picture(trial.pictures / "which-book.png")
+    audit(page, "the question for a book")
     fill(page, "Name of the book", "staff")
     page.key("Enter")
     page.wait(f"{ROWS}.includes('Ann Keeper')", 20)
@@ -84,8 +85,9 @@ def rights(trial):
                        ".filter((it) => it.checkVisibility()).map((it) => it.textContent)")
     assert not {"Edit", "New card", "Delete", "Move…"} & set(buttons), buttons
     page.picture(trial.pictures / "read-only.png")
+    audit(page, "a book that may only be read")
     page.key("F2")
-    page.run("new Promise((done) => setTimeout(done, 300))")
+    page.rest(300)
     assert not page.run(f"Boolean({FORM})")
     page.go(trial.office.front)
     page.wait(f"{ROWS}.includes('Ann Keeper')")
