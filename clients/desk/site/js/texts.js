@@ -102,7 +102,8 @@ export const TEXTS = {
   mark_waits: "not sent yet",
   mark_asks: "needs you",
   mark_refused: "not sent",
-  goneCard: "This card isn't in the copy. It may have been deleted or moved.",
+  goneCard: "This card isn't here. It may have been deleted or moved.",
+  openThere: "Open {name} in {book}",
   uses: {
     work: "work", home: "home", cell: "mobile", fax: "fax", pager: "pager", video: "video",
     textphone: "text phone", spouse: "spouse", child: "child", parent: "parent",
@@ -137,6 +138,7 @@ export const TEXTS = {
   trash_changed: "before a change",
   trash_dropped: "a change that wasn’t sent",
   trash_cancelled: "typed, and not saved",
+  trash_gone: "deleted or moved elsewhere",
   putBack: "Put back",
   isBack: "Put back: {name}",
   earlier: "Changed in this browser…",

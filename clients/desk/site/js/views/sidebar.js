@@ -79,7 +79,7 @@ export class SideBar {
 
   trash() {
     this.desk.frame.showNav(false);
-    this.desk.actions.trash();
+    this.desk.history.trash();
   }
 
   list(filter, text, sign, many = 0) {
