@@ -4,27 +4,16 @@ import json
 import random
 import time
 
+from access import audit
+from between import hold
+from browser import SHIFT
 from loss_steps import CARD, FORM, WAITING, at_desk, names, new_form, open_form
 from office import card, logical
 from steps import ROWS, STATE, TITLE, fault, fill, search, stored, until
 
 PANE = "document.querySelector('#pane').innerText"
-
-
-# Lets nobody else read the queue for some time, as on a slow disk.
-HOLD = """(async (ms) => {
-    const db = await new Promise((resolve) => {
-        const request = indexedDB.open('desk');
-        request.onsuccess = () => resolve(request.result);
-    });
-    const queue = db.transaction('queue', 'readwrite').objectStore('queue');
-    const end = performance.now() + ms;
-    const again = () => {
-        if (performance.now() < end) queue.count().onsuccess = again;
-        else db.close();
-    };
-    again();
-})"""
+BAR = "document.querySelector('#list-menu').innerText"
+EMPTY = "document.querySelector('#empty')"
 
 
 @fault

@@ -45,6 +45,8 @@ export class CardList {
     this.drawn = "";
     if (this.height) this.stretch();
     else this.measure();
+    // What is done with several cards is done with those that are in the list.
+    if (this.marks.size) this.tellMarked(this.marked);
   }
 
   measure() {
@@ -156,9 +158,14 @@ export class CardList {
     this.told();
   }
 
+  /** The marked rows that are in the list. */
+  get marked() {
+    return this.rows.filter((row) => this.marks.has(keyOf(row)));
+  }
+
   told() {
     this.again();
-    this.tellMarked(this.rows.filter((row) => this.marks.has(keyOf(row))));
+    this.tellMarked(this.marked);
   }
 
   /** Selects a row and brings it into sight. */
