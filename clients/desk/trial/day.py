@@ -94,7 +94,8 @@ def morning(day):
         "button New card", "button Update now", "button All books5", "button clients3",
         "button Book clients: numbers, import,", "button staff2",
         "button Book staff: numbers, import, e", "button Add a book", "button Favourites",
-        "button Recently opened", "button Trash", "button Sort and select", "listbox Cards",
+        "button Recently opened", "button Trash", "button New group", "button Sort and select",
+        "listbox Cards",
     ]
     page.key("Escape")
     hands.at("search")

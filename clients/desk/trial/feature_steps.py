@@ -101,6 +101,63 @@ def groups_of_a_person(trial):
 
 
 @fault
+def new_groups(trial):
+    """A group is made from the side bar, of several cards, or of one: each has an undo."""
+    page, office = at_desk(trial), trial.office
+    for number in range(2):
+        office.put("clients", f"ng{number}", card(f"ng{number}", f"FN:Aac Newgroup{number}"))
+    page.front()
+    page.press("Update now")
+    page.press("clients", "document.querySelector('#books')")
+    search(page, "newgroup")
+    page.wait(f"{ROWS}.length === 2")
+    click(page, "Aac Newgroup0")
+    click(page, "Aac Newgroup1", modifiers=8)
+    page.press("With these", LIST_MENU)
+    page.press("Add to a group", LIST_MENU)
+    page.wait(f"{DIALOG}?.querySelector('select')")
+    page.run(f"""(() => {{
+        const select = {DIALOG}.querySelector('select');
+        select.value = [...select.options].find((it) => it.textContent === 'New group…').value;
+    }})()""")
+    page.press("OK", DIALOG)
+    page.wait(f"{DIALOG}?.innerText.includes('New group')")
+    page.press("OK", DIALOG)
+    page.wait(f"{DIALOG}.innerText.includes('A group needs a name')")
+    page.run(f"{DIALOG}.querySelector('input').focus()")
+    page.type("Aac Team")
+    page.press("OK", DIALOG)
+    toast(page, "Added to Aac Team")
+    until(lambda: "Aac Team" in names(office))
+    search(page, "")
+    page.press("Aac Team", "document.querySelector('#books')")
+    page.wait(f"{ROWS}.length === 2 && {ROWS}.includes('Aac Newgroup1')")
+    page.press("Undo", "document.querySelector('#toast')")
+    until(lambda: "Aac Team" not in names(office))
+    page.press("clients", "document.querySelector('#books')")
+    # Of one person, in a book that has no group yet.
+    office.put("staff", "ng2", card("ng2", "FN:Aac Newgroup2"))
+    page.press("Update now")
+    search(page, "newgroup2")
+    page.press("staff", "document.querySelector('#books')")
+    page.wait(f"{ROWS}.length === 1")
+    show(page, "ng2", "Aac Newgroup2", "staff")
+    more(page, "Groups…")
+    page.wait(f"{DIALOG}?.innerText.includes('New group')")
+    page.type("Staff team")
+    page.press("OK", DIALOG)
+    until(lambda: "Staff team" in names(office, "staff"))
+    page.wait(f"{CARD}.includes('Staff team')")
+    page.press("Undo", "document.querySelector('#toast')")
+    until(lambda: "Staff team" not in names(office, "staff"))
+    search(page, "")
+    page.press("clients", "document.querySelector('#books')")
+    page.press("New group", "document.querySelector('#books')")
+    page.wait("document.querySelector('.form h2')?.textContent === 'New group'")
+    page.press("Cancel", "document.querySelector('.form')")
+
+
+@fault
 def several(trial):
     """Shift and Ctrl select; delete, with one undo; put into a group; write to files."""
     page, office = at_desk(trial), trial.office

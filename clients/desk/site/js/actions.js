@@ -13,9 +13,7 @@ import { peopleView } from "./views/card.js";
 import { bookNameFault, showBook } from "./views/books.js";
 import { ask, askText } from "./views/dialogs.js";
 import { printSheet } from "./views/print.js";
-import { askTicks } from "./views/ticks.js";
-import { trashView } from "./views/trash.js";
-import { versionsView } from "./views/versions.js";
+import { askTicks, NEW } from "./views/ticks.js";
 import { fill } from "./dom.js";
 
 /** What went wrong, in words. A fault that isn't of a request is thrown on. */
@@ -85,14 +83,16 @@ export class Actions {
   async groupsOf(book, uid, name) {
     const { desk } = this;
     const groups = desk.shelf.groups(book).filter((it) => it.uid !== uid);
-    if (!groups.length) {
-      desk.frame.toast(t("groupNone"));
+    const before = new Set(desk.shelf.groupsOf(book, uid).map((it) => it.uid));
+    const wanted = groups.length && await askTicks(t("groupsOfTitle", { name }),
+      groups.map((it) => [it.name || t("nameless"), it.uid, before.has(it.uid)]),
+      t("newGroupOther"));
+    if (wanted === null) return;
+    if (!groups.length || wanted === NEW) {
+      await desk.bulk.newGroup(book, [uid]);
+      desk.pane.again();
       return;
     }
-    const before = new Set(desk.shelf.groupsOf(book, uid).map((it) => it.uid));
-    const wanted = await askTicks(t("groupsOfTitle", { name }),
-      groups.map((it) => [it.name || t("nameless"), it.uid, before.has(it.uid)]));
-    if (!wanted) return;
     const changed = groups.filter((it) => wanted.has(it.uid) !== before.has(it.uid));
     if (!changed.length) return;
     const set = (isIn) => desk.setMembers(book,

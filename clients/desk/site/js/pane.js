@@ -67,7 +67,7 @@ export class Pane {
 
   /** A form for a new card. Its UID is made now, so that no other form has the same. */
   newCard(kind = "individual") {
-    if (this.form?.isUntouched) {
+    if (this.form?.isUntouched && this.form.edit.kind === kind) {
       this.form.focus();
       return;
     }
