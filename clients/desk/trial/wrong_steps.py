@@ -90,6 +90,64 @@ def rights(trial):
     page.wait("document.querySelector('#new').checkVisibility()")
 
 
+@fault
+def selected_in_sight(trial):
+    """What is done with several cards is done with those that the list shows, and no others."""
+    page, office = at_desk(trial), trial.office
+    for number in range(3):
+        office.put("clients", f"sight{number}", card(f"sight{number}", f"FN:Aaa Sight{number}"))
+    page.front()
+    page.press("Update now")
+    page.press("clients", "document.querySelector('#books')")
+    search(page, "sight")
+    page.wait(f"{ROWS}.length === 3")
+    for _ in range(2):
+        page.key("ArrowDown", SHIFT)
+    page.wait(f"{BAR}.includes('3 selected')")
+    search(page, "sight1")
+    page.wait(f"{ROWS}.length === 1 && {BAR}.includes('1 selected')")
+    page.press("With these", "document.querySelector('#list-menu')")
+    page.press("Delete", "document.querySelector('#list-menu')")
+    page.wait("document.querySelector('dialog h2')?.textContent === 'Delete 1 card?'")
+    page.press("Delete", "document.querySelector('dialog')")
+    until(lambda: "Aaa Sight1" not in names(office))
+    assert {"Aaa Sight0", "Aaa Sight2"} <= set(names(office))
+    search(page, "")
+
+
+@fault
+def empty_lists(trial):
+    """An empty list says why, and what can be done: never that a copy is empty that isn't there."""
+    page, office = at_desk(trial), trial.office
+    page.front()
+    search(page, "qqqq")
+    page.press("Empty the search", EMPTY)
+    page.wait(f"{ROWS}.length > 3 && document.activeElement.id === 'search'")
+    office.request("PUT", "/books/bare")
+    page.press("Update now")
+    page.wait("document.querySelector('#books').textContent.includes('bare')")
+    page.press("bare", "document.querySelector('#books')")
+    page.wait(f"{EMPTY}.innerText.includes('There is no card here yet')")
+    audit(page, "an empty book")
+    page.picture(trial.pictures / "empty-book.png")
+    page.press("Import a file", EMPTY)
+    page.wait("document.querySelector('dialog h2')?.textContent === 'Import into bare'")
+    page.key("Escape")
+    page.press("New card", EMPTY)
+    page.wait(f"{FORM} && location.hash.startsWith('#/new/bare/')")
+    page.press("Cancel", FORM)
+    page.press("Favourites", "document.querySelector('#books')")
+    page.press("clients", "document.querySelector('#books')")
+    # Before the first copy is there, the list doesn't say that the book is empty.
+    other = trial.browser.page(trial.browser.context())
+    other.enter(office.front, "admin", "manifest.json")
+    other.navigate(office.front)
+    other.wait("document.querySelector('#list [role=option]') || window.desk"
+               " || document.querySelector('#books button')")
+    said = other.run(f"{EMPTY}.hidden || !{EMPTY}.innerText.includes('no card here')")
+    assert said, other.run(f"{EMPTY}.innerText")
+
+
 LINKS = {
     # What a number is shown as, and what its link is: None for none.
     "TEL:020 7946 0001": ("020 7946 0001", "tel:02079460001"),

@@ -7,6 +7,9 @@ import { Duplicates } from "./duplicates.js";
 import { ASKS } from "./entries.js";
 import { Faces } from "./faces.js";
 import { Frame } from "./frame.js";
+import { History } from "./history.js";
+import { pageKey } from "./keys.js";
+import { emptyWays, emptyWords, titleOf } from "./listing.js";
 import { Lists } from "./lists.js";
 import { Memory } from "./memory.js";
 import { Outbox } from "./outbox.js";
@@ -226,7 +229,9 @@ export class Desk {
     this.stating ||= setTimeout(async () => {
       this.stating = 0;
       this.books = await this.store.books();
-      this.drawState();
+      // What an empty list says depends on whether the copy is there.
+      if (this.list.rows.length) this.drawState();
+      else this.draw();
     }, 100);
   }
 
@@ -371,6 +376,13 @@ export class Desk {
     if (this.chosen === name) this.chosen = "";
     this.books = await this.store.books();
     this.pane.leave();
+  }
+
+  /** Empties the search. */
+  searchAnew() {
+    this.frame.search.value = "";
+    this.typed();
+    this.frame.search.focus();
   }
 
   typed() {

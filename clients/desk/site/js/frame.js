@@ -15,6 +15,7 @@ export class Frame {
     this.progress = null;
     this.saying = 0;
     this.showing = 0;
+    this.emptyDrawn = "";
   }
 
   /** Puts the texts of the page in place. */
@@ -86,14 +87,25 @@ export class Frame {
     if (node.textContent !== parts.join(" · ")) node.textContent = parts.join(" · ");
   }
 
-  /** How many cards are in the list, and what is said if there is none. */
-  showCount(title, rows, isSearch, words = t("emptyBook")) {
+  /** What the list is of, and how many cards are in it. */
+  showCount(title, rows, isSearch) {
     if (by("list-title").textContent !== title) fill(by("list-title"), bdi(title));
     by("count").textContent = isSearch ? count("resultsCount", rows) : count("cardsCount", rows);
-    const empty = by("empty");
-    empty.hidden = rows > 0;
-    empty.textContent = isSearch ? t("noCards") : words;
     if (isSearch) this.sayLater(count("resultsCount", rows));
+  }
+
+  /**
+   * In place of an empty list: `words`, and `ways` to go on, `[text, run, kind]` each. If `words`
+   * is null, the list has cards.
+   */
+  showEmpty(words, ways) {
+    const empty = by("empty");
+    empty.hidden = words === null;
+    const drawn = JSON.stringify([words, by("list-title").textContent, ways.map((it) => it[0])]);
+    if (words === null || drawn === this.emptyDrawn) return;
+    this.emptyDrawn = drawn;
+    fill(empty, el("p", {}, words), ways.length > 0 && el("div", { class: "bar" },
+      ways.map(([text, run, kind]) => button(text, run, { class: kind ?? null }))));
   }
 
   /** How a book is followed. `books` are the records of the copy. */

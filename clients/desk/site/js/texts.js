@@ -28,6 +28,8 @@ export const TEXTS = {
   ],
   noCards: "No card has this. Try fewer letters.",
   emptyBook: "There is no card here yet.",
+  notHereYet: "The cards come as soon as the server answers.",
+  clearSearch: "Empty the search",
   noBooks: "There is no book here yet.",
 
   // How the copy is
