@@ -18,59 +18,10 @@ KEYS = {
 ALT, CTRL, SHIFT = 1, 2, 8
 
 
-class Socket:
-    """A WebSocket (RFC 6455), as far as a client of DevTools needs one."""
-
-    def __init__(self, port, path):
-        self.stream = socket.create_connection(("127.0.0.1", port))
-        key = base64.b64encode(os.urandom(16)).decode()
-        self.stream.sendall(
-            f"GET {path} HTTP/1.1\r\nHost: 127.0.0.1:{port}\r\nUpgrade: websocket\r\n"
-            f"Connection: Upgrade\r\nSec-WebSocket-Key: {key}\r\n"
-            "Sec-WebSocket-Version: 13\r\n\r\n".encode()
-        )
-        self.file = self.stream.makefile("rb")
-        status = self.file.readline()
-        if b" 101 " not in status:
-            raise RuntimeError(f"no WebSocket: {status!r}")
-        while self.file.readline() not in (b"\r\n", b""):
-            pass
-
-    def send(self, text):
-        data = text.encode()
-        size = len(data)
-        if size < 126:
-            head = struct.pack("!BB", 0x81, 0x80 | size)
-        elif size < 65536:
-            head = struct.pack("!BBH", 0x81, 0x80 | 126, size)
-        else:
-            head = struct.pack("!BBQ", 0x81, 0x80 | 127, size)
-        # Firefox closes the connection at a mask of zeros, so this one is of ones.
-        self.stream.sendall(head + b"\xff\xff\xff\xff" + data.translate(INVERSE))
-
-    def receive(self):
-        """One message, its fragments put together."""
-        parts = []
-        while True:
-            first, second = self.file.read(2)
-            size = second & 0x7F
-            if size == 126:
-                (size,) = struct.unpack("!H", self.file.read(2))
-            elif size == 127:
-                (size,) = struct.unpack("!Q", self.file.read(8))
-            data = self.file.read(size)
-            if first & 0x0F in (8, 9, 10):
-                continue
-            parts.append(data)
-            if first & 0x80:
-                return b"".join(parts).decode()
-
-
-class Browser:
-    def __init__(self, program, arguments=()):
-        self.program = program
-        self.arguments = arguments
-        self.folder = Path(tempfile.mkdtemp(prefix="desk-chromium-"))
+class Browser(Driver):
+    def __init__(self, program, arguments=(), with_bars=False):
+        super().__init__(program, "chromium")
+        self.arguments = [*arguments, *([] if with_bars else ["--hide-scrollbars"])]
         self.again()
 
     def again(self):
@@ -115,20 +66,10 @@ class Browser:
         page.size(width, height)
         return page
 
-    def desk(self, address, user, isolated=True, **size):
-        """A page of a user, with storage of its own unless `isolated` is false."""
-        page = self.page(self.context() if isolated else None, **size)
-        page.enter(address, user)
-        return page
-
-    def another(self):
+    def another(self, with_bars=False):
         """Another browser, with nothing kept."""
-        return Browser(self.program, self.arguments)
-
-    def kill(self):
-        """Ends the browser at once, as a crash does."""
-        self.process.kill()
-        self.process.wait()
+        kept = [it for it in self.arguments if it != "--hide-scrollbars"]
+        return Browser(self.program, kept, with_bars)
 
     def close(self):
         self.end("Browser.close")

@@ -308,6 +308,7 @@ def favourites(trial):
     page = at_desk(trial)
     show(page, "c10", "Kerstin Ångström")
     more(page, "Add to favourites")
+    page.wait("document.querySelector('.card .favourite')")
     page.press("Favourites", "document.querySelector('#books')")
     page.wait(f"{ROWS}.length === 1 && {ROWS}[0] === 'Kerstin Ångström'")
     show(page, "c11", "Liam O’Hara")

@@ -58,7 +58,11 @@ export class Actions {
       download: () => saveFile(file, "text/vcard", text),
       download3: () => saveFile(file, "text/vcard", olderCard(text)),
       isFavourite: () => desk.lists.isFavourite(book, uid),
-      favourite: () => desk.lists.turnFavourite(book, uid),
+      favourite: async () => {
+        await desk.lists.turnFavourite(book, uid);
+        desk.pane.again();
+        desk.draw();
+      },
       groups: () => this.groupsOf(book, uid, seen.name),
       earlier: () => desk.history.trashOf(book, uid, seen.name),
       hasVersions: () => desk.memory.has(book, uid),

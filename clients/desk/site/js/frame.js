@@ -4,6 +4,9 @@ import { icon } from "./icons.js";
 import { count, faultText, number, t, timeText } from "./say.js";
 import { openMenu } from "./views/menu.js";
 
+// Where the books and groups have a column of their own.
+const WIDE = "(min-width: 72rem)";
+
 const by = (id) => document.getElementById(id);
 
 export class Frame {
@@ -37,6 +40,15 @@ export class Frame {
     fill(places, icon("books"));
     places.setAttribute("aria-label", t("showBooks"));
     places.addEventListener("click", () => this.showNav(document.body.dataset.nav !== "open"));
+    // A press beside the books and groups closes them, and does nothing else.
+    addEventListener("click", (event) => {
+      const isBeside = !event.target.closest("#books, #places, #toast, dialog");
+      if (document.body.dataset.nav !== "open" || !isBeside) return;
+      event.preventDefault();
+      event.stopPropagation();
+      this.showNav(false);
+    }, true);
+    matchMedia(WIDE).addEventListener("change", () => this.showNav(false));
     add.title = t("newCardKey");
     add.addEventListener("click", run.newCard);
     by("waiting").addEventListener("click", run.waiting);
@@ -55,6 +67,7 @@ export class Frame {
   /** Opens or closes the books and groups on a narrow page, where they cover the list. */
   showNav(isOpen) {
     document.body.dataset.nav = isOpen ? "open" : "";
+    for (const it of ["cards", "pane"]) by(it).inert = isOpen;
     by("places").setAttribute("aria-expanded", String(isOpen));
     if (isOpen) by("books").querySelector("button")?.focus();
   }

@@ -61,6 +61,7 @@ export const TEXTS = {
   moreActions: "More actions",
   favourite: "Add to favourites",
   unfavourite: "Remove from favourites",
+  isFavourite: "A favourite",
   quick: "What one does most",
   callNow: "Call",
   mailNow: "Mail",
