@@ -6,7 +6,7 @@ from access import AUDIT, CALM
 from cards import EVIL, MARK, hostile_cards
 from common import keep_files
 from office import card
-from steps import ROWS, STATE, TITLE, fill, search, step, stored, toast, up_to_date
+from steps import ROWS, STATE, TITLE, fault, fill, search, step, stored, toast, up_to_date
 
 
 @step
@@ -113,6 +113,47 @@ def offline(trial):
     ann.press("Save")
     toast(ann, "Saved: Miriam")
     stored(office, "c12", "TITLE:Treasurer")
+
+
+@fault
+def new_files(trial):
+    """Newer files of the page: all of them or none, offered when they are there, kept for later."""
+    office = trial.office
+    page = trial.desk("admin", "files")
+    keep_files(page)
+    texts, page_file = office.site / "js/texts.js", office.site / "index.html"
+    words, main = texts.read_text(), page_file.read_text()
+    brand = "document.querySelector('#title').textContent"
+
+    def loaded(name):
+        page.go(office.front)
+        page.wait(f"{brand} === {json.dumps(name)}")
+
+    try:
+        # One of the files can't be fetched: so the page stays as it was, as a whole.
+        texts.write_text(words.replace('title: "Contacts"', 'title: "Newer"'))
+        page_file.rename(office.site / "away")
+        loaded("Contacts")
+        page.rest(4000)
+        (office.site / "away").rename(page_file)
+        office.shut()
+        loaded("Contacts")
+        office.open()
+        loaded("Contacts")
+        toast(page, "new version of this page")
+        page.press("Load it", "document.querySelector('#toast')")
+        page.wait(f"{brand} === 'Newer'")
+        office.shut()
+        loaded("Newer")
+        office.open()
+    finally:
+        texts.write_text(words)
+        page_file.write_text(main)
+    # A page that stays open asks by itself, once an hour.
+    page.wait(f"{STATE}.startsWith('Up to date')")
+    page.run("navigator.serviceWorker.controller.postMessage('look')")
+    page.press("Load it", "document.querySelector('#toast')")
+    page.wait(f"{brand} === 'Contacts'")
 
 
 @step
