@@ -243,18 +243,15 @@ export class Desk {
     return filter ? this.lists.pick(filter, rows, this.shelf) : rows;
   }
 
-  showRows(rows, keep) {
+  showRows(rows, keep, isFirst = false) {
     const text = this.frame.search.value.trim();
     const isSorted = text === "" && this.filter?.kind !== "recent";
     this.letters.show(isSorted ? rows : [], this.shelf.by);
-  }
-
-  /** What the list is of. */
-  get listTitle() {
-    const { filter } = this;
-    if (!filter) return this.chosen || t(this.books.length > 1 ? "allBooks" : "listLabel");
-    if (filter.kind === "group") return this.shelf.get(filter.book, filter.uid)?.name ?? "";
-    return filter.kind === "category" ? filter.name : t(filter.kind);
+    const { withBooks } = this;
+    this.list.show(rows, { withBooks, keep, isFirst, heads: this.letters.places });
+    this.frame.showCount(titleOf(this), rows.length, text !== "");
+    this.frame.showEmpty(rows.length ? null : text !== "" ? t("noCards") : emptyWords(this),
+      rows.length ? [] : emptyWays(this));
   }
 
   draw() {
@@ -388,14 +385,13 @@ export class Desk {
   typed() {
     const text = this.frame.search.value.trim();
     const rows = this.found();
-    const { shown } = this.pane;
-    this.showRows(rows, text === "" ? this.pane.cardKey : null);
-    this.list.top();
+    const isForm = this.pane.shown?.kind === "form";
     // The first card is shown at once, as this is most often the one; not in place of a form.
-    if (shown?.kind !== "form") {
-      if (text !== "" && rows.length) this.list.select(0);
-      else if (!rows.length) this.pane.clear();
-    }
+    const isFirst = text !== "" && rows.length > 0 && !isForm;
+    this.list.top();
+    this.showRows(rows, text === "" ? this.pane.cardKey : null, isFirst);
+    if (isFirst) this.list.select(0);
+    else if (!isForm && !rows.length) this.pane.clear();
     this.mark();
   }
 
