@@ -27,8 +27,8 @@ class Browser(Driver):
     def again(self):
         """Starts the browser, with what it kept before it was closed or killed."""
         command = [
-            self.program, "--headless=new", "--no-sandbox", "--disable-gpu", "--hide-scrollbars",
-            "--no-first-run", "--disable-background-networking", "--disable-component-update",
+            self.program, "--headless=new", "--no-sandbox", "--disable-gpu", "--no-first-run",
+            "--disable-background-networking", "--disable-component-update",
             "--disable-dev-shm-usage", "--remote-debugging-port=0", "--lang=en-GB",
             "--accept-lang=en-GB",
             f"--user-data-dir={self.folder}", *self.arguments, "about:blank",

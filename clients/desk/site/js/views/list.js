@@ -26,6 +26,7 @@ export class CardList {
     this.anchor = -1;
     this.marks = new Set();
     this.withBooks = false;
+    this.heads = new Map(); // the letters of the rows with which they begin
     this.space = el("div", { class: "space", role: "presentation" });
     this.root.replaceChildren(this.space);
     this.drawn = "";
@@ -40,15 +41,21 @@ export class CardList {
     new ResizeObserver(() => this.measure()).observe(this.root);
   }
 
-  /** Shows other rows. The selected card stays selected if it is among them. */
-  show(rows, { withBooks, keep = null }) {
-    const at = keep === null ? -1 : rows.findIndex((row) => keyOf(row) === keep);
+  /**
+   * Shows other rows. The first is selected, or the card of the key `keep` if it is among them.
+   * `heads` has letters, with the places of the rows where they begin.
+   */
+  show(rows, { withBooks, keep = null, isFirst = false, heads = [] }) {
+    const kept = keep === null ? -1 : rows.findIndex((row) => keyOf(row) === keep);
+    const at = isFirst ? 0 : kept;
     const isSame = rows === this.rows && at === this.at && withBooks === this.withBooks;
     this.rows = rows;
     this.withBooks = withBooks;
     this.at = at;
     if (isSame && this.drawn) return;
     this.drawn = "";
+    this.heads = new Map(heads.map(([letter, place]) => [place, letter]));
+    this.root.classList.toggle("lettered", heads.length > 0);
     if (this.height) this.stretch();
     else this.measure();
     // What is done with several cards is done with those that are in the list.
@@ -56,7 +63,10 @@ export class CardList {
   }
 
   measure() {
-    this.height = Number.parseFloat(getComputedStyle(this.root).getPropertyValue("--row")) *
+    // The letters are beside the bar that scrolls, not over it.
+    const bar = this.root.offsetWidth - this.root.clientWidth;
+    this.root.parentElement.style.setProperty("--bar", `${bar}px`);
+    const height = Number.parseFloat(getComputedStyle(this.root).getPropertyValue("--row")) *
       Number.parseFloat(getComputedStyle(document.documentElement).fontSize);
     if (height !== this.height) this.drawn = "";
     this.height = height;
@@ -111,6 +121,8 @@ export class CardList {
         "aria-posinset": at + 1,
         "aria-setsize": this.rows.length,
       },
+      this.heads.has(at)
+        ? el("span", { class: "head-letter", "aria-hidden": "true" }, this.heads.get(at)) : null,
       this.faces.of(row),
       el("div", { class: "who" }, bdi(row.name || t("nameless"), "name"), bdi(under, "under")),
       el(
