@@ -189,7 +189,7 @@ def move_refused(trial):
     office.ask_aside("PUT", "/staff/cards/mv7", other)
     office.open()
     page.press("Update now")
-    page.wait(f"{CARD}.includes('has a card of the same UID already')")
+    page.wait(f"{CARD}.includes('has this card already')")
     page.press("Leave it in clients", "document.querySelector('#pane')")
     settled(page)
     page.wait(f"{TITLE} === 'Tia Taken' && {CARD}.includes('In the book clients')")
