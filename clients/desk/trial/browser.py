@@ -1,17 +1,7 @@
 """Drives a headless Chromium by its DevTools protocol, with Python's standard library alone."""
 
-import base64
-import json
-import os
-import shutil
-import socket
-import struct
-import subprocess
-import tempfile
-import time
-from pathlib import Path
-
 import pages
+from driver import Driver, Socket
 
 KEYS = {
     "Enter": (13, "\r"),
@@ -26,104 +16,38 @@ KEYS = {
     " ": (32, " "),
 }
 ALT, CTRL, SHIFT = 1, 2, 8
-INVERSE = bytes(range(255, -1, -1))
 
 
-class Socket:
-    """A WebSocket (RFC 6455), as far as a client of DevTools needs one."""
-
-    def __init__(self, port, path):
-        self.stream = socket.create_connection(("127.0.0.1", port))
-        key = base64.b64encode(os.urandom(16)).decode()
-        self.stream.sendall(
-            f"GET {path} HTTP/1.1\r\nHost: 127.0.0.1:{port}\r\nUpgrade: websocket\r\n"
-            f"Connection: Upgrade\r\nSec-WebSocket-Key: {key}\r\n"
-            "Sec-WebSocket-Version: 13\r\n\r\n".encode()
-        )
-        self.file = self.stream.makefile("rb")
-        status = self.file.readline()
-        if b" 101 " not in status:
-            raise RuntimeError(f"no WebSocket: {status!r}")
-        while self.file.readline() not in (b"\r\n", b""):
-            pass
-
-    def send(self, text):
-        data = text.encode()
-        size = len(data)
-        if size < 126:
-            head = struct.pack("!BB", 0x81, 0x80 | size)
-        elif size < 65536:
-            head = struct.pack("!BBH", 0x81, 0x80 | 126, size)
-        else:
-            head = struct.pack("!BBQ", 0x81, 0x80 | 127, size)
-        # Firefox closes the connection at a mask of zeros, so this one is of ones.
-        self.stream.sendall(head + b"\xff\xff\xff\xff" + data.translate(INVERSE))
-
-    def receive(self):
-        """One message, its fragments put together."""
-        parts = []
-        while True:
-            first, second = self.file.read(2)
-            size = second & 0x7F
-            if size == 126:
-                (size,) = struct.unpack("!H", self.file.read(2))
-            elif size == 127:
-                (size,) = struct.unpack("!Q", self.file.read(8))
-            data = self.file.read(size)
-            if first & 0x0F in (8, 9, 10):
-                continue
-            parts.append(data)
-            if first & 0x80:
-                return b"".join(parts).decode()
-
-
-class Browser:
-    def __init__(self, program, arguments=()):
-        self.program = program
-        self.arguments = arguments
-        self.folder = Path(tempfile.mkdtemp(prefix="desk-chromium-"))
+class Browser(Driver):
+    def __init__(self, program, arguments=(), with_bars=False):
+        super().__init__(program, "chromium")
+        self.arguments = [*arguments, *([] if with_bars else ["--hide-scrollbars"])]
         self.again()
 
     def again(self):
         """Starts the browser, with what it kept before it was closed or killed."""
         command = [
-            self.program, "--headless=new", "--no-sandbox", "--disable-gpu", "--hide-scrollbars",
-            "--no-first-run", "--disable-background-networking", "--disable-component-update",
+            self.program, "--headless=new", "--no-sandbox", "--disable-gpu", "--no-first-run",
+            "--disable-background-networking", "--disable-component-update",
             "--disable-dev-shm-usage", "--remote-debugging-port=0", "--lang=en-GB",
             "--accept-lang=en-GB",
             f"--user-data-dir={self.folder}", *self.arguments, "about:blank",
         ]
-        port_file = self.folder / "DevToolsActivePort"
-        port_file.unlink(missing_ok=True)
-        log = open(self.folder / "log", "ab")
-        self.process = subprocess.Popen(command, stdout=log, stderr=log)
-        for _ in range(900):
-            if port_file.exists() and port_file.read_text().count("\n"):
-                break
-            time.sleep(0.1)
-        port, path = port_file.read_text().split("\n")[:2]
+        said = self.start(command, "DevToolsActivePort", lambda it: it.count("\n"))
+        port, path = said.split("\n")[:2]
         self.socket = Socket(int(port), path)
-        self.number = 0
-        self.pages = {}
-        self.events = []
 
     def call(self, method, session=None, **parameters):
-        self.number += 1
-        number = self.number
-        message = {"id": number, "method": method, "params": parameters}
-        if session:
-            message["sessionId"] = session
-        self.socket.send(json.dumps(message))
-        while True:
-            reply = json.loads(self.socket.receive())
-            if reply.get("id") == number:
-                if "error" in reply:
-                    raise RuntimeError(f"{method}: {reply['error']}")
-                return reply["result"]
-            self.events.append(reply)
-            page = self.pages.get(reply.get("sessionId"))
-            if page:
-                page.heard(reply)
+        message = {"method": method, "params": parameters}
+        reply = self.ask({**message, "sessionId": session} if session else message)
+        if "error" in reply:
+            raise RuntimeError(f"{method}: {reply['error']}")
+        return reply["result"]
+
+    def heard(self, event):
+        page = self.pages.get(event.get("sessionId"))
+        if page:
+            page.heard(event)
 
     def context(self):
         """A new profile: its own storage, as of another user."""
@@ -142,29 +66,13 @@ class Browser:
         page.size(width, height)
         return page
 
-    def desk(self, address, user, isolated=True, **size):
-        """A page of a user, with storage of its own unless `isolated` is false."""
-        page = self.page(self.context() if isolated else None, **size)
-        page.enter(address, user)
-        return page
-
-    def another(self):
+    def another(self, with_bars=False):
         """Another browser, with nothing kept."""
-        return Browser(self.program, self.arguments)
-
-    def kill(self):
-        """Ends the browser at once, as a crash does."""
-        self.process.kill()
-        self.process.wait()
+        kept = [it for it in self.arguments if it != "--hide-scrollbars"]
+        return Browser(self.program, kept, with_bars)
 
     def close(self):
-        try:
-            self.call("Browser.close")
-            self.process.wait(20)
-        except Exception:
-            self.process.kill()
-            self.process.wait()
-        shutil.rmtree(self.folder, ignore_errors=True)
+        self.end("Browser.close")
 
 
 class Page(pages.Page):
@@ -258,6 +166,5 @@ class Page(pages.Page):
             downloadPath=str(folder),
         )
 
-    def picture(self, path):
-        data = self.call("Page.captureScreenshot", format="png")["data"]
-        Path(path).write_bytes(base64.b64decode(data))
+    def shot(self):
+        return self.call("Page.captureScreenshot", format="png")["data"]

@@ -58,6 +58,13 @@ def until(condition, seconds=60):
         time.sleep(0.1)
 
 
+def keep_files(page):
+    """Waits until the desk can start without the network."""
+    page.wait("""navigator.serviceWorker.controller && caches.keys().then((names) => Promise.all(
+        names.map((it) => caches.match('./', { cacheName: it }))))
+        .then((pages) => pages.some(Boolean))""")
+
+
 def toast(page, text):
     page.wait(f"document.querySelector('#toast').textContent.includes({json.dumps(text)})")
 

@@ -30,7 +30,7 @@ class Day(common.Trial):
         return self.desks["admin"], Hands(self.desks["admin"])
 
     def picture(self, page, name):
-        page.run("new Promise((done) => setTimeout(done, 300))")
+        page.rest(300)
         page.picture(self.pictures / f"{name}.png")
 
 
@@ -90,11 +90,12 @@ def morning(day):
     equals(page, ROWS, ["Anna", "Bob", "Cy", "Pat Lee", "Quin"])
     hands = Hands(page)
     hands.at("search")
-    assert hands.order(13) == [
+    assert hands.order(14) == [
         "button New card", "button Update now", "button All books5", "button clients3",
         "button Book clients: numbers, import,", "button staff2",
         "button Book staff: numbers, import, e", "button Add a book", "button Favourites",
-        "button Recently opened", "button Trash", "button Sort and select", "listbox Cards",
+        "button Recently opened", "button Trash", "button New group", "button Sort and select",
+        "listbox Cards",
     ]
     page.key("Escape")
     hands.at("search")
@@ -317,7 +318,7 @@ def export(day):
         for _ in range(400):
             if (downloads / name).exists() and (downloads / name).stat().st_size:
                 break
-            page.run("new Promise((done) => setTimeout(done, 100))")
+            page.rest(100)
     for form, name in (("cards", "clients.csv"), ("columns", "clients-columns.csv")):
         wanted = day.office.curl("ann", f"/clients/export?form={form}")
         assert (downloads / name).read_bytes().decode() == wanted, name

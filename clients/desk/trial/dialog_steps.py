@@ -1,6 +1,7 @@
 """Each dialog and menu by the keyboard alone, looked at as screen readers and weak eyes need it."""
 
 from access import audit
+from between import with_tables
 from browser import SHIFT
 from hands import Hands
 from loss_steps import at_desk
@@ -22,6 +23,16 @@ def look(page, hands, name, title, below=""):
     page.key("Escape")
     page.wait(f"(document.querySelector('dialog[open] h2')?.textContent ?? '').includes({below!r})"
               f" && ({IS_OPEN}) === {str(bool(below)).lower()}")
+
+
+# Drops a file on the page.
+DROP = """(() => {
+    const data = new DataTransfer();
+    data.items.add(new File([''], 'dora.vcf', { type: 'text/vcard' }));
+    document.body.dispatchEvent(new DragEvent('drop', {
+        dataTransfer: data, bubbles: true, cancelable: true,
+    }));
+})()"""
 
 
 def card_menu(hands, page, item):
@@ -74,9 +85,25 @@ def dialogs(trial):
         look(page, hands, f"several: {item}", title)
     page.key("Escape")
     hands.press("Add a book")
-    look(page, hands, "a new book", "Add a book")
+    look(page, hands, "a book by its name", "Add a book")
+    page.key("Escape")
+    hands.press("Add a book")
+    hands.fill("Name of the book", "not-there")
+    page.key("Enter")
+    look(page, hands, "a new book", "There is no book not-there")
+    page.key("Escape")
+    search(page, "ann keeper")
+    page.press("staff", "document.querySelector('#books')")
+    search(page, "ann keeper")
+    page.wait(f"{TITLE} === 'Ann Keeper'")
+    card_menu(hands, page, "Groups…")
+    look(page, hands, "a new group", "New group")
     page.key("Escape")
     search(page, "")
+    page.press("All books", "document.querySelector('#books')")
+    page.run(DROP)
+    look(page, hands, "a file that is dropped", "Which book shall")
+    page.press("clients", "document.querySelector('#books')")
 
 
 @step
@@ -107,17 +134,13 @@ def menus(trial):
 
 
 # The copy was away from 1 to 2 November 2025, 9:00 each.
-LONG_AGO = """(async () => {
-    const db = await new Promise((resolve) => {
-        const request = indexedDB.open('desk');
-        request.onsuccess = () => resolve(request.result);
-    });
+LONG_AGO = """
     const books = db.transaction('books', 'readwrite').objectStore('books');
     books.get('staff').onsuccess = ({ target }) => books.put({ ...target.result,
         after: new Date(2025, 10, 1, 9).getTime(), changed: new Date(2025, 10, 2, 9).getTime() });
     await new Promise((resolve) => { books.transaction.oncomplete = resolve; });
     db.close();
-})()"""
+"""
 SIZES = [("wide", 1280, 800), ("narrow", 390, 780)]
 
 
@@ -149,7 +172,7 @@ def book_in_short(trial):
         page.size(width, height)
         for scheme in page.schemes:
             page.scheme(scheme)
-            page.run("new Promise((done) => setTimeout(done, 300))")
+            page.rest(300)
             page.picture(trial.pictures / f"book-{name}-{scheme}.png")
         audit(page, f"a book in short, {name}")
     Hands(page).to("Details", kind="summary")
@@ -160,7 +183,7 @@ def book_in_short(trial):
     assert not page.run("document.documentElement.scrollWidth > innerWidth")
     page.size(1280, 800)
     page.key("Escape")
-    page.run(LONG_AGO)
+    with_tables(page, LONG_AGO)
     opened("Last changed between 1 Nov 2025, 09:00 and 2 Nov 2025, 09:00")
     page.key("Escape")
     # Without the network the number is that of the copy.

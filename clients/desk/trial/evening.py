@@ -4,6 +4,7 @@ import json
 
 from access import audit
 from browser import ALT
+from common import keep_files
 from day import BOOKS, CARD, ROWS, STATE, TITLE
 from day import equals, find, menu, shows, step, stored, toast, update
 from hands import Hands
@@ -13,8 +14,7 @@ from hands import Hands
 def offline(day):
     """The network goes: the desk opens, finds, keeps an edit. It comes back: the edit is saved."""
     page, hands = day.mine
-    page.wait("navigator.serviceWorker.controller && caches.open('desk-files')"
-              ".then((it) => it.keys()).then((it) => it.length > 20)")
+    keep_files(page)
     day.office.shut()
     page.go(day.office.front)
     page.wait(f"{STATE}.startsWith('Offline')")
@@ -32,7 +32,7 @@ def offline(day):
     page.key("F2")
     hands.fill("Nickname" if page.run("Boolean(document.querySelector('details[open]'))")
                else "Organisation", "Half typed")
-    page.run("new Promise((done) => setTimeout(done, 800))")
+    page.rest(800)
     page.go("about:blank")
     page.go(day.office.front)
     page.wait(f"{STATE}.startsWith('Offline')")

@@ -4,6 +4,7 @@ import base64
 import json
 import re
 
+from between import fill_disk
 from loss_steps import CARD, at_desk, names
 from office import card, logical
 from steps import ROWS, TITLE, fault, more, search, step, stored, toast, until
@@ -100,6 +101,63 @@ def groups_of_a_person(trial):
 
 
 @fault
+def new_groups(trial):
+    """A group is made from the side bar, of several cards, or of one: each has an undo."""
+    page, office = at_desk(trial), trial.office
+    for number in range(2):
+        office.put("clients", f"ng{number}", card(f"ng{number}", f"FN:Aac Newgroup{number}"))
+    page.front()
+    page.press("Update now")
+    page.press("clients", "document.querySelector('#books')")
+    search(page, "newgroup")
+    page.wait(f"{ROWS}.length === 2")
+    click(page, "Aac Newgroup0")
+    click(page, "Aac Newgroup1", modifiers=8)
+    page.press("With these", LIST_MENU)
+    page.press("Add to a group", LIST_MENU)
+    page.wait(f"{DIALOG}?.querySelector('select')")
+    page.run(f"""(() => {{
+        const select = {DIALOG}.querySelector('select');
+        select.value = [...select.options].find((it) => it.textContent === 'New group…').value;
+    }})()""")
+    page.press("OK", DIALOG)
+    page.wait(f"{DIALOG}?.innerText.includes('New group')")
+    page.press("OK", DIALOG)
+    page.wait(f"{DIALOG}.innerText.includes('A group needs a name')")
+    page.run(f"{DIALOG}.querySelector('input').focus()")
+    page.type("Aac Team")
+    page.press("OK", DIALOG)
+    toast(page, "Added to Aac Team")
+    until(lambda: "Aac Team" in names(office))
+    search(page, "")
+    page.press("Aac Team", "document.querySelector('#books')")
+    page.wait(f"{ROWS}.length === 2 && {ROWS}.includes('Aac Newgroup1')")
+    page.press("Undo", "document.querySelector('#toast')")
+    until(lambda: "Aac Team" not in names(office))
+    page.press("clients", "document.querySelector('#books')")
+    # Of one person, in a book that has no group yet.
+    office.put("staff", "ng2", card("ng2", "FN:Aac Newgroup2"))
+    page.press("Update now")
+    search(page, "newgroup2")
+    page.press("staff", "document.querySelector('#books')")
+    page.wait(f"{ROWS}.length === 1")
+    show(page, "ng2", "Aac Newgroup2", "staff")
+    more(page, "Groups…")
+    page.wait(f"{DIALOG}?.innerText.includes('New group')")
+    page.type("Staff team")
+    page.press("OK", DIALOG)
+    until(lambda: "Staff team" in names(office, "staff"))
+    page.wait(f"{CARD}.includes('Staff team')")
+    page.press("Undo", "document.querySelector('#toast')")
+    until(lambda: "Staff team" not in names(office, "staff"))
+    search(page, "")
+    page.press("clients", "document.querySelector('#books')")
+    page.press("New group", "document.querySelector('#books')")
+    page.wait("document.querySelector('.form h2')?.textContent === 'New group'")
+    page.press("Cancel", "document.querySelector('.form')")
+
+
+@fault
 def several(trial):
     """Shift and Ctrl select; delete, with one undo; put into a group; write to files."""
     page, office = at_desk(trial), trial.office
@@ -160,19 +218,6 @@ def several(trial):
     until(lambda: {"Aab Several0", "Aab Several1"} <= set(names(office)))
 
 
-# The second thing that is written into the queue can't be kept.
-FAILS_LATE = """(() => {
-    const real = IDBObjectStore.prototype.put;
-    let count = 0;
-    IDBObjectStore.prototype.put = function (...all) {
-        count += this.name === 'queue' ? 1 : 0;
-        if (count > 1) throw new DOMException('full', 'QuotaExceededError');
-        return real.apply(this, all);
-    };
-    window.putAgain = () => { IDBObjectStore.prototype.put = real; };
-})()"""
-
-
 @fault
 def duplicates(trial):
     """Two cards of one person are put together value by value, and taken apart by Undo."""
@@ -195,7 +240,7 @@ def duplicates(trial):
     page.run("[...document.querySelectorAll('dialog .clash label')]"
              ".find((it) => it.textContent.includes('Head baker')).click()")
     # If the browser can't keep all of it, it keeps none of it.
-    page.run(FAILS_LATE)
+    fill_disk(page, 1)
     page.press("Save what is chosen", DIALOG)
     toast(page, "couldn’t keep it")
     page.run("window.putAgain()")
@@ -263,6 +308,7 @@ def favourites(trial):
     page = at_desk(trial)
     show(page, "c10", "Kerstin Ångström")
     more(page, "Add to favourites")
+    page.wait("document.querySelector('.card .favourite')")
     page.press("Favourites", "document.querySelector('#books')")
     page.wait(f"{ROWS}.length === 1 && {ROWS}[0] === 'Kerstin Ångström'")
     show(page, "c11", "Liam O’Hara")

@@ -127,6 +127,52 @@ def groups_in_groups(trial):
     page.press("clients", BOOKS)
 
 
+@fault
+def drawer(trial):
+    """On a phone a press beside the books and groups closes them, and opens no card."""
+    page = at_desk(trial)
+    page.front()
+    page.press("clients", BOOKS)
+    search(page, "")
+    page.size(390, 780)
+    page.run("document.querySelector('#places').click()")
+    page.wait("document.body.dataset.nav === 'open'")
+    page.picture(trial.pictures / "drawer.png")
+    page.click(375, 500)
+    page.wait("document.body.dataset.nav !== 'open'", 5)
+    page.rest(300)
+    assert page.run("document.body.dataset.pane") == "list", "a card was opened"
+    # A page that becomes wide has them in a column again, and all of it can be used.
+    page.run("document.querySelector('#places').click()")
+    page.wait("document.body.dataset.nav === 'open'")
+    page.size(1280, 800)
+    page.wait("document.body.dataset.nav !== 'open'", 5)
+    search(page, "tamsin")
+    page.wait(f"{TITLE} === 'Tamsin Pell'")
+    search(page, "")
+
+
+@step
+def scroll_bar(trial):
+    """Where the list has a bar to scroll, the letters are beside it, not over it."""
+    browser = trial.browser.another(with_bars=True)
+    try:
+        page = browser.desk(trial.office.front, "admin", height=500)
+        page.press("clients", BOOKS)
+        page.wait(f"{ROWS}.length > 8 && !document.querySelector('#letters').hidden")
+        page.rest(300)
+        bar, right, edge = page.run("""(() => {
+            const list = document.querySelector('#list');
+            return [list.offsetWidth - list.clientWidth, list.getBoundingClientRect().right,
+                document.querySelector('#letters').getBoundingClientRect().right];
+        })()""")
+        page.picture(trial.pictures / "scroll-bar.png")
+        assert bar > 0, "this browser shows no bars"
+        assert edge <= right - bar, (edge, right, bar)
+    finally:
+        browser.close()
+
+
 @step
 def letters(trial):
     """The letters at the side by the keyboard: arrows, letters, Enter; and letters in the list."""

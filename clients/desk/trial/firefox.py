@@ -3,17 +3,11 @@
 It and its pages have the functions of `browser` that the office's day and the faults' steps use.
 """
 
-import base64
 import json
-import os
-import shutil
-import subprocess
-import tempfile
-import time
-from pathlib import Path
 
 import pages
-from browser import ALT, CTRL, SHIFT, Socket
+from browser import ALT, CTRL, SHIFT
+from driver import Driver, Socket
 
 KEYS = {
     "Enter": "\ue007", "Escape": "\ue00c", "Tab": "\ue004", "F2": "\ue032",
@@ -39,53 +33,33 @@ SETTINGS = {
 }
 
 
-class Firefox:
+class Firefox(Driver):
     def __init__(self, program):
-        self.program = program
-        self.folder = Path(tempfile.mkdtemp(prefix="desk-firefox-"))
+        super().__init__(program, "firefox")
         lines = (f"user_pref({json.dumps(it)}, {json.dumps(to)});" for it, to in SETTINGS.items())
         (self.folder / "user.js").write_text("\n".join(lines))
         self.again()
 
     def again(self):
         """Starts the browser, with what it kept before it was closed or killed."""
-        (self.folder / "WebDriverBiDiServer.json").unlink(missing_ok=True)
         (self.folder / "lock").unlink(missing_ok=True)
-        log = open(self.folder / "log", "ab")
-        self.process = subprocess.Popen(
-            [self.program, "--headless", "--no-remote", "--remote-debugging-port", "0",
-             "--profile", self.folder],
-            stdout=log, stderr=log, env={**os.environ, "LC_ALL": "C.UTF-8"},
-        )
-        self.number = 0
-        self.pages = {}
+        command = [self.program, "--headless", "--no-remote", "--remote-debugging-port", "0",
+                   "--profile", self.folder]
         try:
-            self.connect()
+            said = self.start(command, "WebDriverBiDiServer.json",
+                              lambda it: it.strip().endswith("}"), {"LC_ALL": "C.UTF-8"})
+            self.socket = Socket(json.loads(said)["ws_port"], "/session")
+            self.call("session.new", capabilities={"alwaysMatch": {"acceptInsecureCerts": True}})
+            self.call("session.subscribe", events=EVENTS)
         except Exception:
             self.close()
             raise
 
-    def connect(self):
-        place = self.folder / "WebDriverBiDiServer.json"
-        for _ in range(900):
-            if place.exists() and place.read_text().strip().endswith("}"):
-                break
-            time.sleep(0.1)
-        self.socket = Socket(json.loads(place.read_text())["ws_port"], "/session")
-        self.call("session.new", capabilities={"alwaysMatch": {"acceptInsecureCerts": True}})
-        self.call("session.subscribe", events=EVENTS)
-
     def call(self, method, **parameters):
-        self.number += 1
-        number = self.number
-        self.socket.send(json.dumps({"id": number, "method": method, "params": parameters}))
-        while True:
-            reply = json.loads(self.socket.receive())
-            if reply.get("id") == number:
-                if reply["type"] == "error":
-                    raise RuntimeError(f"{method}: {reply['error']} {reply['message']}")
-                return reply["result"]
-            self.heard(reply)
+        reply = self.ask({"method": method, "params": parameters})
+        if reply["type"] == "error":
+            raise RuntimeError(f"{method}: {reply['error']} {reply['message']}")
+        return reply["result"]
 
     def heard(self, event):
         given = event.get("params", {})
@@ -112,29 +86,12 @@ class Firefox:
         page.size(width, height)
         return page
 
-    def desk(self, address, user, isolated=True, **size):
-        """A page of a user, with storage of its own unless `isolated` is false."""
-        page = self.page(self.context() if isolated else None, **size)
-        page.enter(address, user)
-        return page
-
     def another(self):
         """Another browser, with nothing kept."""
         return Firefox(self.program)
 
-    def kill(self):
-        """Ends the browser at once, as a crash does."""
-        self.process.kill()
-        self.process.wait()
-
     def close(self):
-        try:
-            self.call("browser.close")
-            self.process.wait(20)
-        except Exception:
-            self.process.kill()
-            self.process.wait()
-        shutil.rmtree(self.folder, ignore_errors=True)
+        self.end("browser.close")
 
 
 class Page(pages.Page):
@@ -214,6 +171,5 @@ class Page(pages.Page):
             downloadBehavior={"type": "allowed", "destinationFolder": str(folder)},
         )
 
-    def picture(self, path):
-        data = self.call("browsingContext.captureScreenshot")["data"]
-        Path(path).write_bytes(base64.b64decode(data))
+    def shot(self):
+        return self.call("browsingContext.captureScreenshot")["data"]

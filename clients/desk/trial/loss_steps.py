@@ -3,8 +3,11 @@
 import json
 import time
 
-from office import card, logical
-from steps import STATE, TITLE, fault, fill, search, step, stored, until
+from access import audit
+from between import fill_disk, refuse
+from common import keep_files
+from office import logical
+from steps import STATE, TITLE, fault, fill, search, stored, until
 
 FORM = "document.querySelector('.form')"
 CARD = "(document.querySelector('#pane .card')?.innerText ?? '')"
@@ -59,11 +62,6 @@ def at_desk(trial):
     return trial.desks.get("away") or fresh(trial, "admin", "away")
 
 
-def keep_files(page):
-    page.wait("navigator.serviceWorker.controller && caches.open('desk-files')"
-              ".then((it) => it.keys()).then((it) => it.length > 20)")
-
-
 @fault
 def save_while_away(trial):
     """The server is away while a card is saved: the next form and what it has stay."""
@@ -74,7 +72,7 @@ def save_while_away(trial):
     page.press("Save")
     page.key("n", modifiers=1, code="KeyN")
     page.wait(f"{FORM} && document.activeElement.closest('.form')")
-    page.run("new Promise((done) => setTimeout(done, 300))")
+    page.rest(300)
     fill(page, "Given name", "Bea")
     fill(page, "Family name", "Later")
     time.sleep(4)
@@ -321,17 +319,7 @@ def refusals_kept(trial):
         (507, '{"fault":"book-full","number":12}', "The book is full"),
         (403, "", "You may not do this"),
     ):
-        page.run(f"""(() => {{
-            const real = window.fetch;
-            window.fetchAgain = () => {{ window.fetch = real; }};
-            window.fetch = async (...all) => {{
-                if (all[1]?.method !== 'PUT') return real(...all);
-                const type = {json.dumps('application/json' if fault else 'text/html')};
-                return new Response({json.dumps(fault)}, {{
-                    status: {status}, headers: {{ 'content-type': type }},
-                }});
-            }};
-        }})()""")
+        refuse(page, "PUT", "", status, fault)
         open_form(page, "ines", "Ines Carvalho")
         fill(page, "Position", f"Refused with {status}")
         page.press("Save")
@@ -339,6 +327,7 @@ def refusals_kept(trial):
         page.wait(f"{CARD}.includes({json.dumps(words)})")
         assert f"Refused with {status}" in page.run(CARD)
         page.picture(trial.pictures / f"refused-{status}.png")
+        audit(page, f"a change that is refused with {status}")
         page.run("window.fetchAgain()")
         page.press("Try again", "document.querySelector('#pane')")
         stored(office, "c08", f"TITLE:Refused with {status}")
@@ -449,17 +438,11 @@ def no_room(trial):
     page, office = at_desk(trial), trial.office
     open_form(page, "tamsin", "Tamsin Pell")
     fill(page, "Organisation", "No Room Print")
-    page.run("""(() => {
-        const real = IDBObjectStore.prototype.put;
-        IDBObjectStore.prototype.put = function () {
-            throw new DOMException('full', 'QuotaExceededError');
-        };
-        window.room = () => { IDBObjectStore.prototype.put = real; };
-    })()""")
+    fill_disk(page, 0)
     page.press("Save")
     page.wait("document.querySelector('#toast').textContent.includes('couldn’t keep it')")
     assert "No Room Print" in page.run(FIELDS)
-    page.run("window.room()")
+    page.run("window.putAgain()")
     page.press("Save")
     stored(office, "c19", "ORG:No Room Print")
     page.said[:] = [it for it in page.said if "QuotaExceededError" not in it]

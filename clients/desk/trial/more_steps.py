@@ -2,10 +2,11 @@
 
 import json
 
-from access import CALM
+from access import AUDIT, CALM
 from cards import EVIL, MARK, hostile_cards
+from common import keep_files
 from office import card
-from steps import ROWS, STATE, TITLE, fill, search, step, stored, toast, up_to_date
+from steps import ROWS, STATE, TITLE, fault, fill, search, step, stored, toast, up_to_date
 
 
 @step
@@ -21,7 +22,7 @@ def hostile(trial):
     for uid in cards:
         admin.run(f"location.hash = '#/card/staff/' + encodeURIComponent({json.dumps(uid)})")
         admin.wait(f"location.hash.includes('card') && ({TITLE} ?? '').startsWith('Hostile')")
-        admin.run("new Promise((done) => setTimeout(done, 60))")
+        admin.rest(60)
         found = admin.run("""(() => {
             const pane = document.querySelector('#pane');
             const names = [...pane.querySelectorAll('*')].map((it) => it.localName);
@@ -89,8 +90,7 @@ def forgotten(trial):
 def offline(trial):
     """The network goes: the desk opens, finds, says so, keeps an edit, and comes back."""
     ann, office = trial.desks["ann"], trial.office
-    ann.wait("navigator.serviceWorker.controller && caches.open('desk-files')"
-             ".then((it) => it.keys()).then((it) => it.length > 20)")
+    keep_files(ann)
     office.shut()
     ann.go(office.front)
     ann.wait("document.querySelector('#books button')")
@@ -101,7 +101,7 @@ def offline(trial):
     ann.key("F2")
     fill(ann, "Position", "Treasurer")
     ann.wait("document.querySelector('.form')")
-    ann.run("new Promise((done) => setTimeout(done, 700))")
+    ann.rest(700)
     ann.go("about:blank")
     office.open()
     ann.go(office.front)
@@ -115,6 +115,47 @@ def offline(trial):
     stored(office, "c12", "TITLE:Treasurer")
 
 
+@fault
+def new_files(trial):
+    """Newer files of the page: all of them or none, offered when they are there, kept for later."""
+    office = trial.office
+    page = trial.desk("admin", "files")
+    keep_files(page)
+    texts, page_file = office.site / "js/texts.js", office.site / "index.html"
+    words, main = texts.read_text(), page_file.read_text()
+    brand = "document.querySelector('#title').textContent"
+
+    def loaded(name):
+        page.go(office.front)
+        page.wait(f"{brand} === {json.dumps(name)}")
+
+    try:
+        # One of the files can't be fetched: so the page stays as it was, as a whole.
+        texts.write_text(words.replace('title: "Contacts"', 'title: "Newer"'))
+        page_file.rename(office.site / "away")
+        loaded("Contacts")
+        page.rest(4000)
+        (office.site / "away").rename(page_file)
+        office.shut()
+        loaded("Contacts")
+        office.open()
+        loaded("Contacts")
+        toast(page, "new version of this page")
+        page.press("Load it", "document.querySelector('#toast')")
+        page.wait(f"{brand} === 'Newer'")
+        office.shut()
+        loaded("Newer")
+        office.open()
+    finally:
+        texts.write_text(words)
+        page_file.write_text(main)
+    # A page that stays open asks by itself, once an hour.
+    page.wait(f"{STATE}.startsWith('Up to date')")
+    page.run("navigator.serviceWorker.controller.postMessage('look')")
+    page.press("Load it", "document.querySelector('#toast')")
+    page.wait(f"{brand} === 'Contacts'")
+
+
 @step
 def looks(trial):
     """Pictures: dark and light, middle and narrow widths. Nothing may be wider than the page."""
@@ -126,11 +167,11 @@ def looks(trial):
             admin.size(width, height, mobile=width < 500)
             admin.run("location.hash = '#/'")
             search(admin, "")
-            admin.run("new Promise((done) => setTimeout(done, 400))")
+            admin.rest(400)
             admin.picture(trial.pictures / f"{name}-{scheme}-list.png")
             admin.run("location.hash = '#/card/clients/c12'")
             admin.wait(f"{TITLE} === 'Miriam O’Hara'")
-            admin.run("new Promise((done) => setTimeout(done, 300))")
+            admin.rest(300)
             admin.picture(trial.pictures / f"{name}-{scheme}-card.png")
             assert not admin.run("document.documentElement.scrollWidth > innerWidth"), name
             admin.run("location.hash = '#/edit/clients/c12'")
@@ -139,36 +180,13 @@ def looks(trial):
             assert not admin.run("document.documentElement.scrollWidth > innerWidth"), name
             admin.press("Cancel", "document.querySelector('.form')")
             admin.run(CALM)
-            contrast = admin.run(CONTRAST)
-            assert not contrast, (scheme, contrast)
+            wrong = admin.run(AUDIT)
+            assert not wrong, (scheme, name, wrong)
     admin.scheme("light")
     admin.size(1280, 800)
 
 
 SIZES = [("wide", 1360, 850), ("middle", 900, 700), ("narrow", 390, 780), ("least", 320, 640)]
-# Texts whose colour and ground differ by less than 4.5 to 1 (WCAG 2, 1.4.3).
-CONTRAST = """(() => {
-    const light = (text) => {
-        const part = text.match(/[\\d.]+/g).map(Number);
-        const [r, g, b] = part.slice(0, 3).map((it) => it / 255)
-            .map((it) => (it <= 0.03928 ? it / 12.92 : ((it + 0.055) / 1.055) ** 2.4));
-        return [0.2126 * r + 0.7152 * g + 0.0722 * b, part[3] ?? 1];
-    };
-    const found = [];
-    for (const node of document.querySelectorAll('body *')) {
-        const own = [...node.childNodes].some((it) => it.nodeType === 3 && it.textContent.trim());
-        const hidden = !node.checkVisibility() || node.closest('.unseen, .skip, noscript');
-        if (!own || hidden) continue;
-        let ground = node;
-        const behind = () => light(getComputedStyle(ground).backgroundColor);
-        while (ground && behind()[1] < 1) ground = ground.parentElement;
-        const [a] = light(getComputedStyle(node).color);
-        const [b] = ground ? behind() : [1];
-        const ratio = (Math.max(a, b) + 0.05) / (Math.min(a, b) + 0.05);
-        if (ratio < 4.5) found.push([node.textContent.trim().slice(0, 30), ratio.toFixed(2)]);
-    }
-    return found.length ? found : null;
-})()"""
 
 
 @step
@@ -181,7 +199,7 @@ def names(trial):
     places = ["#/", "#/card/clients/c12", "#/edit/clients/c12", "#/edit/clients/g1"]
     for place in [*places, "#/new/clients/group"]:
         admin.run(f"location.hash = {json.dumps(place)}")
-        admin.run("new Promise((done) => setTimeout(done, 400))")
+        admin.rest(400)
         nodes = admin.call("Accessibility.getFullAXTree")["nodes"]
         unnamed = [
             it["role"]["value"] for it in nodes

@@ -2,22 +2,13 @@
 
 import json
 
-from common import card_with, status
-from loss_steps import CARD, FORM, WAITING, at_desk, keep_files, open_form
+from between import lose_reply, refuse
+from common import card_with, keep_files, status
+from loss_steps import CARD, FORM, WAITING, at_desk, open_form
 from office import card
 from steps import ROWS, TITLE, fault, fill, more, search, stored, toast, until
 
 DIALOG = "document.querySelector('dialog')"
-# Replies in place of the server's to a request of this method and path.
-REPLY = """(([method, part, status, body]) => {
-    const real = window.fetch;
-    window.fetchAgain = () => { window.fetch = real; };
-    window.fetch = async (...all) => {
-        if (all[1]?.method !== method || !String(all[0]).includes(part)) return real(...all);
-        const type = body ? 'application/json' : 'text/html';
-        return new Response(body, { status, headers: { 'content-type': type } });
-    };
-})"""
 
 
 def mover(trial, uid, name, *lines):
@@ -169,7 +160,7 @@ def move_refused(trial):
     )):
         uid, name = f"mvr{number}", f"Rita Refused{number}"
         page = mover(trial, uid, name, "TITLE:Cook")
-        page.run(f"{REPLY}({json.dumps(['POST', '/move', code, fault])})")
+        refuse(page, "POST", "/move", code, fault)
         page.key("F2")
         fill(page, "Organisation", f"Kept {number}")
         page.press("Save")
@@ -198,7 +189,7 @@ def move_refused(trial):
     office.ask_aside("PUT", "/staff/cards/mv7", other)
     office.open()
     page.press("Update now")
-    page.wait(f"{CARD}.includes('has a card of the same UID already')")
+    page.wait(f"{CARD}.includes('has this card already')")
     page.press("Leave it in clients", "document.querySelector('#pane')")
     settled(page)
     page.wait(f"{TITLE} === 'Tia Taken' && {CARD}.includes('In the book clients')")
@@ -207,7 +198,7 @@ def move_refused(trial):
     page.press("staff", DIALOG)
     toast(page, "The book staff has this card already")
     # A new card that its book refuses can go to another.
-    page.run(f"{REPLY}({json.dumps(['PUT', '/clients/cards/', 507, REFUSAL])})")
+    refuse(page, "PUT", "/clients/cards/", 507, REFUSAL)
     page.key("n", modifiers=1, code="KeyN")
     page.wait(f"{FORM} && document.activeElement.closest('.form')")
     fill(page, "Given name", "Nia Newcomer")
@@ -221,22 +212,13 @@ def move_refused(trial):
 
 
 REFUSAL = '{"fault":"book-full","number":12}'
-LOSE = """(() => {
-    const real = window.fetch;
-    window.fetch = async (...all) => {
-        const reply = await real(...all);
-        if (all[1]?.method !== 'POST') return reply;
-        window.fetch = real;
-        throw new TypeError('lost');
-    };
-})()"""
 
 
 @fault
 def move_lost_reply(trial):
     """The reply to a move is lost: the desk finds the card in the other book, and asks nothing."""
     page, office = mover(trial, "mv8", "Lola Lost", "TITLE:Cook"), trial.office
-    page.run(LOSE)
+    lose_reply(page, "POST")
     move(page, "staff")
     page.key("F2")
     page.wait(FORM)

@@ -5,6 +5,7 @@ import hashlib
 import http.client
 import json
 import re
+import shutil
 import socket
 import ssl
 import subprocess
@@ -50,6 +51,8 @@ class Office:
         self.folder = Path(self.holder.name)
         self.file = self.folder / "office.db"
         self.memory = self.folder / "memory"
+        self.site = self.folder / "site"
+        shutil.copytree(SITE, self.site)
         self.nginx = None
         self.server = None
         self.port = free_port()
@@ -101,7 +104,7 @@ class Office:
             ("/etc/ssl/office", f"{self.folder}/office"),
             ("/etc/nginx/contacts.users", str(users)),
             ("127.0.0.1:8080", f"127.0.0.1:{self.port}"),
-            ("/usr/local/share/tosculai/desk", str(SITE)),
+            ("/usr/local/share/tosculai/desk", str(self.site)),
         ):
             if old not in text:
                 raise AssertionError(f"examples/nginx.conf has no {old}")

@@ -1,7 +1,9 @@
 """What the pages of both browsers have in common: waiting, loading, and pressing what is seen."""
 
+import base64
 import json
 import time
+from pathlib import Path
 
 SECONDS = 90  # that a page has for each thing, on a machine that is busy with others
 
@@ -23,7 +25,9 @@ FIND = """(() => {{
 
 
 class Page:
-    """A page of a browser. Each browser's own has `run`, `navigate`, `click` and what is typed."""
+    """
+    A page of a browser. Each browser's own has `run`, `navigate`, `click`, `shot`, and typing.
+    """
 
     was_left = False  # by Tab
 
@@ -67,6 +71,13 @@ class Page:
             if time.monotonic() > end:
                 raise AssertionError(f"never true: {expression}\n{self.said}")
             time.sleep(0.05)
+
+    def rest(self, milliseconds):
+        """Lets the page go on by itself for a while."""
+        self.run(f"new Promise((done) => setTimeout(done, {milliseconds}))")
+
+    def picture(self, path):
+        Path(path).write_bytes(base64.b64decode(self.shot()))
 
     def press(self, text, within="document"):
         """Clicks the button or link with this text, with the mouse."""

@@ -4,21 +4,18 @@ import json
 import random
 import time
 
+from between import with_tables
 from office import card, logical
 from steps import STATE, step, up_to_date
 
-COPY = """(async () => {
-    const db = await new Promise((resolve) => {
-        const request = indexedDB.open('desk');
-        request.onsuccess = () => resolve(request.result);
-    });
+COPY = """
     const cards = await new Promise((resolve) => {
         const request = db.transaction('cards').objectStore('cards').getAll();
         request.onsuccess = () => resolve(request.result);
     });
     db.close();
     return cards.filter((it) => it.book === 'random').map((it) => [it.uid, it.version, it.text]);
-})()"""
+"""
 SIGNS = [
     "a", "Ü", "日", "😀", " ", "\\,", "\\;", "\\\\", "\\n", ";", ",", ":", "<b>", "'",
     "\t", "=",
@@ -107,7 +104,7 @@ def converge(trial):
         up_to_date(page)
         # The last page may still be on its way when the text is that of an earlier one.
         for _ in range(40):
-            copy = sorted(page.run(COPY))
+            copy = sorted(with_tables(page, COPY))
             book = sorted(
                 [it["uid"], it["version"], it["card"]]
                 for it in office.ask("GET", "/random/sync")["members"]

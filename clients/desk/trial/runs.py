@@ -1,12 +1,17 @@
 """How a trial is run: its programs, its browser, and its steps one after another."""
 
+import argparse
+import os
 import shutil
 import sys
+import tempfile
 import time
 import traceback
+from pathlib import Path
 
 from browser import Browser
 from firefox import Firefox
+from office import ROOT
 
 
 def program(name):
@@ -38,16 +43,31 @@ def take(trial, steps):
     return wrong
 
 
-def end(browser, office):
+def arguments(text):
+    """The arguments that all trials have; `text` is what the trial is about."""
+    parser = argparse.ArgumentParser(description=text.split("\n")[0])
+    parser.add_argument("--firefox", action="store_true", help="Firefox in place of Chromium")
+    parser.add_argument("--pictures", help="a folder for pictures of the desk")
+    return parser
+
+
+def run(given, programs, kind_of_office, kind_of_trial, steps):
+    """Takes the steps in an office of a kind, and says how it went. Returns the status."""
+    for name in programs:
+        program(name)
+    pictures = Path(given.pictures or tempfile.mkdtemp(prefix="desk-pictures-"))
+    pictures.mkdir(parents=True, exist_ok=True)
+    office = kind_of_office(os.environ.get("CONTACTS", str(ROOT / "contacts")))
+    browser = None
     try:
-        if browser:
-            browser.close()
+        browser = begin(given.firefox, office)
+        wrong = take(kind_of_trial(office, browser, pictures), steps)
     finally:
-        office.close()
-
-
-def result(wrong, pictures):
-    """Says how it went. Returns the status."""
+        try:
+            if browser:
+                browser.close()
+        finally:
+            office.close()
     print(f"pictures: {pictures}")
     print(f"{wrong} steps were wrong" if wrong else "all steps were right")
     return 1 if wrong else 0

@@ -3,6 +3,8 @@
 import json
 import time
 
+from access import audit
+from between import UNAWARE, lose_reply
 from cards import office_cards
 from common import HEADER, ROWS, STATE, TITLE, card_with, toast, until
 from office import card, logical
@@ -54,17 +56,6 @@ def more(page, text):
     page.wait("document.querySelector('#pane .actions .round')")
     page.run("document.querySelector('#pane .actions .round').click()")
     page.press(text, "document.querySelector('#pane .menu-list')")
-
-
-# What others change isn't seen, however often the desk asks.
-UNAWARE = """(() => {
-    const real = window.fetch;
-    window.fetch = async (...all) => {
-        if (String(all[0]).includes('/sync')) throw new TypeError('held back');
-        return real(...all);
-    };
-    window.aware = () => { window.fetch = real; };
-})()"""
 
 
 def up_to_date(page):
@@ -221,6 +212,8 @@ def removed_meanwhile(trial):
     fill(ann, "Position", "Master glazier")
     office.ask("DELETE", "/clients/cards/c16")
     ann.press("Save")
+    ann.wait("document.querySelector('dialog[open]')")
+    audit(ann, "a card that somebody deleted")
     ann.press("Store it again")
     ann.wait(f"{TITLE} === 'Quentin Marsh'")
     until(lambda: office.request("GET", "/books/clients/cards/c16")[0] == 200)
@@ -236,15 +229,7 @@ def lost_reply(trial):
     admin.key("F2")
     fill(admin, "Position", "Chief of scales")
     was = office.ask("GET", "/clients/tally")["number"]
-    admin.run("""(() => {
-        const real = window.fetch;
-        window.fetch = async (...all) => {
-            const reply = await real(...all);
-            if (all[1]?.method !== 'PUT') return reply;
-            window.fetch = real;
-            throw new TypeError('lost');
-        };
-    })()""")
+    lose_reply(admin, "PUT")
     admin.press("Save")
     toast(admin, "Saved: Jonas Weber")
     stored(office, "c09", "TITLE:Chief of scales")
@@ -273,7 +258,8 @@ def delete_move_undo(trial):
     more(admin, "Delete")
     admin.press("Delete", "document.querySelector('dialog')")
     admin.wait("document.querySelector('dialog h2')?.textContent.includes('changed')")
-    admin.run("window.aware()")
+    audit(admin, "a card that is to be deleted and was changed")
+    admin.run("window.fetchAgain()")
     admin.press("Keep it")
     search(admin, "xanthe")
     admin.wait("document.querySelector('.roles').textContent.includes('Tile maker')")
@@ -314,7 +300,7 @@ def files(trial):
         ("twice.csv", HEADER + "x1,One,,,,,,\nx1,Two,,,,,,\n", "Row 2 (Two): An earlier one"),
         ("old.vcf", card("v1", "FN:New") + card("v2", "FN:Old Olga").replace("4.0", "3.0"),
          "Card 2 (Old Olga): It isn't vCard 4.0."),
-        ("cut.vcf", card("v1", "FN:Cut")[:-14], "END:VCARD is missing"),
+        ("cut.vcf", card("v1", "FN:Cut")[:-14], "(END:VCARD) is missing"),
     ]
     admin.run(f"({MENU}).click()")
     admin.wait("document.querySelector('.tally caption')?.textContent.startsWith('Since')")
@@ -354,6 +340,6 @@ def files(trial):
         admin.press(text, "document.querySelector('dialog')")
         end = time.monotonic() + 40
         while not (downloads / name).exists() and time.monotonic() < end:
-            admin.run("new Promise((done) => setTimeout(done, 100))")
+            admin.rest(100)
         content = (downloads / name).read_bytes().decode()
         assert content.startswith(has) and "Vera Without Uid" in content, content[:200]

@@ -5,6 +5,7 @@ import sys
 
 from access import audit
 from cards import EVIL, MARK, hostile_cards
+from common import status
 from feature_steps import DIALOG, show
 from loss_steps import CARD, at_desk
 from office import PYTHON, card
@@ -54,7 +55,7 @@ def earlier_versions(trial):
     office.put("clients", "ver 1", first)
     page.press("Update now")
     again(trial, page, "ver%201", "Vera Versions")
-    page.run("new Promise((done) => setTimeout(done, 1500))")
+    page.rest(1500)
     assert "Earlier versions…" not in menu(page), "nothing is served yet"
     office.remember()
     office.put("clients", "ver 1", second)
@@ -85,7 +86,7 @@ def earlier_versions(trial):
         page.size(width, height)
         for scheme in page.schemes:
             page.scheme(scheme)
-            page.run("new Promise((done) => setTimeout(done, 300))")
+            page.rest(300)
             page.picture(trial.pictures / f"versions-{name}-{scheme}.png")
         audit(page, f"versions, {name}")
         assert not page.run("document.documentElement.scrollWidth > innerWidth"), name
@@ -117,6 +118,74 @@ def earlier_versions(trial):
     more(page, "Earlier versions")
     page.wait("document.querySelector('#toast').textContent.includes('can’t be reached')")
     office.open()
+    search(page, "")
+
+
+PANE = "document.querySelector('#pane')"
+TOAST = "document.querySelector('#toast')"
+
+
+@fault
+def deleted_versions(trial):
+    """A card that others deleted: its address and the trash lead to what it was, and back."""
+    page, office = at_desk(trial), trial.office
+    page.front()
+    text = card("gone 1", "FN:Gerda Gone", "TITLE:Porter")
+    path = "/clients/cards/gone%201"
+    office.put("clients", "gone 1", text)
+    office.remember()
+    page.press("Update now")
+    again(trial, page, "gone%201", "Gerda Gone")
+    offered(page)
+    office.ask("DELETE", path)
+    office.remember()
+    page.press("Update now")
+    page.wait(f"{PANE}.innerText.includes('This card isn')")
+    page.press("Earlier versions", PANE)
+    page.wait(f"{SHOWN}.length === 2 && !{SHOWN}.some((it) => it.includes('One moment'))")
+    assert "Earlier versions of Gerda Gone" in page.run(f"{DIALOG}.innerText")
+    assert "It was deleted" in page.run(SHOWN)[0] and "Put this back" in page.run(SHOWN)[1]
+    audit(page, "the versions of a card that is gone")
+    page.press("Put this back", DIALOG)
+    until(lambda: status(office, "clients", "gone 1") == 200)
+    page.wait(f"{TITLE} === 'Gerda Gone' && document.querySelector('#waiting').hidden")
+    assert office.card("clients", "gone 1")["card"] == text
+    page.press("Undo", TOAST)
+    until(lambda: status(office, "clients", "gone 1") == 404)
+    # What others deleted while another card was shown is in the trash by its name.
+    office.put("clients", "gone 1", text)
+    page.press("Update now")
+    page.wait("document.querySelector('#waiting').hidden")
+    show(page, "c12", "Miriam O’Hara")
+    search(page, "gerda gone")
+    page.wait(f"{TITLE} === 'Gerda Gone'")
+    search(page, "")
+    office.ask("DELETE", path)
+    page.press("Update now")
+    search(page, "gerda gone")
+    page.wait("!document.querySelector('#empty').hidden")
+    search(page, "")
+    page.go(office.front)
+    page.press("Trash", "document.querySelector('#books')")
+    row = f"[...{DIALOG}.querySelectorAll('li')]" \
+        ".find((it) => it.innerText.includes('elsewhere'))"
+    page.wait(f"({row})?.innerText.includes('Gerda Gone')")
+    assert "Put back" not in page.run(f"({row}).innerText")
+    page.picture(trial.pictures / "trash-of-others.png")
+    audit(page, "the trash with what others deleted")
+    page.press("Earlier versions", row)
+    page.wait(f"{DIALOG}?.innerText.includes('Earlier versions of Gerda Gone')")
+    page.key("Escape")
+    # One that others moved is in another book now, and that is said.
+    office.put("clients", "gone 2", card("gone 2", "FN:Mona Moved"))
+    page.press("Update now")
+    show(page, "gone%202", "Mona Moved")
+    version = office.card("clients", "gone 2")["version"]
+    office.ask("POST", f"/clients/cards/gone%202/move?to=staff&version={version}")
+    page.press("Update now")
+    page.press("Open Mona Moved in staff", PANE)
+    page.wait(f"{TITLE} === 'Mona Moved' && location.hash.startsWith('#/card/staff/')")
+    office.ask("DELETE", "/staff/cards/gone%202")
     search(page, "")
 
 
@@ -179,7 +248,7 @@ def hostile_versions(trial):
     more(page, "Earlier versions")
     page.wait("document.querySelector('#toast').textContent.includes('can’t be reached')")
     again(trial, page, "verh", "Hostile Versions")
-    page.run("new Promise((done) => setTimeout(done, 1500))")
+    page.rest(1500)
     assert "Earlier versions…" not in menu(page)
     assert page.run(CARD) and page.run(TITLE) == "Hostile Versions"
     search(page, "")

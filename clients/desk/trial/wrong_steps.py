@@ -4,27 +4,16 @@ import json
 import random
 import time
 
+from access import audit
+from between import hold
+from browser import SHIFT
 from loss_steps import CARD, FORM, WAITING, at_desk, names, new_form, open_form
 from office import card, logical
 from steps import ROWS, STATE, TITLE, fault, fill, search, stored, until
 
 PANE = "document.querySelector('#pane').innerText"
-
-
-# Lets nobody else read the queue for some time, as on a slow disk.
-HOLD = """(async (ms) => {
-    const db = await new Promise((resolve) => {
-        const request = indexedDB.open('desk');
-        request.onsuccess = () => resolve(request.result);
-    });
-    const queue = db.transaction('queue', 'readwrite').objectStore('queue');
-    const end = performance.now() + ms;
-    const again = () => {
-        if (performance.now() < end) queue.count().onsuccess = again;
-        else db.close();
-    };
-    again();
-})"""
+BAR = "document.querySelector('#list-menu').innerText"
+EMPTY = "document.querySelector('#empty')"
 
 
 @fault
@@ -39,7 +28,7 @@ def nobody_shown(trial):
     search(page, "miriam")
     page.wait(f"{TITLE} === 'Miriam O’Hara'")
     # A card that comes late doesn't take the place of one that was chosen after it.
-    page.run(f"{HOLD}(1500)")
+    hold(page, 1500)
     for name in ("nadia", "gwen"):
         search(page, name)
         time.sleep(0.3)
@@ -65,6 +54,7 @@ def rights(trial):
     page = trial.desk("hall")
     page.wait(f"{PANE}.includes('Which book is yours?')", 20)
     page.picture(trial.pictures / "which-book.png")
+    audit(page, "the question for a book")
     fill(page, "Name of the book", "staff")
     page.key("Enter")
     page.wait(f"{ROWS}.includes('Ann Keeper')", 20)
@@ -84,8 +74,9 @@ def rights(trial):
                        ".filter((it) => it.checkVisibility()).map((it) => it.textContent)")
     assert not {"Edit", "New card", "Delete", "Move…"} & set(buttons), buttons
     page.picture(trial.pictures / "read-only.png")
+    audit(page, "a book that may only be read")
     page.key("F2")
-    page.run("new Promise((done) => setTimeout(done, 300))")
+    page.rest(300)
     assert not page.run(f"Boolean({FORM})")
     page.go(trial.office.front)
     page.wait(f"{ROWS}.includes('Ann Keeper')")
@@ -97,6 +88,64 @@ def rights(trial):
     page.run("document.querySelector('#books .menu').click()")
     page.press("Offer changes again", "document.querySelector('dialog')")
     page.wait("document.querySelector('#new').checkVisibility()")
+
+
+@fault
+def selected_in_sight(trial):
+    """What is done with several cards is done with those that the list shows, and no others."""
+    page, office = at_desk(trial), trial.office
+    for number in range(3):
+        office.put("clients", f"sight{number}", card(f"sight{number}", f"FN:Aaa Sight{number}"))
+    page.front()
+    page.press("Update now")
+    page.press("clients", "document.querySelector('#books')")
+    search(page, "sight")
+    page.wait(f"{ROWS}.length === 3")
+    for _ in range(2):
+        page.key("ArrowDown", SHIFT)
+    page.wait(f"{BAR}.includes('3 selected')")
+    search(page, "sight1")
+    page.wait(f"{ROWS}.length === 1 && {BAR}.includes('1 selected')")
+    page.press("With these", "document.querySelector('#list-menu')")
+    page.press("Delete", "document.querySelector('#list-menu')")
+    page.wait("document.querySelector('dialog h2')?.textContent === 'Delete 1 card?'")
+    page.press("Delete", "document.querySelector('dialog')")
+    until(lambda: "Aaa Sight1" not in names(office))
+    assert {"Aaa Sight0", "Aaa Sight2"} <= set(names(office))
+    search(page, "")
+
+
+@fault
+def empty_lists(trial):
+    """An empty list says why, and what can be done: never that a copy is empty that isn't there."""
+    page, office = at_desk(trial), trial.office
+    page.front()
+    search(page, "qqqq")
+    page.press("Empty the search", EMPTY)
+    page.wait(f"{ROWS}.length > 3 && document.activeElement.id === 'search'")
+    office.request("PUT", "/books/bare")
+    page.press("Update now")
+    page.wait("document.querySelector('#books').textContent.includes('bare')")
+    page.press("bare", "document.querySelector('#books')")
+    page.wait(f"{EMPTY}.innerText.includes('There is no card here yet')")
+    audit(page, "an empty book")
+    page.picture(trial.pictures / "empty-book.png")
+    page.press("Import a file", EMPTY)
+    page.wait("document.querySelector('dialog h2')?.textContent === 'Import into bare'")
+    page.key("Escape")
+    page.press("New card", EMPTY)
+    page.wait(f"{FORM} && location.hash.startsWith('#/new/bare/')")
+    page.press("Cancel", FORM)
+    page.press("Favourites", "document.querySelector('#books')")
+    page.press("clients", "document.querySelector('#books')")
+    # Before the first copy is there, the list doesn't say that the book is empty.
+    other = trial.browser.page(trial.browser.context())
+    other.enter(office.front, "admin", "manifest.json")
+    other.navigate(office.front)
+    other.wait("document.querySelector('#list [role=option]') || window.desk"
+               " || document.querySelector('#books button')")
+    said = other.run(f"{EMPTY}.hidden || !{EMPTY}.innerText.includes('no card here')")
+    assert said, other.run(f"{EMPTY}.innerText")
 
 
 LINKS = {

@@ -5,7 +5,7 @@ import { saveFile } from "./files.js";
 import { mailsOf } from "./groups.js";
 import { olderCard } from "./older.js";
 import { nameOf } from "./person.js";
-import { chooseBoth, decide, giveUp, namer } from "./questions.js";
+import { decide, giveUp } from "./questions.js";
 import { count, faultText, t } from "./say.js";
 import { mailLink, mailsLink } from "./values.js";
 import { readCard } from "./vcard.js";
@@ -13,9 +13,7 @@ import { peopleView } from "./views/card.js";
 import { bookNameFault, showBook } from "./views/books.js";
 import { ask, askText } from "./views/dialogs.js";
 import { printSheet } from "./views/print.js";
-import { askTicks } from "./views/ticks.js";
-import { trashView } from "./views/trash.js";
-import { versionsView } from "./views/versions.js";
+import { askTicks, NEW } from "./views/ticks.js";
 import { fill } from "./dom.js";
 
 /** What went wrong, in words. A fault that isn't of a request is thrown on. */
@@ -60,12 +58,15 @@ export class Actions {
       download: () => saveFile(file, "text/vcard", text),
       download3: () => saveFile(file, "text/vcard", olderCard(text)),
       isFavourite: () => desk.lists.isFavourite(book, uid),
-      favourite: () => desk.lists.turnFavourite(book, uid),
+      favourite: async () => {
+        await desk.lists.turnFavourite(book, uid);
+        desk.pane.again();
+        desk.draw();
+      },
       groups: () => this.groupsOf(book, uid, seen.name),
-      earlier: () => this.trash(t("earlierTitle", { name: seen.name }),
-        (it) => it.book === book && it.uid === uid),
+      earlier: () => desk.history.trashOf(book, uid, seen.name),
       hasVersions: () => desk.memory.has(book, uid),
-      versions: () => this.versions(book, uid, seen.name),
+      versions: () => desk.history.versions(book, uid, seen.name),
       mailAll: seen.kind === "group" ? () => this.mailAll(book, seen.members) : null,
       share: () => this.share(seen, file, text),
       print: () => this.print("card"),
@@ -86,14 +87,16 @@ export class Actions {
   async groupsOf(book, uid, name) {
     const { desk } = this;
     const groups = desk.shelf.groups(book).filter((it) => it.uid !== uid);
-    if (!groups.length) {
-      desk.frame.toast(t("groupNone"));
+    const before = new Set(desk.shelf.groupsOf(book, uid).map((it) => it.uid));
+    const wanted = groups.length && await askTicks(t("groupsOfTitle", { name }),
+      groups.map((it) => [it.name || t("nameless"), it.uid, before.has(it.uid)]),
+      t("newGroupOther"));
+    if (wanted === null) return;
+    if (!groups.length || wanted === NEW) {
+      await desk.bulk.newGroup(book, [uid]);
+      desk.pane.again();
       return;
     }
-    const before = new Set(desk.shelf.groupsOf(book, uid).map((it) => it.uid));
-    const wanted = await askTicks(t("groupsOfTitle", { name }),
-      groups.map((it) => [it.name || t("nameless"), it.uid, before.has(it.uid)]));
-    if (!wanted) return;
     const changed = groups.filter((it) => wanted.has(it.uid) !== before.has(it.uid));
     if (!changed.length) return;
     const set = (isIn) => desk.setMembers(book,
@@ -108,58 +111,6 @@ export class Actions {
         await desk.changed();
         desk.pane.again();
       },
-    });
-  }
-
-  /** What this desk keeps of what was deleted, overwritten or dropped; some of it put back. */
-  async trash(title = t("trashTitle"), isWanted = () => true) {
-    const { desk } = this;
-    const kept = (await desk.trash.all()).filter(isWanted);
-    const it = await trashView(title, kept);
-    if (!it) return;
-    const now = await desk.queue.seen(it.book, it.uid);
-    await desk.queue.restore([[it.book, it.uid, it.text]]);
-    if (now) await desk.trash.keep(it.book, it.uid, now.text, "changed");
-    await desk.changed();
-    desk.pane.open(it.book, it.uid);
-    desk.frame.toast(t("isBack", { name: nameIn(it.text) }));
-  }
-
-  /** The versions of a card that the office's memory has; one of them put back. */
-  async versions(book, uid, name) {
-    const { desk } = this;
-    const [versions, now] = await Promise.all([
-      this.reply(desk.memory.list(book, uid)), desk.queue.seen(book, uid),
-    ]);
-    if (!versions || !now) {
-      desk.frame.toast(t("versionsAway"));
-      return;
-    }
-    const text = await versionsView(name || t("nameless"), versions, {
-      text: (it) => desk.memory.text(book, uid, it), now: now.text, nameOf: namer(desk, book),
-      mayChange: desk.mayChange(book),
-    });
-    if (text) await this.putBack(book, uid, now, text);
-  }
-
-  /** Saves a text in place of `now`, what the user saw: a change like that of a form. */
-  async putBack(book, uid, now, text) {
-    const { desk } = this;
-    let [base, put] = [now.text, text];
-    for (;;) {
-      const { version } = now;
-      const done = await desk.queue.save({ book, uid, base, version, text: put });
-      if (done.clash === undefined) break;
-      const chosen = await chooseBoth(desk, book, base, put, done.clash);
-      if (chosen === null) return;
-      [base, put] = [done.clash, chosen];
-    }
-    // What the server has is kept when it takes the change; this is what it doesn't have.
-    if (now.entry) await desk.trash.keep(book, uid, now.text, "changed");
-    await desk.changed();
-    desk.pane.open(book, uid);
-    desk.frame.toast(t("isBack", { name: nameIn(put) }), {
-      text: t("undo"), run: () => this.restore(book, uid, now.text),
     });
   }
 

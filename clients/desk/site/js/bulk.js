@@ -1,11 +1,12 @@
 // Several cards at once: delete, move, write to files, put into a group. Each has one undo.
-import { editCard, fieldsOf, memberValue } from "./edit.js";
+import { editCard, fieldsOf, memberValue, newCard } from "./edit.js";
 import { columnsOf, saveFile } from "./files.js";
 import { olderCard } from "./older.js";
-import { keyOf } from "./shelf.js";
 import { count, t } from "./say.js";
-import { readCard, writeCard } from "./vcard.js";
-import { ask, askChoice } from "./views/dialogs.js";
+import { newUid, readCard, writeCard } from "./vcard.js";
+import { ask, askChoice, askText } from "./views/dialogs.js";
+
+const NEW = "\n"; // no UID has an end of a line
 
 export class Bulk {
   constructor(desk) {
@@ -92,13 +93,37 @@ export class Bulk {
       desk.frame.toast(t("groupOneBook"));
       return;
     }
-    if (!groups.length) {
-      desk.frame.toast(t("groupNone"));
-      return;
-    }
-    const uid = await askChoice(count("groupSome", rows.length), t("groupLabel"),
-      groups.map((it) => [it.name, it.uid]));
-    if (!uid) return;
+    const uid = !groups.length ? NEW : await askChoice(
+      count("groupSome", rows.length), t("groupLabel"),
+      [...groups.map((it) => [it.name || t("nameless"), it.uid]), [t("newGroupOther"), NEW]],
+    );
+    if (uid === NEW) await this.newGroup(book, rows.map((it) => it.uid));
+    else if (uid) await this.join(book, uid, rows);
+  }
+
+  /** Asks for a name, and makes a group of that name with these members. */
+  async newGroup(book, uids) {
+    const { desk } = this;
+    const name = await askText(
+      t("newGroup"), t("name"), "", (it) => (it ? "" : t("groupNeedsName")),
+    );
+    if (!name) return;
+    const card = newCard("group", newUid());
+    const fields = fieldsOf(card);
+    const members = uids.map(memberValue);
+    const [{ value: uid }] = card.lines;
+    const text = writeCard(editCard(card, fields, { ...fields, fn: name, members }));
+    await desk.queue.save({ book, uid, base: writeCard(card), version: 0, text });
+    desk.clearMarks();
+    await desk.changed();
+    desk.frame.toast(t("grouped", { name }), this.undo(async () => {
+      await desk.queue.remove([[book, uid]]);
+      await desk.changed();
+    }));
+  }
+
+  async join(book, uid, rows) {
+    const { desk } = this;
     const seen = await desk.queue.seen(book, uid);
     const card = readCard(seen.text);
     const fields = fieldsOf(card);
@@ -126,9 +151,5 @@ export class Bulk {
       [t("saveCsv"), () => this.save(rows, "csv")],
       mayChange && [t("remove"), () => this.remove(rows), "danger"],
     ];
-  }
-
-  keys(rows) {
-    return rows.map(keyOf);
   }
 }

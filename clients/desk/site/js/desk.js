@@ -7,6 +7,9 @@ import { Duplicates } from "./duplicates.js";
 import { ASKS } from "./entries.js";
 import { Faces } from "./faces.js";
 import { Frame } from "./frame.js";
+import { History } from "./history.js";
+import { pageKey } from "./keys.js";
+import { emptyWays, emptyWords, titleOf } from "./listing.js";
 import { Lists } from "./lists.js";
 import { Memory } from "./memory.js";
 import { Outbox } from "./outbox.js";
@@ -32,10 +35,11 @@ export class Desk {
     // From the origin, as the page's own address may have a name and a password in it.
     const at = (name) => location.origin + document.querySelector(`meta[name=${name}]`).content;
     this.api = new Api(at("books"));
-    this.memory = new Memory(at("versions"));
+    this.memory = new Memory(at("versions"), (books) => store.keepSetting("served", books));
     this.shelf = new Shelf(language);
     this.frame = new Frame();
     this.actions = new Actions(this);
+    this.history = new History(this);
     this.pane = new Pane(this);
     this.bulk = new Bulk(this);
     this.lists = new Lists(store);
@@ -63,7 +67,10 @@ export class Desk {
     this.showing = 0;
     this.tabs = new BroadcastChannel("desk");
     this.follower = new Follower(this.api, store, {
-      change: (book, change) => this.arrived(book, change),
+      change: (book, change) => {
+        this.history.deletedByOthers(book, change.gone);
+        this.arrived(book, change);
+      },
       progress: (book, done, total) => this.frame.setProgress({ book, done, total }),
       state: (book, state, fault) => this.state(book, state, fault),
     });
@@ -87,6 +94,7 @@ export class Desk {
       this.store.setting("sort"), this.lists.load(),
     ]);
     this.notSame = new Set((await this.store.setting("notSame")) ?? []);
+    this.memory.books = new Set((await this.store.setting("served")) ?? []);
     this.shelf.sortBy(by ?? "name");
     this.entries = entries;
     this.shelf.load(rows);
@@ -203,6 +211,10 @@ export class Desk {
     const { shown, missing } = this.pane;
     if (shown?.kind === "card" && keys.has(keyOf(shown))) this.pane.again();
     else if (missing && keys.has(missing)) this.pane.route();
+    // It may be in another book by now.
+    else if ([...keys].some((it) => missing && it.endsWith(missing.slice(missing.indexOf("/"))))) {
+      this.pane.findWays();
+    }
   }
 
   drawSoon() {
@@ -217,7 +229,9 @@ export class Desk {
     this.stating ||= setTimeout(async () => {
       this.stating = 0;
       this.books = await this.store.books();
-      this.drawState();
+      // What an empty list says depends on whether the copy is there.
+      if (this.list.rows.length) this.drawState();
+      else this.draw();
     }, 100);
   }
 
@@ -229,23 +243,15 @@ export class Desk {
     return filter ? this.lists.pick(filter, rows, this.shelf) : rows;
   }
 
-  showRows(rows, keep) {
+  showRows(rows, keep, isFirst = false) {
     const text = this.frame.search.value.trim();
-    this.list.show(rows, { withBooks: this.withBooks, keep });
-    const words = this.filter && t({
-      favourites: "noFavourites", recent: "noRecent", group: "noMembers", category: "noCategory",
-    }[this.filter.kind]);
-    this.frame.showCount(this.listTitle, rows.length, text !== "", words ?? undefined);
     const isSorted = text === "" && this.filter?.kind !== "recent";
     this.letters.show(isSorted ? rows : [], this.shelf.by);
-  }
-
-  /** What the list is of. */
-  get listTitle() {
-    const { filter } = this;
-    if (!filter) return this.chosen || t(this.books.length > 1 ? "allBooks" : "listLabel");
-    if (filter.kind === "group") return this.shelf.get(filter.book, filter.uid)?.name ?? "";
-    return filter.kind === "category" ? filter.name : t(filter.kind);
+    const { withBooks } = this;
+    this.list.show(rows, { withBooks, keep, isFirst, heads: this.letters.places });
+    this.frame.showCount(titleOf(this), rows.length, text !== "");
+    this.frame.showEmpty(rows.length ? null : text !== "" ? t("noCards") : emptyWords(this),
+      rows.length ? [] : emptyWays(this));
   }
 
   draw() {
@@ -361,6 +367,7 @@ export class Desk {
       return;
     }
     await this.store.removeBook(name);
+    await this.trash.forget(name);
     this.shelf.dropBook(name);
     this.frame.states.delete(name);
     if (this.chosen === name) this.chosen = "";
@@ -368,17 +375,23 @@ export class Desk {
     this.pane.leave();
   }
 
+  /** Empties the search. */
+  searchAnew() {
+    this.frame.search.value = "";
+    this.typed();
+    this.frame.search.focus();
+  }
+
   typed() {
     const text = this.frame.search.value.trim();
     const rows = this.found();
-    const { shown } = this.pane;
-    this.showRows(rows, text === "" ? this.pane.cardKey : null);
-    this.list.top();
+    const isForm = this.pane.shown?.kind === "form";
     // The first card is shown at once, as this is most often the one; not in place of a form.
-    if (shown?.kind !== "form") {
-      if (text !== "" && rows.length) this.list.select(0);
-      else if (!rows.length) this.pane.clear();
-    }
+    const isFirst = text !== "" && rows.length > 0 && !isForm;
+    this.list.top();
+    this.showRows(rows, text === "" ? this.pane.cardKey : null, isFirst);
+    if (isFirst) this.list.select(0);
+    else if (!isForm && !rows.length) this.pane.clear();
     this.mark();
   }
 
@@ -415,7 +428,7 @@ export class Desk {
     };
     frame.search.addEventListener("keydown", keys);
     frame.listRoot.addEventListener("keydown", keys);
-    document.addEventListener("keydown", (event) => this.key(event));
+    document.addEventListener("keydown", (event) => pageKey(this, event));
     // What is pressed stays until it is let go: a press of what is drawn anew would be lost.
     addEventListener("pointerdown", () => { this.isHeld = true; }, true);
     for (const end of ["pointerup", "pointercancel", "dragend"]) {
@@ -463,34 +476,6 @@ export class Desk {
       const uids = [...data.rows.map((it) => it.uid), ...data.gone];
       this.refresh(new Set(uids.map((uid) => `${data.book}/${uid}`)));
       this.drawSoon();
-    }
-  }
-
-  key(event) {
-    if (document.querySelector("dialog[open]") || event.defaultPrevented) return;
-    const { pane, frame } = this;
-    if (event.key === "Escape" && document.body.dataset.nav === "open") {
-      event.preventDefault();
-      frame.showNav(false);
-      frame.search.focus();
-    } else if (event.key === "Escape" && this.list.marks.size) {
-      event.preventDefault();
-      this.clearMarks();
-    } else if (event.key === "Escape" && !event.isComposing && pane.shown?.kind !== "form") {
-      event.preventDefault();
-      const { search } = frame;
-      const isThere = document.activeElement === search;
-      if (frame.isNarrow && document.body.dataset.pane === "card") pane.leave();
-      if (isThere) search.value = "";
-      if (isThere) this.typed();
-      search.focus();
-      search.select();
-    } else if (event.key === "F2" && pane.shown?.kind === "card") {
-      event.preventDefault();
-      if (this.mayChange(pane.shown.book)) pane.goEdit(pane.shown.book, pane.shown.uid);
-    } else if (event.altKey && event.code === "KeyN") {
-      event.preventDefault();
-      pane.newCard();
     }
   }
 }

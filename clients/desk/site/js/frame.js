@@ -4,6 +4,9 @@ import { icon } from "./icons.js";
 import { count, faultText, number, t, timeText } from "./say.js";
 import { openMenu } from "./views/menu.js";
 
+// Where the books and groups have a column of their own.
+const WIDE = "(min-width: 72rem)";
+
 const by = (id) => document.getElementById(id);
 
 export class Frame {
@@ -15,6 +18,7 @@ export class Frame {
     this.progress = null;
     this.saying = 0;
     this.showing = 0;
+    this.emptyDrawn = "";
   }
 
   /** Puts the texts of the page in place. */
@@ -36,6 +40,15 @@ export class Frame {
     fill(places, icon("books"));
     places.setAttribute("aria-label", t("showBooks"));
     places.addEventListener("click", () => this.showNav(document.body.dataset.nav !== "open"));
+    // A press beside the books and groups closes them, and does nothing else.
+    addEventListener("click", (event) => {
+      const isBeside = !event.target.closest("#books, #places, #toast, dialog");
+      if (document.body.dataset.nav !== "open" || !isBeside) return;
+      event.preventDefault();
+      event.stopPropagation();
+      this.showNav(false);
+    }, true);
+    matchMedia(WIDE).addEventListener("change", () => this.showNav(false));
     add.title = t("newCardKey");
     add.addEventListener("click", run.newCard);
     by("waiting").addEventListener("click", run.waiting);
@@ -54,6 +67,7 @@ export class Frame {
   /** Opens or closes the books and groups on a narrow page, where they cover the list. */
   showNav(isOpen) {
     document.body.dataset.nav = isOpen ? "open" : "";
+    for (const it of ["cards", "pane"]) by(it).inert = isOpen;
     by("places").setAttribute("aria-expanded", String(isOpen));
     if (isOpen) by("books").querySelector("button")?.focus();
   }
@@ -86,14 +100,25 @@ export class Frame {
     if (node.textContent !== parts.join(" · ")) node.textContent = parts.join(" · ");
   }
 
-  /** How many cards are in the list, and what is said if there is none. */
-  showCount(title, rows, isSearch, words = t("emptyBook")) {
+  /** What the list is of, and how many cards are in it. */
+  showCount(title, rows, isSearch) {
     if (by("list-title").textContent !== title) fill(by("list-title"), bdi(title));
     by("count").textContent = isSearch ? count("resultsCount", rows) : count("cardsCount", rows);
-    const empty = by("empty");
-    empty.hidden = rows > 0;
-    empty.textContent = isSearch ? t("noCards") : words;
     if (isSearch) this.sayLater(count("resultsCount", rows));
+  }
+
+  /**
+   * In place of an empty list: `words`, and `ways` to go on, `[text, run, kind]` each. If `words`
+   * is null, the list has cards.
+   */
+  showEmpty(words, ways) {
+    const empty = by("empty");
+    empty.hidden = words === null;
+    const drawn = JSON.stringify([words, by("list-title").textContent, ways.map((it) => it[0])]);
+    if (words === null || drawn === this.emptyDrawn) return;
+    this.emptyDrawn = drawn;
+    fill(empty, el("p", {}, words), ways.length > 0 && el("div", { class: "bar" },
+      ways.map(([text, run, kind]) => button(text, run, { class: kind ?? null }))));
   }
 
   /** How a book is followed. `books` are the records of the copy. */

@@ -12,6 +12,16 @@ async function keepFiles() {
   await navigator.serviceWorker.register(scriptAddress("sw.js"));
 }
 
+const HOUR = 3_600_000;
+let looked = Date.now();
+
+/** A page that stays open asks now and then whether the server has newer files of it. */
+function lookForFiles() {
+  if (Date.now() - looked < HOUR) return;
+  looked = Date.now();
+  navigator.serviceWorker?.controller?.postMessage("look");
+}
+
 document.documentElement.lang = language;
 keepFiles().catch(() => {});
 try {
@@ -23,6 +33,7 @@ try {
   navigator.serviceWorker?.addEventListener("message", ({ data }) => {
     if (data === "new files") desk.isNew();
   });
+  addEventListener("focus", lookForFiles);
   await desk.start();
 } catch (error) {
   fill(document.getElementById("pane"), el("p", { class: "welcome error", role: "alert" },

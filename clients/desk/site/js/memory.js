@@ -57,12 +57,17 @@ export function changesOf(before, after) {
 }
 
 export class Memory {
-  /** `base` is the address of the versions, as "/versions". */
-  constructor(base, fetcher = (...all) => fetch(...all)) {
+  /**
+   * `base` is the address of the versions, as "/versions". `learnt(books)` is called when one more
+   * book is known of which versions are handed out.
+   */
+  constructor(base, learnt = () => {}, fetcher = (...all) => fetch(...all)) {
     this.base = base;
+    this.learnt = learnt;
     this.fetcher = fetcher;
+    this.books = new Set(); // books of which versions were handed out at some time
     this.found = new Set(); // the keys of cards that have versions
-    this.served = new Set(); // books of which versions are handed out
+    this.served = new Set(); // books of which versions are handed out now
     this.pauses = new Map(); // until when it isn't asked for a book
     this.timer = 0;
   }
@@ -116,11 +121,14 @@ export class Memory {
   }
 
   async look(book, uid) {
-    if (await this.list(book, uid)) {
-      this.served.add(book);
-      this.found.add(`${book}/${uid}`);
-    } else {
+    if (!(await this.list(book, uid))) {
       this.pauses.set(book, Date.now() + LATER);
+      return;
     }
+    this.served.add(book);
+    this.found.add(`${book}/${uid}`);
+    if (this.books.has(book)) return;
+    this.books.add(book);
+    this.learnt([...this.books]);
   }
 }

@@ -67,7 +67,7 @@ export class Pane {
 
   /** A form for a new card. Its UID is made now, so that no other form has the same. */
   newCard(kind = "individual") {
-    if (this.form?.isUntouched) {
+    if (this.form?.isUntouched && this.form.edit.kind === kind) {
       this.form.focus();
       return;
     }
@@ -188,7 +188,18 @@ export class Pane {
   gone(book, uid) {
     this.set(null);
     this.missing = `${book}/${uid}`;
-    fill(this.node, this.back(), el("p", { class: "welcome" }, t("goneCard")));
+    fill(this.node, this.back(), el("div", { class: "welcome" }, icon("people"),
+      el("p", {}, t("goneCard")), el("div", { class: "bar" })));
+    this.findWays();
+  }
+
+  /** Says where the card may be that isn't here. */
+  async findWays() {
+    const { missing } = this;
+    const at = missing.indexOf("/");
+    const ways = await this.desk.history.ways(missing.slice(0, at), missing.slice(at + 1));
+    if (this.missing !== missing) return;
+    fill(this.node.querySelector(".welcome .bar"), ways.map((it) => button(...it)));
   }
 
   /** Shows a card in the pane; `isFinal` if the user goes there. */

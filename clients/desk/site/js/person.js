@@ -103,12 +103,13 @@ export function describe(card) {
 
 const clip = (text, most = LONG) => (text.length > most ? `${text.slice(0, most)}…` : text);
 
-/** Folded texts for the search, with a space before each word. */
+/** Folded texts for the search: each word once, with a space before it. */
 function searched(texts, most) {
   const text = texts.filter(Boolean).join(" ");
   const folded = fold(text);
   const spelt = /[^\x00-\x7f]/.test(text) ? fold(spellOut(text)) : folded;
-  return ` ${folded}${spelt === folded ? "" : ` ${spelt}`}`.slice(0, most);
+  const words = new Set(`${folded} ${spelt === folded ? "" : spelt}`.split(" ").filter(Boolean));
+  return words.size ? ` ${[...words].join(" ")}`.slice(0, most) : "";
 }
 
 /** The row of a card: what the list shows, and folded texts for the search. */
@@ -143,7 +144,7 @@ export function rowOf(book, uid, version, text) {
     digits: phones.map((it) => digitsOf(telText(it)).slice(0, 40)).join(" "),
   };
   // Rows are many: what a card hasn't takes no room.
-  for (const [key, value] of Object.entries(some)) if (value && value !== " ") row[key] = value;
+  for (const [key, value] of Object.entries(some)) if (value) row[key] = value;
   const members = lines("MEMBER").slice(0, 10000).map((it) => it.value);
   if (members.length) row.members = members;
   return row;

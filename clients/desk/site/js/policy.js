@@ -1,5 +1,5 @@
 // The page takes no text for a script but the addresses of these files of its own.
-const NAMES = ["sw.js", "js/reader.js"];
+const NAMES = ["sw.js"];
 
 const policy = self.trustedTypes?.createPolicy("desk", {
   createScriptURL: (name) => {

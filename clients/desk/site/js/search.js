@@ -5,6 +5,9 @@ const LETTERS = {
   ß: "ss", ø: "o", đ: "d", ð: "d", ł: "l", æ: "ae", œ: "oe", þ: "th", ı: "i",
 };
 
+// Of numbers with so many digits the last ones are enough.
+const LONG = 8;
+
 const SPELT = { ä: "ae", ö: "oe", ü: "ue", ø: "oe", å: "aa" };
 
 /** The text with umlauts as two letters, as many type them: Müller is Mueller then. */
@@ -32,7 +35,8 @@ export function readQuery(text) {
   const isNumber = /^[\s+\d().\-/]+$/.test(text) && /\d/.test(text);
   const digits = isNumber ? text.replace(/\D/g, "") : "";
   const begins = words.map((it) => ` ${it}`);
-  return { words, begins, digits, trunk: digits.replace(/^0+/, "") };
+  const trunk = digits.replace(/^0+/, "");
+  return { words, begins, digits, trunk, end: trunk.length < LONG ? "" : trunk.slice(-LONG) };
 }
 
 /** 0 for the best match, higher for a lesser one, -1 for none. */
@@ -60,22 +64,29 @@ export function rank(row, query) {
 // A number may be stored as +353 20 911 0177 and typed as 020 911 0177, or the other way round: so
 // leading zeros don't count, and of long numbers the last eight digits are enough.
 function hasNumber(digits, query) {
+  const { trunk, end } = query;
   if (digits.includes(query.digits)) return true;
-  if (query.trunk !== "" && digits.includes(query.trunk)) return true;
-  if (query.trunk.length < 8) return false;
-  const end = query.trunk.slice(-8);
-  return digits.split(" ").some((it) => it.length >= 8 && end.endsWith(it.slice(-8)));
+  if (trunk !== "" && trunk !== query.digits && digits.includes(trunk)) return true;
+  for (let at = end ? digits.indexOf(end) : -1; at >= 0; at = digits.indexOf(end, at + 1)) {
+    if (at + LONG === digits.length || digits[at + LONG] === " ") return true;
+  }
+  return false;
 }
 
-/**
- * A search that goes on from the one before it: what matches a longer text matched the shorter one,
- * unless it is a number.
- */
+/** A search that goes on from the one before it. */
 export class Searcher {
   constructor() {
     this.rows = null; // all rows of the last search
     this.typed = "";
+    this.query = null;
     this.matches = []; // those that matched, in their own order
+  }
+
+  /** Whether what matches the query has matched the one before it, as that was shorter. */
+  goesOn(rows, typed, { digits, trunk }) {
+    if (rows !== this.rows || !this.typed || !typed.startsWith(this.typed)) return false;
+    // Of a number the trunk must have been looked for; longer ones are found by their ends.
+    return digits === "" || (this.query.trunk !== "" && trunk.length <= LONG);
   }
 
   /** The rows that match, the best first, and in their own order where they match alike. */
@@ -83,17 +94,16 @@ export class Searcher {
     const query = readQuery(text);
     if (!query.words.length && !query.digits) return text.trim() === "" ? rows : [];
     const typed = query.words.join(" ");
-    const goesOn = rows === this.rows && this.typed !== "" && !query.digits
-      && typed.startsWith(this.typed);
+    const isLess = this.goesOn(rows, typed, query);
     const ranked = [[], [], [], [], [], []];
     const matches = [];
-    for (const row of goesOn ? this.matches : rows) {
+    for (const row of isLess ? this.matches : rows) {
       const found = rank(row, query);
       if (found < 0) continue;
       ranked[found].push(row);
       matches.push(row);
     }
-    Object.assign(this, { rows, typed: query.digits ? "" : typed, matches });
+    Object.assign(this, { rows, typed, query, matches });
     return ranked.flat();
   }
 }

@@ -56,7 +56,10 @@ function head(seen, mayChange, act) {
     el(
       "div",
       { class: "title" },
-      el("h2", { id: "card-name", tabindex: "-1" }, bdi(seen.name || t("nameless"))),
+      el("h2", { id: "card-name", tabindex: "-1" }, bdi(seen.name || t("nameless")),
+        act.isFavourite() && el("span", {
+          class: "favourite", role: "img", "aria-label": t("isFavourite"), title: t("isFavourite"),
+        }, icon("star"))),
       roles && el("p", { class: "roles" }, bdi(roles)),
       nick && el("p", { class: "roles" }, bdi(`“${nick}”`)),
       mayChange ? null : el("p", { class: "roles" }, t("readOnly")),

@@ -49,7 +49,8 @@ export function askText(title, label, hint, test) {
     return el(
       "form",
       { on: { submit } },
-      el("div", { class: "field" }, el("label", { for: id }, label), box, el("small", {}, hint)),
+      el("div", { class: "field" }, el("label", { for: id }, label), box,
+        hint && el("small", {}, hint)),
       error,
       el("div", { class: "bar" }, el("button", { type: "submit", class: "main" }, t("ok")),
         button(t("cancel"), () => close(null))),

@@ -26,35 +26,59 @@ export class CardList {
     this.anchor = -1;
     this.marks = new Set();
     this.withBooks = false;
+    this.heads = new Map(); // the letters of the rows with which they begin
     this.space = el("div", { class: "space", role: "presentation" });
     this.root.replaceChildren(this.space);
     this.drawn = "";
-    this.root.addEventListener("scroll", () => this.draw(), { passive: true });
+    // Where it is and how high: to ask the browser for them at each key would cost a layout.
+    this.y = 0;
+    this.view = 0;
+    this.root.addEventListener("scroll", () => {
+      this.y = this.root.scrollTop;
+      this.draw();
+    }, { passive: true });
     this.root.addEventListener("click", (event) => this.clicked(event));
     new ResizeObserver(() => this.measure()).observe(this.root);
   }
 
-  /** Shows other rows. The selected card stays selected if it is among them. */
-  show(rows, { withBooks, keep = null }) {
-    const at = keep === null ? -1 : rows.findIndex((row) => keyOf(row) === keep);
+  /**
+   * Shows other rows. The first is selected, or the card of the key `keep` if it is among them.
+   * `heads` has letters, with the places of the rows where they begin.
+   */
+  show(rows, { withBooks, keep = null, isFirst = false, heads = [] }) {
+    const kept = keep === null ? -1 : rows.findIndex((row) => keyOf(row) === keep);
+    const at = isFirst ? 0 : kept;
     const isSame = rows === this.rows && at === this.at && withBooks === this.withBooks;
     this.rows = rows;
     this.withBooks = withBooks;
     this.at = at;
     if (isSame && this.drawn) return;
     this.drawn = "";
+    this.heads = new Map(heads.map(([letter, place]) => [place, letter]));
+    this.root.classList.toggle("lettered", heads.length > 0);
     if (this.height) this.stretch();
     else this.measure();
+    // What is done with several cards is done with those that are in the list.
+    if (this.marks.size) this.tellMarked(this.marked);
   }
 
   measure() {
-    this.height = Number.parseFloat(getComputedStyle(this.root).getPropertyValue("--row")) *
+    // The letters are beside the bar that scrolls, not over it.
+    const bar = this.root.offsetWidth - this.root.clientWidth;
+    this.root.parentElement.style.setProperty("--bar", `${bar}px`);
+    const height = Number.parseFloat(getComputedStyle(this.root).getPropertyValue("--row")) *
       Number.parseFloat(getComputedStyle(document.documentElement).fontSize);
+    if (height !== this.height) this.drawn = "";
+    this.height = height;
+    this.view = this.root.clientHeight;
+    this.y = this.root.scrollTop;
     this.stretch();
   }
 
   stretch() {
-    this.space.style.height = `${this.rows.length * this.height}px`;
+    const height = this.rows.length * this.height;
+    this.space.style.height = `${height}px`;
+    this.y = Math.min(this.y, Math.max(0, height - this.view));
     this.draw();
   }
 
@@ -63,11 +87,10 @@ export class CardList {
   }
 
   draw() {
-    const top = Math.floor(this.root.scrollTop / this.height);
+    const top = Math.floor(this.y / this.height);
     const first = Math.max(0, top - AROUND);
     const last = Math.min(
-      this.rows.length,
-      top + Math.ceil(this.root.clientHeight / this.height) + AROUND,
+      this.rows.length, top + Math.ceil(this.view / this.height) + AROUND,
     );
     const drawn = `${first} ${last} ${this.at}`;
     if (drawn === this.drawn) return;
@@ -98,6 +121,8 @@ export class CardList {
         "aria-posinset": at + 1,
         "aria-setsize": this.rows.length,
       },
+      this.heads.has(at)
+        ? el("span", { class: "head-letter", "aria-hidden": "true" }, this.heads.get(at)) : null,
       this.faces.of(row),
       el("div", { class: "who" }, bdi(row.name || t("nameless"), "name"), bdi(under, "under")),
       el(
@@ -156,9 +181,14 @@ export class CardList {
     this.told();
   }
 
+  /** The marked rows that are in the list. */
+  get marked() {
+    return this.rows.filter((row) => this.marks.has(keyOf(row)));
+  }
+
   told() {
     this.again();
-    this.tellMarked(this.rows.filter((row) => this.marks.has(keyOf(row))));
+    this.tellMarked(this.marked);
   }
 
   /** Selects a row and brings it into sight. */
@@ -167,16 +197,20 @@ export class CardList {
     this.at = at;
     this.anchor = at;
     const top = at * this.height;
-    if (top < this.root.scrollTop) this.root.scrollTop = top;
-    const below = top + this.height - this.root.clientHeight;
-    if (below > this.root.scrollTop) this.root.scrollTop = below;
+    const y = Math.max(Math.min(this.y, top), top + this.height - this.view);
+    if (y !== this.y) this.moveTo(y);
     this.draw();
     this.pick(this.rows[at], isFinal);
   }
 
   /** The first row in sight. */
   get first() {
-    return Math.ceil(this.root.scrollTop / this.height);
+    return Math.ceil(this.y / this.height);
+  }
+
+  moveTo(y) {
+    this.root.scrollTop = y;
+    this.y = y;
   }
 
   /** Brings a row to the top. */
@@ -185,14 +219,14 @@ export class CardList {
   }
 
   top() {
-    this.root.scrollTop = 0;
+    this.moveTo(0);
   }
 
   /** Moves the selection for a key, and says whether the key was one for the list. */
   key(event) {
     if (event.isComposing || event.altKey) return false;
     if (event.ctrlKey || event.metaKey || event.shiftKey) return this.markKey(event);
-    const page = Math.max(1, Math.floor(this.root.clientHeight / this.height) - 1);
+    const page = Math.max(1, Math.floor(this.view / this.height) - 1);
     const steps = { ArrowDown: 1, ArrowUp: -1, PageDown: page, PageUp: -page };
     // In the search these two go through what is typed.
     if (event.currentTarget === this.root) Object.assign(steps, { Home: -1e9, End: 1e9 });

@@ -2,13 +2,14 @@
 import { button, el, fill } from "../dom.js";
 import { icon } from "../icons.js";
 import { count, t } from "../say.js";
-import { menuButton } from "./menu.js";
+import { keyOf } from "../shelf.js";
+import { menuButton, openMenu } from "./menu.js";
 
 export class ListHead {
   constructor(desk) {
     this.desk = desk;
     this.root = document.getElementById("list-menu");
-    this.marked = [];
+    this.drawn = "";
     this.showMenu();
   }
 
@@ -16,7 +17,7 @@ export class ListHead {
     const { desk } = this;
     const sort = (by) => [`${desk.shelf.by === by ? "✓ " : ""}${t(`sort_${by}`)}`,
       () => desk.sortBy(by)];
-    fill(this.root, menuButton(icon("more"), () => [
+    this.fill(menuButton(icon("more"), () => [
       sort("name"), sort("family"),
       [t("select"), () => desk.list.marking(true)],
       [t("duplicates"), () => desk.duplicates.show()],
@@ -24,17 +25,28 @@ export class ListHead {
     ], { class: "quiet round", "aria-label": t("listMenu"), title: t("listMenu") }));
   }
 
+  /** Shows something else. Who has come to a button by keyboard stays there. */
+  fill(content) {
+    const was = this.root.contains(document.activeElement) ? document.activeElement : null;
+    fill(this.root, content);
+    if (!was) return;
+    const buttons = [...this.root.querySelectorAll(".menu-box > button, .marked-bar > button")];
+    (buttons.find((it) => it.textContent === was.textContent) ?? buttons[0])?.focus();
+  }
+
   /** Shows how many cards are marked, and what can be done with them. */
   showMarked(rows) {
     const { desk } = this;
     const isMarking = rows.length > 0 || desk.list.isMarking;
     if (!isMarking) {
-      if (this.isMarking) this.showMenu();
-      this.isMarking = false;
+      if (this.drawn) this.showMenu();
+      this.drawn = "";
       return;
     }
-    this.isMarking = true;
-    fill(this.root, el("div", { class: "marked-bar", role: "group", "aria-label": t("select") },
+    const drawn = `${rows.map(keyOf).join(" ")} `;
+    if (drawn === this.drawn || openMenu(this.root)) return;
+    this.drawn = drawn;
+    this.fill(el("div", { class: "marked-bar", role: "group", "aria-label": t("select") },
       el("span", { role: "status" }, count("markedCount", rows.length)),
       rows.length ? menuButton(t("forSelected"), () => desk.bulk.choices(rows), {}) : null,
       button(t("selectAll"), () => desk.list.markAll(), { class: "quiet" }),

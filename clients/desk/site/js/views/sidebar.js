@@ -16,6 +16,7 @@ export class SideBar {
   show() {
     const { desk } = this;
     const { books, chosen, filter, shelf } = desk;
+    const mayAdd = books.some((it) => it.rights !== "read");
     const groups = shelf.groups(chosen).slice(0, MOST_GROUPS);
     const categories = shelf.categories(chosen).slice(0, MOST_CATEGORIES);
     const states = books.map((it) => [
@@ -34,7 +35,7 @@ export class SideBar {
       el("ul", {},
         books.length > 1 ? this.book("", t("allBooks")) : null,
         books.map((it) => this.book(it.name, it.name))),
-      button([icon("add"), el("span", {}, t("addBook"))], () => desk.addBook(), {
+      button([icon("add"), el("span", {}, t("addBook"))], () => this.addBook(), {
         class: "quiet add",
       }),
       books.length ? [el("h2", {}, t("lists")), el("ul", {},
@@ -42,9 +43,13 @@ export class SideBar {
         this.list({ kind: "recent" }, t("recent"), "recent"),
         el("li", { class: "book" }, button([icon("trash"), el("span", { class: "book-name" },
           t("trash"))], () => this.trash(), { class: "choose" })))] : null,
-      groups.length ? [el("h2", {}, t("groupsTitle")), el("ul", {}, groups.map((it) => this.list(
+      groups.length || mayAdd ? el("h2", {}, t("groupsTitle")) : null,
+      groups.length ? el("ul", {}, groups.map((it) => this.list(
         { kind: "group", book: it.book, uid: it.uid }, it.name || t("nameless"), "people",
-      )))] : null,
+      ))) : null,
+      mayAdd ? button([icon("add"), el("span", {}, t("newGroup"))], () => this.newGroup(), {
+        class: "quiet add",
+      }) : null,
       categories.length ? [el("h2", {}, t("categories")), el("ul", {},
         categories.map(([name, many]) => this.list(
           { kind: "category", book: chosen, name }, name, "tag", many,
@@ -77,9 +82,19 @@ export class SideBar {
     });
   }
 
+  addBook() {
+    this.desk.frame.showNav(false);
+    this.desk.addBook();
+  }
+
+  newGroup() {
+    this.desk.frame.showNav(false);
+    this.desk.pane.newCard("group");
+  }
+
   trash() {
     this.desk.frame.showNav(false);
-    this.desk.actions.trash();
+    this.desk.history.trash();
   }
 
   list(filter, text, sign, many = 0) {

@@ -3,8 +3,14 @@ import { bdi, button, el, newId } from "../dom.js";
 import { t } from "../say.js";
 import { dialog } from "./dialogs.js";
 
-/** Asks which of `[text, value, isTicked]` are wanted. Answers a set of values, or null. */
-export function askTicks(title, choices) {
+/** The answer if somebody wants another choice than those. */
+export const NEW = "new";
+
+/**
+ * Asks which of `[text, value, isTicked]` are wanted; `other` is the text of a button for one that
+ * isn't there. Answers a set of values, `NEW`, or null.
+ */
+export function askTicks(title, choices, other) {
   return dialog(title, (close) => {
     const ticked = new Set(choices.filter((it) => it[2]).map((it) => it[1]));
     const one = ([text, value, isTicked]) => {
@@ -18,7 +24,7 @@ export function askTicks(title, choices) {
     return [
       el("ul", { class: "ticks" }, choices.map(one)),
       el("div", { class: "bar" }, button(t("ok"), () => close(ticked), { class: "main" }),
-        button(t("cancel"), () => close(null))),
+        button(other, () => close(NEW)), button(t("cancel"), () => close(null))),
     ];
   });
 }

@@ -11,7 +11,8 @@ const MOST_CHANGES = 30;
 
 /**
  * Shows the versions of a card, the newest first. `text(version)` gives the text of one, or null;
- * `now` is the card as it is here. Answers the text that is to be put back, or null.
+ * `now` is the card as it is here, or null if it is gone. Answers the text that is to be put back,
+ * or null.
  */
 export function versionsView(name, versions, { text, now, nameOf, mayChange }) {
   const texts = new Map();
@@ -30,7 +31,7 @@ export function versionsView(name, versions, { text, now, nameOf, mayChange }) {
       const said = el("div", { class: "changes" }, el("p", { class: "hint" }, t("versionAsking")));
       draw(it, versions[at + 1], textOf, nameOf, said).then((is) => {
         if (is === null) return;
-        if (sameCard(is, now)) fill(place, el("small", {}, t("versionNow")));
+        if (now !== null && sameCard(is, now)) fill(place, el("small", {}, t("versionNow")));
         else if (mayChange) {
           fill(place, button(t("putThisBack"), () => close(is), {
             "aria-label": t("putBackOf", { time }),

@@ -1,0 +1,38 @@
+// What the list is of, and what is said and offered where it is empty.
+import { t } from "./say.js";
+
+const WORDS = {
+  favourites: "noFavourites", recent: "noRecent", group: "noMembers", category: "noCategory",
+};
+
+/** The title of the list. */
+export function titleOf({ filter, chosen, books, shelf }) {
+  if (!filter) return chosen || t(books.length > 1 ? "allBooks" : "listLabel");
+  if (filter.kind === "group") return shelf.get(filter.book, filter.uid)?.name ?? "";
+  return filter.kind === "category" ? filter.name : t(filter.kind);
+}
+
+/** Whether the copy has all that the list could show. */
+function isWhole({ chosen, books }) {
+  return books.every((it) => it.synced || (chosen && it.name !== chosen));
+}
+
+/** What is said where the list has no card, though nothing is searched. */
+export function emptyWords(desk) {
+  if (!desk.books.length) return t("noBooks");
+  if (!isWhole(desk)) return t("notHereYet");
+  return t(desk.filter ? WORDS[desk.filter.kind] : "emptyBook");
+}
+
+/** What can be done there: `[text, run, kind]` each. */
+export function emptyWays(desk) {
+  const { books, chosen, filter, frame } = desk;
+  if (frame.search.value.trim() !== "") return [[t("clearSearch"), () => desk.searchAnew()]];
+  if (!books.length) return desk.mayList ? [[t("addBook"), () => desk.addBook()]] : [];
+  const book = chosen || (books.length === 1 ? books[0].name : "");
+  if (filter || !isWhole(desk) || !desk.mayChange(book)) return [];
+  return [
+    [t("newCard"), () => desk.pane.newCard(), "main"],
+    [t("importFiles"), () => desk.actions.files.import(book)],
+  ];
+}
