@@ -8,6 +8,7 @@ mod files;
 mod keeps;
 pub mod laws;
 mod opening;
+mod resyncing;
 mod schema_creation;
 mod sql_store;
 

@@ -1,5 +1,5 @@
 -- The look-up of a card by the name of its book, against the step of the model.
-use Rattle.std.proofs.Common.{◌≡◌, ℕ, List, filter, find, Result, Ok, Err, Option, Some, None, IfSome, refl, sym, ap, subst, ◌∙◌}
+use Rattle.std.proofs.Common.{◌≡◌, ℕ, List, filter, find, Result, Ok, Err, Option, Some, None, refl, sym, ap, subst, ◌∙◌}
 use Rattle.std.specs.Option.{option_map, option_map_or}
 use Rattle.std.specs.FinMap as finite
 use Rattle.sqlite.specs.declared.error.Error.TheVariants.{QueryReturnedNoRows}

@@ -15,7 +15,7 @@ ghost use Rattle.store_lookups.specs.OnConnections.{
   GivenBook,
   GivenSoundRows,
 };
-ghost use Rattle.store_tables.specs.OnConnections.{OnlyReads};
+ghost use Rattle.store_tables.specs.OnConnections.{OnlyReads, UnchangedOnOk};
 ghost use Rattle.std.specs.List.{AllByRecursion};
 ghost use Rattle.std.specs.Prelude.{◌≡◌, IfErr, IfOk, Ok};
 
@@ -37,6 +37,7 @@ pub fn lines_of_books<S: Alter>(
         (λ rows. FollowsStep (λ wanted lines. lines.items ≡ wanted) result
         (Ok (book_lines (books_of rows)))) }
     ensures store_fault { FaultsFromOutside S.Store conn.old conn.new result }
+    ensures unchanged { UnchangedOnOk S.Store conn.old conn.new result }
     ensures reads_only { OnlyReads S.Store conn.old conn.new }
 {
     match all_books(conn) {
@@ -63,6 +64,7 @@ fn cards_at<S: Alter>(
         (λ book. FollowsStep (λ wanted cards. octet_map cards ≡ wanted) result
         (Ok (live_cards book))) }
     ensures store_fault { FaultsFromOutsideInBook S.Store conn.old conn.new header result }
+    ensures unchanged { UnchangedOnOk S.Store conn.old conn.new result }
     ensures reads_only { OnlyReads S.Store conn.old conn.new }
 {
     let id = column_of(header.id())?;
@@ -83,6 +85,7 @@ pub fn cards_of_book<S: Alter>(
         (λ rows. FollowsStep (λ wanted cards. octet_map cards ≡ wanted) result
         (cards_step (books_of rows) name.now)) }
     ensures store_fault { FaultsFromOutside S.Store conn.old conn.new result }
+    ensures unchanged { UnchangedOnOk S.Store conn.old conn.new result }
     ensures reads_only { OnlyReads S.Store conn.old conn.new }
 {
     let header = find_header(conn, name)?;

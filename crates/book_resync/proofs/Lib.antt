@@ -1,0 +1,4 @@
+mod BookLemmas
+mod BookResyncLemmas
+pub mod AllBooksLemmas
+mod ResyncedLemmas

@@ -1,0 +1,3 @@
+pub mod Resyncing
+pub mod ResyncCalls
+pub mod ResyncLaws

@@ -1,0 +1,4 @@
+mod ListLemmas
+mod StageLemmas
+mod BooksLemmas
+mod PlanLemmas

@@ -1,0 +1,4 @@
+pub mod Plans
+pub mod Stages
+pub mod Changes
+pub mod OnConnections
