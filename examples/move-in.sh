@@ -57,8 +57,8 @@ expect 'person 0b7f2a44-93d5-4e11-8d3a-7c2f6b1e9d02
 person 6a5c3f1e-2b84-4c7d-9a10-5d0c9e7b4a21' \
     expand office.db staff d41e0c9a-5f62-47b8-b0c3-1a9e8f7d6c55
 
-echo '$ contacts serve office.db --connections 1000000 &'
-"$program" serve office.db --connections 1000000 > listening &
+echo '$ contacts run office.db --port 0 &'
+"$program" run office.db --port 0 > listening &
 server=$!
 for _ in $(seq 100); do
     [ -s listening ] && break

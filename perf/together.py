@@ -177,11 +177,11 @@ def settled_memory(server):
 def memory(office, _):
     """By the number of places, and by what connections hold."""
     found = []
-    for together in (1, 256, 1_000):
-        with office.serve("--together", str(together)) as server:
+    for most in (1, 256, 1_000):
+        with office.serve("--max-open", str(most)) as server:
             server.miss()
             size = octets(settled_memory(server))
-            found.append((f"memory with `--together {together}`", size))
+            found.append((f"memory with `--max-open {most}`", size))
     with office.serve() as server:
         wires = [Wire(server.wire.port) for _ in range(100)]
         for wire in wires:

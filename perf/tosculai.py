@@ -46,11 +46,14 @@ class Tosculai(Server):
             for book in BOOKS:
                 self.order("book", self.file, book)
 
-    def start(self, connections=1_000_000, more=()):
+    def start(self, connections=None, more=()):
         """Starts the server with these further arguments, and returns once it listens. By then it
-        has opened the file and tested all rows."""
-        serve = [self.program, "serve", str(self.file), "--connections", str(connections), *more]
-        self.launch(self.before + serve, stdout=subprocess.PIPE)
+        has opened the file and tested all rows. With a number of connections it serves these, one
+        after another, and ends."""
+        order = ["run", str(self.file), "--port", "0", "--host", "office", *more]
+        if connections:
+            order = ["serve", str(self.file), "--connections", str(connections), *more]
+        self.launch([*self.before, self.program, *order], stdout=subprocess.PIPE)
         port = self.process.stdout.readline().rpartition(b":")[2].strip()
         if not port.isdigit():
             raise Failure(f"the server of {self.file} did not start")

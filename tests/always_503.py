@@ -39,6 +39,6 @@ def serve(port):
 
 
 if __name__ == "__main__":
-    if sys.argv[1:2] != ["serve"]:
+    if sys.argv[1:2] not in (["serve"], ["run"]):
         os.execv(os.environ["BEHIND"], [os.environ["BEHIND"], *sys.argv[1:]])
     serve(int(sys.argv[sys.argv.index("--port") + 1]))

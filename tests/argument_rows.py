@@ -101,12 +101,11 @@ MISSING = [
     ("run --host office --host a.example", missing("<FILE>", "run --host <NAME> <FILE>")),
     ("run --log --max-open 2 --port=1 --idle-timeout 5",
      missing("<FILE>", "run --log --max-open <M> --port <P> --idle-timeout <S> <FILE>")),
+    ("run --socket s", missing("<FILE>", "run --socket <PATH> <FILE>")),
     ("serve", missing("<FILE>", "serve <FILE>")),
     ("serve --port 1", missing("<FILE>", "serve --port <P> <FILE>")),
     ("serve --connections=2 --port=1",
      missing("<FILE>", "serve --connections <N> --port <P> <FILE>")),
-    ("serve --patience 5 --together=2",
-     missing("<FILE>", "serve --patience <S> --together <M> <FILE>")),
     ("import", missing("<FILE> <BOOK> <KEY> <CSV>", IMPORT)),
     ("import a.db staff k", missing("<CSV>", IMPORT)),
     ("export a.db", missing("<BOOK>", "export <FILE> <BOOK>")),
@@ -190,7 +189,10 @@ UNKNOWN_OPTIONS = [
     ("serve a.db --po 1", near("--po", "--port", "serve --port <P> <FILE>")),
     ("serve a.db --connection 2",
      near("--connection", "--connections", "serve --connections <N> <FILE>")),
-    ("serve a.db --patient 5", near("--patient", "--patience", "serve --patience <S> <FILE>")),
+    # The options of `run` are none of `serve`.
+    ("serve a.db --max-open 2", unexpected_hyphen("--max-open", "serve <FILE>")),
+    ("serve a.db --log", unexpected_hyphen("--log", "serve <FILE>")),
+    ("run a.db --sockets s", near("--sockets", "--socket", "run --socket <PATH> <FILE>")),
     ("export a.db staff --from cards",
      near("--from", "--form", "export --form <F> <FILE> <BOOK>")),
     ("export a.db staff --Form cards",
@@ -210,8 +212,7 @@ DOUBLED = [
     ("serve a.db --port 1 --port 2", twice("--port <P>", SERVE)),
     ("serve --port=1 a.db --port=1", twice("--port <P>", SERVE)),
     ("serve a.db --connections 1 --connections 2", twice("--connections <N>", SERVE)),
-    ("serve a.db --together 1 --together 1", twice("--together <M>", SERVE)),
-    ("serve --patience=1 a.db --patience=2", twice("--patience <S>", SERVE)),
+    ("run --socket=s a.db --socket=s", twice("--socket <PATH>", RUN)),
     ("export a.db staff --form cards --form cards", twice("--form <F>", EXPORT)),
     ("mirror a.db staff --limit 1 --limit 2", twice("--limit <L>", MIRROR)),
     ("mirror a.db staff --pages 1 --pages 2", twice("--pages <P>", MIRROR)),
@@ -228,8 +229,8 @@ NO_VALUES = [
     ("serve a.db --port --", no_value("--port <P>")),
     ("serve --port --connections 1 a.db", no_value("--port <P>")),
     ("serve a.db --connections", no_value("--connections <N>")),
-    ("serve a.db --together", no_value("--together <M>")),
-    ("serve --patience --together 1 a.db", no_value("--patience <S>")),
+    ("run a.db --socket", no_value("--socket <PATH>")),
+    ("run --socket --port 1 a.db", no_value("--socket <PATH>")),
     ("convert a.vcf --to", no_value("--to <DIR>")),
     ("export a.db staff --form", no_value("--form <F>")),
     ("mirror a.db staff --limit", no_value("--limit <L>")),
@@ -268,17 +269,10 @@ NO_NUMBERS = [
     ("serve a.db --connections 0", out_of_range(0, "--connections <N>", 1, 1000000)),
     ("serve a.db --connections 1000001", out_of_range(1000001, "--connections <N>", 1, 1000000)),
     ("serve a.db --connections=-1", no_digits("-1", "--connections <N>")),
-    ("serve a.db --together 0", out_of_range(0, "--together <M>", 1, 1000)),
-    ("serve a.db --together 1001", out_of_range(1001, "--together <M>", 1, 1000)),
-    ("serve a.db --together=all", no_digits("all", "--together <M>")),
     ("convert a.vcf --rows 0", out_of_range(0, "--rows <ROWS>", 1, 10000)),
     ("convert a.vcf --rows 10001", out_of_range(10001, "--rows <ROWS>", 1, 10000)),
     ("convert a.vcf --octets 8388609", out_of_range(8388609, "--octets <OCTETS>", 1, 8388608)),
-    ("serve a.db --patience 0", out_of_range(0, "--patience <S>", 1, 3600)),
-    ("serve a.db --patience 3601", out_of_range(3601, "--patience <S>", 1, 3600)),
-    ("serve a.db --patience=", empty("--patience <S>")),
-    ("serve a.db --patience=60s", no_digits("60s", "--patience <S>")),
-    ("serve a.db --patience=0.5", no_digits("0.5", "--patience <S>")),
+    ("run a.db --idle-timeout=0.5", no_digits("0.5", "--idle-timeout <S>")),
     ("forget a.db staff 1000000000000000",
      out_of_range(1000000000000000, "<UPTO>", 0, 999999999999999)),
     ("forget a.db staff 18446744073709551616", too_large(18446744073709551616, "<UPTO>")),
@@ -294,6 +288,13 @@ NO_NUMBERS = [
     ("mirror a.db staff --pages 0", out_of_range(0, "--pages <P>", 1, 1000000)),
     ("mirror a.db staff --pages 1000001", out_of_range(1000001, "--pages <P>", 1, 1000000)),
     ("mirror a.db staff --pages=-1", no_digits("-1", "--pages <P>")),
+]
+
+# A socket takes the place of a port, even of the default one.
+SOCKET_AND_PORT = [
+    (arguments,
+     error("the argument '--socket <PATH>' cannot be used with '--port <P>'", RUN))
+    for arguments in ["run a.db --socket s --port 8080", "run --port=0 --socket=s a.db --log"]
 ]
 
 NO_FORMS = [
@@ -324,11 +325,8 @@ GOOD = [
     "serve a.db --port=+8",
     "serve a.db --connections 1000000",
     "serve --connections 1 -- a.db",
-    "serve a.db --together 1",
-    "serve a.db --together=1000",
-    "serve a.db --patience 1",
-    "serve a.db --patience=3600",
-    "serve --patience 5 a.db --together 2 --port 0 --connections 3",
+    "run a.db --socket s",
+    "run --host office --socket=s a.db --max-open 2",
     "import a.db staff k a.csv",
     "import a.db staff - -",
     "export a.db staff",
@@ -356,4 +354,4 @@ GOOD = [
 ]
 
 BAD = [*MISSING, *TOO_MANY, *UNKNOWN_ORDERS, *UNKNOWN_OPTIONS, *DOUBLED, *NO_VALUES, *NO_NUMBERS,
-       *NO_FORMS]
+       *SOCKET_AND_PORT, *NO_FORMS]

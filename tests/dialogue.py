@@ -19,7 +19,13 @@ LOOKS_MAX = 100
 
 
 class ServedTest(unittest.TestCase):
-    """A test with a server over a new file, and a model. `renew` starts again with new ones."""
+    """A test with a server over a new file, and a model. `renew` starts again with new ones.
+
+    The server is that of `contacts serve`, which looks at no Host and serves one connection after
+    another, or with `order = "run"` that of `contacts run`.
+    """
+
+    order = "serve"
 
     def setUp(self):
         self.renew()
@@ -33,19 +39,20 @@ class ServedTest(unittest.TestCase):
         self.office = Office()
         self.start()
 
-    def start(self, connections=1_000_000, more=()):
-        """Starts the server of the file, which ends after that many connections.
+    def start(self, connections=None, more=()):
+        """Starts the server of the file. `serve` ends after that many connections.
 
         `more` are further arguments.
         """
-        self.server = Server(self.file, connections, more=more)
+        names = ["--host", "office"] if self.order == "run" else []
+        self.server = Server(self.file, connections, order=self.order, more=[*names, *more])
         self.addCleanup(self.server.kill)
         self.status = None
         if os.path.isdir("/proc/self"):
             self.status = os.open(f"/proc/{self.server.process.pid}/stat", os.O_RDONLY)
             self.addCleanup(os.close, self.status)
 
-    def restart(self, connections=1_000_000, more=()):
+    def restart(self, connections=None, more=()):
         """Starts another server of the file in place of this one."""
         self.server.kill()
         self.start(connections, more)

@@ -17,8 +17,8 @@ Commands:
 book's initial report
   init     Create a store file; an existing file must be empty
   book     Create an empty book and print its id
-  run      Serve the books over HTTP on 127.0.0.1 until it is stopped
-  serve    Serve the books over HTTP on 127.0.0.1
+  run      Serve the books over HTTP on 127.0.0.1, or at a Unix socket, until it is stopped
+  serve    Serve one connection after another over HTTP on 127.0.0.1
   import   Import cards from a CSV file into a book
   export   Write the cards of a book to standard output as CSV
   tally    Print how many cards a book has, and counts of its changes by kind
@@ -94,7 +94,7 @@ A store may have up to 100 books, and a book up to 10,000 cards.
 """
 
 HELP["run"] = """\
-Serve the books over HTTP on 127.0.0.1 until it is stopped
+Serve the books over HTTP on 127.0.0.1, or at a Unix socket, until it is stopped
 
 Usage: contacts run [OPTIONS] <FILE>
 
@@ -103,6 +103,8 @@ Arguments:
 
 Options:
       --port <P>          Port to listen on, 0 to 65535; 0 picks a free port [default: 8080]
+      --socket <PATH>     Unix socket to listen at in place of a port; its owner and its group may \
+connect
       --host <NAME>       A name of this server, which requests may have in their Host field; \
 127.0.0.1, localhost and [::1] are always allowed. May be given more than once
       --max-open <M>      Maximum number of connections open at once, 1 to 1000 [default: 256]
@@ -115,13 +117,13 @@ headers are incomplete, 1 to 3600 [default: 60]
 Example:
   contacts run office.db --create
 
-Prints the address and port before accepting connections. A request is refused if its Host is none \
-of the server's names, if a page of another site sends a change, or if a change has a precondition \
-such as If-Match. A request body may have up to 8,388,608 bytes.
+Prints where it listens before accepting connections. A request is refused if its Host is none of \
+the server's names, if a page of another site sends a change, or if a change has a precondition such \
+as If-Match. A request body may have up to 8,388,608 bytes.
 """
 
 HELP["serve"] = """\
-Serve the books over HTTP on 127.0.0.1
+Serve one connection after another over HTTP on 127.0.0.1
 
 Usage: contacts serve [OPTIONS] <FILE>
 
@@ -131,14 +133,13 @@ Arguments:
 Options:
       --port <P>         Port to listen on, 0 to 65535; 0 picks a free port [default: 0]
       --connections <N>  Number of connections to serve before exiting, 1 to 1000000 [default: 1]
-      --together <M>     Maximum number of connections open at once, 1 to 1000 [default: 256]
-      --patience <S>     Seconds after which an idle connection is closed, or one whose request \
-headers are incomplete, 1 to 3600 [default: 60]
-      --log              Print a line for each request on standard error when it is answered
   -h, --help             Print help
 
 Example:
-  contacts serve office.db --port 8080 --connections 1000000
+  contacts serve office.db --port 8080 --connections 2
+
+For scripts and tests: it waits for each client, checks no Host, and ends after the last \
+connection. To serve an office, use `run`.
 
 Prints the address and port before accepting connections. A request body may have up to 8,388,608 \
 bytes.

@@ -50,24 +50,34 @@ class Folder:
 
 
 class Server:
-    """`contacts serve FILE`, which is killed at the end of the context unless it has ended."""
+    """A server of the file, which is killed at the end of the context unless it has ended.
+
+    It is `contacts run` for the host `office`, which the tests' requests name, and ends when it is
+    stopped. With a number of connections it is `contacts serve`, which serves so many, one after
+    another, and then ends.
+    """
 
     def __init__(
         self,
         file,
-        connections=1_000_000,
+        connections=None,
         port=0,
         more=(),
         arguments=None,
-        order="serve",
+        order=None,
         **options,
     ):
-        """`more` are further arguments. If `arguments` are given, nothing else follows the order.
+        """`more` are further arguments. If `arguments` are given, nothing else follows `serve`.
 
-        The order `run` has no number of connections.
+        With the order `run` no host is named but by `more`; with `serve` a million connections are
+        served unless another number is given.
         """
-        counted = ["--connections", connections] if order == "serve" else []
-        whole = [file, "--port", port, *counted, *more]
+        if order is None and connections is None and arguments is None:
+            order, more = "run", ["--host", "office", *more]
+        order = order or "serve"
+        counted = ["--connections", connections or 1_000_000] if order == "serve" else []
+        place = [] if "--socket" in more else ["--port", port]
+        whole = [file, *place, *counted, *more]
         self.process = subprocess.Popen(
             [PROGRAM, order, *map(str, arguments or whole)],
             stdin=subprocess.DEVNULL,
@@ -76,10 +86,17 @@ class Server:
             bufsize=0,
             **options,
         )
-        # The line comes before the first accept, and the port is bound by then.
+        # The line comes before the first accept, and the address is bound by then.
         self.line = self.process.stdout.readline()
-        host, _, number = self.line.decode().replace("listening ", "").strip().rpartition(":")
-        self.address = (host, int(number)) if number.isdigit() else None
+        self.address = self.place_of(self.line.decode().replace("listening ", "", 1))
+
+    @staticmethod
+    def place_of(text):
+        """Where it listens: a host and a port, or the path of a Unix socket."""
+        if text.startswith("unix:"):
+            return text[5:].rstrip("\n")
+        host, _, number = text.strip().rpartition(":")
+        return (host, int(number)) if number.isdigit() else None
 
     def __enter__(self):
         return self
@@ -96,6 +113,11 @@ class Server:
             connection.send(octets)
             connection.finish()
             return connection.rest()
+
+    def stop(self):
+        """Stops it as systemd does, and returns how it ended."""
+        self.process.terminate()
+        return self.end()
 
     def kill(self):
         """Ends it as `kill -9` does."""
@@ -115,8 +137,14 @@ class Connection:
     """A client's raw connection. Each send goes out at once, as a segment of its own."""
 
     def __init__(self, address):
-        self.socket = socket.create_connection(address, timeout=PATIENCE)
-        self.socket.setsockopt(socket.IPPROTO_TCP, socket.TCP_NODELAY, 1)
+        """The address is a host and a port, or the path of a Unix socket."""
+        if isinstance(address, str):
+            self.socket = socket.socket(socket.AF_UNIX)
+            self.socket.settimeout(PATIENCE)
+            self.socket.connect(address)
+        else:
+            self.socket = socket.create_connection(address, timeout=PATIENCE)
+            self.socket.setsockopt(socket.IPPROTO_TCP, socket.TCP_NODELAY, 1)
         self.read = b""
 
     def __enter__(self):

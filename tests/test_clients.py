@@ -5,6 +5,7 @@ replies are those of the model. test_together has many clients at once.
 """
 
 import copy
+import signal
 import socket
 import struct
 import threading
@@ -53,6 +54,8 @@ def rows_of(octets):
 
 
 class BigBodies(ServedTest):
+    order = "run"
+
     def test_greatest_import(self):
         """Its head comes first, and then its body; what it stored is exported as it was sent."""
         rows = rows_of(BODY_MAX)
@@ -67,7 +70,7 @@ class BigBodies(ServedTest):
 
     def break_off_while_read_from(self):
         """A client resets while more is written to it than fits on the way. It ends alone."""
-        self.restart(2)
+        self.restart()
         with self.server.connect() as connection:
             connection.socket.setsockopt(socket.SOL_SOCKET, socket.SO_RCVBUF, 4096)
             connection.send(export("staff") * 4)
@@ -75,7 +78,7 @@ class BigBodies(ServedTest):
             self.assertEqual(b"H", connection.take(1)[:1])
             reset(connection)
         self.serve(tally("staff"))
-        self.assertEqual(Ended(0, self.server.line, b""), self.server.end())
+        self.assertEqual(Ended(-signal.SIGTERM, self.server.line, b""), self.server.stop())
 
     def test_one_octet_too_many(self):
         """It is refused before any of the body is sent, and whoever sends it sees the reply."""
@@ -121,6 +124,8 @@ class BigBodies(ServedTest):
 class BreakingOff(ServedTest):
     """Clients that stop in the middle of a request."""
 
+    order = "run"
+
     def setUp(self):
         super().setUp()
         self.serve(create("staff"), put("staff", "a", "Ann"))
@@ -165,13 +170,13 @@ class BreakingOff(ServedTest):
 
     def test_end_of_the_server(self):
         """A connection that failed is none of the server's faults."""
-        self.restart(3)
+        self.restart()
         self.serve(tally("staff"))
         with self.server.connect() as connection:
             connection.send(put("staff", "b", "Bob")[:-1])
             reset(connection)
         self.serve(tally("staff"))
-        self.assertEqual(Ended(0, self.server.line, b""), self.server.end())
+        self.assertEqual(Ended(-signal.SIGTERM, self.server.line, b""), self.server.stop())
 
     def test_nothing_sent(self):
         for _ in range(3):
@@ -182,6 +187,8 @@ class BreakingOff(ServedTest):
 
 class Closing(ServedTest):
     """Connections that the server closes while the client still sends, or stays silent."""
+
+    order = "run"
 
     def setUp(self):
         super().setUp()
@@ -258,6 +265,8 @@ class Closing(ServedTest):
 
 class Waiting(ServedTest):
     """Clients that wait for replies, for each other, or for nothing."""
+
+    order = "run"
 
     def test_silent_client_first(self):
         """The second client is served although the first is silent, and later the first is."""

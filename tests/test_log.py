@@ -1,4 +1,4 @@
-"""`contacts serve --log`: a line for each request on standard error.
+"""`contacts run --log`: a line for each request on standard error.
 
 The lines are put together here from the requests that were sent and the replies that came. The
 times are only compared with a pattern.
@@ -6,6 +6,7 @@ times are only compared with a pattern.
 
 import os
 import re
+import signal
 import unittest
 
 from http_requests import books, create, get, put, remove, request
@@ -65,13 +66,13 @@ class Log(OrderTest):
 
     def serve(self, octets, more=("--log",), **options):
         """The replies on one connection, and how the server ended."""
-        with Server(self.folder / "a.db", connections=1, more=more, **options) as server:
+        with Server(self.folder / "a.db", more=more, **options) as server:
             replies = server.ask(octets)
-            return split_replies(replies), server.end()
+            return split_replies(replies), server.stop()
 
     def test_a_line_for_each_request(self):
         replies, ended = self.serve(b"".join(octets for _, _, octets in REQUESTS))
-        self.assertEqual((0, len(REQUESTS)), (ended.status, len(replies)))
+        self.assertEqual((-signal.SIGTERM, len(REQUESTS)), (ended.status, len(replies)))
         lines = [line_of(method, target.encode(), reply)
                  for (method, target, _), reply in zip(REQUESTS, replies)]
         self.assertRegex(ended.err, b"^" + b"".join(lines) + rb"\Z")
@@ -108,15 +109,15 @@ class Log(OrderTest):
             for options in {"preexec_fn": lambda: os.dup2(full.fileno(), 2)}, \
                     {"preexec_fn": lambda: os.close(2)}:
                 replies, ended = self.serve(books() + books(), **options)
-                self.assertEqual((0, 2), (ended.status, len(replies)))
+                self.assertEqual((-signal.SIGTERM, 2), (ended.status, len(replies)))
 
     def test_a_reader_that_is_gone(self):
-        server = Server(self.folder / "a.db", connections=2, more=["--log"])
+        server = Server(self.folder / "a.db", more=["--log"])
+        self.addCleanup(server.kill)
         server.process.stderr.close()
         self.assertEqual(2, len(split_replies(server.ask(books() + books()))))
         self.assertEqual(1, len(split_replies(server.ask(books()))))
-        server.process.stdout.read()
-        self.assertEqual(0, server.process.wait(timeout=30))
+        self.assertIsNone(server.process.poll())
 
 
 if __name__ == "__main__":

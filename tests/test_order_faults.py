@@ -215,14 +215,15 @@ class Rows(FaultTest):
 
 
 class Connections(FaultTest):
-    """Connections that fail end alone: the others are served, and the order ends well."""
+    """Connections that `serve` aborts. The others are served; the first fault is reported last."""
 
     def assert_served(self, server):
         self.assertIn(b'"name":"staff"', server.ask(books()))
 
-    def assert_ended(self, server):
+    def assert_ended(self, server, number):
         port = server.address[1]
-        self.assertEqual(Ended(0, b"listening 127.0.0.1:%d\n" % port, b""), server.end())
+        err = b"fault serve %d\n" % number
+        self.assertEqual(Ended(3, b"listening 127.0.0.1:%d\n" % port, err), server.end())
 
     @staticmethod
     def reset(connection):
@@ -253,22 +254,22 @@ class Connections(FaultTest):
             self.assert_served(server)
             self.break_off(server)
             self.assert_served(server)
-            self.assert_ended(server)
+            self.assert_ended(server, 1)
 
     def test_gone_early(self):
         self.put_long_card()
         with Server(self.file, 2) as server:
             self.go_early(server)
             self.assert_served(server)
-            self.assert_ended(server)
+            self.assert_ended(server, 2)
 
-    def test_two_that_fail(self):
+    def test_first_of_two_faults(self):
         self.put_long_card()
         with Server(self.file, 3) as server:
             self.go_early(server)
             self.break_off(server)
             self.assert_served(server)
-            self.assert_ended(server)
+            self.assert_ended(server, 2)
 
     @unittest.skipUnless(hasattr(resource, "prlimit"), "another process can't be limited here")
     def test_no_memory(self):
@@ -283,7 +284,7 @@ class Connections(FaultTest):
             body = 8_388_608 * b"x"
             self.assertEqual(b"", server.ask(request("PUT", "/books/staff/cards/a", body)))
             self.assert_served(server)
-            self.assert_ended(server)
+            self.assert_ended(server, 4)
         self.run_rows(rows.FIVE_CHANGES)
 
 
@@ -341,7 +342,7 @@ class Memory(FaultTest):
         """The places of 1,000 connections need 16 MB, of which a few are there. The order may have
         announced its port by then."""
         pages = self.least("tally a.db staff", lambda ended: ended.status == 0) + 1_000
-        ended = self.run_within("serve a.db --together 1000", pages)
+        ended = self.run_within("run a.db --port 0 --max-open 1000", pages)
         self.assertEqual(NO_MEMORY, ended._replace(out=b""))
         self.assertRegex(ended.out, rb"\A(listening 127\.0\.0\.1:[0-9]+\n)?\Z")
 

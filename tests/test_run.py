@@ -317,7 +317,7 @@ class Pages(RunTest):
         for octets in FORM, FETCH:
             self.renew()
             self.server.kill()
-            with Server(self.file) as server:
+            with Server(self.file, order="serve") as server:
                 self.assertIn(b'"new":1', server.ask(octets))
 
     def test_other_names(self):
@@ -366,6 +366,16 @@ class Options(OrderTest):
                     self.assertRegex(ended.err, rb"^fault open [1-6]\n\Z")
                     self.assertEqual(octets, (self.folder / "a.db").read_bytes())
 
+    def test_an_empty_file_becomes_a_store(self):
+        """As with `init`; without `--create` it isn't taken for one."""
+        (self.folder / "a.db").write_bytes(b"")
+        server = self.start("--create", *OFFICE)
+        self.assertIn(b'{"id":1}', server.ask(create("staff")))
+        server.kill()
+        self.assertEqual(0, run("verify", "a.db", cwd=self.folder).status)
+        (self.folder / "b.db").write_bytes(b"")
+        self.assertEqual(Ended(3, b"", b"fault open 2\n"), self.start(file="b.db").end())
+
     def test_a_file_that_cannot_be_made(self):
         for file in ".", "none/a.db":
             with self.subTest(file):
@@ -383,6 +393,8 @@ class Options(OrderTest):
         second = Server("b.db", order="run", port=first.address[1], more=["--create"],
                         cwd=self.folder)
         self.assertEqual(Ended(3, b"", b"fault device 1\n"), second.end())
+        # The file was made before the port was bound. It stays, and is served the next time.
+        self.assertEqual((0, b"verified 0\n"), run("verify", "b.db", cwd=self.folder)[:2])
 
     def test_several_names(self):
         server = self.start("--create", "--host", "a.example", "--host=B.example", "--host", "")

@@ -1,7 +1,7 @@
 """Many connections at once: nobody waits for somebody else.
 
 Clients that are silent, slow, greedy or gone hold up nobody, and are given up in time. More
-connections than `--together` wait. Hundreds of clients change and follow two books at once: their
+connections than `--max-open` wait. Hundreds of clients change and follow two books at once: their
 replies, their devices and the books are those of one order of all requests. `kill -9` among them
 loses no change that was replied to.
 """
@@ -10,6 +10,7 @@ import os
 import resource
 import select
 import shutil
+import signal
 import socket
 import struct
 import subprocess
@@ -41,13 +42,15 @@ def reset(connection):
 class TogetherTest(ServedTest):
     """A test with another client, which is served at any time."""
 
+    order = "run"
+
     def setUp(self):
         super().setUp()
         self.serve(create("staff"), create("clients"), put("staff", "a", "Ann"))
         self.other = Talk(self)
 
-    def renew_other(self, connections=1_000_000, more=()):
-        self.restart(connections, more)
+    def renew_other(self, more=()):
+        self.restart(more=more)
         self.other = Talk(self)
 
     def connect(self):
@@ -93,11 +96,11 @@ class TogetherTest(ServedTest):
 
 
 class Patience(TogetherTest):
-    """A client that does nothing for `--patience` seconds is given up, and nobody else."""
+    """A client that does nothing for `--idle-timeout` seconds is given up, and nobody else."""
 
     def setUp(self):
         super().setUp()
-        self.restart(more=["--patience", 1])
+        self.restart(more=["--idle-timeout", 1])
 
     def ask_other(self, octets):
         """The other client has a new connection each time, since it may be slow itself."""
@@ -182,13 +185,13 @@ class Patience(TogetherTest):
 
 
 class Together(TogetherTest):
-    """`--together`: how many connections are open at once."""
+    """`--max-open`: how many connections are open at once."""
 
     def is_quiet(self, connection, seconds=0.3):
         return not select.select([connection.socket], [], [], seconds)[0]
 
     def test_more_connections_than_places(self):
-        self.renew_other(more=["--together", 3])
+        self.renew_other(more=["--max-open", 3])
         self.other.ask(books())
         talks = [self.other] + [Talk(self) for _ in range(7)]
         for talk in talks[1:]:
@@ -203,7 +206,7 @@ class Together(TogetherTest):
             waiting.hear(books())
 
     def test_one_after_another(self):
-        self.renew_other(more=["--together", 1])
+        self.renew_other(more=["--max-open", 1])
         self.other.ask(books())
         second = Talk(self)
         second.connection.send(tally("staff"))
@@ -215,29 +218,29 @@ class Together(TogetherTest):
 
     def test_silent_client_with_one_place(self):
         """It keeps the next one waiting for as long as its patience lasts."""
-        self.renew_other(more=["--together", 1, "--patience", 1])
+        self.renew_other(more=["--max-open", 1, "--idle-timeout", 1])
         self.other.ask(books())
         second, begun = Talk(self), time.monotonic()
         second.ask(tally("staff"))
         self.assertGreater(time.monotonic() - begun, 0.8)
         self.assertLess(time.monotonic() - begun, 1 + SLACK)
 
-    def test_end_after_all_connections(self):
-        """The program ends with status 0 once the last of its connections has."""
-        self.renew_other(connections=3)
+    def test_end_of_one_among_others(self):
+        """Connections end one by one, however they do, and the server goes on."""
+        self.renew_other(more=["--max-open", 3])
         talks = [self.other, Talk(self), Talk(self)]
         for talk in talks:
             talk.ask(books())
-        fourth = self.connect()
-        fourth.send(books())
-        self.assertTrue(self.is_quiet(fourth))
+        fourth = Talk(self)
+        fourth.connection.send(books())
+        self.assertTrue(self.is_quiet(fourth.connection))
         reset(talks[1].connection)
+        fourth.hear(books())
         talks[0].end()
         talks[2].ask(tally("staff"))
-        self.assertIsNone(self.server.process.poll())
         talks[2].end()
-        self.assertEqual(Ended(0, self.server.line, b""), self.server.end())
-        self.assertEqual(b"", fourth.rest())
+        fourth.ask(tally("staff"))
+        self.assertIsNone(self.server.process.poll())
 
     @NEEDS_PROC
     def test_few_descriptors(self):
@@ -303,15 +306,13 @@ class BreakingOff(TogetherTest):
     def test_each_state(self):
         self.serve(BIG)
         ends = [reset, lambda it: it.socket.close(), lambda it: it.finish()]
-        states = self.states()
-        self.renew_other(connections=1 + len(ends) * len(states))
-        for octets, wait in states:
+        self.renew_other()
+        for octets, wait in self.states():
             for end in ends:
                 self.go(octets, wait, end)
                 self.ask_other(tally("staff"))
         self.ask_other(export("clients"))
-        self.other.end()
-        self.assertEqual(Ended(0, self.server.line, b""), self.server.end())
+        self.assertEqual(Ended(-signal.SIGTERM, self.server.line, b""), self.server.stop())
 
     @NEEDS_PROC
     def test_descriptors_come_back(self):

@@ -136,7 +136,7 @@ class Office:
 
     def serve(self):
         self.server = subprocess.Popen(
-            [self.program, "serve", self.file, "--port", str(self.port), "--connections", "99999"],
+            [self.program, "run", self.file, "--port", str(self.port)],
             stdout=subprocess.PIPE,
         )
         self.server.stdout.readline()

@@ -1,4 +1,4 @@
-"""Who made a change, from the lines that `contacts serve --log` writes.
+"""Who made a change, from the lines that `contacts run --log` writes.
 
     request PUT /books/staff/cards/a status 201 octets 152 microseconds 913 user ann version 12
 

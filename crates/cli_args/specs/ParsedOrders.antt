@@ -1,6 +1,6 @@
 -- The order that a command line gives: the value of its matches, by `clap`'s definitions. This
 -- project's own.
-use Rattle.std.specs.Prelude.{ℕ, ◌≡◌, ◌≢◌, ◌-◌, ◌^◌, ◌||◌, ⊤, Bool, true, false, List, [], Option}
+use Rattle.std.specs.Prelude.{ℕ, ◌≡◌, ◌≢◌, ◌-◌, ◌^◌, ◌&&◌, ⊤, Bool, true, false, List, [], Option}
 use Rattle.std.specs.Prelude.{Some, None, Result, Ok, Err, codes, find, option_map, option_and_then}
 use Rattle.std.specs.Prelude.{unwrap_or}
 use Rattle.std.specs.Prelude.{if◌then◌else◌}
@@ -20,10 +20,10 @@ use Rattle.cli_args.specs.Subcommands.{contacts_command}
 use Rattle.cli_args.specs.declared.fault.LineFault.{LineFault}
 use Rattle.cli_args.specs.declared.fault.LineFault.TheVariants.{Bad, Memory}
 use Rattle.cli_args.specs.declared.order.Order.{Order}
-use Rattle.cli_args.specs.declared.order.Order.TheVariants.{Try, Init, Book, Serve, ServeWithLimits}
+use Rattle.cli_args.specs.declared.order.Order.TheVariants.{Try, Init, Book, Serve}
 use Rattle.cli_args.specs.declared.order.Order.TheVariants.{Import, Export, Tally, Forget, Mirror}
 use Rattle.cli_args.specs.declared.order.Order.TheVariants.{Expand, Migrate, Check, Books, Verify}
-use Rattle.cli_args.specs.declared.order.Order.TheVariants.{ServeLogged, Run, Version, Convert}
+use Rattle.cli_args.specs.declared.order.Order.TheVariants.{Run, Version, Convert}
 
 -- ---- the values of arguments and options
 
@@ -80,37 +80,22 @@ init_order = with_file (λ file. Some (Init file))
 abbrev pub book_order : List Row → Option Order
 book_order = with_book (λ file book. Some (Book file book))
 
-abbrev pub default_serve_order : List Row → Option Order
-default_serve_order rows = with_file (λ file. option_and_then (λ port.
+abbrev pub serve_order : List Row → Option Order
+serve_order rows = with_file (λ file. option_and_then (λ port.
     option_map (Serve file port) (u64_arg (codes "N") rows)) (port_arg rows)) rows
 
-abbrev pub limited_serve_order : List Row → Option Order
-limited_serve_order rows = with_file (λ file. option_and_then (λ port.
-    option_and_then (λ connections. option_and_then (λ together.
-    option_map (ServeWithLimits file port connections together) (u64_arg (codes "S") rows))
-    (u64_arg (codes "M") rows)) (u64_arg (codes "N") rows)) (port_arg rows)) rows
-
-abbrev pub logged_serve_order : List Row → Option Order
-logged_serve_order rows = with_file (λ file. option_and_then (λ port.
-    option_and_then (λ connections. option_and_then (λ together.
-    option_map (ServeLogged file port connections together) (u64_arg (codes "S") rows))
-    (u64_arg (codes "M") rows)) (u64_arg (codes "N") rows)) (port_arg rows)) rows
-
--- with the limits if one of them was given
-abbrev pub unlogged_serve_order : List Row → Option Order
-unlogged_serve_order rows = if is_given (codes "M") rows || is_given (codes "S") rows
-    then limited_serve_order rows else default_serve_order rows
-
--- with a line for each request if that was asked for
-abbrev pub serve_order : List Row → Option Order
-serve_order rows = if is_given (codes "log") rows
-    then logged_serve_order rows else unlogged_serve_order rows
-
-abbrev pub run_order : List Row → Option Order
-run_order rows = with_file (λ file. option_and_then (λ port. option_and_then (λ max_open.
-    option_map (λ idle_timeout. Run file port (texts_arg (codes "NAME") rows) max_open idle_timeout
+-- at the socket if one was given, and else at the port
+abbrev pub run_order_of : List Row → Option Order
+run_order_of rows = with_file (λ file. option_and_then (λ port. option_and_then (λ max_open.
+    option_map (λ idle_timeout. Run file port (text_arg (codes "PATH") rows)
+    (texts_arg (codes "NAME") rows) max_open idle_timeout
     (is_given (codes "create") rows) (is_given (codes "log") rows)) (u64_arg (codes "S") rows))
     (u64_arg (codes "M") rows)) (port_arg rows)) rows
+
+-- a socket and a port exclude each other
+abbrev pub run_order : List Row → Option Order
+run_order rows = if is_given (codes "PATH") rows && is_given (codes "P") rows
+    then None else run_order_of rows
 
 abbrev pub import_order : List Row → Option Order
 import_order rows = with_book (λ file book. option_and_then (λ key.

@@ -75,27 +75,18 @@ init_command = order_command (codes "init") (file_arg ∷ [])
 abbrev pub book_command : Shape
 book_command = order_command (codes "book") (file_arg ∷ book_arg ∷ [])
 
--- the maximum number of connections open at once
-abbrev pub together_option : Rule
-together_option = number_option (codes "M") (codes "together") 1 1000 (codes "256")
-
--- the seconds after which an idle connection is closed
-abbrev pub patience_option : Rule
-patience_option = number_option (codes "S") (codes "patience") 1 3600 (codes "60")
-
--- whether a line is printed for each request
-abbrev pub log_switch : Rule
-log_switch = switch (codes "log") (codes "log")
-
-abbrev pub serve_command : Shape
-serve_command = order_command (codes "serve")
-    (file_arg ∷ number_option (codes "P") (codes "port") 0 65535 (codes "0")
-    ∷ number_option (codes "N") (codes "connections") 1 1000000 (codes "1")
-    ∷ together_option ∷ patience_option ∷ log_switch ∷ [])
-
 -- the port to listen on
 abbrev pub port_option : Text → Rule
 port_option default = number_option (codes "P") (codes "port") 0 65535 default
+
+abbrev pub serve_command : Shape
+serve_command = order_command (codes "serve")
+    (file_arg ∷ port_option (codes "0")
+    ∷ number_option (codes "N") (codes "connections") 1 1000000 (codes "1") ∷ [])
+
+-- the Unix socket to listen at in place of a port
+abbrev pub socket_option : Rule
+socket_option = free_option (codes "PATH") (codes "socket")
 
 -- the names that a request's Host may have
 abbrev pub host_option : Rule
@@ -113,9 +104,13 @@ idle_timeout_option = number_option (codes "S") (codes "idle-timeout") 1 3600 (c
 abbrev pub create_switch : Rule
 create_switch = switch (codes "create") (codes "create")
 
+-- whether a line is printed for each request
+abbrev pub log_switch : Rule
+log_switch = switch (codes "log") (codes "log")
+
 abbrev pub run_command : Shape
 run_command = order_command (codes "run")
-    (file_arg ∷ port_option (codes "8080") ∷ host_option ∷ max_open_option
+    (file_arg ∷ port_option (codes "8080") ∷ socket_option ∷ host_option ∷ max_open_option
     ∷ idle_timeout_option ∷ create_switch ∷ log_switch ∷ [])
 
 abbrev pub import_command : Shape

@@ -81,44 +81,49 @@ WorkedConnections =
     × (order_from (over_file (codes "serve") (codes "--connections=1000001" ∷ [])) ≡ None)
     × (order_from (over_file (codes "serve") (codes "--connections=0" ∷ [])) ≡ None)
 
-abbrev pub WorkedLimits : Type 0
-WorkedLimits =
-    (order_from (over_file (codes "serve") (codes "--together=1" ∷ []))
-    ≡ Some (order.ServeWithLimits db 0 1 1 60))
-    × (order_from (over_file (codes "serve") (codes "--together=256" ∷ []))
-    ≡ Some (order.ServeWithLimits db 0 1 256 60))
-    × (order_from (over_file (codes "serve") (codes "--together=1001" ∷ [])) ≡ None)
-    × (order_from (over_file (codes "serve") (codes "--together=0" ∷ [])) ≡ None)
-    × (order_from (over_file (codes "serve") (codes "--patience" ∷ codes "1" ∷ []))
-    ≡ Some (order.ServeWithLimits db 0 1 256 1))
-    × (order_from (over_file (codes "serve") (codes "--patience=3601" ∷ [])) ≡ None)
-    × (order_from (over_file (codes "serve") (codes "--patience=0" ∷ [])) ≡ None)
-    × (order_from (over_file (codes "serve")
-    (codes "--patience=3600" ∷ codes "--together=1000" ∷ codes "--connections=9" ∷ []))
-    ≡ Some (order.ServeWithLimits db 0 9 1000 3600))
+abbrev pub WorkedServes : Type 0
+WorkedServes =
+    (order_from (over_file (codes "serve") (codes "--connections=9" ∷ codes "--port=8" ∷ []))
+    ≡ Some (order.Serve db 8 9))
+    × (order_from (over_file (codes "serve") (codes "--max-open=1" ∷ [])) ≡ None)
+    × (order_from (over_file (codes "serve") (codes "--idle-timeout=1" ∷ [])) ≡ None)
+    × (order_from (over_file (codes "serve") (codes "--log" ∷ [])) ≡ None)
 
 abbrev pub WorkedRuns : Type 0
 WorkedRuns =
-    (order_from (over_file (codes "run") []) ≡ Some (order.Run db 8080 [] 256 60 false false))
+    (order_from (over_file (codes "run") []) ≡ Some (order.Run db 8080 None [] 256 60 false false))
     × (order_from (over_file (codes "run")
     (codes "--host=a" ∷ codes "--create" ∷ codes "--host" ∷ codes "b" ∷ codes "--log" ∷ []))
-    ≡ Some (order.Run db 8080 (codes "a" ∷ codes "b" ∷ []) 256 60 true true))
+    ≡ Some (order.Run db 8080 None (codes "a" ∷ codes "b" ∷ []) 256 60 true true))
     × (order_from (over_file (codes "run")
     (codes "--port=0" ∷ codes "--max-open=1000" ∷ codes "--idle-timeout=1" ∷ []))
-    ≡ Some (order.Run db 0 [] 1000 1 false false))
-    × (order_from (over_file (codes "run") (codes "--max-open=1001" ∷ [])) ≡ None)
-    × (order_from (over_file (codes "run") (codes "--idle-timeout=0" ∷ [])) ≡ None)
+    ≡ Some (order.Run db 0 None [] 1000 1 false false))
     × (order_from (over_file (codes "run") (codes "--connections=1" ∷ [])) ≡ None)
+
+abbrev pub WorkedSockets : Type 0
+WorkedSockets =
+    (order_from (over_file (codes "run") (codes "--socket=s" ∷ []))
+    ≡ Some (order.Run db 8080 (Some (codes "s")) [] 256 60 false false))
+    × (order_from (over_file (codes "run") (codes "--socket" ∷ codes "s" ∷ codes "--port=8080" ∷ []))
+    ≡ None)
+    × (order_from (over_file (codes "run") (codes "--socket=s" ∷ codes "--socket=s" ∷ [])) ≡ None)
+    × (order_from (over_file (codes "serve") (codes "--socket=s" ∷ [])) ≡ None)
+
+abbrev pub WorkedLimits : Type 0
+WorkedLimits =
+    (order_from (over_file (codes "run") (codes "--max-open=1" ∷ codes "--idle-timeout=3600" ∷ []))
+    ≡ Some (order.Run db 8080 None [] 1 3600 false false))
+    × (order_from (over_file (codes "run") (codes "--max-open=1001" ∷ [])) ≡ None)
+    × (order_from (over_file (codes "run") (codes "--max-open=0" ∷ [])) ≡ None)
+    × (order_from (over_file (codes "run") (codes "--idle-timeout=3601" ∷ [])) ≡ None)
+    × (order_from (over_file (codes "run") (codes "--idle-timeout=0" ∷ [])) ≡ None)
 
 abbrev pub WorkedLogs : Type 0
 WorkedLogs =
-    (order_from (over_file (codes "serve") (codes "--log" ∷ []))
-    ≡ Some (order.ServeLogged db 0 1 256 60))
-    × (order_from (over_file (codes "serve")
-    (codes "--log" ∷ codes "--port=8" ∷ codes "--together=9" ∷ codes "--patience=3600" ∷ []))
-    ≡ Some (order.ServeLogged db 8 1 9 3600))
-    × (order_from (over_file (codes "serve") (codes "--log=yes" ∷ [])) ≡ None)
-    × (order_from (over_file (codes "serve") (codes "--log" ∷ codes "--log" ∷ [])) ≡ None)
+    (order_from (over_file (codes "run") (codes "--log" ∷ []))
+    ≡ Some (order.Run db 8080 None [] 256 60 false true))
+    × (order_from (over_file (codes "run") (codes "--log=yes" ∷ [])) ≡ None)
+    × (order_from (over_file (codes "run") (codes "--log" ∷ codes "--log" ∷ [])) ≡ None)
     × (order_from (over_book (codes "tally") (codes "--log" ∷ [])) ≡ None)
 
 abbrev pub WorkedForms : Type 0

@@ -4,7 +4,8 @@ ghost use Rattle.cli_args.specs.WorkedLines.{WorkedConnections, WorkedConversion
 ghost use Rattle.cli_args.specs.WorkedLines.{WorkedFaults, WorkedFiles, WorkedForms, WorkedLimits};
 ghost use Rattle.cli_args.specs.WorkedLines.{WorkedLogs};
 ghost use Rattle.cli_args.specs.WorkedLines.{WorkedNumbers, WorkedOrders, WorkedPages};
-ghost use Rattle.cli_args.specs.WorkedLines.{WorkedPorts, WorkedRuns, WorkedVersions};
+ghost use Rattle.cli_args.specs.WorkedLines.{WorkedPorts, WorkedRuns, WorkedServes};
+ghost use Rattle.cli_args.specs.WorkedLines.{WorkedSockets, WorkedVersions};
 
 /// Some command lines and their orders, or none.
 /// - `orders`: no argument, `try`, `init`, `book`, `import`, `tally`, `expand` and `migrate`.
@@ -16,13 +17,15 @@ ghost use Rattle.cli_args.specs.WorkedLines.{WorkedPorts, WorkedRuns, WorkedVers
 /// - `defaults`: `serve`, `export` and `mirror` without options.
 /// - `ports`: 8 and 65535 are ports; 65536 is none.
 /// - `connections`: 1000000 is accepted; 1000001 and 0 are not.
-/// - `limits`: with `--together` or `--patience`, even if it gives the default, `serve` has limits,
-///   and the default of the other; 1 and 1000 connections are accepted, 0 and 1001 are not; 1 and
-///   3600 seconds are accepted, 0 and 3601 are not.
-/// - `runs`: `run` without options and with all of them, `--host` twice; 1000 open connections and 1
-///   second are accepted, 1001 and 0 are not, nor a number of connections.
-/// - `logs`: with `--log`, `serve` prints a line for each request, and has limits; given twice,
-///   with a value or after another order it is invalid.
+/// - `serves`: `serve` with both of its options; not with those of `run`.
+/// - `runs`: `run` without options and with all of them, `--host` twice; not with a number of
+///   connections.
+/// - `sockets`: `run` with a socket; not with a socket and a port, even if it is the default, nor
+///   with two sockets; `serve` has none.
+/// - `limits`: of `run`; 1 and 1000 open connections are accepted, 0 and 1001 are not; 1 and 3600
+///   seconds are accepted, 0 and 3601 are not.
+/// - `logs`: with `--log`, `run` prints a line for each request; given twice, with a value or after
+///   another order it is invalid.
 /// - `forms`: `columns` is a form; `rows` is none.
 /// - `numbers`: `forget` accepts 999999999999999, and not one more.
 /// - `pages`: `mirror` accepts a limit of 0 with 1000000 pages; not 1000001 or 0 pages, nor a limit
@@ -37,8 +40,10 @@ pub fn worked_lines_are_orders()
     ensures defaults { WorkedDefaults }
     ensures ports { WorkedPorts }
     ensures connections { WorkedConnections }
-    ensures limits { WorkedLimits }
+    ensures serves { WorkedServes }
     ensures runs { WorkedRuns }
+    ensures sockets { WorkedSockets }
+    ensures limits { WorkedLimits }
     ensures logs { WorkedLogs }
     ensures forms { WorkedForms }
     ensures numbers { WorkedNumbers }

@@ -6,7 +6,8 @@ ghost use Rattle.cli_args.specs.ParsedOrders.{ParsesTo};
 use crate::fault::LineFault;
 use crate::order::Order;
 use crate::values::{
-    form_arg, given_text, given_texts, given_u64, is_given, port_arg, refuse, text_arg, u64_arg,
+    form_arg, given_text, given_texts, given_u64, is_given, port_arg, refuse,
+    refuse_socket_and_port, text_arg, u64_arg,
 };
 use clap::ArgMatches;
 use std::alloc::Global;
@@ -26,8 +27,8 @@ fn book_order(alloc: Global, matches: &ArgMatches<'_>) -> Result<Order, LineFaul
     Ok(Order::Book { file, book })
 }
 
-fn default_serve_order(alloc: Global, matches: &ArgMatches<'_>) -> Result<Order, LineFault>
-    ensures { ParsesTo (parsed.default_serve_order (rows_of (found_of matches.now))) result }
+fn serve_order(alloc: Global, matches: &ArgMatches<'_>) -> Result<Order, LineFault>
+    ensures { ParsesTo (parsed.serve_order (rows_of (found_of matches.now))) result }
 {
     let file = text_arg(alloc, matches, "FILE")?;
     let port = port_arg(alloc, matches)?;
@@ -39,80 +40,37 @@ fn default_serve_order(alloc: Global, matches: &ArgMatches<'_>) -> Result<Order,
     })
 }
 
-fn limited_serve_order(alloc: Global, matches: &ArgMatches<'_>) -> Result<Order, LineFault>
-    ensures { ParsesTo (parsed.limited_serve_order (rows_of (found_of matches.now))) result }
-{
-    let file = text_arg(alloc, matches, "FILE")?;
-    let port = port_arg(alloc, matches)?;
-    let connections = u64_arg(alloc, matches, "N")?;
-    let together = u64_arg(alloc, matches, "M")?;
-    let patience = u64_arg(alloc, matches, "S")?;
-    Ok(Order::ServeWithLimits {
-        file,
-        port,
-        connections,
-        together,
-        patience,
-    })
-}
-
-fn logged_serve_order(alloc: Global, matches: &ArgMatches<'_>) -> Result<Order, LineFault>
-    ensures { ParsesTo (parsed.logged_serve_order (rows_of (found_of matches.now))) result }
-{
-    let file = text_arg(alloc, matches, "FILE")?;
-    let port = port_arg(alloc, matches)?;
-    let connections = u64_arg(alloc, matches, "N")?;
-    let together = u64_arg(alloc, matches, "M")?;
-    let patience = u64_arg(alloc, matches, "S")?;
-    Ok(Order::ServeLogged {
-        file,
-        port,
-        connections,
-        together,
-        patience,
-    })
-}
-
-/// The order `serve` without `--log`, with the limits if one of them was given.
-fn unlogged_serve_order(alloc: Global, matches: &ArgMatches<'_>) -> Result<Order, LineFault>
-    ensures { ParsesTo (parsed.unlogged_serve_order (rows_of (found_of matches.now))) result }
-{
-    if is_given(matches, "M") || is_given(matches, "S") {
-        limited_serve_order(alloc, matches)
-    } else {
-        default_serve_order(alloc, matches)
-    }
-}
-
-/// The order `serve`.
-fn serve_order(alloc: Global, matches: &ArgMatches<'_>) -> Result<Order, LineFault>
-    ensures { ParsesTo (parsed.serve_order (rows_of (found_of matches.now))) result }
-{
-    if is_given(matches, "log") {
-        logged_serve_order(alloc, matches)
-    } else {
-        unlogged_serve_order(alloc, matches)
-    }
-}
-
-/// The order `run`.
-fn run_order(alloc: Global, matches: &ArgMatches<'_>) -> Result<Order, LineFault>
-    ensures { ParsesTo (parsed.run_order (rows_of (found_of matches.now))) result }
+/// The order `run`, at the socket if one was given, and else at the port.
+fn run_order_of(alloc: Global, matches: &ArgMatches<'_>) -> Result<Order, LineFault>
+    ensures { ParsesTo (parsed.run_order_of (rows_of (found_of matches.now))) result }
 {
     let file = text_arg(alloc, matches, "FILE")?;
     let port = port_arg(alloc, matches)?;
     let max_open = u64_arg(alloc, matches, "M")?;
     let idle_timeout = u64_arg(alloc, matches, "S")?;
+    let socket = given_text(alloc, matches, "PATH")?;
     let names = given_texts(alloc, matches, "NAME")?;
     Ok(Order::Run {
         file,
         port,
+        socket,
         names,
         max_open,
         idle_timeout,
         creates: is_given(matches, "create"),
         is_logged: is_given(matches, "log"),
     })
+}
+
+/// The order `run`, if a socket and a port weren't both given.
+fn run_order(alloc: Global, matches: &ArgMatches<'_>) -> Result<Order, LineFault>
+    ensures { ParsesTo (parsed.run_order (rows_of (found_of matches.now))) result }
+{
+    if is_given(matches, "PATH") && is_given(matches, "P") {
+        refuse_socket_and_port(alloc)
+    } else {
+        run_order_of(alloc, matches)
+    }
 }
 
 fn import_order(alloc: Global, matches: &ArgMatches<'_>) -> Result<Order, LineFault>

@@ -20,7 +20,7 @@ pub enum Order {
         /// The new book's name.
         book: Text,
     },
-    /// Serve the books over HTTP, with the default limits.
+    /// Serve the books over HTTP to one connection after another.
     Serve {
         /// The path of a store file.
         file: Text,
@@ -29,40 +29,14 @@ pub enum Order {
         /// The number of connections to serve, 1 to 1,000,000.
         connections: u64,
     },
-    /// Serve the books over HTTP, with at least one limit from the command line.
-    ServeWithLimits {
-        /// The path of a store file.
-        file: Text,
-        /// The port to listen on; 0 for any free port.
-        port: u16,
-        /// The number of connections to serve, 1 to 1,000,000.
-        connections: u64,
-        /// The maximum number of connections open at once, 1 to 1,000; 256 if it wasn't given.
-        together: u64,
-        /// The seconds that a connection may be idle, and that the head of a request may take, 1 to
-        /// 3,600; 60 if it wasn't given.
-        patience: u64,
-    },
-    /// Serve the books over HTTP, and print a line for each request on standard error.
-    ServeLogged {
-        /// The path of a store file.
-        file: Text,
-        /// The port to listen on; 0 for any free port.
-        port: u16,
-        /// The number of connections to serve, 1 to 1,000,000.
-        connections: u64,
-        /// The maximum number of connections open at once, 1 to 1,000; 256 if it wasn't given.
-        together: u64,
-        /// The seconds that a connection may be idle, and that the head of a request may take, 1 to
-        /// 3,600; 60 if it wasn't given.
-        patience: u64,
-    },
     /// Serve the books over HTTP to many connections at once, until the program is stopped.
     Run {
         /// The path of a store file.
         file: Text,
         /// The port to listen on; 0 for any free port; 8080 if it wasn't given.
         port: u16,
+        /// The path of a Unix socket to listen at in place of the port, if it was given.
+        socket: Option<Text>,
         /// The names that a request's Host may have, beside those of the loopback.
         names: Items<Text>,
         /// The maximum number of connections open at once, 1 to 1,000; 256 if it wasn't given.

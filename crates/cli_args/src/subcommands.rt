@@ -7,8 +7,8 @@ ghost use Rattle.cli_args.specs.Subcommands.{AreOrderCommands, AreArguments, IsA
 ghost use Rattle.cli_args.specs.Subcommands.{IsOrderCommand};
 
 use crate::arguments::{
-    argument, book_arg, file_arg, flag, number_arg, number_option, option_arg, repeated_option,
-    switch,
+    argument, book_arg, file_arg, flag, free_option, number_arg, number_option, option_arg,
+    repeated_option, switch,
 };
 use crate::convert_command::convert_command;
 use clap::{Arg, Command};
@@ -73,58 +73,24 @@ fn book_command<'a>(alloc: Global) -> Result<Command<'a>, AllocError>
     )
 }
 
-fn together_option<'a>(alloc: Global) -> Arg<'a>
-    ensures { IsArgument lines.together_option result }
+/// The option `--port`.
+fn port_option<'a>(alloc: Global, default: &'a str) -> Arg<'a>
+    ensures { IsArgument (lines.port_option default.entry.now) result }
 {
     number_option(
         alloc,
-        "M",
-        "together",
-        1,
-        1_000,
-        "256",
-        "Maximum number of connections open at once, 1 to 1000",
-    )
-}
-
-fn patience_option<'a>(alloc: Global) -> Arg<'a>
-    ensures { IsArgument lines.patience_option result }
-{
-    number_option(
-        alloc,
-        "S",
-        "patience",
-        1,
-        3_600,
-        "60",
-        "Seconds after which an idle connection is closed, or one whose request headers are \
-         incomplete, 1 to 3600",
-    )
-}
-
-fn log_switch<'a>(alloc: Global) -> Arg<'a>
-    ensures { IsArgument lines.log_switch result }
-{
-    switch(
-        alloc,
-        "log",
-        "log",
-        "Print a line for each request on standard error when it is answered",
+        "P",
+        "port",
+        0,
+        65_535,
+        default,
+        "Port to listen on, 0 to 65535; 0 picks a free port",
     )
 }
 
 fn serve_command<'a>(alloc: Global) -> Result<Command<'a>, AllocError>
     ensures { IfOk result (IsOrderCommand lines.serve_command) }
 {
-    let port = number_option(
-        alloc,
-        "P",
-        "port",
-        0,
-        65_535,
-        "0",
-        "Port to listen on, 0 to 65535; 0 picks a free port",
-    );
     let connections = number_option(
         alloc,
         "N",
@@ -137,21 +103,26 @@ fn serve_command<'a>(alloc: Global) -> Result<Command<'a>, AllocError>
     order_command(
         alloc,
         "serve",
-        "Serve the books over HTTP on 127.0.0.1",
-        "Example:\n  contacts serve office.db --port 8080 --connections 1000000\n\nPrints the \
-         address and port before accepting connections. A request body may have up to 8,388,608 \
-         bytes.",
+        "Serve one connection after another over HTTP on 127.0.0.1",
+        "Example:\n  contacts serve office.db --port 8080 --connections 2\n\nFor scripts and \
+         tests: it waits for each client, checks no Host, and ends after the last connection. To \
+         serve an office, use `run`.\n\nPrints the address and port before accepting connections. \
+         A request body may have up to 8,388,608 bytes.",
         Vec::from_array(
             alloc,
-            [
-                file_arg(alloc),
-                port,
-                connections,
-                together_option(alloc),
-                patience_option(alloc),
-                log_switch(alloc),
-            ],
+            [file_arg(alloc), port_option(alloc, "0"), connections],
         )?,
+    )
+}
+
+fn socket_option<'a>(alloc: Global) -> Arg<'a>
+    ensures { IsArgument lines.socket_option result }
+{
+    free_option(
+        alloc,
+        "PATH",
+        "socket",
+        "Unix socket to listen at in place of a port; its owner and its group may connect",
     )
 }
 
@@ -207,31 +178,34 @@ fn create_switch<'a>(alloc: Global) -> Arg<'a>
     )
 }
 
+fn log_switch<'a>(alloc: Global) -> Arg<'a>
+    ensures { IsArgument lines.log_switch result }
+{
+    switch(
+        alloc,
+        "log",
+        "log",
+        "Print a line for each request on standard error when it is answered",
+    )
+}
+
 fn run_command<'a>(alloc: Global) -> Result<Command<'a>, AllocError>
     ensures { IfOk result (IsOrderCommand lines.run_command) }
 {
-    let port = number_option(
-        alloc,
-        "P",
-        "port",
-        0,
-        65_535,
-        "8080",
-        "Port to listen on, 0 to 65535; 0 picks a free port",
-    );
     order_command(
         alloc,
         "run",
-        "Serve the books over HTTP on 127.0.0.1 until it is stopped",
-        "Example:\n  contacts run office.db --create\n\nPrints the address and port before \
-         accepting connections. A request is refused if its Host is none of the server's names, if \
+        "Serve the books over HTTP on 127.0.0.1, or at a Unix socket, until it is stopped",
+        "Example:\n  contacts run office.db --create\n\nPrints where it listens before accepting \
+         connections. A request is refused if its Host is none of the server's names, if \
          a page of another site sends a change, or if a change has a precondition such as \
          If-Match. A request body may have up to 8,388,608 bytes.",
         Vec::from_array(
             alloc,
             [
                 file_arg(alloc),
-                port,
+                port_option(alloc, "8080"),
+                socket_option(alloc),
                 host_option(alloc),
                 max_open_option(alloc),
                 idle_timeout_option(alloc),

@@ -26,6 +26,19 @@ pub(crate) fn refuse<T>(alloc: Global, wanted: &str, value: &str) -> Result<T, L
     Err(LineFault::Bad { text })
 }
 
+/// The message for two options of `run` that exclude each other, in the form of `clap`'s own
+/// messages.
+const SOCKET_AND_PORT: &str = "error: the argument '--socket <PATH>' cannot be used with '--port \
+     <P>'\n\nUsage: contacts run [OPTIONS] <FILE>\n\nFor more information, try '--help'.\n";
+
+/// The fault for a socket and a port.
+pub(crate) fn refuse_socket_and_port<T>(alloc: Global) -> Result<T, LineFault>
+    ensures { ParsesTo None result }
+{
+    let text = Text::copy_of(alloc, SOCKET_AND_PORT)?;
+    Err(LineFault::Bad { text })
+}
+
 /// The text of an argument.
 pub(crate) fn text_arg(alloc: Global, matches: &ArgMatches<'_>, id: &str) -> Result<Text, LineFault>
     ensures { ParsesTo (parsed.text_arg id.now (rows_of (found_of matches.now))) result }

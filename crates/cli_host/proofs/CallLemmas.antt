@@ -1,5 +1,5 @@
 -- The calls that are made of a host, and what is done with their results.
-use Rattle.std.proofs.Common.{◌≡◌, ◌≢◌, ◌⊎◌, ℕ, Bool, true, List, [], ◌∷◌, ◌++◌, Option, Result, Ok, Err, IfErr, OnOk, inl, inr, refl, subst}
+use Rattle.std.proofs.Common.{◌≡◌, ◌≢◌, ◌⊎◌, ℕ, Bool, true, false, List, [], ◌∷◌, ◌++◌, Option, Result, Ok, Err, IfErr, OnOk, inl, inr, refl, subst, sym}
 use Rattle.std.specs.Io.KnownBytes.{Appends}
 use Rattle.book_commands.specs.declared.command.Command.TheVariants.{Import as ImportRows}
 use Rattle.cli_orders.specs.Announcements.{AnnouncesAndServes, StopsServing}
@@ -11,10 +11,11 @@ use Rattle.cli_host.specs.Listings.{PrintsListing, StopsListing}
 use Rattle.cli_host.specs.declared.listing.Listing.TheVariants.{Verified}
 use Rattle.cli_orders.specs.Stops.{out_of_memory}
 use Rattle.book_http.specs.Streams.{WritesPrefix}
+use Rattle.cli_orders.specs.declared.address.Address.{Address}
 use Rattle.cli_orders.specs.declared.stop.Stop.{Stop}
 use Rattle.cli_orders.specs.declared.stop.Stop.TheVariants.{Open, Device}
 use Rattle.cli_orders.proofs.StopLemmas.{kept_same}
-use Rattle.cli_host.specs.Hosts.{HostCall, Creates, Opens, FindsFault, Migrates, ReadsRows, Binds, Finishes, HasLog, LogsCalls, MakesCalls}
+use Rattle.cli_host.specs.Hosts.{HostCall, Creates, Looks, Opens, FindsFault, Migrates, ReadsRows, Binds, Finishes, HasLog, IsBoundAs, LogsCalls, MakesCalls}
 use Rattle.cli_host.specs.OrdersOnHost.{ChecksFile, DoesInFile, DoesStoreWork, GetsStore, ImportsRows, MakesStore, MigratesFile, ServesAt, ServesStore, StopsAt, StopsChecking, StopsInFile, StopsMaking, StopsMigrating, StopsOnImport, StopsReadingRows, StopsStore, StopsStoreWork, StopsUnbound, StopsUnopened, StopsVerifying, VerifiesFile}
 use Rattle.cli_host.specs.declared.work.StoreWork.{StoreWork}
 use Rattle.http_replies.specs.Replies.{head_fault_octets}
@@ -33,11 +34,11 @@ unbound : (stop : Stop) (w : Option (List ℕ)) → (stop ≡ out_of_memory) ⊎
 unbound stop w (inl is) = inl (record { stop_is = is; unwritten = kept_same w })
 unbound stop w (inr is) = inr (record { stop_is = is; unwritten = kept_same w })
 
-module _ {S P H : Type 0} (calls : HostCall S P → H → H → Type 0) where
-  one_call : (old new : H) (call : HostCall S P) (Holds : List (HostCall S P) → Type 0) → calls call old new → Holds (call ∷ []) → LogsCalls calls old new Holds
+module _ {S P L H : Type 0} (calls : HostCall S P L → H → H → Type 0) where
+  one_call : (old new : H) (call : HostCall S P L) (Holds : List (HostCall S P L) → Type 0) → calls call old new → Holds (call ∷ []) → LogsCalls calls old new Holds
   one_call old new call Holds made holds = record { log = call ∷ []; made = (new, made, refl); holds = holds }
 
-  pub log_of : (old new : H) (Holds : List (HostCall S P) → Type 0) → LogsCalls calls old new Holds → HasLog Holds
+  pub log_of : (old new : H) (Holds : List (HostCall S P L) → Type 0) → LogsCalls calls old new Holds → HasLog Holds
   log_of old new Holds calls_made = record { log = calls_made.log; holds = calls_made.holds }
 
   -- ---- a new store
@@ -91,8 +92,8 @@ module _ {S P H : Type 0} (calls : HostCall S P → H → H → Type 0) where
 
 -- ---- stores
 
-module _ {S P H : Type 0} (model : StoreModel S) (calls : HostCall S P → H → H → Type 0) where
-  abbrev StopsImport : S → List ℕ → List ℕ → List ℕ → Stop → Option (List ℕ) → Option (List ℕ) → S → List (HostCall S P) → Type 0
+module _ {S P L H : Type 0} (model : StoreModel S) (calls : HostCall S P L → H → H → Type 0) where
+  abbrev StopsImport : S → List ℕ → List ℕ → List ℕ → Stop → Option (List ℕ) → Option (List ℕ) → S → List (HostCall S P L) → Type 0
   StopsImport old book key csv stop before after new log = StopsReadingRows model old csv stop before after new log ⊎ StopsOnImport model old book key csv stop before after new log
 
   pub rows_unread : (host_old host_new : H) (old : S) (book key csv : List ℕ) (stop : Stop) (w : Option (List ℕ)) → calls (ReadsRows csv (Err stop)) host_old host_new → (stop ≡ out_of_memory) ⊎ (stop ≡ Device)
@@ -162,56 +163,71 @@ module _ {S P H : Type 0} (model : StoreModel S) (calls : HostCall S P → H →
 
 -- ---- serving
 
-module _ {S P H : Type 0} (calls : HostCall S P → H → H → Type 0) where
+module _ {S P L H : Type 0} (calls : HostCall S P L → H → H → Type 0) where
   -- calls of the host in turn
-  makes_both : (first later : List (HostCall S P)) (old middle new : H) → MakesCalls calls old first middle → MakesCalls calls middle later new → MakesCalls calls old (first ++ later) new
+  makes_both : (first later : List (HostCall S P L)) (old middle new : H) → MakesCalls calls old first middle → MakesCalls calls middle later new → MakesCalls calls old (first ++ later) new
   makes_both [] later old middle new same made = subst (λ (h : H). MakesCalls calls h later new) same made
   makes_both (call ∷ first) later old middle new (next, did, rest) made = (next, did, makes_both first later next middle new rest made)
 
-  pub store_opened : (old new : H) (file : List ℕ) (creates : Bool) (result : Result S OpenFault) → calls (Opens file result) old new → LogsCalls calls old new (GetsStore file creates result)
-  store_opened old new file creates result made = one_call calls old new (Opens file result) (GetsStore file creates result) made (inl refl)
+  pub store_opened : (old new : H) (file : List ℕ) (creates : Bool) (result : Result S OpenFault) → creates ≡ false → calls (Opens file result) old new → LogsCalls calls old new (GetsStore file creates result)
+  store_opened old new file creates result asked made =
+      subst (λ (creates : Bool). LogsCalls calls old new (GetsStore file creates result)) (sym asked) (one_call calls old new (Opens file result) (GetsStore file false result) made refl)
 
-  pub store_created : (old new : H) (file : List ℕ) (creates : Bool) (result : Result S OpenFault) → creates ≡ true → calls (Creates file result) old new → LogsCalls calls old new (GetsStore file creates result)
-  store_created old new file creates result wanted made = one_call calls old new (Creates file result) (GetsStore file creates result) made (inr (wanted, refl))
+  pub store_got : (old new : H) (file : List ℕ) (creates : Bool) (result : Result S OpenFault) → creates ≡ true → LogsCalls calls old new (GetsStore file true result) → LogsCalls calls old new (GetsStore file creates result)
+  store_got old new file creates result asked got = subst (λ (creates : Bool). LogsCalls calls old new (GetsStore file creates result)) (sym asked) got
 
-module _ {S P State H : Type 0} (does : HandlerRelation State) (fault_reply : FaultReplies) (effects : EndpointRelation P) (calls : HostCall S P → H → H → Type 0) where
-  pub at_unbound : (old new : H) (requested : ℕ) (limits : ServeLimits) (state : State) (stop : Stop) (w : Option (List ℕ)) → calls (Binds requested limits.together (Err stop)) old new → (stop ≡ out_of_memory) ⊎ (stop ≡ Device)
+  pub vacant_created : (old looked new : H) (file : List ℕ) (vacant : Bool) (result : Result S OpenFault) → vacant ≡ true → calls (Looks file vacant) old looked → calls (Creates file result) looked new → LogsCalls calls old new (GetsStore file true result)
+  vacant_created old looked new file vacant result is looks made = record {
+    log = Looks file true ∷ Creates file result ∷ [];
+    made = (looked, subst (λ (vacant : Bool). calls (Looks file vacant) old looked) is looks, (new, made, refl));
+    holds = inl refl;
+  }
+
+  pub used_opened : (old looked new : H) (file : List ℕ) (vacant : Bool) (result : Result S OpenFault) → vacant ≡ false → calls (Looks file vacant) old looked → calls (Opens file result) looked new → LogsCalls calls old new (GetsStore file true result)
+  used_opened old looked new file vacant result is looks made = record {
+    log = Looks file false ∷ Opens file result ∷ [];
+    made = (looked, subst (λ (vacant : Bool). calls (Looks file vacant) old looked) is looks, (new, made, refl));
+    holds = inr refl;
+  }
+
+module _ {S P L State H : Type 0} (does : HandlerRelation State) (fault_reply : FaultReplies) (effects : EndpointRelation P) (calls : HostCall S P L → H → H → Type 0) where
+  pub at_unbound : (old new : H) (requested : Address) (limits : ServeLimits) (state : State) (stop : Stop) (w : Option (List ℕ)) → calls (Binds requested limits.together (Err stop)) old new → (stop ≡ out_of_memory) ⊎ (stop ≡ Device)
       → LogsCalls calls old new (StopsAt does fault_reply effects requested limits stop state w w)
   at_unbound old new requested limits state stop w binds stop_is =
       one_call calls old new (Binds requested limits.together (Err stop)) (StopsAt does fault_reply effects requested limits stop state w w) binds (inl (refl, unbound stop w stop_is))
 
-  pub at_served : (result : Result (Unit {0}) Stop) (old bound new : H) (requested port : ℕ) (limits : ServeLimits) (state state_after : State) (endpoint endpoint_after : P) (before after : Option (List ℕ))
-      → calls (Binds requested limits.together (Ok (endpoint, port))) old bound → calls (Finishes endpoint_after) bound new → (requested ≢ 0 → port ≡ requested)
-      → OnOk result (AnnouncesAndServes does fault_reply effects port limits state endpoint before after state_after endpoint_after)
+  pub at_served : (result : Result (Unit {0}) Stop) (old bound new : H) (requested address : Address) (limits : ServeLimits) (state state_after : State) (endpoint endpoint_after : P) (before after : Option (List ℕ))
+      → calls (Binds requested limits.together (Ok (endpoint, address))) old bound → calls (Finishes endpoint_after) bound new → IsBoundAs requested address
+      → OnOk result (AnnouncesAndServes does fault_reply effects address limits state endpoint before after state_after endpoint_after)
       → OnOk result (LogsCalls calls old new (ServesAt does fault_reply effects requested limits state before after))
-  at_served (Ok done) old bound new requested port limits state state_after endpoint endpoint_after before after binds finishes is_requested announces = record {
-    log = Binds requested limits.together (Ok (endpoint, port)) ∷ Finishes endpoint_after ∷ [];
+  at_served (Ok done) old bound new requested address limits state state_after endpoint endpoint_after before after binds finishes is_requested announces = record {
+    log = Binds requested limits.together (Ok (endpoint, address)) ∷ Finishes endpoint_after ∷ [];
     made = (bound, binds, (new, finishes, refl));
-    holds = record { endpoint = endpoint; port = port; new = state_after; endpoint_after = endpoint_after; calls = refl; is_requested = is_requested; announces = announces };
+    holds = record { endpoint = endpoint; address = address; new = state_after; endpoint_after = endpoint_after; calls = refl; is_requested = is_requested; announces = announces };
   }
-  at_served (Err stop) old bound new requested port limits state state_after endpoint endpoint_after before after binds finishes is_requested announces = tt
+  at_served (Err stop) old bound new requested address limits state state_after endpoint endpoint_after before after binds finishes is_requested announces = tt
 
-  pub at_stopped : (result : Result (Unit {0}) Stop) (old bound new : H) (requested port : ℕ) (limits : ServeLimits) (state state_after : State) (endpoint endpoint_after : P) (before after : Option (List ℕ))
-      → calls (Binds requested limits.together (Ok (endpoint, port))) old bound → calls (Finishes endpoint_after) bound new → (requested ≢ 0 → port ≡ requested)
-      → IfErr result (λ stop. StopsServing does fault_reply effects port limits state endpoint before after stop state_after endpoint_after)
+  pub at_stopped : (result : Result (Unit {0}) Stop) (old bound new : H) (requested address : Address) (limits : ServeLimits) (state state_after : State) (endpoint endpoint_after : P) (before after : Option (List ℕ))
+      → calls (Binds requested limits.together (Ok (endpoint, address))) old bound → calls (Finishes endpoint_after) bound new → IsBoundAs requested address
+      → IfErr result (λ stop. StopsServing does fault_reply effects address limits state endpoint before after stop state_after endpoint_after)
       → IfErr result (λ stop. LogsCalls calls old new (StopsAt does fault_reply effects requested limits stop state before after))
-  at_stopped (Ok done) old bound new requested port limits state state_after endpoint endpoint_after before after binds finishes is_requested stops = tt
-  at_stopped (Err stop) old bound new requested port limits state state_after endpoint endpoint_after before after binds finishes is_requested stops = record {
-    log = Binds requested limits.together (Ok (endpoint, port)) ∷ Finishes endpoint_after ∷ [];
+  at_stopped (Ok done) old bound new requested address limits state state_after endpoint endpoint_after before after binds finishes is_requested stops = tt
+  at_stopped (Err stop) old bound new requested address limits state state_after endpoint endpoint_after before after binds finishes is_requested stops = record {
+    log = Binds requested limits.together (Ok (endpoint, address)) ∷ Finishes endpoint_after ∷ [];
     made = (bound, binds, (new, finishes, refl));
-    holds = inr (record { endpoint = endpoint; port = port; new = state_after; endpoint_after = endpoint_after; calls = refl; is_requested = is_requested; stops = stops });
+    holds = inr (record { endpoint = endpoint; address = address; new = state_after; endpoint_after = endpoint_after; calls = refl; is_requested = is_requested; stops = stops });
   }
 
-module _ {S P State H : Type 0} (does : HandlerRelation State) (effects : EndpointRelation P) (state_of : S → State) (calls : HostCall S P → H → H → Type 0) where
-  pub store_missing : (old new : H) (file : List ℕ) (creates : Bool) (requested : ℕ) (limits : ServeLimits) (fault : OpenFault) (w : Option (List ℕ)) → LogsCalls calls old new (GetsStore file creates (Err fault))
+module _ {S P L State H : Type 0} (does : HandlerRelation State) (effects : EndpointRelation P) (state_of : S → State) (calls : HostCall S P L → H → H → Type 0) where
+  pub store_missing : (old new : H) (file : List ℕ) (creates : Bool) (requested : Address) (limits : ServeLimits) (fault : OpenFault) (w : Option (List ℕ)) → LogsCalls calls old new (GetsStore file creates (Err fault))
       → LogsCalls calls old new (StopsStore does effects state_of file creates requested limits (Open fault) w w)
   store_missing old new file creates requested limits fault w got = record { log = got.log; made = got.made; holds = inl (fault, got.holds, unopened fault w) }
 
-  pub store_without_memory : (old new : H) (file : List ℕ) (creates : Bool) (requested : ℕ) (limits : ServeLimits) (store : S) (w : Option (List ℕ)) → LogsCalls calls old new (GetsStore file creates (Ok store))
+  pub store_without_memory : (old new : H) (file : List ℕ) (creates : Bool) (requested : Address) (limits : ServeLimits) (store : S) (w : Option (List ℕ)) → LogsCalls calls old new (GetsStore file creates (Ok store))
       → LogsCalls calls old new (StopsStore does effects state_of file creates requested limits out_of_memory w w)
   store_without_memory old new file creates requested limits store w got = record { log = got.log; made = got.made; holds = inr (inl (store, got.holds, record { stop_is = refl; unwritten = kept_same w })) }
 
-  pub store_served : (result : Result (Unit {0}) Stop) (old middle new : H) (file : List ℕ) (creates : Bool) (requested : ℕ) (limits : ServeLimits) (store : S) (before after : Option (List ℕ)) → LogsCalls calls old middle (GetsStore file creates (Ok store))
+  pub store_served : (result : Result (Unit {0}) Stop) (old middle new : H) (file : List ℕ) (creates : Bool) (requested : Address) (limits : ServeLimits) (store : S) (before after : Option (List ℕ)) → LogsCalls calls old middle (GetsStore file creates (Ok store))
       → OnOk result (LogsCalls calls middle new (ServesAt does head_fault_octets effects requested limits (state_of store) before after))
       → OnOk result (LogsCalls calls old new (ServesStore does effects state_of file creates requested limits before after))
   store_served (Ok done) old middle new file creates requested limits store before after got serves = record {
@@ -221,7 +237,7 @@ module _ {S P State H : Type 0} (does : HandlerRelation State) (effects : Endpoi
   }
   store_served (Err stop) old middle new file creates requested limits store before after got serves = tt
 
-  pub store_unserved : (result : Result (Unit {0}) Stop) (old middle new : H) (file : List ℕ) (creates : Bool) (requested : ℕ) (limits : ServeLimits) (store : S) (before after : Option (List ℕ)) → LogsCalls calls old middle (GetsStore file creates (Ok store))
+  pub store_unserved : (result : Result (Unit {0}) Stop) (old middle new : H) (file : List ℕ) (creates : Bool) (requested : Address) (limits : ServeLimits) (store : S) (before after : Option (List ℕ)) → LogsCalls calls old middle (GetsStore file creates (Ok store))
       → IfErr result (λ stop. LogsCalls calls middle new (StopsAt does head_fault_octets effects requested limits stop (state_of store) before after))
       → IfErr result (λ stop. LogsCalls calls old new (StopsStore does effects state_of file creates requested limits stop before after))
   store_unserved (Ok done) old middle new file creates requested limits store before after got stops = tt

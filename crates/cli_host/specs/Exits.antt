@@ -7,6 +7,7 @@ use Rattle.cli_orders.specs.TryOutputs.{KeepsTryOutput, PrintsTryResult}
 use Rattle.cli_orders.specs.TryStops.{IsTryStop}
 use Rattle.cli_orders.specs.declared.stop.Stop.{Stop}
 use Rattle.cli_orders.specs.Stops.{out_of_memory, status_of, stop_line}
+use Rattle.book_http.specs.ConnectionModels.{ConnectionModel}
 use Rattle.book_http.specs.Streams.{WritesPrefix}
 use Rattle.hub_server.specs.EndpointRuns.{EndpointRelation}
 use Rattle.cli_host.specs.Hosts.{HostCall}
@@ -71,27 +72,29 @@ pub record IsTryStopped (input : List ℕ) (before after : Option (List ℕ))
   pub output_kept : KeepsTryOutput stop input before after
   pub reports_stop : ReportsStop stop errors_before errors_after exit
 
--- A store is represented by its books, and an endpoint by the effects of its calls.
-module _ {S P : Type 0} (model : StoreModel S) (effects : EndpointRelation P) where
+-- A store is represented by its books, an endpoint by the effects of its calls, a connection by its
+-- octets, and a listener by the connections that arrive at it.
+module _ {S P L Connection : Type 0} (model : StoreModel S) (effects : EndpointRelation P)
+    (stream : ConnectionModel Connection) (coming : L → Option (List (Option Connection))) where
   -- the order succeeded with this log of calls: its output was printed, and nothing was reported
   pub record IsOrderDone (order : Order) (before after : Option (List ℕ))
       (errors_before errors_after : Option (List ℕ)) (exit : ProgramExit)
-      (log : List (HostCall S P)) : Type 0 where
-    pub runs : RunsOnHost model effects order before after log
+      (log : List (HostCall S P L)) : Type 0 where
+    pub runs : RunsOnHost model effects stream coming order before after log
     pub succeeds : Succeeds errors_before errors_after exit
 
   -- the order stopped with this log of calls, and the stop was reported
   pub record IsOrderStopped (order : Order) (before after : Option (List ℕ))
       (errors_before errors_after : Option (List ℕ)) (exit : ProgramExit)
-      (log : List (HostCall S P)) : Type 0 where
+      (log : List (HostCall S P L)) : Type 0 where
     pub stop : Stop
-    pub stops : StopsOnHost model effects order stop before after log
+    pub stops : StopsOnHost model effects stream coming order stop before after log
     pub output_kept : KeepsOrderOutput order stop before after
     pub reports_stop : ReportsStop stop errors_before errors_after exit
 
   -- either
   abbrev pub EndsOrder : Order → Option (List ℕ) → Option (List ℕ) → Option (List ℕ)
-      → Option (List ℕ) → ProgramExit → List (HostCall S P) → Type 0
+      → Option (List ℕ) → ProgramExit → List (HostCall S P L) → Type 0
   EndsOrder order before after errors_before errors_after exit log =
       IsOrderDone order before after errors_before errors_after exit log
       ⊎ IsOrderStopped order before after errors_before errors_after exit log

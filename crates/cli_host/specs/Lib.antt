@@ -1,10 +1,11 @@
 pub mod OrderWork
-pub mod DefaultLimits
 pub mod Waiting
 pub mod Progress
 pub mod Hosts
 pub mod Keeps
 pub mod Listings
+pub mod EarlyStops
+pub mod OrdersInTurn
 pub mod OrdersOnHost
 pub mod Arguments
 pub mod Exits

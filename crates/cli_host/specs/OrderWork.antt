@@ -1,14 +1,16 @@
 -- What an order does: the command, the file, the port and the limits that it names. This project's
 -- own.
-use Rattle.std.specs.Prelude.{ℕ, ◌*◌, ◌-◌, ◌^◌, min, true, false}
+use Rattle.std.specs.Prelude.{ℕ, ◌*◌, ◌-◌, ◌^◌, min, List, Option, Some, None}
 use Rattle.book_commands.specs.declared.command.Command.TheVariants.{CreateBook, TallyOf, People}
 use Rattle.book_commands.specs.declared.command.Command.TheVariants.{Export as ExportRows}
 use Rattle.book_commands.specs.declared.command.Command.TheVariants.{Forget as ForgetUpto}
 use Rattle.cli_args.specs.declared.order.Order.{Order}
-use Rattle.cli_args.specs.declared.order.Order.TheVariants.{Try, Init, Book, Serve, ServeWithLimits}
+use Rattle.cli_args.specs.declared.order.Order.TheVariants.{Try, Init, Book, Serve}
 use Rattle.cli_args.specs.declared.order.Order.TheVariants.{Import, Export, Tally, Forget, Mirror}
 use Rattle.cli_args.specs.declared.order.Order.TheVariants.{Expand, Migrate, Check, Books, Verify}
-use Rattle.cli_args.specs.declared.order.Order.TheVariants.{Run, ServeLogged, Version}
+use Rattle.cli_args.specs.declared.order.Order.TheVariants.{Run, Version}
+use Rattle.cli_orders.specs.declared.address.Address.{Address}
+use Rattle.cli_orders.specs.declared.address.Address.TheVariants.{Port, Socket}
 use Rattle.hub_server.specs.declared.limits.ServeLimits.{ServeLimits}
 use Rattle.cli_host.specs.declared.work.Work.{Work}
 use Rattle.cli_host.specs.declared.work.Work.TheVariants.{Nothing, PrintVersion, CheckFile}
@@ -18,14 +20,6 @@ use Rattle.cli_host.specs.declared.work.StoreWork.TheVariants.{Perform, ImportFi
 use Rattle.cli_host.specs.declared.work.StoreWork.TheVariants.{ListBooks}
 use Rattle.cli_host.specs.declared.listing.Listing.TheVariants as listing
 
--- the most connections that are open at once, if the order names no limits
-abbrev pub together_default : ℕ
-together_default = 256
-
--- the seconds after which a silent connection is closed, if the order names no limits
-abbrev pub patience_default : ℕ
-patience_default = 60
-
 -- more connections than anybody makes, so that `run` serves until it is stopped
 abbrev pub endless_connections : ℕ
 endless_connections = 9223372036854775808
@@ -34,6 +28,11 @@ endless_connections = 9223372036854775808
 -- The command line allows at most 3,600 seconds.
 abbrev pub milliseconds_of : ℕ → ℕ
 milliseconds_of seconds = min (seconds * 1000) (2 ^ 64 - 1)
+
+-- at the socket if there is one, and else at the port
+abbrev pub address_of : ℕ → Option (List ℕ) → Address
+address_of port None = Port port
+address_of port (Some path) = Socket path
 
 -- the limits of a server, with its patience in seconds
 abbrev pub limits_of : ℕ → ℕ → ℕ → ServeLimits
@@ -63,12 +62,8 @@ work_of Version = PrintVersion
 work_of (Check file) = CheckFile file
 work_of (Init file) = CreateFile file
 work_of (Migrate file) = MigrateFile file
-work_of (Run file port names max_open idle_timeout creates is_logged) = RunFile file creates names
-    port (limits_of endless_connections max_open idle_timeout) is_logged
-work_of (Serve file port connections) =
-    ServeFile file port (limits_of connections together_default patience_default) false
-work_of (ServeWithLimits file port connections together patience) =
-    ServeFile file port (limits_of connections together patience) false
-work_of (ServeLogged file port connections together patience) =
-    ServeFile file port (limits_of connections together patience) true
+work_of (Run file port socket names max_open idle_timeout creates is_logged) =
+    RunFile file creates names (address_of port socket)
+    (limits_of endless_connections max_open idle_timeout) is_logged
+work_of (Serve file port connections) = ServeFile file port connections
 work_of order = store_work_of order

@@ -4,6 +4,7 @@ use Rattle.std.specs.Prelude.{◌≡◌, ◌≢◌, ◌⊎◌, ℕ, Bool, true, 
 use Rattle.std.specs.Prelude.{Result, Ok, Err}
 use Rattle.std.specs.Io.KnownBytes.{Appends, Keeps}
 use Rattle.book_commands.specs.declared.command.Command.TheVariants.{Import as ImportRows}
+use Rattle.book_http.specs.ConnectionModels.{ConnectionModel}
 use Rattle.book_http.specs.OctetPromise.{ServiceStep}
 use Rattle.cli_args.specs.declared.order.Order.{Order}
 use Rattle.http_replies.specs.Replies.{head_fault_octets}
@@ -13,11 +14,15 @@ use Rattle.hub_server.specs.EndpointRuns.{EndpointRelation}
 use Rattle.hub_server.specs.declared.limits.ServeLimits.{ServeLimits}
 use Rattle.cli_orders.specs.OrderOutputs.{made_output, migrate_output}
 use Rattle.cli_orders.specs.CommandRuns.{PrintsCommand, PrintsMirror, StopsCommand, StopsMirror}
+use Rattle.cli_orders.specs.declared.address.Address.{Address}
 use Rattle.cli_orders.specs.declared.stop.Stop.{Stop}
 use Rattle.cli_orders.specs.declared.stop.Stop.TheVariants.{Open, Device}
-use Rattle.cli_host.specs.Hosts.{HostCall, Creates, Opens, FindsFault, Migrates, ReadsRows, Binds}
-use Rattle.cli_host.specs.Hosts.{Finishes}
+pub use Rattle.cli_host.specs.EarlyStops.{StopsAtDevice, StopsForMemory, StopsOverText}
+pub use Rattle.cli_host.specs.EarlyStops.{StopsUnopened}
+use Rattle.cli_host.specs.Hosts.{HostCall, Creates, Looks, Opens, FindsFault, Migrates}
+use Rattle.cli_host.specs.Hosts.{ReadsRows, Binds, Finishes, IsBoundAs}
 use Rattle.cli_host.specs.OrderWork.{work_of}
+use Rattle.cli_host.specs.OrdersInTurn.{ServesFile, StopsServe}
 use Rattle.cli_host.specs.declared.work.StoreWork.{StoreWork}
 use Rattle.cli_host.specs.declared.work.StoreWork.TheVariants.{Perform, ImportFile, MirrorBook}
 use Rattle.cli_host.specs.declared.work.StoreWork.TheVariants.{ListBooks}
@@ -33,43 +38,19 @@ use Rattle.cli_orders.specs.Versions.{version_output}
 use Rattle.cli_orders.specs.Announcements.{AnnouncesAndServes, StopsServing, WritesListeningLine}
 use Rattle.cli_orders.specs.ReplyTexts.{KeepsOutput}
 use Rattle.cli_orders.specs.Stops.{out_of_memory}
-use Rattle.book_http.specs.Streams.{WritesPrefix}
 use Rattle.store_check.specs.declared.faults.FaultyRow.{FaultyRow}
 use Rattle.store_schema.specs.declared.open_fault.OpenFault.{OpenFault}
 use Rattle.store_schema.specs.declared.open_fault.OpenFault.TheVariants.{Damaged}
 use Rattle.sync_core.specs.StoreModels.{StoreModel}
-
--- the file couldn't be used, as this fault says, and nothing is written
-pub record StopsUnopened (fault : OpenFault) (stop : Stop) (before after : Option (List ℕ))
-    : Type 0 where
-  pub stop_is : stop ≡ Open fault
-  pub unwritten : Keeps before after
-
--- the text was built, and the writer failed
-pub record StopsOverText (text : List ℕ) (stop : Stop) (before after : Option (List ℕ))
-    : Type 0 where
-  pub stop_is : stop ≡ Device
-  pub front : WritesPrefix text before after
-
--- memory ran out before anything was written
-pub record StopsForMemory (stop : Stop) (before after : Option (List ℕ)) : Type 0 where
-  pub stop_is : stop ≡ out_of_memory
-  pub unwritten : Keeps before after
-
--- a device can't be used, and nothing is written
-pub record StopsAtDevice (stop : Stop) (before after : Option (List ℕ)) : Type 0 where
-  pub stop_is : stop ≡ Device
-  pub unwritten : Keeps before after
 
 -- no endpoint was bound, or no file was read: for lack of memory, or because the port or the file
 -- can't be used
 abbrev pub StopsUnbound : Stop → Option (List ℕ) → Option (List ℕ) → Type 0
 StopsUnbound stop before after = StopsForMemory stop before after ⊎ StopsAtDevice stop before after
 
--- the work is to serve, and the line that announces a port was written
+-- the work is to serve behind a guard, and the line that announces a port was written
 abbrev pub HasAnnounced : Work → Option (List ℕ) → Option (List ℕ) → Type 0
-HasAnnounced (ServeFile file port limits is_logged) before after = WritesListeningLine before after
-HasAnnounced (RunFile file creates names port limits is_logged) before after =
+HasAnnounced (RunFile file creates names address limits is_logged) before after =
     WritesListeningLine before after
 HasAnnounced work before after = ⊥
 
@@ -87,9 +68,9 @@ HasReportedDamage (VerifyFile file) stop before after = (stop ≡ Open Damaged)
     × (found : Result (Option FaultyRow) OpenFault) × Appends before after (damage_text found)
 HasReportedDamage work stop before after = ⊥
 
--- Nothing is written on a refusal, on a fault, or if the file can't be opened. But the order to
--- serve may have announced its port before memory ran out, the order to check a file has written
--- why it refuses the file, and the order to verify one which row is at fault.
+-- Nothing is written on a refusal, on a fault, or if the file can't be opened. But the order `run`
+-- may have announced its port before memory ran out, the order to check a file has written why it
+-- refuses the file, and the order to verify one which row is at fault.
 abbrev pub KeepsWorkOutput : Work → Stop → Option (List ℕ) → Option (List ℕ) → Type 0
 KeepsWorkOutput work stop before after = KeepsOutput stop before after
     ⊎ (((stop ≡ out_of_memory) × HasAnnounced work before after)
@@ -99,19 +80,19 @@ abbrev pub KeepsOrderOutput : Order → Stop → Option (List ℕ) → Option (L
 KeepsOrderOutput order stop before after = KeepsWorkOutput (work_of order) stop before after
 
 -- In each of these, `log` has all calls that were made of the host, in order.
-module _ {S P : Type 0} where
+module _ {S P L : Type 0} where
   -- ---- a new store
 
   -- a store without books was created in the file, and that is printed
   pub record MakesStore
-      (file : List ℕ) (before after : Option (List ℕ)) (log : List (HostCall S P)) : Type 0 where
+      (file : List ℕ) (before after : Option (List ℕ)) (log : List (HostCall S P L)) : Type 0 where
     pub store : S
     pub calls : log ≡ Creates file (Ok store) ∷ []
     pub printed : Appends before after made_output
 
   -- none was created in the file, or the writer failed
   abbrev pub StopsMaking : List ℕ → Stop → Option (List ℕ) → Option (List ℕ)
-      → List (HostCall S P) → Type 0
+      → List (HostCall S P L) → Type 0
   StopsMaking file stop before after log =
       ((fault : OpenFault) × (log ≡ Creates file (Err fault) ∷ [])
       × StopsUnopened fault stop before after)
@@ -122,14 +103,14 @@ module _ {S P : Type 0} where
 
   -- the file was migrated to the current schema, and its number of books is printed
   pub record MigratesFile
-      (file : List ℕ) (before after : Option (List ℕ)) (log : List (HostCall S P)) : Type 0 where
+      (file : List ℕ) (before after : Option (List ℕ)) (log : List (HostCall S P L)) : Type 0 where
     pub count : ℕ
     pub calls : log ≡ Migrates file (Ok count) ∷ []
     pub printed : Appends before after (migrate_output count)
 
   -- the file wasn't migrated, or memory ran out or the writer failed over the text
   abbrev pub StopsMigrating : List ℕ → Stop → Option (List ℕ) → Option (List ℕ)
-      → List (HostCall S P) → Type 0
+      → List (HostCall S P L) → Type 0
   StopsMigrating file stop before after log =
       ((fault : OpenFault) × (log ≡ Migrates file (Err fault) ∷ [])
       × StopsUnopened fault stop before after)
@@ -141,21 +122,21 @@ module _ {S P : Type 0} where
 
   -- the octets of the file were read, they have no fault, and what was found is printed
   pub record ChecksFile
-      (file : List ℕ) (before after : Option (List ℕ)) (log : List (HostCall S P)) : Type 0 where
+      (file : List ℕ) (before after : Option (List ℕ)) (log : List (HostCall S P L)) : Type 0 where
     pub octets : List ℕ
     pub calls : log ≡ ReadsRows file (Ok octets) ∷ []
     pub passes : PassesCheck (kind_of_file file) octets before after
 
   -- the octets of the file were read, and this is why their check stopped
   pub record StopsOnCheck (file : List ℕ) (stop : Stop)
-      (before after : Option (List ℕ)) (log : List (HostCall S P)) : Type 0 where
+      (before after : Option (List ℕ)) (log : List (HostCall S P L)) : Type 0 where
     pub octets : List ℕ
     pub calls : log ≡ ReadsRows file (Ok octets) ∷ []
     pub stops : StopsCheck (kind_of_file file) octets stop before after
 
   -- the file couldn't be read, or its check stopped
   abbrev pub StopsChecking : List ℕ → Stop → Option (List ℕ) → Option (List ℕ)
-      → List (HostCall S P) → Type 0
+      → List (HostCall S P L) → Type 0
   StopsChecking file stop before after log =
       ((log ≡ ReadsRows file (Err stop) ∷ []) × StopsUnbound stop before after)
       ⊎ StopsOnCheck file stop before after log
@@ -164,7 +145,7 @@ module _ {S P : Type 0} where
 
   -- the file's store wasn't opened for another fault than damage, and nothing is written
   pub record StopsUndamaged (file : List ℕ) (stop : Stop)
-      (before after : Option (List ℕ)) (log : List (HostCall S P)) : Type 0 where
+      (before after : Option (List ℕ)) (log : List (HostCall S P L)) : Type 0 where
     pub fault : OpenFault
     pub undamaged : fault ≢ Damaged
     pub calls : log ≡ Opens file (Err fault) ∷ []
@@ -172,32 +153,32 @@ module _ {S P : Type 0} where
 
   -- the file is damaged, it was searched next, and what was found was reported
   pub record StopsAtDamage (file : List ℕ) (stop : Stop)
-      (before after : Option (List ℕ)) (log : List (HostCall S P)) : Type 0 where
+      (before after : Option (List ℕ)) (log : List (HostCall S P L)) : Type 0 where
     pub found : Result (Option FaultyRow) OpenFault
     pub calls : log ≡ Opens file (Err Damaged) ∷ FindsFault file found ∷ []
     pub reports : ReportsDamage found stop before after
 
 -- A store is represented by its books.
-module _ {S P : Type 0} (model : StoreModel S) where
+module _ {S P L : Type 0} (model : StoreModel S) where
   -- ---- an import
 
   -- all octets of the file of rows were imported into the book, and the counts are printed
   pub record ImportsRows (old : S) (book key csv : List ℕ) (before after : Option (List ℕ))
-      (new : S) (log : List (HostCall S P)) : Type 0 where
+      (new : S) (log : List (HostCall S P L)) : Type 0 where
     pub rows : List ℕ
     pub calls : log ≡ ReadsRows csv (Ok rows) ∷ []
     pub prints : PrintsCommand model old (ImportRows book key rows) before after new
 
   -- the import of all octets of the file of rows is why the order stops
   pub record StopsOnImport (old : S) (book key csv : List ℕ) (stop : Stop)
-      (before after : Option (List ℕ)) (new : S) (log : List (HostCall S P)) : Type 0 where
+      (before after : Option (List ℕ)) (new : S) (log : List (HostCall S P L)) : Type 0 where
     pub rows : List ℕ
     pub calls : log ≡ ReadsRows csv (Ok rows) ∷ []
     pub stops : StopsCommand model old (ImportRows book key rows) stop before after new
 
   -- the file of rows couldn't be read: nothing was performed or written
   pub record StopsReadingRows (old : S) (csv : List ℕ) (stop : Stop)
-      (before after : Option (List ℕ)) (new : S) (log : List (HostCall S P)) : Type 0 where
+      (before after : Option (List ℕ)) (new : S) (log : List (HostCall S P L)) : Type 0 where
     pub calls : log ≡ ReadsRows csv (Err stop) ∷ []
     pub unchanged : new ≡ old
     pub unwritten : Keeps before after
@@ -207,7 +188,7 @@ module _ {S P : Type 0} (model : StoreModel S) where
 
   -- The work was done on the store, and its result is printed. Only an import calls the host.
   abbrev pub DoesStoreWork : S → StoreWork → Option (List ℕ) → Option (List ℕ) → S
-      → List (HostCall S P) → Type 0
+      → List (HostCall S P L) → Type 0
   DoesStoreWork old (Perform command) before after new log =
       (log ≡ []) × PrintsCommand model old command before after new
   DoesStoreWork old (ImportFile book key csv) before after new log =
@@ -219,7 +200,7 @@ module _ {S P : Type 0} (model : StoreModel S) where
 
   -- why the work wasn't done on the store, or its result wasn't printed
   abbrev pub StopsStoreWork : S → StoreWork → Stop → Option (List ℕ) → Option (List ℕ) → S
-      → List (HostCall S P) → Type 0
+      → List (HostCall S P L) → Type 0
   StopsStoreWork old (Perform command) stop before after new log =
       (log ≡ []) × StopsCommand model old command stop before after new
   StopsStoreWork old (ImportFile book key csv) stop before after new log =
@@ -234,25 +215,25 @@ module _ {S P : Type 0} (model : StoreModel S) where
 
   -- the file's store was opened, and then the work was done on it
   pub record DoesInFile (file : List ℕ) (work : StoreWork) (before after : Option (List ℕ))
-      (log : List (HostCall S P)) : Type 0 where
+      (log : List (HostCall S P L)) : Type 0 where
     pub store : S
-    pub later : List (HostCall S P)
+    pub later : List (HostCall S P L)
     pub calls : log ≡ Opens file (Ok store) ∷ later
     pub store_after : S
     pub does : DoesStoreWork store work before after store_after later
 
   -- the file's store was opened, and this is why the work stopped
   pub record StopsOnFile (file : List ℕ) (work : StoreWork) (stop : Stop)
-      (before after : Option (List ℕ)) (log : List (HostCall S P)) : Type 0 where
+      (before after : Option (List ℕ)) (log : List (HostCall S P L)) : Type 0 where
     pub store : S
-    pub later : List (HostCall S P)
+    pub later : List (HostCall S P L)
     pub calls : log ≡ Opens file (Ok store) ∷ later
     pub store_after : S
     pub stops : StopsStoreWork store work stop before after store_after later
 
   -- the file wasn't opened, or it was and the work stopped
   abbrev pub StopsInFile : List ℕ → StoreWork → Stop → Option (List ℕ) → Option (List ℕ)
-      → List (HostCall S P) → Type 0
+      → List (HostCall S P L) → Type 0
   StopsInFile file work stop before after log =
       ((fault : OpenFault) × (log ≡ Opens file (Err fault) ∷ [])
       × StopsUnopened fault stop before after)
@@ -261,14 +242,14 @@ module _ {S P : Type 0} (model : StoreModel S) where
   -- ---- verifying a file
 
   -- the file's store was opened, and its books and their number were listed
-  abbrev pub VerifiesFile : List ℕ → Option (List ℕ) → Option (List ℕ) → List (HostCall S P)
+  abbrev pub VerifiesFile : List ℕ → Option (List ℕ) → Option (List ℕ) → List (HostCall S P L)
       → Type 0
   VerifiesFile file before after log = DoesInFile file (ListBooks Verified) before after log
 
   -- the file wasn't opened, and if it is damaged, the row at fault was reported; or it was opened,
   -- and the listing stopped
   abbrev pub StopsVerifying : List ℕ → Stop → Option (List ℕ) → Option (List ℕ)
-      → List (HostCall S P) → Type 0
+      → List (HostCall S P L) → Type 0
   StopsVerifying file stop before after log =
       StopsUndamaged file stop before after log
       ⊎ (StopsAtDamage file stop before after log
@@ -276,80 +257,82 @@ module _ {S P : Type 0} (model : StoreModel S) where
 
 -- ---- serving
 
--- the file's store was opened, or it was created, if that was asked for; or neither could be done
-abbrev pub GetsStore : {S P : Type 0} → List ℕ → Bool → Result S OpenFault
-    → List (HostCall S P) → Type 0
-GetsStore file creates result log =
-    (log ≡ Opens file result ∷ []) ⊎ ((creates ≡ true) × (log ≡ Creates file result ∷ []))
+-- The file's store was opened, or that failed. If it may be created, the host was first asked
+-- whether the file is missing or empty; if it is, the store was created in it, or that failed.
+abbrev pub GetsStore : {S P L : Type 0} → List ℕ → Bool → Result S OpenFault
+    → List (HostCall S P L) → Type 0
+GetsStore file false result log = log ≡ Opens file result ∷ []
+GetsStore file true result log = (log ≡ Looks file true ∷ Creates file result ∷ [])
+    ⊎ (log ≡ Looks file false ∷ Opens file result ∷ [])
 
 -- A handler is represented by what it does, and an endpoint by the effects of its calls.
-module _ {S P State : Type 0} (does : HandlerRelation State) (fault_reply : FaultReplies)
+module _ {S P L State : Type 0} (does : HandlerRelation State) (fault_reply : FaultReplies)
     (effects : EndpointRelation P) where
-  -- An endpoint was bound to the requested port, or to any port if it is 0, with a place for each
-  -- connection that may be open at once. The line that announces its port was written, and then all
-  -- connections were served. At last the endpoint, as serving left it, was closed. What is logged
-  -- of the requests changes none of this.
-  pub record ServesAt (requested : ℕ) (limits : ServeLimits) (old : State)
-      (before after : Option (List ℕ)) (log : List (HostCall S P)) : Type 0 where
+  -- An endpoint was bound to the requested address, at any port if it is 0, with a place for each
+  -- connection that may be open at once. The line that announces its address was written, and then
+  -- all connections were served. At last the endpoint, as serving left it, was closed. What is
+  -- logged of the requests changes none of this.
+  pub record ServesAt (requested : Address) (limits : ServeLimits) (old : State)
+      (before after : Option (List ℕ)) (log : List (HostCall S P L)) : Type 0 where
     pub endpoint : P
-    pub port : ℕ
+    pub address : Address
     pub new : State
     pub endpoint_after : P
     pub calls : log ≡
-        Binds requested limits.together (Ok (endpoint, port)) ∷ Finishes endpoint_after ∷ []
-    pub is_requested : requested ≢ 0 → port ≡ requested
-    pub announces : AnnouncesAndServes does fault_reply effects port limits
+        Binds requested limits.together (Ok (endpoint, address)) ∷ Finishes endpoint_after ∷ []
+    pub is_requested : IsBoundAs requested address
+    pub announces : AnnouncesAndServes does fault_reply effects address limits
         old endpoint before after new endpoint_after
 
   -- the same, but not all connections were served
-  pub record StopsServingAt (requested : ℕ) (limits : ServeLimits) (stop : Stop) (old : State)
-      (before after : Option (List ℕ)) (log : List (HostCall S P)) : Type 0 where
+  pub record StopsServingAt (requested : Address) (limits : ServeLimits) (stop : Stop) (old : State)
+      (before after : Option (List ℕ)) (log : List (HostCall S P L)) : Type 0 where
     pub endpoint : P
-    pub port : ℕ
+    pub address : Address
     pub new : State
     pub endpoint_after : P
     pub calls : log ≡
-        Binds requested limits.together (Ok (endpoint, port)) ∷ Finishes endpoint_after ∷ []
-    pub is_requested : requested ≢ 0 → port ≡ requested
-    pub stops : StopsServing does fault_reply effects port limits
+        Binds requested limits.together (Ok (endpoint, address)) ∷ Finishes endpoint_after ∷ []
+    pub is_requested : IsBoundAs requested address
+    pub stops : StopsServing does fault_reply effects address limits
         old endpoint before after stop new endpoint_after
 
   -- no endpoint was bound, or not all connections were served
-  abbrev pub StopsAt : ℕ → ServeLimits → Stop → State → Option (List ℕ) → Option (List ℕ)
-      → List (HostCall S P) → Type 0
+  abbrev pub StopsAt : Address → ServeLimits → Stop → State → Option (List ℕ) → Option (List ℕ)
+      → List (HostCall S P L) → Type 0
   StopsAt requested limits stop old before after log =
       ((log ≡ Binds requested limits.together (Err stop) ∷ []) × StopsUnbound stop before after)
       ⊎ StopsServingAt requested limits stop old before after log
 
 -- The handler begins with a store in this state of its own.
-module _ {S P State : Type 0} (does : HandlerRelation State) (effects : EndpointRelation P)
+module _ {S P L State : Type 0} (does : HandlerRelation State) (effects : EndpointRelation P)
     (state_of : S → State) where
   -- the file's store was opened or created, and then it was served
-  pub record ServesStore (file : List ℕ) (creates : Bool) (requested : ℕ) (limits : ServeLimits)
-      (before after : Option (List ℕ)) (log : List (HostCall S P)) : Type 0 where
+  pub record ServesStore (file : List ℕ) (creates : Bool) (requested : Address)
+      (limits : ServeLimits) (before after : Option (List ℕ)) (log : List (HostCall S P L)) : Type 0 where
     pub store : S
-    pub first : List (HostCall S P)
-    pub later : List (HostCall S P)
+    pub first : List (HostCall S P L)
+    pub later : List (HostCall S P L)
     pub calls : log ≡ first ++ later
     pub gets : GetsStore file creates (Ok store) first
     pub serves : ServesAt does head_fault_octets effects requested limits (state_of store)
         before after later
 
   -- the file's store was opened or created, and this is why serving it stopped
-  pub record StopsServingStore (file : List ℕ) (creates : Bool) (requested : ℕ)
+  pub record StopsServingStore (file : List ℕ) (creates : Bool) (requested : Address)
       (limits : ServeLimits) (stop : Stop) (before after : Option (List ℕ))
-      (log : List (HostCall S P)) : Type 0 where
+      (log : List (HostCall S P L)) : Type 0 where
     pub store : S
-    pub first : List (HostCall S P)
-    pub later : List (HostCall S P)
+    pub first : List (HostCall S P L)
+    pub later : List (HostCall S P L)
     pub calls : log ≡ first ++ later
     pub gets : GetsStore file creates (Ok store) first
     pub stops : StopsAt does head_fault_octets effects requested limits stop (state_of store)
         before after later
 
   -- there is no store of the file; or there is, and memory ran out, or serving it stopped
-  abbrev pub StopsStore : List ℕ → Bool → ℕ → ServeLimits → Stop
-      → Option (List ℕ) → Option (List ℕ) → List (HostCall S P) → Type 0
+  abbrev pub StopsStore : List ℕ → Bool → Address → ServeLimits → Stop
+      → Option (List ℕ) → Option (List ℕ) → List (HostCall S P L) → Type 0
   StopsStore file creates requested limits stop before after log =
       ((fault : OpenFault) × GetsStore file creates (Err fault) log
       × StopsUnopened fault stop before after)
@@ -357,76 +340,66 @@ module _ {S P State : Type 0} (does : HandlerRelation State) (effects : Endpoint
       ⊎ StopsServingStore file creates requested limits stop before after log)
 
 -- A store is represented by its books, and an endpoint by the effects of its calls.
-module _ {S P : Type 0} (model : StoreModel S) (effects : EndpointRelation P) where
-  -- the file's store was opened and served
-  abbrev pub ServesFile : List ℕ → ℕ → ServeLimits → Option (List ℕ) → Option (List ℕ)
-      → List (HostCall S P) → Type 0
-  ServesFile file requested limits before after log =
-      ServesStore (ServiceStep model) effects (λ store. store) file false requested limits
-      before after log
-
-  -- why it wasn't
-  abbrev pub StopsServe : List ℕ → ℕ → ServeLimits → Stop → Option (List ℕ) → Option (List ℕ)
-      → List (HostCall S P) → Type 0
-  StopsServe file requested limits stop before after log =
-      StopsStore (ServiceStep model) effects (λ store. store) file false requested limits stop
-      before after log
-
+module _ {S P L : Type 0} (model : StoreModel S) (effects : EndpointRelation P) where
   -- the file's store was opened, or created if that was asked for, and served behind a guard of a
   -- server with these names
-  abbrev pub RunsFile : List ℕ → Bool → List (List ℕ) → ℕ → ServeLimits
-      → Option (List ℕ) → Option (List ℕ) → List (HostCall S P) → Type 0
+  abbrev pub RunsFile : List ℕ → Bool → List (List ℕ) → Address → ServeLimits
+      → Option (List ℕ) → Option (List ℕ) → List (HostCall S P L) → Type 0
   RunsFile file creates names requested limits before after log =
       ServesStore (guarded (ServiceStep model)) effects (λ store. (names, store)) file creates
       requested limits before after log
 
   -- why it wasn't
-  abbrev pub StopsRun : List ℕ → Bool → List (List ℕ) → ℕ → ServeLimits → Stop
-      → Option (List ℕ) → Option (List ℕ) → List (HostCall S P) → Type 0
+  abbrev pub StopsRun : List ℕ → Bool → List (List ℕ) → Address → ServeLimits → Stop
+      → Option (List ℕ) → Option (List ℕ) → List (HostCall S P L) → Type 0
   StopsRun file creates names requested limits stop before after log =
       StopsStore (guarded (ServiceStep model)) effects (λ store. (names, store)) file creates
       requested limits stop before after log
 
-  -- ---- all orders
+-- ---- all orders
 
+-- A store is represented by its books, an endpoint by the effects of its calls, a connection by its
+-- octets, and a listener by the connections that arrive at it.
+module _ {S P L Connection : Type 0} (model : StoreModel S) (effects : EndpointRelation P)
+    (stream : ConnectionModel Connection) (coming : L → Option (List (Option Connection))) where
   -- the work was done, and its output is printed
-  abbrev pub DoesWork : Work → Option (List ℕ) → Option (List ℕ) → List (HostCall S P) → Type 0
+  abbrev pub DoesWork : Work → Option (List ℕ) → Option (List ℕ) → List (HostCall S P L) → Type 0
   DoesWork Nothing before after log = ⊥
   DoesWork PrintVersion before after log = (log ≡ []) × Appends before after version_output
   DoesWork (CheckFile file) before after log = ChecksFile file before after log
   DoesWork (CreateFile file) before after log = MakesStore file before after log
   DoesWork (MigrateFile file) before after log = MigratesFile file before after log
-  DoesWork (ServeFile file port limits is_logged) before after log =
-      ServesFile file port limits before after log
-  DoesWork (RunFile file creates names port limits is_logged) before after log =
-      RunsFile file creates names port limits before after log
+  DoesWork (ServeFile file port connections) before after log =
+      ServesFile model stream coming file port connections before after log
+  DoesWork (RunFile file creates names address limits is_logged) before after log =
+      RunsFile model effects file creates names address limits before after log
   DoesWork (VerifyFile file) before after log = VerifiesFile model file before after log
   DoesWork (UseFile file work) before after log = DoesInFile model file work before after log
 
   -- Why the work wasn't done, or its output wasn't printed. `try` has no work here, since it needs
   -- standard input.
   abbrev pub StopsWork : Work → Stop → Option (List ℕ) → Option (List ℕ)
-      → List (HostCall S P) → Type 0
+      → List (HostCall S P L) → Type 0
   StopsWork Nothing stop before after log = (log ≡ []) × StopsAtDevice stop before after
   StopsWork PrintVersion stop before after log =
       (log ≡ []) × StopsOverText version_output stop before after
   StopsWork (CheckFile file) stop before after log = StopsChecking file stop before after log
   StopsWork (CreateFile file) stop before after log = StopsMaking file stop before after log
   StopsWork (MigrateFile file) stop before after log = StopsMigrating file stop before after log
-  StopsWork (ServeFile file port limits is_logged) stop before after log =
-      StopsServe file port limits stop before after log
-  StopsWork (RunFile file creates names port limits is_logged) stop before after log =
-      StopsRun file creates names port limits stop before after log
+  StopsWork (ServeFile file port connections) stop before after log =
+      StopsServe model stream coming file port connections stop before after log
+  StopsWork (RunFile file creates names address limits is_logged) stop before after log =
+      StopsRun model effects file creates names address limits stop before after log
   StopsWork (VerifyFile file) stop before after log =
       StopsVerifying model file stop before after log
   StopsWork (UseFile file work) stop before after log =
       StopsInFile model file work stop before after log
 
   -- the work of the order was done, and its output is printed
-  abbrev pub RunsOnHost : Order → Option (List ℕ) → Option (List ℕ) → List (HostCall S P) → Type 0
+  abbrev pub RunsOnHost : Order → Option (List ℕ) → Option (List ℕ) → List (HostCall S P L) → Type 0
   RunsOnHost order before after log = DoesWork (work_of order) before after log
 
   -- why it wasn't
   abbrev pub StopsOnHost : Order → Stop → Option (List ℕ) → Option (List ℕ)
-      → List (HostCall S P) → Type 0
+      → List (HostCall S P L) → Type 0
   StopsOnHost order stop before after log = StopsWork (work_of order) stop before after log

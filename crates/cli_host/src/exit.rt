@@ -13,6 +13,7 @@ ghost use Rattle.book_http.specs.Streams.{ReadsAtMost};
 use crate::host::Host;
 use crate::keeps::BookKeeps;
 use crate::running::run_on_host;
+use book_http::Listener;
 use cli_args::{LineFault, Order};
 use cli_orders::{Stop, run_try, write_out};
 use hub_server::Endpoint;
@@ -96,15 +97,16 @@ fn run_try_order<R: Read, W: Write, E: Write>(
 }
 
 /// Runs another order, and reports a stop.
-fn run_other_order<S: BookKeeps + Drop, P: Endpoint, M: Host<S, P>, W: Write, E: Write>(
-    alloc: Global,
-    host: &mut M,
-    order: Order,
-    writer: &mut W,
-    errors: &mut E,
-) -> ProgramExit
+fn run_other_order<
+    S: BookKeeps + Drop,
+    P: Endpoint,
+    L: Listener + Drop,
+    M: Host<S, P, L>,
+    W: Write,
+    E: Write,
+>(alloc: Global, host: &mut M, order: Order, writer: &mut W, errors: &mut E) -> ProgramExit
     ensures { LogsCalls M.calls host.old host.new
-        (EndsOrder S.model P.calls order
+        (EndsOrder S.model P.calls L.Stream.model L.coming order
         (W.contents writer.old) (W.contents writer.new)
         (E.contents errors.old) (E.contents errors.new) result) }
 {
@@ -113,7 +115,15 @@ fn run_other_order<S: BookKeeps + Drop, P: Endpoint, M: Host<S, P>, W: Write, E:
 }
 
 /// Runs an order on a host, and reports errors on standard error.
-pub fn run_and_report<S: BookKeeps + Drop, P: Endpoint, M: Host<S, P>, R: Read, W: Write, E: Write>(
+pub fn run_and_report<
+    S: BookKeeps + Drop,
+    P: Endpoint,
+    L: Listener + Drop,
+    M: Host<S, P, L>,
+    R: Read,
+    W: Write,
+    E: Write,
+>(
     alloc: Global,
     host: &mut M,
     order: Result<Order, LineFault>,
@@ -137,7 +147,7 @@ pub fn run_and_report<S: BookKeeps + Drop, P: Endpoint, M: Host<S, P>, R: Read, 
     // whole log of calls that were made of the host is that of the order.
     ensures other_order { (other : TheOrder) → order ≡ Ok other → other ≢ TheOrder.Try →
         LogsCalls M.calls host.old host.new
-        (EndsOrder S.model P.calls other
+        (EndsOrder S.model P.calls L.Stream.model L.coming other
         (W.contents writer.old) (W.contents writer.new)
         (E.contents errors.old) (E.contents errors.new) result) }
 

@@ -1,40 +1,46 @@
 //! The trait of hosts: the files and ports that orders use.
 ghost use Rattle.std.specs.Prelude.{◌≡◌, ◌≢◌, ◌⊎◌, IfErr, IfOk, IfSome, OnErr};
 ghost use Rattle.cli_host.specs.Hosts.{HostCall, Creates, Opens, Migrates, ReadsRows, Binds};
-ghost use Rattle.cli_host.specs.Hosts.{FindsFault, Finishes, loopback_ip, standard_limits};
-ghost use Rattle.cli_host.specs.Hosts.{stop_of_binding};
+ghost use Rattle.cli_host.specs.Hosts.{BindsListener, FindsFault, Finishes, IsBoundAs};
+ghost use Rattle.cli_host.specs.Hosts.{Looks, loopback_ip, standard_limits, stop_of_binding};
 ghost use Rattle.std.specs.Net.Socket.{socket_ip, socket_port};
 ghost use Rattle.cli_orders.specs.Stops.{out_of_memory};
 
 use base_types::Items;
 use book_store::{FileBooks, OpenFault, SqlStore};
-use cli_orders::{Stop, read_rows_of};
+use cli_orders::{Address, Stop, read_rows_of};
 use request_log::RequestLog;
 use socket_endpoint::{BindFault, SocketEndpoint};
 use std::alloc::Global;
 use std::io::{IsTerminal, Read, Write};
-use std::net::{IpAddr, Ipv4Addr, SocketAddr};
+use std::net::{IpAddr, Ipv4Addr, SocketAddr, TcpListener};
 use std::rt::HostRuntime;
 use std::{fs, io};
 use store_check::faults::FaultyRow;
 use store_migration::migrate;
 use sync_core::Limits;
 
-/// The host that orders run on, with its files and ports. A store `S` holds the books of a file,
-/// and an endpoint `P` has the connections to a port.
+/// The host that orders run on, with its files and ports. A store `S` holds the books of a file, an
+/// endpoint `P` has the connections to a port, all at once, and a listener `L` accepts them one
+/// after another.
 ///
 /// The contracts of the real host say neither what a file holds nor who connects to a port. The
 /// contracts over any host say which calls are made of it, and one body runs orders on all hosts.
 ///
-/// A host also prints the lines of `serve --log`, and says that a long import or opening goes on.
+/// A host also prints the lines of `run --log`, and says that a long import or opening goes on.
 /// These are no calls, since they change nothing.
-pub trait Host<S, P>: RequestLog {
+pub trait Host<S, P, L>: RequestLog {
     /// What is known of a call: its result, and the host before and after it.
-    ghost calls: { HostCall S P → Self → Self → Type 0 };
+    ghost calls: { HostCall S P L → Self → Self → Type 0 };
 
     /// Creates a new store without books in the file.
     fn create(&mut self, file: &str) -> Result<S, OpenFault>
         ensures { calls (Creates file.now result) self.old self.new };
+
+    /// Whether there is nothing under the file's name, or a file without octets, as far as the host
+    /// can tell.
+    fn is_vacant(&mut self, file: &str) -> bool
+        ensures { calls (Looks file.now result) self.old self.new };
 
     /// Opens the store of the books in the file.
     fn open(&mut self, file: &str) -> Result<S, OpenFault>
@@ -55,19 +61,28 @@ pub trait Host<S, P>: RequestLog {
         ensures called { calls (ReadsRows file.now result) self.old self.new }
         ensures stop { IfErr result (λ stop. (stop ≡ out_of_memory) ⊎ (stop ≡ Stop.Device)) };
 
-    /// Binds an endpoint to the port, or to any free port for 0, and returns it with its port. Its
-    /// places are those below `together`. `Device` if the port can't be used, and `Memory` if an
-    /// allocation fails.
-    fn listen(&mut self, alloc: Global, port: u16, together: usize) -> Result<(P, u16), Stop>
-        ensures called { calls (Binds port together result) self.old self.new }
-        ensures port { IfOk result (λ bound. port ≢ 0 → bound.1 ≡ port) }
+    /// Binds an endpoint to the address, at any free port for port 0, and returns it with the
+    /// address. Its places are those below `together`. `Device` if the address can't be used, and
+    /// `Memory` if an allocation fails.
+    fn listen(
+        &mut self,
+        alloc: Global,
+        address: Address,
+        together: usize,
+    ) -> Result<(P, Address), Stop>
+        ensures called { calls (Binds address together result) self.old self.new }
+        ensures bound { IfOk result (λ bound. IsBoundAs address bound.1) }
         ensures stop { IfErr result (λ stop. (stop ≡ out_of_memory) ⊎ (stop ≡ Stop.Device)) };
+
+    /// Binds a listener to the port, or to any free port for 0, and returns it with its port.
+    /// `Device` if this fails.
+    fn bind_listener(&mut self, port: u16) -> Result<(L, u16), Stop>
+        ensures called { calls (BindsListener port result) self.old self.new }
+        ensures port { IfOk result (λ bound. port ≢ 0 → bound.1 ≡ port) }
+        ensures stop { IfErr result (λ stop. stop ≡ Stop.Device) };
 
     /// The number of octets of a file; 0 if the host can't read it.
     fn octets_of(&self, file: &str) -> u64;
-
-    /// Whether there is nothing under the file's name, as far as the host can tell.
-    fn is_missing(&self, file: &str) -> bool;
 
     /// Whether somebody watches standard error: whether it is a terminal.
     fn has_watcher(&self) -> bool;
@@ -98,6 +113,44 @@ fn stop_of_binding(fault: BindFault) -> Stop
     }
 }
 
+/// Binds an endpoint to the port of 127.0.0.1, and returns it with its port.
+fn listen_at_port(
+    rt: &HostRuntime,
+    alloc: Global,
+    port: u16,
+    together: usize,
+) -> Result<(SocketEndpoint, u16), Stop>
+    ensures port { IfOk result (λ bound. port ≢ 0 → bound.1 ≡ port) }
+    ensures stop { IfErr result (λ stop. (stop ≡ out_of_memory) ⊎ (stop ≡ Stop.Device)) }
+{
+    let endpoint = match SocketEndpoint::bind(rt, alloc, loopback(port), together) {
+        Ok(endpoint) => endpoint,
+        Err(fault) => return Err(stop_of_binding(fault)),
+    };
+    if port != 0 {
+        return Ok((endpoint, port));
+    }
+    let Ok(address) = endpoint.local_addr() else {
+        return Err(Stop::Device);
+    };
+    Ok((endpoint, address.port()))
+}
+
+/// Binds an endpoint to a Unix socket at the path.
+fn listen_at_path(
+    rt: &HostRuntime,
+    alloc: Global,
+    path: &str,
+    together: usize,
+) -> Result<SocketEndpoint, Stop>
+    ensures { IfErr result (λ stop. (stop ≡ out_of_memory) ⊎ (stop ≡ Stop.Device)) }
+{
+    match SocketEndpoint::bind_path(rt, alloc, path, together) {
+        Ok(endpoint) => Ok(endpoint),
+        Err(fault) => Err(stop_of_binding(fault)),
+    }
+}
+
 /// The limits of the stores that the program creates and opens.
 fn limits() -> Limits
     ensures { result ≡ standard_limits }
@@ -120,7 +173,7 @@ fn rows_from<R: Read + Drop>(alloc: Global, opened: io::Result<R>) -> Result<Ite
 }
 
 /// The host that the program runs on.
-impl Host<FileBooks, SocketEndpoint> for HostRuntime {
+impl Host<FileBooks, SocketEndpoint, TcpListener> for HostRuntime {
     ghost use Rattle.cli_host.specs.Hosts.{IsAnyCall};
 
     ghost calls = { IsAnyCall };
@@ -129,6 +182,13 @@ impl Host<FileBooks, SocketEndpoint> for HostRuntime {
         ensures limits { IfOk result (λ store. store.limits ≡ standard_limits) }
     {
         SqlStore::create(self, file, limits())
+    }
+
+    fn is_vacant(&mut self, file: &str) -> bool {
+        match fs::metadata(self, file) {
+            Ok(metadata) => metadata.is_file() && metadata.len() == 0,
+            Err(error) => error.kind() == io::ErrorKind::NotFound,
+        }
     }
 
     fn open(&mut self, file: &str) -> Result<FileBooks, OpenFault>
@@ -152,33 +212,38 @@ impl Host<FileBooks, SocketEndpoint> for HostRuntime {
     fn listen(
         &mut self,
         alloc: Global,
-        port: u16,
+        address: Address,
         together: usize,
-    ) -> Result<(SocketEndpoint, u16), Stop> {
-        let endpoint = match SocketEndpoint::bind(self, alloc, loopback(port), together) {
-            Ok(endpoint) => endpoint,
-            Err(fault) => return Err(stop_of_binding(fault)),
-        };
-        if port != 0 {
-            return Ok((endpoint, port));
+    ) -> Result<(SocketEndpoint, Address), Stop> {
+        match address {
+            Address::Port(port) => {
+                let (endpoint, port) = listen_at_port(self, alloc, port, together)?;
+                Ok((endpoint, Address::Port(port)))
+            }
+            Address::Socket(path) => {
+                let endpoint = listen_at_path(self, alloc, path.as_str(), together)?;
+                Ok((endpoint, Address::Socket(path)))
+            }
         }
-        let Ok(address) = endpoint.local_addr() else {
+    }
+
+    fn bind_listener(&mut self, port: u16) -> Result<(TcpListener, u16), Stop> {
+        let Ok(listener) = TcpListener::bind(self, loopback(port)) else {
             return Err(Stop::Device);
         };
-        Ok((endpoint, address.port()))
+        if port != 0 {
+            return Ok((listener, port));
+        }
+        let Ok(address) = listener.local_addr() else {
+            return Err(Stop::Device);
+        };
+        Ok((listener, address.port()))
     }
 
     fn octets_of(&self, file: &str) -> u64 {
         match fs::metadata(self, file) {
             Ok(metadata) => metadata.len(),
             Err(_) => 0,
-        }
-    }
-
-    fn is_missing(&self, file: &str) -> bool {
-        match fs::metadata(self, file) {
-            Ok(_) => false,
-            Err(error) => error.kind() == io::ErrorKind::NotFound,
         }
     }
 

@@ -5,7 +5,6 @@ mod args;
 mod exit;
 mod host;
 mod keeps;
-pub mod laws;
 mod listing;
 mod progress;
 mod running;

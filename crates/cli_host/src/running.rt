@@ -17,6 +17,7 @@ use crate::serving::{run_guarded, run_serve};
 use crate::verifying::run_verify;
 use crate::work::{StoreWork, Work, work_of};
 use base_types::Text;
+use book_http::{Connection, Listener};
 use book_service::Command;
 use book_store::FileBooks;
 use cli_args::Order;
@@ -28,11 +29,12 @@ use hub_server::Endpoint;
 use socket_endpoint::SocketEndpoint;
 use std::alloc::Global;
 use std::io::Write;
+use std::net::{TcpListener, TcpStream};
 use std::rt::HostRuntime;
 use sync_core::BookStore;
 
 /// Creates a store without books in the file, and prints `made`.
-fn run_init<S: Drop, P, M: Host<S, P>, W: Write>(
+fn run_init<S: Drop, P, L, M: Host<S, P, L>, W: Write>(
     host: &mut M,
     file: Text,
     writer: &mut W,
@@ -48,7 +50,7 @@ fn run_init<S: Drop, P, M: Host<S, P>, W: Write>(
 
 /// Migrates the file to the current schema, and prints its number of books. The migration remains
 /// if this can't be written.
-fn run_migrate<S, P, M: Host<S, P>, W: Write>(
+fn run_migrate<S, P, L, M: Host<S, P, L>, W: Write>(
     alloc: Global,
     host: &mut M,
     file: Text,
@@ -65,7 +67,7 @@ fn run_migrate<S, P, M: Host<S, P>, W: Write>(
 }
 
 /// Checks the rows or the card of a file, as its name says, and prints what was found.
-fn run_check_of<S, P, M: Host<S, P>, W: Write>(
+fn run_check_of<S, P, L, M: Host<S, P, L>, W: Write>(
     alloc: Global,
     host: &mut M,
     file: &str,
@@ -81,7 +83,7 @@ fn run_check_of<S, P, M: Host<S, P>, W: Write>(
 }
 
 /// Imports a file of rows into a book of the store, and prints the counts.
-fn import_rows<S: BookStore, P, M: Host<S, P>, W: Write>(
+fn import_rows<S: BookStore, P, L, M: Host<S, P, L>, W: Write>(
     alloc: Global,
     host: &mut M,
     store: &mut S,
@@ -106,7 +108,7 @@ fn import_rows<S: BookStore, P, M: Host<S, P>, W: Write>(
 }
 
 /// Does an order's work on a store, and prints the result.
-fn do_store_work<S: BookKeeps, P, M: Host<S, P>, W: Write>(
+fn do_store_work<S: BookKeeps, P, L, M: Host<S, P, L>, W: Write>(
     alloc: Global,
     host: &mut M,
     store: &mut S,
@@ -133,7 +135,7 @@ fn do_store_work<S: BookKeeps, P, M: Host<S, P>, W: Write>(
 }
 
 /// Does an order's work on the store in the file, which is opened first.
-fn use_file<S: BookKeeps + Drop, P, M: Host<S, P>, W: Write>(
+fn use_file<S: BookKeeps + Drop, P, L, M: Host<S, P, L>, W: Write>(
     alloc: Global,
     host: &mut M,
     file: Text,
@@ -150,17 +152,17 @@ fn use_file<S: BookKeeps + Drop, P, M: Host<S, P>, W: Write>(
 }
 
 /// Does an order's work on a host, and prints its output.
-fn do_work<S: BookKeeps + Drop, P: Endpoint, M: Host<S, P>, W: Write>(
+fn do_work<S: BookKeeps + Drop, P: Endpoint, L: Listener + Drop, M: Host<S, P, L>, W: Write>(
     alloc: Global,
     host: &mut M,
     work: Work,
     writer: &mut W,
 ) -> Result<(), Stop>
     ensures done { OnOk result (LogsCalls M.calls host.old host.new
-        (DoesWork S.model P.calls work
+        (DoesWork S.model P.calls L.Stream.model L.coming work
         (W.contents writer.old) (W.contents writer.new))) }
     ensures stopped { IfErr result (λ stop. LogsCalls M.calls host.old host.new
-        (StopsWork S.model P.calls work stop
+        (StopsWork S.model P.calls L.Stream.model L.coming work stop
         (W.contents writer.old) (W.contents writer.new))) }
 {
     match work {
@@ -173,18 +175,17 @@ fn do_work<S: BookKeeps + Drop, P: Endpoint, M: Host<S, P>, W: Write>(
         Work::ServeFile {
             file,
             port,
-            limits,
-            is_logged,
-        } => run_serve(alloc, host, file, port, limits, is_logged, writer),
+            connections,
+        } => run_serve(alloc, host, file, port, connections, writer),
         Work::RunFile {
             file,
             creates,
             names,
-            port,
+            address,
             limits,
             is_logged,
         } => run_guarded(
-            alloc, host, file, creates, names, port, limits, is_logged, writer,
+            alloc, host, file, creates, names, address, limits, is_logged, writer,
         ),
         Work::UseFile { file, work } => use_file(alloc, host, file, work, writer),
     }
@@ -197,25 +198,27 @@ fn do_work<S: BookKeeps + Drop, P: Endpoint, M: Host<S, P>, W: Write>(
 /// `Open` if the file can't be opened as a store of books; `Device` if the file of rows or the file
 /// to check can't be read or has more than 8,388,608 octets, if the port can't be bound, if waiting
 /// or accepting fails, or if the writer fails; `Memory` if an allocation fails, while connections
-/// are served only before the first is accepted. Changes that were made remain if the output can't
-/// be written. The stop for a faulty file is its refusal. `Device` for `Try`, which needs standard
+/// are served only before the first is accepted; `Serve` if one of the connections that `serve`
+/// served one after another was aborted. Changes that were made remain if the output can't be
+/// written. The stop for a faulty file is its refusal. `Device` for `Try`, which needs standard
 /// input, and for `Convert`, which needs files of another kind (`cli_convert` runs it).
-pub fn run_on_host<S: BookKeeps + Drop, P: Endpoint, M: Host<S, P>, W: Write>(
-    alloc: Global,
-    host: &mut M,
-    order: Order,
-    writer: &mut W,
-) -> Result<(), Stop>
+pub fn run_on_host<
+    S: BookKeeps + Drop,
+    P: Endpoint,
+    L: Listener + Drop,
+    M: Host<S, P, L>,
+    W: Write,
+>(alloc: Global, host: &mut M, order: Order, writer: &mut W) -> Result<(), Stop>
     // The whole log of calls that were made of the host is that of the order.
     ensures done { OnOk result (LogsCalls M.calls host.old host.new
-        (RunsOnHost S.model P.calls order
+        (RunsOnHost S.model P.calls L.Stream.model L.coming order
         (W.contents writer.old) (W.contents writer.new))) }
     ensures stopped { IfErr result (λ stop. LogsCalls M.calls host.old host.new
-        (StopsOnHost S.model P.calls order stop
+        (StopsOnHost S.model P.calls L.Stream.model L.coming order stop
         (W.contents writer.old) (W.contents writer.new))) }
 
-    // Nothing is written on a refusal, on a fault, or if the file can't be opened. But the order to
-    // serve may have announced its port before memory ran out, the order to check a file has
+    // Nothing is written on a refusal, on a fault, or if the file can't be opened. But the order
+    // `run` may have announced its port before memory ran out, the order to check a file has
     // written why it refuses the file, and the order to verify one which row is at fault.
     ensures output_kept { IfErr result (λ stop.
         KeepsOrderOutput order stop (W.contents writer.old) (W.contents writer.new)) }
@@ -225,18 +228,21 @@ pub fn run_on_host<S: BookKeeps + Drop, P: Endpoint, M: Host<S, P>, W: Write>(
 
 /// `run_on_host`, on the host that the program runs on.
 ///
-/// No contract connects a store with a real file, or an endpoint with sockets. So the clauses only
-/// say that there are stores and endpoints with which this is the order's log.
+/// No contract connects a store with a real file, or an endpoint or a listener with sockets. So the
+/// clauses only say that there are stores, endpoints and listeners with which this is the order's
+/// log.
 pub fn run_order<W: Write>(rt: &HostRuntime, order: Order, writer: &mut W) -> Result<(), Stop>
     ensures done { OnOk result (HasLog (RunsOnHost ⟦<FileBooks as BookStore>⟧.model
-        ⟦<SocketEndpoint as Endpoint>⟧.calls order
+        ⟦<SocketEndpoint as Endpoint>⟧.calls ⟦<TcpStream as Connection>⟧.model
+        ⟦<TcpListener as Listener>⟧.coming order
         (W.contents writer.old) (W.contents writer.new))) }
     ensures stopped { IfErr result (λ stop. HasLog (StopsOnHost ⟦<FileBooks as BookStore>⟧.model
-        ⟦<SocketEndpoint as Endpoint>⟧.calls order stop
+        ⟦<SocketEndpoint as Endpoint>⟧.calls ⟦<TcpStream as Connection>⟧.model
+        ⟦<TcpListener as Listener>⟧.coming order stop
         (W.contents writer.old) (W.contents writer.new))) }
 
-    // Nothing is written on a refusal, on a fault, or if the file can't be opened. But the order to
-    // serve may have announced its port before memory ran out, the order to check a file has
+    // Nothing is written on a refusal, on a fault, or if the file can't be opened. But the order
+    // `run` may have announced its port before memory ran out, the order to check a file has
     // written why it refuses the file, and the order to verify one which row is at fault.
     ensures output_kept { IfErr result (λ stop.
         KeepsOrderOutput order stop (W.contents writer.old) (W.contents writer.new)) }

@@ -1,15 +1,15 @@
 //! Serves the store in a file.
-ghost use Rattle.std.specs.Prelude.{false, IfErr, OnOk};
+ghost use Rattle.std.specs.Prelude.{IfErr, OnOk, true};
 ghost use Rattle.cli_host.specs.Hosts.{LogsCalls};
-ghost use Rattle.cli_host.specs.OrdersOnHost.{GetsStore, RunsFile, ServesAt, ServesFile, StopsAt};
-ghost use Rattle.cli_host.specs.OrdersOnHost.{StopsRun, StopsServe};
+ghost use Rattle.cli_host.specs.OrdersOnHost.{GetsStore, RunsFile, ServesAt, StopsAt, StopsRun};
+ghost use Rattle.cli_host.specs.OrdersInTurn.{ServesFile, StopsServe};
 
 use crate::host::Host;
 use crate::progress::open_watched;
 use base_types::{Items, Text};
-use book_http::Service;
+use book_http::{Listener, Service};
 use book_store::OpenFault;
-use cli_orders::{Stop, announce_and_serve};
+use cli_orders::{Address, Stop, announce_and_serve, announce_and_serve_in_turn};
 use http_requests::{Guarded, Handler};
 use hub_server::{Endpoint, ServeLimits};
 use request_log::{LoggedEndpoint, LoggedHandler};
@@ -22,9 +22,24 @@ fn log_if<L>(is_on: bool, log: &L) -> Option<&L> {
     if is_on { Some(log) } else { None }
 }
 
-/// The store of the books in the file, which is opened; or it is created without books, if that is
-/// asked for and there is no such file.
-fn get_store<S, P, M: Host<S, P>>(
+/// The store of the books in the file, which is created without books if there is no such file, or
+/// an empty one.
+fn open_or_create<S, P, L, M: Host<S, P, L>>(
+    alloc: Global,
+    host: &mut M,
+    file: &str,
+) -> Result<S, OpenFault>
+    ensures { LogsCalls M.calls host.old host.new (GetsStore file.now true result) }
+{
+    if host.is_vacant(file) {
+        host.create(file)
+    } else {
+        open_watched(alloc, host, file)
+    }
+}
+
+/// The store of the books in the file, which is created only if that is asked for.
+fn get_store<S, P, L, M: Host<S, P, L>>(
     alloc: Global,
     host: &mut M,
     file: &str,
@@ -32,36 +47,43 @@ fn get_store<S, P, M: Host<S, P>>(
 ) -> Result<S, OpenFault>
     ensures { LogsCalls M.calls host.old host.new (GetsStore file.now creates result) }
 {
-    if creates && host.is_missing(file) {
-        host.create(file)
+    if creates {
+        open_or_create(alloc, host, file)
     } else {
         open_watched(alloc, host, file)
     }
 }
 
-/// Serves the connections to the port. The endpoint is closed last, however serving ended. If it is
-/// logged, the host prints a line for each request and for each fault of a connection.
-fn serve_at<S, P: Endpoint, M: Host<S, P>, H: Handler + Drop, W: Write>(
+/// Serves the connections to the address. The endpoint is closed last, however serving ended. If it
+/// is logged, the host prints a line for each request and for each fault of a connection.
+fn serve_at<S, P: Endpoint, L, M: Host<S, P, L>, H: Handler + Drop, W: Write>(
     alloc: Global,
     host: &mut M,
     handler: H,
-    port: u16,
+    address: Address,
     limits: ServeLimits,
     is_logged: bool,
     writer: &mut W,
 ) -> Result<(), Stop>
     ensures done { OnOk result (LogsCalls M.calls host.old host.new
-        (ServesAt H.does H.fault_reply P.calls port limits handler
+        (ServesAt H.does H.fault_reply P.calls address limits handler
         (W.contents writer.old) (W.contents writer.new))) }
     ensures stopped { IfErr result (λ stop. LogsCalls M.calls host.old host.new
-        (StopsAt H.does H.fault_reply P.calls port limits stop handler
+        (StopsAt H.does H.fault_reply P.calls address limits stop handler
         (W.contents writer.old) (W.contents writer.new))) }
 {
-    let (endpoint, port) = host.listen(alloc, port, limits.together)?;
+    let (endpoint, address) = host.listen(alloc, address, limits.together)?;
     let log = log_if(is_logged, &*host);
     let mut logged = LoggedHandler::new(handler, log);
     let mut connections = LoggedEndpoint::new(endpoint, log);
-    let served = announce_and_serve(alloc, &mut logged, &mut connections, port, limits, writer);
+    let served = announce_and_serve(
+        alloc,
+        &mut logged,
+        &mut connections,
+        &address,
+        limits,
+        writer,
+    );
     // Both borrow the host for its log.
     drop(logged);
     let left = connections.into_endpoint();
@@ -69,50 +91,51 @@ fn serve_at<S, P: Endpoint, M: Host<S, P>, H: Handler + Drop, W: Write>(
     served
 }
 
-/// Serves the books in the file at the port. The store is opened first.
-pub(crate) fn run_serve<S: BookStore + Drop, P: Endpoint, M: Host<S, P>, W: Write>(
+/// Serves the books in the file at the port, to one connection after another. The store is opened
+/// first.
+pub(crate) fn run_serve<S: BookStore + Drop, P, L: Listener + Drop, M: Host<S, P, L>, W: Write>(
     alloc: Global,
     host: &mut M,
     file: Text,
     port: u16,
-    limits: ServeLimits,
-    is_logged: bool,
+    connections: u64,
     writer: &mut W,
 ) -> Result<(), Stop>
     ensures done { OnOk result (LogsCalls M.calls host.old host.new
-        (ServesFile S.model P.calls file port limits
+        (ServesFile S.model L.Stream.model L.coming file port connections
         (W.contents writer.old) (W.contents writer.new))) }
     ensures stopped { IfErr result (λ stop. LogsCalls M.calls host.old host.new
-        (StopsServe S.model P.calls file port limits stop
+        (StopsServe S.model L.Stream.model L.coming file port connections stop
         (W.contents writer.old) (W.contents writer.new))) }
 {
-    let store = get_store(alloc, host, file.as_str(), false)?;
-    let service = Service::new(alloc, store)?;
-    serve_at(alloc, host, service, port, limits, is_logged, writer)
+    let store = open_watched(alloc, host, file.as_str())?;
+    let mut service = Service::new(alloc, store)?;
+    let (listener, port) = host.bind_listener(port)?;
+    announce_and_serve_in_turn(alloc, &mut service, listener, port, connections, writer)
 }
 
-/// Serves the books in the file at the port behind a guard of a server with these names, beside
+/// Serves the books in the file at the address behind a guard of a server with these names, beside
 /// those of the loopback. The store is opened or created first.
-pub(crate) fn run_guarded<S: BookStore + Drop, P: Endpoint, M: Host<S, P>, W: Write>(
+pub(crate) fn run_guarded<S: BookStore + Drop, P: Endpoint, L, M: Host<S, P, L>, W: Write>(
     alloc: Global,
     host: &mut M,
     file: Text,
     creates: bool,
     names: Items<Text>,
-    port: u16,
+    address: Address,
     limits: ServeLimits,
     is_logged: bool,
     writer: &mut W,
 ) -> Result<(), Stop>
     ensures done { OnOk result (LogsCalls M.calls host.old host.new
-        (RunsFile S.model P.calls file creates names port limits
+        (RunsFile S.model P.calls file creates names address limits
         (W.contents writer.old) (W.contents writer.new))) }
     ensures stopped { IfErr result (λ stop. LogsCalls M.calls host.old host.new
-        (StopsRun S.model P.calls file creates names port limits stop
+        (StopsRun S.model P.calls file creates names address limits stop
         (W.contents writer.old) (W.contents writer.new))) }
 {
     let store = get_store(alloc, host, file.as_str(), creates)?;
     let service = Service::new(alloc, store)?;
     let handler = Guarded::new(names, service);
-    serve_at(alloc, host, handler, port, limits, is_logged, writer)
+    serve_at(alloc, host, handler, address, limits, is_logged, writer)
 }

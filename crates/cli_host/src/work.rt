@@ -1,20 +1,15 @@
 //! What an order does.
-ghost use Rattle.std.specs.Prelude.{◌≡◌, false, true};
-ghost use Rattle.cli_host.specs.OrderWork.{limits_of, store_work_of, work_of};
+ghost use Rattle.std.specs.Prelude.{◌≡◌};
+ghost use Rattle.cli_host.specs.OrderWork.{address_of, limits_of, store_work_of, work_of};
 ghost use Rattle.cli_host.specs.declared.work.StoreWork.TheVariants.{Perform};
-ghost use Rattle.cli_host.specs.declared.work.Work.TheVariants.{ServeFile, UseFile};
+ghost use Rattle.cli_host.specs.declared.work.Work.TheVariants.{UseFile};
 
 use crate::listing::Listing;
 use base_types::{Items, Text};
 use book_service::Command;
 use cli_args::Order;
+use cli_orders::Address;
 use hub_server::ServeLimits;
-
-/// The most connections that are open at once, if the order names no limits.
-const TOGETHER_DEFAULT: u64 = 256;
-
-/// The seconds after which a silent connection is closed, if the order names no limits.
-const PATIENCE_DEFAULT: u64 = 60;
 
 /// More connections than anybody makes, 2^63, so that `run` serves until it is stopped.
 const ENDLESS_CONNECTIONS: u64 = 9_223_372_036_854_775_808;
@@ -46,17 +41,14 @@ pub enum Work {
         /// The file's name.
         file: Text,
     },
-    /// Serves the store in the file.
+    /// Serves the store in the file to one connection after another.
     ServeFile {
         /// The file's name.
         file: Text,
         /// The port, or 0 for any free one.
         port: u16,
-        /// The number of connections, the most that are open at once, and the patience with a
-        /// silent one in milliseconds.
-        limits: ServeLimits,
-        /// Whether a line is printed for each request.
-        is_logged: bool,
+        /// The number of connections.
+        connections: u64,
     },
     /// Serves the store in the file behind a guard.
     RunFile {
@@ -66,9 +58,10 @@ pub enum Work {
         creates: bool,
         /// The names of the server, beside those of the loopback.
         names: Items<Text>,
-        /// The port, or 0 for any free one.
-        port: u16,
-        /// As for `ServeFile`.
+        /// Where it listens.
+        address: Address,
+        /// The number of connections, the most that are open at once, and the patience with a
+        /// silent one in milliseconds.
         limits: ServeLimits,
         /// Whether a line is printed for each request.
         is_logged: bool,
@@ -121,6 +114,16 @@ fn limits_of(connections: u64, together: u64, patience: u64) -> ServeLimits
     }
 }
 
+/// At the socket if there is one, and else at the port.
+fn address_of(port: u16, socket: Option<Text>) -> Address
+    ensures { result ≡ address_of port socket }
+{
+    match socket {
+        Some(path) => Address::Socket(path),
+        None => Address::Port(port),
+    }
+}
+
 /// Performs a command on the store in the file.
 fn perform_in(file: Text, command: Command) -> Work
     ensures { result ≡ UseFile file (Perform command) }
@@ -128,30 +131,6 @@ fn perform_in(file: Text, command: Command) -> Work
     Work::UseFile {
         file,
         work: StoreWork::Perform(command),
-    }
-}
-
-/// Serves the store in the file within the limits.
-fn serve_in(file: Text, port: u16, limits: ServeLimits) -> Work
-    ensures { result ≡ ServeFile file port limits false }
-{
-    Work::ServeFile {
-        file,
-        port,
-        limits,
-        is_logged: false,
-    }
-}
-
-/// The same, with a line for each request.
-fn serve_logged_in(file: Text, port: u16, limits: ServeLimits) -> Work
-    ensures { result ≡ ServeFile file port limits true }
-{
-    Work::ServeFile {
-        file,
-        port,
-        limits,
-        is_logged: true,
     }
 }
 
@@ -203,6 +182,7 @@ pub fn work_of(order: Order) -> Work
         Order::Run {
             file,
             port,
+            socket,
             names,
             max_open,
             idle_timeout,
@@ -212,7 +192,7 @@ pub fn work_of(order: Order) -> Work
             file,
             creates,
             names,
-            port,
+            address: address_of(port, socket),
             limits: limits_of(ENDLESS_CONNECTIONS, max_open, idle_timeout),
             is_logged,
         },
@@ -220,24 +200,11 @@ pub fn work_of(order: Order) -> Work
             file,
             port,
             connections,
-        } => {
-            let limits = limits_of(connections, TOGETHER_DEFAULT, PATIENCE_DEFAULT);
-            serve_in(file, port, limits)
-        }
-        Order::ServeWithLimits {
+        } => Work::ServeFile {
             file,
             port,
             connections,
-            together,
-            patience,
-        } => serve_in(file, port, limits_of(connections, together, patience)),
-        Order::ServeLogged {
-            file,
-            port,
-            connections,
-            together,
-            patience,
-        } => serve_logged_in(file, port, limits_of(connections, together, patience)),
+        },
         other => store_work_of(other),
     }
 }

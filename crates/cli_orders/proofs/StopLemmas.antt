@@ -8,6 +8,7 @@ use Rattle.hub_server.specs.ServedEndpoints.{StopsAtEndpoint}
 use Rattle.hub_server.specs.declared.endpoint_fault.EndpointFault.{EndpointFault}
 use Rattle.hub_server.specs.declared.endpoint_fault.EndpointFault.TheVariants as endpoint
 use Rattle.hub_server.specs.declared.limits.ServeLimits.{ServeLimits}
+use Rattle.cli_orders.specs.declared.address.Address.{Address}
 use Rattle.cli_orders.specs.declared.stop.Stop.{Stop}
 use Rattle.cli_orders.specs.declared.stop.Stop.TheVariants.{Refused, Fault, Open, Serve, Device}
 use Rattle.cli_orders.specs.Announcements.{StopsServing, WritesListeningLine, listening_line}
@@ -39,29 +40,29 @@ stop_leaves r stop before after (inr cut) = output_kept_by_device stop before af
 -- ---- of connections
 
 module _ {State Endpoint : Type 0} (does : HandlerRelation State) (fault_reply : FaultReplies) (calls : EndpointRelation Endpoint) where
-  abbrev Stopped : ℕ → ServeLimits → State → Endpoint → Option (List ℕ) → Option (List ℕ) → Stop → State → Endpoint → Type 0
-  Stopped port limits old start before after stop new end = StopsServing does fault_reply calls port limits old start before after stop new end
+  abbrev Stopped : Address → ServeLimits → State → Endpoint → Option (List ℕ) → Option (List ℕ) → Stop → State → Endpoint → Type 0
+  Stopped address limits old start before after stop new end = StopsServing does fault_reply calls address limits old start before after stop new end
 
-  pub stops_without_line : (port : ℕ) (limits : ServeLimits) (old : State) (start : Endpoint) (w : Option (List ℕ)) → Stopped port limits old start w w out_of_memory old start
-  stops_without_line port limits old start w = inl (record { stop_is = refl; unwritten = kept_same w; unhandled = refl; uncalled = refl })
+  pub stops_without_line : (address : Address) (limits : ServeLimits) (old : State) (start : Endpoint) (w : Option (List ℕ)) → Stopped address limits old start w w out_of_memory old start
+  stops_without_line address limits old start w = inl (record { stop_is = refl; unwritten = kept_same w; unhandled = refl; uncalled = refl })
 
-  pub stops_mute : (port : ℕ) (limits : ServeLimits) (old : State) (start : Endpoint) (before after : Option (List ℕ)) (stop : Stop) → stop ≡ Device → WritesPrefix (listening_line port) before after
-      → Stopped port limits old start before after stop old start
-  stops_mute port limits old start before after stop is front = inr (inl (record { stop_is = is; front = front; unhandled = refl; uncalled = refl }))
+  pub stops_mute : (address : Address) (limits : ServeLimits) (old : State) (start : Endpoint) (before after : Option (List ℕ)) (stop : Stop) → stop ≡ Device → WritesPrefix (listening_line address) before after
+      → Stopped address limits old start before after stop old start
+  stops_mute address limits old start before after stop is front = inr (inl (record { stop_is = is; front = front; unhandled = refl; uncalled = refl }))
 
-  pub stops_announced : (port : ℕ) (limits : ServeLimits) (old new : State) (start end : Endpoint) (before after : Option (List ℕ)) (fault : EndpointFault) → Appends before after (listening_line port)
-      → StopsAtEndpoint does fault_reply calls limits fault old start new end → Stopped port limits old start before after (stop_of_endpoint fault) new end
-  stops_announced port limits old new start end before after fault written serves = inr (inr (record { written = written; fault = fault; stop_is = refl; serves = serves }))
+  pub stops_announced : (address : Address) (limits : ServeLimits) (old new : State) (start end : Endpoint) (before after : Option (List ℕ)) (fault : EndpointFault) → Appends before after (listening_line address)
+      → StopsAtEndpoint does fault_reply calls limits fault old start new end → Stopped address limits old start before after (stop_of_endpoint fault) new end
+  stops_announced address limits old new start end before after fault written serves = inr (inr (record { written = written; fault = fault; stop_is = refl; serves = serves }))
 
   -- a fault may have come after the line was written; no other stop but `Device` comes then
-  pub serving_stop_leaves : (port : ℕ) (limits : ServeLimits) (old new : State) (start end : Endpoint) (before after : Option (List ℕ)) (stop : Stop) → Stopped port limits old start before after stop new end
+  pub serving_stop_leaves : (address : Address) (limits : ServeLimits) (old new : State) (start end : Endpoint) (before after : Option (List ℕ)) (stop : Stop) → Stopped address limits old start before after stop new end
       → KeepsOutput stop before after ⊎ ((stop ≡ out_of_memory) × WritesListeningLine before after)
-  serving_stop_leaves port limits old new start end before after stop (inl s) = inl (keeps_leaves stop before after s.unwritten)
-  serving_stop_leaves port limits old new start end before after stop (inr (inl s)) = inl (output_kept_by_device stop before after s.stop_is)
-  serving_stop_leaves port limits old new start end before after stop (inr (inr s)) = by_fault s.fault s.stop_is
+  serving_stop_leaves address limits old new start end before after stop (inl s) = inl (keeps_leaves stop before after s.unwritten)
+  serving_stop_leaves address limits old new start end before after stop (inr (inl s)) = inl (output_kept_by_device stop before after s.stop_is)
+  serving_stop_leaves address limits old new start end before after stop (inr (inr s)) = by_fault s.fault s.stop_is
     where
       by_fault : (fault : EndpointFault) → stop ≡ stop_of_endpoint fault → KeepsOutput stop before after ⊎ ((stop ≡ out_of_memory) × WritesListeningLine before after)
       by_fault endpoint.Wait is = inl (output_kept_by_device stop before after is)
       by_fault endpoint.Accept is = inl (output_kept_by_device stop before after is)
       by_fault endpoint.TooManyWaits is = inl (output_kept_by_device stop before after is)
-      by_fault endpoint.Memory is = inr (is, record { port = port; written = s.written })
+      by_fault endpoint.Memory is = inr (is, record { address = address; written = s.written })

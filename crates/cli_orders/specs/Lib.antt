@@ -5,6 +5,7 @@ pub mod ReplyTexts
 pub mod CommandRuns
 pub mod OrderReplies
 pub mod Announcements
+pub mod TurnServing
 pub mod Inputs
 pub mod TryStops
 pub mod TryResults

@@ -2,6 +2,7 @@
 //! output.
 #![tactic(auto)]
 
+mod address;
 mod breaking;
 mod card_rows;
 mod cause_words;
@@ -29,6 +30,7 @@ mod try_result;
 mod version;
 mod writing;
 
+pub use address::Address;
 pub use checking::run_check;
 pub use commands::{run_command, run_mirror};
 pub use expansion_output::expand_text;
@@ -38,7 +40,7 @@ pub use input::read_input;
 pub use mirror_output::mirror_text;
 pub use one_line_outputs::{book_text, forget_text, import_text, made_text, migrate_text};
 pub use reading::{read_at_most, read_rows_of};
-pub use serving::announce_and_serve;
+pub use serving::{announce_and_serve, announce_and_serve_in_turn};
 pub use stop::Stop;
 pub use tally_output::tally_text;
 pub use try_order::run_try;

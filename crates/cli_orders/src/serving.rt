@@ -1,23 +1,44 @@
-//! Announces the port and serves connections.
+//! Announces the address and serves connections.
 ghost use Rattle.std.specs.Prelude.{◌≡◌, IfErr, IfOk, OnOk};
 ghost use Rattle.cli_orders.specs.Announcements.{AnnouncesAndServes, StopsServing, listening_line};
+ghost use Rattle.cli_orders.specs.declared.address.Address.TheVariants.{Port, Socket};
+ghost use Rattle.cli_orders.specs.TurnServing.{AnnouncesAndServesInTurn, StopsServingInTurn};
 
+use crate::address::Address;
 use crate::stop::Stop;
 use crate::writing::write_out;
+use book_http::{Listener, serve_listener};
 use http_requests::Handler;
 use hub_server::{Endpoint, ServeLimits, serve_endpoint};
 use std::alloc::Global;
 use std::io::Write;
 use vcard_text::NoMemory;
 
-/// The line that announces the port, for example `listening 127.0.0.1:8080`.
-fn listening_text(alloc: Global, port: u16) -> Result<Vec<u8>, NoMemory>
-    ensures { IfOk result (λ text. text.items ≡ listening_line port) }
+/// The line that announces a port, for example `listening 127.0.0.1:8080`.
+fn port_text(alloc: Global, port: u16) -> Result<Vec<u8>, NoMemory>
+    ensures { IfOk result (λ text. text.items ≡ listening_line (Port port)) }
 {
     Ok(format!(in alloc; "listening 127.0.0.1:{port}\n")?.into_bytes())
 }
 
-/// Writes and flushes the line that announces the port, and then serves connections at the
+/// The line that announces a Unix socket, for example `listening unix:/run/tosculai/socket`.
+fn socket_text(alloc: Global, path: &str) -> Result<Vec<u8>, NoMemory>
+    ensures { IfOk result (λ text. text.items ≡ listening_line (Socket path.now)) }
+{
+    Ok(format!(in alloc; "listening unix:{path}\n")?.into_bytes())
+}
+
+/// The line that announces the address.
+fn listening_text(alloc: Global, address: &Address) -> Result<Vec<u8>, NoMemory>
+    ensures { IfOk result (λ text. text.items ≡ listening_line address.now) }
+{
+    match address {
+        Address::Port(port) => port_text(alloc, *port),
+        Address::Socket(path) => socket_text(alloc, path.as_str()),
+    }
+}
+
+/// Writes and flushes the line that announces the address, and then serves connections at the
 /// endpoint, as `hub_server::serve_endpoint` does.
 ///
 /// Stops with `Memory` if an allocation fails before the first connection is accepted, for the line
@@ -27,19 +48,47 @@ pub fn announce_and_serve<H: Handler, E: Endpoint, W: Write>(
     alloc: Global,
     handler: &mut H,
     endpoint: &mut E,
-    port: u16,
+    address: &Address,
     limits: ServeLimits,
     writer: &mut W,
 ) -> Result<(), Stop>
-    ensures served { OnOk result (AnnouncesAndServes H.does H.fault_reply E.calls port limits
+    ensures served { OnOk result (AnnouncesAndServes H.does H.fault_reply E.calls address.now limits
         handler.old endpoint.old (W.contents writer.old) (W.contents writer.new)
         handler.new endpoint.new) }
-    ensures stopped { IfErr result (λ stop. StopsServing H.does H.fault_reply E.calls port limits
+    ensures stopped { IfErr result (λ stop. StopsServing H.does H.fault_reply E.calls address.now limits
         handler.old endpoint.old (W.contents writer.old) (W.contents writer.new)
         stop handler.new endpoint.new) }
 {
-    let line = listening_text(alloc, port)?;
+    let line = listening_text(alloc, address)?;
     write_out(writer, line.as_slice())?;
     serve_endpoint(alloc, handler, endpoint, limits)?;
+    Ok(())
+}
+
+/// Writes and flushes the line that announces the port, and then serves `connections` connections
+/// of the listener one after another, as `book_http::serve_listener` does. At the end it drops the
+/// listener.
+///
+/// Stops with `Memory` if an allocation fails for the line; with `Device` if the writer or the
+/// listener fails; and, once all connections were served, with `Serve` if some were aborted, for
+/// the fault of the first.
+pub fn announce_and_serve_in_turn<H: Handler, L: Listener + Drop, W: Write>(
+    alloc: Global,
+    handler: &mut H,
+    listener: L,
+    port: u16,
+    connections: u64,
+    writer: &mut W,
+) -> Result<(), Stop>
+    ensures served { OnOk result (AnnouncesAndServesInTurn H.does H.fault_reply
+        L.Stream.model port connections (L.coming listener)
+        handler.old (W.contents writer.old) (W.contents writer.new) handler.new) }
+    ensures stopped { IfErr result (λ stop. StopsServingInTurn H.does H.fault_reply
+        L.Stream.model port connections (L.coming listener)
+        handler.old (W.contents writer.old) (W.contents writer.new) stop handler.new) }
+{
+    let line = port_text(alloc, port)?;
+    write_out(writer, line.as_slice())?;
+    serve_listener(alloc, handler, listener, connections)?;
     Ok(())
 }

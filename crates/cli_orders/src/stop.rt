@@ -20,9 +20,9 @@ pub enum Stop {
     Fault(Fault),
     /// The file can't be opened as a store of books, or no store can be created in it.
     Open(OpenFault),
-    /// The fault of the first connection that `serve_listener` aborted. The connections after it
-    /// were accepted and served too, each to its end unless it was aborted itself. The program
-    /// serves its connections together, so it never has this one.
+    /// The fault of the first connection that was aborted, of those that were served one after
+    /// another. The connections after it were accepted and served too, each to its end unless it
+    /// was aborted itself.
     Serve(ServeFault),
     /// A file, a socket, or standard input or output can't be used.
     Device,

@@ -5,11 +5,13 @@ use crate::accept_causes::{AcceptCause, accept_cause};
 use crate::bind_fault::BindFault;
 use crate::polling::Polling;
 use crate::reports::{clear_ready, mark_reported};
+use crate::socket_files::bind_socket;
+use crate::streams::{Listener, Stream};
 use crate::subject::{Subject, token_of};
 use crate::transfers::{read_from, write_to};
 use base_types::NoMemory;
 use hub_server::{Accepted, Endpoint, Received, Sent, WaitFailed, Woken};
-use mio::net::{TcpListener, TcpStream};
+use mio::net::TcpListener;
 use mio::{Interest, Token};
 use std::alloc::Global;
 use std::io;
@@ -30,12 +32,12 @@ const ACCEPTS_MAX: u32 = 64;
 #[derive(Drop)]
 pub struct SocketEndpoint {
     polling: Polling,
-    listener: TcpListener,
-    places: Vec<Option<TcpStream>>,
+    listener: Listener,
+    places: Vec<Option<Stream>>,
 }
 
 /// A list of `limit` places without connections.
-fn free_places(alloc: Global, limit: usize) -> Result<Vec<Option<TcpStream>>, NoMemory> {
+fn free_places(alloc: Global, limit: usize) -> Result<Vec<Option<Stream>>, NoMemory> {
     let mut places = Vec::new(alloc);
     for _place in 0..limit {
         places.push(None)?;
@@ -57,10 +59,36 @@ impl SocketEndpoint {
     ) -> Result<SocketEndpoint, BindFault> {
         let places = free_places(alloc, together)?;
         let polling = Polling::new(rt, alloc, together)?;
-        let mut listener = TcpListener::bind(rt, address)?;
-        polling
-            .registry()
-            .register(&mut listener, Token(0), Interest::READABLE)?;
+        let listener = Listener::Tcp(TcpListener::bind(rt, address)?);
+        SocketEndpoint::over(polling, listener, places)
+    }
+
+    /// The same at a new Unix socket at the path. Its file has the mode 0660: its owner and its
+    /// group may connect. A socket file at which nobody listens is replaced. Nothing removes the
+    /// file at the end.
+    ///
+    /// `Device` also if anything else is at the path, or if the path is empty or has more than 107
+    /// octets.
+    pub fn bind_path(
+        rt: &HostRuntime,
+        alloc: Global,
+        path: &str,
+        together: usize,
+    ) -> Result<SocketEndpoint, BindFault> {
+        let places = free_places(alloc, together)?;
+        let polling = Polling::new(rt, alloc, together)?;
+        let listener = Listener::Unix(bind_socket(rt, path)?);
+        SocketEndpoint::over(polling, listener, places)
+    }
+
+    /// The endpoint over the listener.
+    fn over(
+        polling: Polling,
+        listener: Listener,
+        places: Vec<Option<Stream>>,
+    ) -> Result<SocketEndpoint, BindFault> {
+        let mut listener = listener;
+        listener.register(polling.registry(), Token(0), Interest::READABLE)?;
         Ok(SocketEndpoint {
             polling,
             listener,
@@ -69,7 +97,7 @@ impl SocketEndpoint {
     }
 
     /// The address at which it listens. If it was bound to port 0, its port is the one that the
-    /// system chose.
+    /// system chose. An error if it was bound to a path.
     pub fn local_addr(&self) -> io::Result<SocketAddr> {
         self.listener.local_addr()
     }
@@ -93,20 +121,16 @@ impl SocketEndpoint {
 
     /// Puts the connection that was accepted at the place. If the system has no memory to watch it,
     /// the connection is dropped.
-    fn seat(&mut self, place: usize, stream: TcpStream) -> Accepted
+    fn seat(&mut self, place: usize, stream: Stream) -> Accepted
         requires { place < vec_len self.old.places }
     {
         let mut stream = stream;
-        // without it replies are only slower
-        let _ = stream.set_nodelay(true);
+        stream.send_at_once();
         let Some(token) = token_of(Subject::Place(place)) else {
             return Accepted::Failed;
         };
         let interest = Interest::READABLE | Interest::WRITABLE;
-        let registered = self
-            .polling
-            .registry()
-            .register(&mut stream, token, interest);
+        let registered = stream.register(self.polling.registry(), token, interest);
         if registered.is_err() {
             return Accepted::Later;
         }
@@ -132,7 +156,7 @@ impl Endpoint for SocketEndpoint {
         }
         for _try in 0..ACCEPTS_MAX {
             match self.listener.accept() {
-                Ok((stream, _address)) => return self.seat(place, stream),
+                Ok(stream) => return self.seat(place, stream),
                 Err(error) => {
                     match accept_cause(error.raw_os_error()) {
                         AcceptCause::NoneWaits => return Accepted::NoneNow,

@@ -1,4 +1,4 @@
-//! The endpoint of a server over TCP sockets that don't block.
+//! The endpoint of a server over TCP or Unix sockets that don't block.
 #![tactic(auto)]
 
 mod accept_causes;
@@ -10,7 +10,9 @@ mod lingerers;
 mod poll_times;
 mod polling;
 mod reports;
+mod socket_files;
 mod stopwatch;
+mod streams;
 mod subject;
 mod transfers;
 

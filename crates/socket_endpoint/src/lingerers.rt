@@ -11,9 +11,9 @@ ghost use Rattle.socket_endpoint.specs.LingerSlots.{slot_rank};
 use crate::dropping::{Dropped, drop_input};
 use crate::linger::Linger;
 use crate::poll_times::earlier;
+use crate::streams::Stream;
 use crate::subject::{Subject, subject_of, token_of};
 use base_types::NoMemory;
-use mio::net::TcpStream;
 use mio::{Events, Interest, Registry};
 use std::alloc::Global;
 use std::net::Shutdown;
@@ -24,7 +24,7 @@ const ROOM_OCTETS: usize = 16_384;
 /// A socket that lingers.
 #[derive(Drop)]
 pub(crate) struct Lingerer {
-    stream: TcpStream,
+    stream: Stream,
     linger: Linger,
 }
 
@@ -125,7 +125,7 @@ impl Lingerer {
         let Some(token) = token_of(Subject::Lingerer(slot)) else {
             return false;
         };
-        let done = registry.reregister(&mut self.stream, token, Interest::READABLE);
+        let done = self.stream.reregister(registry, token, Interest::READABLE);
         done.is_ok()
     }
 }
@@ -149,7 +149,7 @@ impl Lingerers {
 
     /// Ends the side of the server. The socket lingers unless its client has ended its side or the
     /// connection has failed. If every slot is taken, the socket that was closed first is given up.
-    pub(crate) fn add(&mut self, registry: &Registry, stream: TcpStream, now: u64) {
+    pub(crate) fn add(&mut self, registry: &Registry, stream: Stream, now: u64) {
         if stream.shutdown(Shutdown::Write).is_err() {
             return;
         }

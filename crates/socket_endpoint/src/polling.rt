@@ -3,7 +3,7 @@ use crate::bind_fault::BindFault;
 use crate::lingerers::Lingerers;
 use crate::poll_times::{earlier, time_left, timeout_of};
 use crate::stopwatch::Stopwatch;
-use mio::net::TcpStream;
+use crate::streams::Stream;
 use mio::{Events, Poll, Registry};
 use std::alloc::Global;
 use std::io;
@@ -63,7 +63,7 @@ impl Polling {
     }
 
     /// Closes the connection. Its socket lingers until its client has ended its side.
-    pub(crate) fn close(&mut self, stream: TcpStream) {
+    pub(crate) fn close(&mut self, stream: Stream) {
         // without a clock it lingers from the last wait on
         let now = self.stopwatch.millis().unwrap_or(self.now);
         self.lingerers.add(self.poll.registry(), stream, now);

@@ -30,17 +30,25 @@ pub returns-clause-connections : goal.returns-clause-connections
 unfolding clap_on_literals
 returns-clause-connections c = (refl, refl, refl)
 
-pub returns-clause-limits : goal.returns-clause-limits
+pub returns-clause-serves : goal.returns-clause-serves
 unfolding clap_on_literals
-returns-clause-limits c = (refl, refl, refl, refl, refl, refl, refl, refl)
+returns-clause-serves c = (refl, refl, refl, refl)
 
 pub returns-clause-runs : goal.returns-clause-runs
 unfolding clap_on_literals
-returns-clause-runs c = (refl, refl, refl, refl, refl, refl)
+returns-clause-runs c = (refl, refl, refl, refl)
+
+pub returns-clause-sockets : goal.returns-clause-sockets
+unfolding clap_on_literals
+returns-clause-sockets c = (refl, refl, refl, refl)
+
+pub returns-clause-limits : goal.returns-clause-limits
+unfolding clap_on_literals
+returns-clause-limits c = (refl, refl, refl, refl, refl)
 
 pub returns-clause-logs : goal.returns-clause-logs
 unfolding clap_on_literals
-returns-clause-logs c = (refl, refl, refl, refl, refl)
+returns-clause-logs c = (refl, refl, refl, refl)
 
 pub returns-clause-forms : goal.returns-clause-forms
 unfolding clap_on_literals

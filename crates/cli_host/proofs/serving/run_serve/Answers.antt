@@ -1,34 +1,43 @@
-use Rattle.std.proofs.Common.{◌∙◌, false, Ok, Err, IfErr, OnOk, ap, rules, subst}
+use Rattle.std.proofs.Common.{Ok, Err, IfErr, OnOk, rules, subst}
 use Rattle.std.proofs.lemmas.Result.{err_from_is_err_and}
 use Rattle.book_http.specs.OctetPromise.{ServiceStep}
-use Rattle.cli_host.specs.Hosts.{LogsCalls}
-use Rattle.cli_host.specs.OrdersOnHost.{GetsStore, ServesAt, StopsAt}
+use Rattle.cli_orders.specs.TurnServing.{AnnouncesAndServesInTurn, StopsServingInTurn}
 use Rattle.http_replies.specs.Replies.{head_fault_octets}
-use Rattle.cli_host.proofs.CallLemmas.{store_missing, store_served, store_unserved, store_without_memory}
+use Rattle.cli_host.specs.Hosts.{Opens}
+use Rattle.cli_host.proofs.TurnLemmas.{serve_unbound, serve_unopened, serve_without_memory, served_in_turn, unserved_in_turn}
 use Rattle.cli_host.proofs.serving.run_serve.Goals as goal
 
 pub returns-in_err-store-clause-stopped : goal.returns-in_err-store-clause-stopped
 returns-in_err-store-clause-stopped g c =
-    let got : LogsCalls g.M.Host.calls c.args.host.now c.get_store.new.host (GetsStore c.args.file false (Err c.in_err-store.field-0.0)) = search (rules) in
+    let made : g.M.Host.calls (Opens c.args.file (Err c.in_err-store.field-0.0)) c.args.host.now c.open_watched.new.host = search (rules) in
     let p = err_from_is_err_and c.from_residual.result c.from_residual.ensures.1 in
     rw (p.1, p.2)
-    (store_missing (ServiceStep g.S.BookStore.model) g.P.Endpoint.calls (λ store. store) g.M.Host.calls c.args.host.now c.get_store.new.host c.args.file false c.args.port c.args.limits c.in_err-store.field-0.0 (g.W.Write.contents c.args.writer.now) got)
+    (serve_unopened g.S.BookStore.model g.L.Stream.Connection.model g.L.Listener.coming g.M.Host.calls c.args.host.now c.open_watched.new.host c.args.file c.args.port c.args.connections c.in_err-store.field-0.0 (g.W.Write.contents c.args.writer.now) made)
 
 pub returns-in_err-service-clause-stopped : goal.returns-in_err-service-clause-stopped
 returns-in_err-service-clause-stopped g c =
-    let got : LogsCalls g.M.Host.calls c.args.host.now c.get_store.new.host (GetsStore c.args.file false (Ok c.in_ok-store.store)) = search (rules) in
+    let made : g.M.Host.calls (Opens c.args.file (Ok c.in_ok-store.store)) c.args.host.now c.open_watched.new.host = search (rules) in
     let p = err_from_is_err_and c.from_residual-in_err-service.result c.from_residual-in_err-service.ensures.1 in
     rw (p.1, p.2)
-    (store_without_memory (ServiceStep g.S.BookStore.model) g.P.Endpoint.calls (λ store. store) g.M.Host.calls c.args.host.now c.get_store.new.host c.args.file false c.args.port c.args.limits c.in_ok-store.store (g.W.Write.contents c.args.writer.now) got)
+    (serve_without_memory g.S.BookStore.model g.L.Stream.Connection.model g.L.Listener.coming g.M.Host.calls c.args.host.now c.open_watched.new.host c.args.file c.args.port c.args.connections c.in_ok-store.store (g.W.Write.contents c.args.writer.now) made)
+
+pub returns-in_err-listener-clause-stopped : goal.returns-in_err-listener-clause-stopped
+returns-in_err-listener-clause-stopped g c =
+    let made : g.M.Host.calls (Opens c.args.file (Ok c.in_ok-store.store)) c.args.host.now c.open_watched.new.host = search (rules) in
+    let p = err_from_is_err_and c.from_residual-in_err-listener.result c.from_residual-in_err-listener.ensures.1 in
+    rw (p.1, p.2)
+    (serve_unbound g.S.BookStore.model g.L.Stream.Connection.model g.L.Listener.coming g.M.Host.calls c.args.host.now c.open_watched.new.host c.bind_listener.new.self c.args.file c.args.port c.args.connections c.in_ok-store.store c.in_err-listener.field-0.0 (g.W.Write.contents c.args.writer.now) made c.in_err-listener.ensures.called c.in_err-listener.ensures.stop)
 
 pub returns-clause-done : goal.returns-clause-done
 returns-clause-done g c =
-    let got : LogsCalls g.M.Host.calls c.args.host.now c.get_store.new.host (GetsStore c.args.file false (Ok c.in_ok-store.store)) = search (rules) in
-    let serves = subst (λ state. OnOk c.serve_at.result (LogsCalls g.M.Host.calls c.get_store.new.host c.serve_at.new.host (ServesAt (ServiceStep g.S.BookStore.model) head_fault_octets g.P.Endpoint.calls c.args.port c.args.limits state (g.W.Write.contents c.args.writer.now) (g.W.Write.contents c.serve_at.new.writer)))) (c.in_ok-service.ensures) c.serve_at.ensures.done in
-    store_served (ServiceStep g.S.BookStore.model) g.P.Endpoint.calls (λ store. store) g.M.Host.calls c.serve_at.result c.args.host.now c.get_store.new.host c.serve_at.new.host c.args.file false c.args.port c.args.limits c.in_ok-store.store (g.W.Write.contents c.args.writer.now) (g.W.Write.contents c.serve_at.new.writer) got serves
+    let made : g.M.Host.calls (Opens c.args.file (Ok c.in_ok-store.store)) c.args.host.now c.open_watched.new.host = search (rules) in
+    let announces = subst (λ state. OnOk c.announce_and_serve_in_turn.result (AnnouncesAndServesInTurn (ServiceStep g.S.BookStore.model) head_fault_octets g.L.Stream.Connection.model c.in_ok-listener.port c.args.connections (g.L.Listener.coming c.in_ok-listener.listener) state (g.W.Write.contents c.args.writer.now) (g.W.Write.contents c.announce_and_serve_in_turn.new.writer) c.announce_and_serve_in_turn.new.handler)) c.in_ok-service.ensures c.announce_and_serve_in_turn.ensures.served in
+    served_in_turn g.S.BookStore.model g.L.Stream.Connection.model g.L.Listener.coming g.M.Host.calls c.announce_and_serve_in_turn.result c.args.host.now c.open_watched.new.host c.bind_listener.new.self c.args.file c.args.port c.in_ok-listener.port c.args.connections c.in_ok-store.store c.announce_and_serve_in_turn.new.handler c.in_ok-listener.listener
+    (g.W.Write.contents c.args.writer.now) (g.W.Write.contents c.announce_and_serve_in_turn.new.writer) made c.in_ok-listener.ensures.called c.in_ok-listener.ensures.port announces
 
 pub returns-clause-stopped : goal.returns-clause-stopped
 returns-clause-stopped g c =
-    let got : LogsCalls g.M.Host.calls c.args.host.now c.get_store.new.host (GetsStore c.args.file false (Ok c.in_ok-store.store)) = search (rules) in
-    let stops = subst (λ state. IfErr c.serve_at.result (λ stop. LogsCalls g.M.Host.calls c.get_store.new.host c.serve_at.new.host (StopsAt (ServiceStep g.S.BookStore.model) head_fault_octets g.P.Endpoint.calls c.args.port c.args.limits stop state (g.W.Write.contents c.args.writer.now) (g.W.Write.contents c.serve_at.new.writer)))) (c.in_ok-service.ensures) c.serve_at.ensures.stopped in
-    store_unserved (ServiceStep g.S.BookStore.model) g.P.Endpoint.calls (λ store. store) g.M.Host.calls c.serve_at.result c.args.host.now c.get_store.new.host c.serve_at.new.host c.args.file false c.args.port c.args.limits c.in_ok-store.store (g.W.Write.contents c.args.writer.now) (g.W.Write.contents c.serve_at.new.writer) got stops
+    let made : g.M.Host.calls (Opens c.args.file (Ok c.in_ok-store.store)) c.args.host.now c.open_watched.new.host = search (rules) in
+    let stops = subst (λ state. IfErr c.announce_and_serve_in_turn.result (λ stop. StopsServingInTurn (ServiceStep g.S.BookStore.model) head_fault_octets g.L.Stream.Connection.model c.in_ok-listener.port c.args.connections (g.L.Listener.coming c.in_ok-listener.listener) state (g.W.Write.contents c.args.writer.now) (g.W.Write.contents c.announce_and_serve_in_turn.new.writer) stop c.announce_and_serve_in_turn.new.handler)) c.in_ok-service.ensures c.announce_and_serve_in_turn.ensures.stopped in
+    unserved_in_turn g.S.BookStore.model g.L.Stream.Connection.model g.L.Listener.coming g.M.Host.calls c.announce_and_serve_in_turn.result c.args.host.now c.open_watched.new.host c.bind_listener.new.self c.args.file c.args.port c.in_ok-listener.port c.args.connections c.in_ok-store.store c.announce_and_serve_in_turn.new.handler c.in_ok-listener.listener
+    (g.W.Write.contents c.args.writer.now) (g.W.Write.contents c.announce_and_serve_in_turn.new.writer) made c.in_ok-listener.ensures.called c.in_ok-listener.ensures.port stops
