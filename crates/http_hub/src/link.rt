@@ -147,7 +147,12 @@ impl Link {
         ensures { result ≡ has_expired self.now now patience }
     {
         patience < now.saturating_sub(self.active_at)
-            || is_long_ago(self.request_since, now, patience, extra_time(self.request_len))
+            || is_long_ago(
+                self.request_since,
+                now,
+                patience,
+                extra_time(self.request_len),
+            )
     }
 
     /// The first time at which the connection has expired, if nothing comes before. `None` if there

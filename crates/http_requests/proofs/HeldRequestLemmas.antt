@@ -13,8 +13,7 @@ pub request_length_held : (held : List ℕ) (start end : ℕ) → IsPartialBody 
 request_length_held held start end is =
     let has = is.holds.has_head in
     let count : end ≡ request_length has.whole_head =
-        omega (arith, is.holds.end_is, has.start_is) in
-    (
+    omega (arith, is.holds.end_is, has.start_is) in (
       λ head rest begins. count ∙ ap request_length (sym
           (request_unique held head has.whole_head rest is.holds.body begins.0 has.begins.0).0),
       λ none. absurd (none has.whole_head is.holds.body has.begins),

@@ -19,13 +19,13 @@ returns c =
       request_length = c.self.inside.request_len;
     } in
     let both = c.earlier.ensures (λ now. is_long_ago (Some active) now (patience + 0))
-        (λ now. is_long_ago since now (patience + c.extra_time.result))
-        c.first_after-silent.ensures c.first_after-slow.ensures in
+    (λ now. is_long_ago since now (patience + c.extra_time.result))
+    c.first_after-silent.ensures c.first_after-slow.ensures in
     let same = λ (now : ℕ).
-        ap (λ n. is_long_ago (Some active) now n
-        || is_long_ago since now (patience + extra_time c.self.inside.request_len)) (plus_none patience)
-        ∙ ap (λ n. is_long_ago (Some active) now (patience + 0) || is_long_ago since now (patience + n))
-        (sym c.extra_time.ensures) in
+    ap (λ n. is_long_ago (Some active) now n
+    || is_long_ago since now (patience + extra_time c.self.inside.request_len)) (plus_none patience)
+    ∙ ap (λ n. is_long_ago (Some active) now (patience + 0) || is_long_ago since now (patience + n))
+    (sym c.extra_time.ensures) in
     subst (λ (x : LinkValue). IsFirstTime (λ now. has_expired x now patience) c.earlier.result) c.self.view_is
     (first_time_as (λ now. is_long_ago (Some active) now (patience + 0) || is_long_ago since now (patience + c.extra_time.result))
     (λ now. has_expired seen now patience) c.earlier.result same both)
