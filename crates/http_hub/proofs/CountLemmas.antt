@@ -1,8 +1,8 @@
 -- The number of open connections after each operation.
 use Rattle.std.proofs.Common.{◌≡◌, ◌∙◌, ◌+◌, ℕ, zero, suc, List, [], ◌∷◌, Option, Some, None, cond, ap, arith, count_by, is_some, slice_get, slice_set}
 use Rattle.std.proofs.lemmas.List.Sums.{sum_by-cons}
-use Rattle.http_hub.specs.Hubs.{EndsAt, HubValue, IsAt, OpensAt, open_count, with_link}
-use Rattle.http_hub.specs.Links.{LinkValue, new_link}
+use Rattle.http_hub.specs.Hubs.{HubValue, OpensAt, open_count}
+use Rattle.http_hub.specs.Links.{new_link}
 use Rattle.http_hub.specs.declared.slot.Slot.{Slot}
 
 -- 1 for a place with a connection

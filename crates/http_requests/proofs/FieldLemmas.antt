@@ -1,8 +1,7 @@
 -- Fields one by one.
 use Rattle.std.proofs.Common.{◌≡◌, ◌∙◌, ◌≤◌, ◌<◌, ◌+◌, ◌*◌, ◌^◌, ℕ, List, [], ◌∷◌, ◌++◌, length, refl, sym, ap, subst, Bool, true, false, arith, take, drop, map, get_or, Some, None, ◌||◌, eqb, ◌-◌, ◌↔◌, IsTrue, nat_eq, nat_lt, zero, suc, inl, inr, lt-ltb}
-use Rattle.std.specs.List.{find, list_any, count_by, slice_split, list_all}
+use Rattle.std.specs.List.{find, list_any, slice_split, list_all}
 use Rattle.std.proofs.lemmas.List.{take_more, map-append, take-append-drop}
-use Rattle.std.proofs.lemmas.List.Sums.{sum_by-append}
 use Rattle.std.proofs.lemmas.List.Folds.{find-append}
 use Rattle.std.proofs.lemmas.List.Splits.{slice_split_first}
 use Rattle.std.proofs.lemmas.List.Quantifiers.{position-Some}

@@ -1,6 +1,5 @@
 -- The incomplete request that a session holds.
 use Rattle.std.proofs.Common.{◌≡◌, ◌∙◌, ℕ, List, Some, refl, sym, ap, arith}
-use Rattle.httparse.specs.Grammar.{RequestHead}
 use Rattle.httparse.proofs.GrammarLemmas.{request_unique}
 use Rattle.http_requests.specs.HeldRequests.{IsHeldRequestLength, request_length}
 use Rattle.http_requests.specs.declared.head_state.HeadState.{HeadState}

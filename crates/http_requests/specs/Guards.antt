@@ -1,6 +1,6 @@
 -- Which requests a guard refuses by their heads, so that no page of another site uses a server that
 -- browsers reach (RFC 9110, sections 7.2 and 13.1; RFC 6454, section 7; Fetch Metadata).
-use Rattle.std.specs.Prelude.{ℕ, Bool, true, false, not, ◌&&◌, ◌||◌, List, [], ◌∷◌, ◌++◌}
+use Rattle.std.specs.Prelude.{ℕ, Bool, true, not, ◌&&◌, ◌||◌, List, [], ◌∷◌}
 use Rattle.std.specs.Prelude.{Option, Some, None, codes, length, take, drop, nat_le, nat_lt, nat_eq}
 use Rattle.std.specs.Prelude.{if◌then◌else◌}
 use Rattle.std.specs.Char.{is_ascii_digit}

@@ -1,5 +1,4 @@
-use Rattle.std.proofs.Common.{◌∙◌, ap, length, map, sym}
-use Rattle.std.specs.Char.{to_ascii_lowercase}
+use Rattle.std.proofs.Common.{◌∙◌, ap, length, sym}
 use Rattle.http_requests.specs.Fields.{equals_ignoring_case}
 use Rattle.http_requests.proofs.FeedLemmas.{cut_rest}
 use Rattle.http_requests.proofs.FieldLemmas.{same_word}

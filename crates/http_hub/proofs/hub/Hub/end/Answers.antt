@@ -1,4 +1,4 @@
-use Rattle.std.proofs.Common.{◌≡◌, ◌∙◌, ◌≤◌, ◌<◌, ◌-◌, ℕ, Some, None, List, Option, ap, arith, sym, subst, slice_get, slice_set}
+use Rattle.std.proofs.Common.{◌≡◌, ◌∙◌, ◌<◌, ◌-◌, Some, None, List, Option, ap, arith, sym, subst, slice_get, slice_set}
 use Rattle.http_hub.specs.Hubs.{HubValue}
 use Rattle.http_hub.specs.PlaceCounts.{AreOpenBelow, CountsPlaces}
 use Rattle.http_hub.specs.declared.slot.Slot.{Slot}

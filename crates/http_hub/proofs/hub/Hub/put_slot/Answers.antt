@@ -1,6 +1,5 @@
-use Rattle.std.proofs.Common.{◌≡◌, ◌∙◌, Some, None, List, Option, ap, slice_get}
+use Rattle.std.proofs.Common.{◌≡◌, ◌∙◌, Some, None, ap, slice_get}
 use Rattle.http_hub.specs.Hubs.{HubValue}
-use Rattle.http_hub.specs.declared.slot.Slot.{Slot}
 use Rattle.http_hub.proofs.PlaceCountLemmas.{counts_opened, later_end}
 use Rattle.http_hub.proofs.hub.Hub.put_slot.Goals as goal
 

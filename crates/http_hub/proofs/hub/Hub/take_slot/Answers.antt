@@ -1,4 +1,4 @@
-use Rattle.std.proofs.Common.{◌≡◌, ◌∙◌, ◌<◌, ◌-◌, ℕ, Some, None, List, Option, ap, sym, subst, slice_get, slice_set, length}
+use Rattle.std.proofs.Common.{◌≡◌, ◌∙◌, ◌<◌, ◌-◌, Some, Option, ap, sym, subst, slice_get, slice_set, length}
 use Rattle.http_hub.specs.Hubs.{HubValue, IsAt}
 use Rattle.http_hub.specs.PlaceCounts.{CountsPlaces}
 use Rattle.http_hub.specs.declared.slot.Slot.{Slot}
