@@ -109,8 +109,8 @@ serve_order rows = if is_given (codes "log") rows
 abbrev pub run_order : List Row → Option Order
 run_order rows = with_file (λ file. option_and_then (λ port. option_and_then (λ max_open.
     option_map (λ idle_timeout. Run file port (texts_arg (codes "NAME") rows) max_open idle_timeout
-    (is_given (codes "create") rows) (is_given (codes "log") rows)) (u64_arg (codes "S") rows))
-    (u64_arg (codes "M") rows)) (port_arg rows)) rows
+    (is_given (codes "create") rows) (is_given (codes "log") rows) (text_arg (codes "DIR") rows))
+    (u64_arg (codes "S") rows)) (u64_arg (codes "M") rows)) (port_arg rows)) rows
 
 abbrev pub import_order : List Row → Option Order
 import_order rows = with_book (λ file book. option_and_then (λ key.

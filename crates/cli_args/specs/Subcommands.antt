@@ -113,10 +113,14 @@ idle_timeout_option = number_option (codes "S") (codes "idle-timeout") 1 3600 (c
 abbrev pub create_switch : Rule
 create_switch = switch (codes "create") (codes "create")
 
+-- the folder of a site
+abbrev pub site_option : Rule
+site_option = free_option (codes "DIR") (codes "site")
+
 abbrev pub run_command : Shape
 run_command = order_command (codes "run")
     (file_arg ∷ port_option (codes "8080") ∷ host_option ∷ max_open_option
-    ∷ idle_timeout_option ∷ create_switch ∷ log_switch ∷ [])
+    ∷ idle_timeout_option ∷ create_switch ∷ log_switch ∷ site_option ∷ [])
 
 abbrev pub import_command : Shape
 import_command =

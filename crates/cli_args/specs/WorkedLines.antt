@@ -99,13 +99,15 @@ WorkedLimits =
 
 abbrev pub WorkedRuns : Type 0
 WorkedRuns =
-    (order_from (over_file (codes "run") []) ≡ Some (order.Run db 8080 [] 256 60 false false))
+    (order_from (over_file (codes "run") []) ≡ Some (order.Run db 8080 [] 256 60 false false None))
     × (order_from (over_file (codes "run")
     (codes "--host=a" ∷ codes "--create" ∷ codes "--host" ∷ codes "b" ∷ codes "--log" ∷ []))
-    ≡ Some (order.Run db 8080 (codes "a" ∷ codes "b" ∷ []) 256 60 true true))
+    ≡ Some (order.Run db 8080 (codes "a" ∷ codes "b" ∷ []) 256 60 true true None))
     × (order_from (over_file (codes "run")
     (codes "--port=0" ∷ codes "--max-open=1000" ∷ codes "--idle-timeout=1" ∷ []))
-    ≡ Some (order.Run db 0 [] 1000 1 false false))
+    ≡ Some (order.Run db 0 [] 1000 1 false false None))
+    × (order_from (over_file (codes "run") (codes "--site" ∷ codes "desk" ∷ []))
+    ≡ Some (order.Run db 8080 [] 256 60 false false (Some (codes "desk"))))
     × (order_from (over_file (codes "run") (codes "--max-open=1001" ∷ [])) ≡ None)
     × (order_from (over_file (codes "run") (codes "--idle-timeout=0" ∷ [])) ≡ None)
     × (order_from (over_file (codes "run") (codes "--connections=1" ∷ [])) ≡ None)

@@ -104,6 +104,7 @@ fn run_order(alloc: Global, matches: &ArgMatches<'_>) -> Result<Order, LineFault
     let max_open = u64_arg(alloc, matches, "M")?;
     let idle_timeout = u64_arg(alloc, matches, "S")?;
     let names = given_texts(alloc, matches, "NAME")?;
+    let site = given_text(alloc, matches, "DIR")?;
     Ok(Order::Run {
         file,
         port,
@@ -112,6 +113,7 @@ fn run_order(alloc: Global, matches: &ArgMatches<'_>) -> Result<Order, LineFault
         idle_timeout,
         creates: is_given(matches, "create"),
         is_logged: is_given(matches, "log"),
+        site,
     })
 }
 

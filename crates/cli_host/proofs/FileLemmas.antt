@@ -1,15 +1,16 @@
 -- What is left of the output where an order isn't done.
-use Rattle.std.proofs.Common.{◌≡◌, ◌⊎◌, ℕ, Bool, false, List, Option, Result, Ok, Err, IfErr, inl, inr}
+use Rattle.std.proofs.Common.{◌≡◌, ◌⊎◌, ℕ, Bool, false, List, Option, Some, None, Result, Ok, Err, IfErr, inl, inr}
 use Rattle.book_http.specs.OctetPromise.{ServiceStep}
 use Rattle.http_replies.specs.Replies.{head_fault_octets}
 use Rattle.http_requests.specs.GuardedHandlers.{guarded}
 use Rattle.http_requests.specs.HandlerRuns.{HandlerRelation}
 use Rattle.hub_server.specs.EndpointRuns.{EndpointRelation}
 use Rattle.hub_server.specs.declared.limits.ServeLimits.{ServeLimits}
+use Rattle.site_files.specs.SiteHandlers.{with_site}
 use Rattle.sync_core.specs.StoreModels.{StoreModel}
 use Rattle.cli_orders.specs.declared.stop.Stop.{Stop}
 use Rattle.cli_host.specs.Hosts.{HostCall, LogsCalls}
-use Rattle.cli_host.specs.OrdersOnHost.{HasRefusedFile, HasReportedDamage, KeepsWorkOutput, StopsAtDamage, StopsChecking, StopsInFile, StopsMaking, StopsMigrating, StopsStore, StopsStoreWork, StopsVerifying, StopsWork}
+use Rattle.cli_host.specs.OrdersOnHost.{HasRefusedFile, HasReportedDamage, KeepsWorkOutput, StopsAtDamage, StopsChecking, StopsFolder, StopsInFile, StopsMaking, StopsMigrating, StopsRun, StopsStore, StopsStoreWork, StopsVerifying, StopsWork}
 use Rattle.cli_host.specs.declared.work.StoreWork.{StoreWork}
 use Rattle.cli_host.specs.declared.work.StoreWork.TheVariants.{Perform, ImportFile, ListBooks, MirrorBook}
 use Rattle.cli_host.specs.declared.work.Work.{Work}
@@ -88,6 +89,18 @@ module _ {S P State : Type 0} (does : HandlerRelation State) (effects : Endpoint
   ]
 
 module _ {S P : Type 0} (model : StoreModel S) (effects : EndpointRelation P) where
+  folder_leaves : (dir file : List ℕ) (creates : Bool) (names : List (List ℕ)) (requested : ℕ) (limits : ServeLimits) (stop : Stop) (before after : Option (List ℕ)) (log : List (HostCall S P))
+      → StopsFolder model effects dir file creates names requested limits stop before after log → KeepsOutput stop before after ⊎ ((stop ≡ out_of_memory) × WritesListeningLine before after)
+  folder_leaves dir file creates names requested limits stop before after log (inl (unread, inl s)) = inl (keeps_leaves stop before after s.unwritten)
+  folder_leaves dir file creates names requested limits stop before after log (inl (unread, inr s)) = inl (keeps_leaves stop before after s.unwritten)
+  folder_leaves dir file creates names requested limits stop before after log (inr s) =
+      serve_leaves (guarded (with_site (ServiceStep model))) effects (λ store. (names, (s.files, store))) file creates requested limits stop before after s.later s.stops
+
+  run_leaves : (file : List ℕ) (creates : Bool) (names : List (List ℕ)) (requested : ℕ) (limits : ServeLimits) (site : Option (List ℕ)) (stop : Stop) (before after : Option (List ℕ)) (log : List (HostCall S P))
+      → StopsRun model effects file creates names requested limits site stop before after log → KeepsOutput stop before after ⊎ ((stop ≡ out_of_memory) × WritesListeningLine before after)
+  run_leaves file creates names requested limits None stop before after log s = serve_leaves (guarded (ServiceStep model)) effects (λ store. (names, store)) file creates requested limits stop before after log s
+  run_leaves file creates names requested limits (Some dir) stop before after log s = folder_leaves dir file creates names requested limits stop before after log s
+
   work_leaves : (work : Work) (stop : Stop) (before after : Option (List ℕ)) (log : List (HostCall S P)) → StopsWork model effects work stop before after log → KeepsWorkOutput work stop before after
   work_leaves Nothing stop before after log s = inl (keeps_leaves stop before after s.1.unwritten)
   work_leaves PrintVersion stop before after log s = inl (output_kept_by_device stop before after s.1.stop_is)
@@ -101,7 +114,7 @@ module _ {S P : Type 0} (model : StoreModel S) (effects : EndpointRelation P) wh
     | inl kept ↦ inl kept
     | inr announced ↦ inr (inl announced)
   ]
-  work_leaves (RunFile file creates names port limits is_logged) stop before after log s = elim (serve_leaves (guarded (ServiceStep model)) effects (λ store. (names, store)) file creates port limits stop before after log s) [
+  work_leaves (RunFile file creates names port limits is_logged site) stop before after log s = elim (run_leaves file creates names port limits site stop before after log s) [
     | inl kept ↦ inl kept
     | inr announced ↦ inr (inl announced)
   ]

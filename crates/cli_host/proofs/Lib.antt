@@ -2,3 +2,4 @@ pub mod CallLemmas
 pub mod FileLemmas
 pub mod EndingLemmas
 pub mod ListingLemmas
+mod SiteLemmas

@@ -63,8 +63,8 @@ work_of Version = PrintVersion
 work_of (Check file) = CheckFile file
 work_of (Init file) = CreateFile file
 work_of (Migrate file) = MigrateFile file
-work_of (Run file port names max_open idle_timeout creates is_logged) = RunFile file creates names
-    port (limits_of endless_connections max_open idle_timeout) is_logged
+work_of (Run file port names max_open idle_timeout creates is_logged site) = RunFile file creates
+    names port (limits_of endless_connections max_open idle_timeout) is_logged site
 work_of (Serve file port connections) =
     ServeFile file port (limits_of connections together_default patience_default) false
 work_of (ServeWithLimits file port connections together patience) =

@@ -72,6 +72,8 @@ pub enum Work {
         limits: ServeLimits,
         /// Whether a line is printed for each request.
         is_logged: bool,
+        /// The folder of a site that is served beside the books, if there is one.
+        site: Option<Text>,
     },
     /// Uses the store in the file.
     UseFile {
@@ -208,6 +210,7 @@ pub fn work_of(order: Order) -> Work
             idle_timeout,
             creates,
             is_logged,
+            site,
         } => Work::RunFile {
             file,
             creates,
@@ -215,6 +218,7 @@ pub fn work_of(order: Order) -> Work
             port,
             limits: limits_of(ENDLESS_CONNECTIONS, max_open, idle_timeout),
             is_logged,
+            site,
         },
         Order::Serve {
             file,
