@@ -33,11 +33,11 @@ pub unbound : (stop : Stop) (w : Option (List ℕ)) → (stop ≡ out_of_memory)
 unbound stop w (inl is) = inl (record { stop_is = is; unwritten = kept_same w })
 unbound stop w (inr is) = inr (record { stop_is = is; unwritten = kept_same w })
 
-module _ {S P H : Type 0} (calls : HostCall S P → H → H → Type 0) where
-  one_call : (old new : H) (call : HostCall S P) (Holds : List (HostCall S P) → Type 0) → calls call old new → Holds (call ∷ []) → LogsCalls calls old new Holds
+module _ {S P L H : Type 0} (calls : HostCall S P L → H → H → Type 0) where
+  one_call : (old new : H) (call : HostCall S P L) (Holds : List (HostCall S P L) → Type 0) → calls call old new → Holds (call ∷ []) → LogsCalls calls old new Holds
   one_call old new call Holds made holds = record { log = call ∷ []; made = (new, made, refl); holds = holds }
 
-  pub log_of : (old new : H) (Holds : List (HostCall S P) → Type 0) → LogsCalls calls old new Holds → HasLog Holds
+  pub log_of : (old new : H) (Holds : List (HostCall S P L) → Type 0) → LogsCalls calls old new Holds → HasLog Holds
   log_of old new Holds calls_made = record { log = calls_made.log; holds = calls_made.holds }
 
   -- ---- a new store
@@ -91,8 +91,8 @@ module _ {S P H : Type 0} (calls : HostCall S P → H → H → Type 0) where
 
 -- ---- stores
 
-module _ {S P H : Type 0} (model : StoreModel S) (calls : HostCall S P → H → H → Type 0) where
-  abbrev StopsImport : S → List ℕ → List ℕ → List ℕ → Stop → Option (List ℕ) → Option (List ℕ) → S → List (HostCall S P) → Type 0
+module _ {S P L H : Type 0} (model : StoreModel S) (calls : HostCall S P L → H → H → Type 0) where
+  abbrev StopsImport : S → List ℕ → List ℕ → List ℕ → Stop → Option (List ℕ) → Option (List ℕ) → S → List (HostCall S P L) → Type 0
   StopsImport old book key csv stop before after new log = StopsReadingRows model old csv stop before after new log ⊎ StopsOnImport model old book key csv stop before after new log
 
   pub rows_unread : (host_old host_new : H) (old : S) (book key csv : List ℕ) (stop : Stop) (w : Option (List ℕ)) → calls (ReadsRows csv (Err stop)) host_old host_new → (stop ≡ out_of_memory) ⊎ (stop ≡ Device)
@@ -162,9 +162,9 @@ module _ {S P H : Type 0} (model : StoreModel S) (calls : HostCall S P → H →
 
 -- ---- serving
 
-module _ {S P H : Type 0} (calls : HostCall S P → H → H → Type 0) where
+module _ {S P L H : Type 0} (calls : HostCall S P L → H → H → Type 0) where
   -- calls of the host in turn
-  makes_both : (first later : List (HostCall S P)) (old middle new : H) → MakesCalls calls old first middle → MakesCalls calls middle later new → MakesCalls calls old (first ++ later) new
+  makes_both : (first later : List (HostCall S P L)) (old middle new : H) → MakesCalls calls old first middle → MakesCalls calls middle later new → MakesCalls calls old (first ++ later) new
   makes_both [] later old middle new same made = subst (λ (h : H). MakesCalls calls h later new) same made
   makes_both (call ∷ first) later old middle new (next, did, rest) made = (next, did, makes_both first later next middle new rest made)
 
@@ -174,7 +174,7 @@ module _ {S P H : Type 0} (calls : HostCall S P → H → H → Type 0) where
   pub store_created : (old new : H) (file : List ℕ) (creates : Bool) (result : Result S OpenFault) → creates ≡ true → calls (Creates file result) old new → LogsCalls calls old new (GetsStore file creates result)
   store_created old new file creates result wanted made = one_call calls old new (Creates file result) (GetsStore file creates result) made (inr (wanted, refl))
 
-module _ {S P State H : Type 0} (does : HandlerRelation State) (fault_reply : FaultReplies) (effects : EndpointRelation P) (calls : HostCall S P → H → H → Type 0) where
+module _ {S P L State H : Type 0} (does : HandlerRelation State) (fault_reply : FaultReplies) (effects : EndpointRelation P) (calls : HostCall S P L → H → H → Type 0) where
   pub at_unbound : (old new : H) (requested : ℕ) (limits : ServeLimits) (state : State) (stop : Stop) (w : Option (List ℕ)) → calls (Binds requested limits.together (Err stop)) old new → (stop ≡ out_of_memory) ⊎ (stop ≡ Device)
       → LogsCalls calls old new (StopsAt does fault_reply effects requested limits stop state w w)
   at_unbound old new requested limits state stop w binds stop_is =
@@ -202,7 +202,7 @@ module _ {S P State H : Type 0} (does : HandlerRelation State) (fault_reply : Fa
     holds = inr (record { endpoint = endpoint; port = port; new = state_after; endpoint_after = endpoint_after; calls = refl; is_requested = is_requested; stops = stops });
   }
 
-module _ {S P State H : Type 0} (does : HandlerRelation State) (effects : EndpointRelation P) (state_of : S → State) (calls : HostCall S P → H → H → Type 0) where
+module _ {S P L State H : Type 0} (does : HandlerRelation State) (effects : EndpointRelation P) (state_of : S → State) (calls : HostCall S P L → H → H → Type 0) where
   pub store_missing : (old new : H) (file : List ℕ) (creates : Bool) (requested : ℕ) (limits : ServeLimits) (fault : OpenFault) (w : Option (List ℕ)) → LogsCalls calls old new (GetsStore file creates (Err fault))
       → LogsCalls calls old new (StopsStore does effects state_of file creates requested limits (Open fault) w w)
   store_missing old new file creates requested limits fault w got = record { log = got.log; made = got.made; holds = inl (fault, got.holds, unopened fault w) }

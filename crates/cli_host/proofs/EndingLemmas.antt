@@ -11,7 +11,7 @@ use Rattle.cli_orders.specs.declared.stop.Stop.{Stop}
 use Rattle.hub_server.specs.EndpointRuns.{EndpointRelation}
 use Rattle.sync_core.specs.StoreModels.{StoreModel}
 
-module _ {S P H : Type 0} (model : StoreModel S) (effects : EndpointRelation P) (calls : HostCall S P → H → H → Type 0) where
+module _ {S P L H : Type 0} (model : StoreModel S) (effects : EndpointRelation P) (calls : HostCall S P L → H → H → Type 0) where
   pub ran_ends : (r : Result (Unit {0}) Stop) (old new : H) (order : Order) (before after errors_before errors_after : Option (List ℕ)) (exit : ProgramExit)
       → OnOk r (LogsCalls calls old new (RunsOnHost model effects order before after)) → IfErr r (λ stop. LogsCalls calls old new (StopsOnHost model effects order stop before after))
       → IfErr r (λ stop. KeepsOrderOutput order stop before after) → ReportsResult r errors_before errors_after exit

@@ -23,18 +23,18 @@ use Rattle.cli_orders.proofs.CommandLemmas.{mirror_stop_leaves}
 use Rattle.cli_host.proofs.ListingLemmas.{listing_stop_leaves}
 use Rattle.cli_orders.proofs.StopLemmas.{keeps_leaves, output_kept_by_device, serving_stop_leaves, stop_leaves}
 
-module _ {S P : Type 0} where
-  making_leaves : (file : List ℕ) (stop : Stop) (before after : Option (List ℕ)) (log : List (HostCall S P)) → StopsMaking file stop before after log → KeepsOutput stop before after
+module _ {S P L : Type 0} where
+  making_leaves : (file : List ℕ) (stop : Stop) (before after : Option (List ℕ)) (log : List (HostCall S P L)) → StopsMaking file stop before after log → KeepsOutput stop before after
   making_leaves file stop before after log (inl s) = keeps_leaves stop before after s.2.unwritten
   making_leaves file stop before after log (inr s) = output_kept_by_device stop before after s.2.stop_is
 
-  migrating_leaves : (file : List ℕ) (stop : Stop) (before after : Option (List ℕ)) (log : List (HostCall S P)) → StopsMigrating file stop before after log → KeepsOutput stop before after
+  migrating_leaves : (file : List ℕ) (stop : Stop) (before after : Option (List ℕ)) (log : List (HostCall S P L)) → StopsMigrating file stop before after log → KeepsOutput stop before after
   migrating_leaves file stop before after log (inl s) = keeps_leaves stop before after s.2.unwritten
   migrating_leaves file stop before after log (inr (count, migrated, inl s)) = keeps_leaves stop before after s.unwritten
   migrating_leaves file stop before after log (inr (count, migrated, inr s)) = output_kept_by_device stop before after s.stop_is
 
   -- a check that was stopped wrote nothing, or the words for why it refuses the file
-  checking_leaves : (file : List ℕ) (stop : Stop) (before after : Option (List ℕ)) (log : List (HostCall S P)) → StopsChecking file stop before after log
+  checking_leaves : (file : List ℕ) (stop : Stop) (before after : Option (List ℕ)) (log : List (HostCall S P L)) → StopsChecking file stop before after log
       → KeepsOutput stop before after ⊎ HasRefusedFile (CheckFile file) stop before after
   checking_leaves file stop before after log (inl (unread, inl s)) = inl (keeps_leaves stop before after s.unwritten)
   checking_leaves file stop before after log (inl (unread, inr s)) = inl (keeps_leaves stop before after s.unwritten)
@@ -47,7 +47,7 @@ module _ {S P : Type 0} where
   ]
 
   -- a damaged file was reported, or nothing was written
-  damage_leaves : (file : List ℕ) (stop : Stop) (before after : Option (List ℕ)) (log : List (HostCall S P)) → StopsAtDamage file stop before after log
+  damage_leaves : (file : List ℕ) (stop : Stop) (before after : Option (List ℕ)) (log : List (HostCall S P L)) → StopsAtDamage file stop before after log
       → KeepsOutput stop before after ⊎ HasReportedDamage (VerifyFile file) stop before after
   damage_leaves file stop before after log s = elim s.reports [
     | inl reported ↦ inr (reported.0, s.found, reported.1)
@@ -57,26 +57,26 @@ module _ {S P : Type 0} where
     ])
   ]
 
-module _ {S P : Type 0} (model : StoreModel S) where
-  store_work_leaves : (work : StoreWork) (old new : S) (stop : Stop) (before after : Option (List ℕ)) (log : List (HostCall S P)) → StopsStoreWork model old work stop before after new log → KeepsOutput stop before after
+module _ {S P L : Type 0} (model : StoreModel S) where
+  store_work_leaves : (work : StoreWork) (old new : S) (stop : Stop) (before after : Option (List ℕ)) (log : List (HostCall S P L)) → StopsStoreWork model old work stop before after new log → KeepsOutput stop before after
   store_work_leaves (Perform command) old new stop before after log s = stop_leaves s.1.reply stop before after s.1.stops
   store_work_leaves (ImportFile book key csv) old new stop before after log (inl s) = keeps_leaves stop before after s.unwritten
   store_work_leaves (ImportFile book key csv) old new stop before after log (inr s) = stop_leaves s.stops.reply stop before after s.stops.stops
   store_work_leaves (MirrorBook book limit pages) old new stop before after log s = mirror_stop_leaves model old new book limit pages stop before after s.1
   store_work_leaves (ListBooks what) old new stop before after log s = listing_stop_leaves model what old new stop before after s.1
 
-  in_file_leaves : (file : List ℕ) (work : StoreWork) (stop : Stop) (before after : Option (List ℕ)) (log : List (HostCall S P)) → StopsInFile model file work stop before after log → KeepsOutput stop before after
+  in_file_leaves : (file : List ℕ) (work : StoreWork) (stop : Stop) (before after : Option (List ℕ)) (log : List (HostCall S P L)) → StopsInFile model file work stop before after log → KeepsOutput stop before after
   in_file_leaves file work stop before after log (inl s) = keeps_leaves stop before after s.2.unwritten
   in_file_leaves file work stop before after log (inr s) = store_work_leaves work s.store s.store_after stop before after s.later s.stops
 
-  verifying_leaves : (file : List ℕ) (stop : Stop) (before after : Option (List ℕ)) (log : List (HostCall S P)) → StopsVerifying model file stop before after log
+  verifying_leaves : (file : List ℕ) (stop : Stop) (before after : Option (List ℕ)) (log : List (HostCall S P L)) → StopsVerifying model file stop before after log
       → KeepsOutput stop before after ⊎ HasReportedDamage (VerifyFile file) stop before after
   verifying_leaves file stop before after log (inl s) = inl (keeps_leaves stop before after s.stops.unwritten)
   verifying_leaves file stop before after log (inr (inl s)) = damage_leaves file stop before after log s
   verifying_leaves file stop before after log (inr (inr s)) = inl (store_work_leaves (ListBooks Verified) s.store s.store_after stop before after s.later s.stops)
 
-module _ {S P State : Type 0} (does : HandlerRelation State) (effects : EndpointRelation P) (state_of : S → State) where
-  serve_leaves : (file : List ℕ) (creates : Bool) (requested : ℕ) (limits : ServeLimits) (stop : Stop) (before after : Option (List ℕ)) (log : List (HostCall S P)) → StopsStore does effects state_of file creates requested limits stop before after log
+module _ {S P L State : Type 0} (does : HandlerRelation State) (effects : EndpointRelation P) (state_of : S → State) where
+  serve_leaves : (file : List ℕ) (creates : Bool) (requested : ℕ) (limits : ServeLimits) (stop : Stop) (before after : Option (List ℕ)) (log : List (HostCall S P L)) → StopsStore does effects state_of file creates requested limits stop before after log
       → KeepsOutput stop before after ⊎ ((stop ≡ out_of_memory) × WritesListeningLine before after)
   serve_leaves file creates requested limits stop before after log (inl s) = inl (keeps_leaves stop before after s.2.unwritten)
   serve_leaves file creates requested limits stop before after log (inr (inl s)) = inl (keeps_leaves stop before after s.2.unwritten)
@@ -88,20 +88,20 @@ module _ {S P State : Type 0} (does : HandlerRelation State) (effects : Endpoint
     | inr serving ↦ serving_stop_leaves does head_fault_octets effects serving.port limits (state_of s.store) serving.new serving.endpoint serving.endpoint_after before after stop serving.stops
   ]
 
-module _ {S P : Type 0} (model : StoreModel S) (effects : EndpointRelation P) where
-  folder_leaves : (dir file : List ℕ) (creates : Bool) (names : List (List ℕ)) (requested : ℕ) (limits : ServeLimits) (stop : Stop) (before after : Option (List ℕ)) (log : List (HostCall S P))
+module _ {S P L : Type 0} (model : StoreModel S) (effects : EndpointRelation P) where
+  folder_leaves : (dir file : List ℕ) (creates : Bool) (names : List (List ℕ)) (requested : ℕ) (limits : ServeLimits) (stop : Stop) (before after : Option (List ℕ)) (log : List (HostCall S P L))
       → StopsFolder model effects dir file creates names requested limits stop before after log → KeepsOutput stop before after ⊎ ((stop ≡ out_of_memory) × WritesListeningLine before after)
   folder_leaves dir file creates names requested limits stop before after log (inl (unread, inl s)) = inl (keeps_leaves stop before after s.unwritten)
   folder_leaves dir file creates names requested limits stop before after log (inl (unread, inr s)) = inl (keeps_leaves stop before after s.unwritten)
   folder_leaves dir file creates names requested limits stop before after log (inr s) =
       serve_leaves (guarded (with_site (ServiceStep model))) effects (λ store. (names, (s.files, store))) file creates requested limits stop before after s.later s.stops
 
-  run_leaves : (file : List ℕ) (creates : Bool) (names : List (List ℕ)) (requested : ℕ) (limits : ServeLimits) (site : Option (List ℕ)) (stop : Stop) (before after : Option (List ℕ)) (log : List (HostCall S P))
+  run_leaves : (file : List ℕ) (creates : Bool) (names : List (List ℕ)) (requested : ℕ) (limits : ServeLimits) (site : Option (List ℕ)) (stop : Stop) (before after : Option (List ℕ)) (log : List (HostCall S P L))
       → StopsRun model effects file creates names requested limits site stop before after log → KeepsOutput stop before after ⊎ ((stop ≡ out_of_memory) × WritesListeningLine before after)
   run_leaves file creates names requested limits None stop before after log s = serve_leaves (guarded (ServiceStep model)) effects (λ store. (names, store)) file creates requested limits stop before after log s
   run_leaves file creates names requested limits (Some dir) stop before after log s = folder_leaves dir file creates names requested limits stop before after log s
 
-  work_leaves : (work : Work) (stop : Stop) (before after : Option (List ℕ)) (log : List (HostCall S P)) → StopsWork model effects work stop before after log → KeepsWorkOutput work stop before after
+  work_leaves : (work : Work) (stop : Stop) (before after : Option (List ℕ)) (log : List (HostCall S P L)) → StopsWork model effects work stop before after log → KeepsWorkOutput work stop before after
   work_leaves Nothing stop before after log s = inl (keeps_leaves stop before after s.1.unwritten)
   work_leaves PrintVersion stop before after log s = inl (output_kept_by_device stop before after s.1.stop_is)
   work_leaves (CheckFile file) stop before after log s = elim (checking_leaves file stop before after log s) [
@@ -124,7 +124,7 @@ module _ {S P : Type 0} (model : StoreModel S) (effects : EndpointRelation P) wh
   ]
   work_leaves (UseFile file work) stop before after log s = inl (in_file_leaves model file work stop before after log s)
 
-  pub stopped_work_leaves : {H : Type 0} (calls : HostCall S P → H → H → Type 0) (r : Result (Unit {0}) Stop) (old new : H) (work : Work) (before after : Option (List ℕ))
+  pub stopped_work_leaves : {H : Type 0} (calls : HostCall S P L → H → H → Type 0) (r : Result (Unit {0}) Stop) (old new : H) (work : Work) (before after : Option (List ℕ))
       → IfErr r (λ stop. LogsCalls calls old new (StopsWork model effects work stop before after)) → IfErr r (λ stop. KeepsWorkOutput work stop before after)
   stopped_work_leaves calls (Ok done) old new work before after s = tt
   stopped_work_leaves calls (Err stop) old new work before after s = work_leaves work stop before after s.log s.holds

@@ -11,7 +11,7 @@ use Rattle.hub_server.specs.declared.limits.ServeLimits.{ServeLimits}
 use Rattle.site_files.specs.Sites.{SiteFile}
 use Rattle.sync_core.specs.StoreModels.{StoreModel}
 
-module _ {S P H : Type 0} (model : StoreModel S) (effects : EndpointRelation P) (calls : HostCall S P → H → H → Type 0) where
+module _ {S P L H : Type 0} (model : StoreModel S) (effects : EndpointRelation P) (calls : HostCall S P L → H → H → Type 0) where
   pub folder_unread : (old new : H) (dir file : List ℕ) (creates : Bool) (names : List (List ℕ)) (requested : ℕ) (limits : ServeLimits) (stop : Stop) (w : Option (List ℕ)) → calls (ReadsSite dir (Err stop)) old new → (stop ≡ out_of_memory) ⊎ (stop ≡ Device)
       → LogsCalls calls old new (StopsFolder model effects dir file creates names requested limits stop w w)
   folder_unread old new dir file creates names requested limits stop w made stop_is = record {

@@ -72,18 +72,18 @@ pub record IsTryStopped (input : List ℕ) (before after : Option (List ℕ))
   pub reports_stop : ReportsStop stop errors_before errors_after exit
 
 -- A store is represented by its books, and an endpoint by the effects of its calls.
-module _ {S P : Type 0} (model : StoreModel S) (effects : EndpointRelation P) where
+module _ {S P L : Type 0} (model : StoreModel S) (effects : EndpointRelation P) where
   -- the order succeeded with this log of calls: its output was printed, and nothing was reported
   pub record IsOrderDone (order : Order) (before after : Option (List ℕ))
       (errors_before errors_after : Option (List ℕ)) (exit : ProgramExit)
-      (log : List (HostCall S P)) : Type 0 where
+      (log : List (HostCall S P L)) : Type 0 where
     pub runs : RunsOnHost model effects order before after log
     pub succeeds : Succeeds errors_before errors_after exit
 
   -- the order stopped with this log of calls, and the stop was reported
   pub record IsOrderStopped (order : Order) (before after : Option (List ℕ))
       (errors_before errors_after : Option (List ℕ)) (exit : ProgramExit)
-      (log : List (HostCall S P)) : Type 0 where
+      (log : List (HostCall S P L)) : Type 0 where
     pub stop : Stop
     pub stops : StopsOnHost model effects order stop before after log
     pub output_kept : KeepsOrderOutput order stop before after
@@ -91,7 +91,7 @@ module _ {S P : Type 0} (model : StoreModel S) (effects : EndpointRelation P) wh
 
   -- either
   abbrev pub EndsOrder : Order → Option (List ℕ) → Option (List ℕ) → Option (List ℕ)
-      → Option (List ℕ) → ProgramExit → List (HostCall S P) → Type 0
+      → Option (List ℕ) → ProgramExit → List (HostCall S P L) → Type 0
   EndsOrder order before after errors_before errors_after exit log =
       IsOrderDone order before after errors_before errors_after exit log
       ⊎ IsOrderStopped order before after errors_before errors_after exit log

@@ -14,46 +14,46 @@ use Rattle.store_schema.specs.declared.open_fault.OpenFault.{OpenFault}
 
 -- A call of a host, with the file or port that it is about, and its result. A store holds the books
 -- of a file, and an endpoint has the connections to a port.
-pub data HostCall (Store Endpoint : Type 0) : Type 0 where
+pub data HostCall (Store Endpoint Listener : Type 0) : Type 0 where
   -- creating a store without books in the file
-  Creates : List ℕ → Result Store OpenFault → HostCall Store Endpoint
+  Creates : List ℕ → Result Store OpenFault → HostCall Store Endpoint Listener
   -- opening the store of the books in the file
-  Opens : List ℕ → Result Store OpenFault → HostCall Store Endpoint
+  Opens : List ℕ → Result Store OpenFault → HostCall Store Endpoint Listener
   -- searching the file for a row at fault, of which there may be none
-  FindsFault : List ℕ → Result (Option FaultyRow) OpenFault → HostCall Store Endpoint
+  FindsFault : List ℕ → Result (Option FaultyRow) OpenFault → HostCall Store Endpoint Listener
   -- migrating the file to the current schema, which returns its number of books
-  Migrates : List ℕ → Result ℕ OpenFault → HostCall Store Endpoint
+  Migrates : List ℕ → Result ℕ OpenFault → HostCall Store Endpoint Listener
   -- reading all octets of the file
-  ReadsRows : List ℕ → Result (List ℕ) Stop → HostCall Store Endpoint
+  ReadsRows : List ℕ → Result (List ℕ) Stop → HostCall Store Endpoint Listener
   -- reading all files of the folder, each with its name and its octets
-  ReadsSite : List ℕ → Result (List SiteFile) Stop → HostCall Store Endpoint
+  ReadsSite : List ℕ → Result (List SiteFile) Stop → HostCall Store Endpoint Listener
   -- binding an endpoint to the port, with places for this number of connections, which returns the
   -- endpoint and its port
-  Binds : ℕ → ℕ → Result (Endpoint × ℕ) Stop → HostCall Store Endpoint
+  Binds : ℕ → ℕ → Result (Endpoint × ℕ) Stop → HostCall Store Endpoint Listener
   -- closing the endpoint, after its connections were served
-  Finishes : Endpoint → HostCall Store Endpoint
+  Finishes : Endpoint → HostCall Store Endpoint Listener
 
 -- A host is represented by what is known of each call: its result, and the host before and after
 -- it.
-module _ {S P Host : Type 0} (calls : HostCall S P → Host → Host → Type 0) where
+module _ {S P L Host : Type 0} (calls : HostCall S P L → Host → Host → Type 0) where
   -- these calls were made of the host, in this order, and no others
-  abbrev pub MakesCalls : Host → List (HostCall S P) → Host → Type 0
+  abbrev pub MakesCalls : Host → List (HostCall S P L) → Host → Type 0
   MakesCalls old [] new = new ≡ old
   MakesCalls old (call ∷ log) new = (next : Host) × calls call old next × MakesCalls next log new
 
   -- all calls that were made of the host are this log, of which this holds
-  pub record LogsCalls (old new : Host) (Holds : List (HostCall S P) → Type 0) : Type 0 where
-    pub log : List (HostCall S P)
+  pub record LogsCalls (old new : Host) (Holds : List (HostCall S P L) → Type 0) : Type 0 where
+    pub log : List (HostCall S P L)
     pub made : MakesCalls old log new
     pub holds : Holds log
 
 -- of some log of calls, this holds
-pub record HasLog {S P : Type 0} (Holds : List (HostCall S P) → Type 0) : Type 0 where
-  pub log : List (HostCall S P)
+pub record HasLog {S P L : Type 0} (Holds : List (HostCall S P L) → Type 0) : Type 0 where
+  pub log : List (HostCall S P L)
   pub holds : Holds log
 
 -- nothing is known of a call
-abbrev pub IsAnyCall : {S P Host : Type 0} → HostCall S P → Host → Host → Type 0
+abbrev pub IsAnyCall : {S P L Host : Type 0} → HostCall S P L → Host → Host → Type 0
 IsAnyCall call old new = ⊤
 
 -- 127.0.0.1, which only programs of the host can connect to

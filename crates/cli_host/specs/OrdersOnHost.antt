@@ -101,19 +101,19 @@ abbrev pub KeepsOrderOutput : Order → Stop → Option (List ℕ) → Option (L
 KeepsOrderOutput order stop before after = KeepsWorkOutput (work_of order) stop before after
 
 -- In each of these, `log` has all calls that were made of the host, in order.
-module _ {S P : Type 0} where
+module _ {S P L : Type 0} where
   -- ---- a new store
 
   -- a store without books was created in the file, and that is printed
   pub record MakesStore
-      (file : List ℕ) (before after : Option (List ℕ)) (log : List (HostCall S P)) : Type 0 where
+      (file : List ℕ) (before after : Option (List ℕ)) (log : List (HostCall S P L)) : Type 0 where
     pub store : S
     pub calls : log ≡ Creates file (Ok store) ∷ []
     pub printed : Appends before after made_output
 
   -- none was created in the file, or the writer failed
   abbrev pub StopsMaking : List ℕ → Stop → Option (List ℕ) → Option (List ℕ)
-      → List (HostCall S P) → Type 0
+      → List (HostCall S P L) → Type 0
   StopsMaking file stop before after log =
       ((fault : OpenFault) × (log ≡ Creates file (Err fault) ∷ [])
       × StopsUnopened fault stop before after)
@@ -124,14 +124,14 @@ module _ {S P : Type 0} where
 
   -- the file was migrated to the current schema, and its number of books is printed
   pub record MigratesFile
-      (file : List ℕ) (before after : Option (List ℕ)) (log : List (HostCall S P)) : Type 0 where
+      (file : List ℕ) (before after : Option (List ℕ)) (log : List (HostCall S P L)) : Type 0 where
     pub count : ℕ
     pub calls : log ≡ Migrates file (Ok count) ∷ []
     pub printed : Appends before after (migrate_output count)
 
   -- the file wasn't migrated, or memory ran out or the writer failed over the text
   abbrev pub StopsMigrating : List ℕ → Stop → Option (List ℕ) → Option (List ℕ)
-      → List (HostCall S P) → Type 0
+      → List (HostCall S P L) → Type 0
   StopsMigrating file stop before after log =
       ((fault : OpenFault) × (log ≡ Migrates file (Err fault) ∷ [])
       × StopsUnopened fault stop before after)
@@ -143,21 +143,21 @@ module _ {S P : Type 0} where
 
   -- the octets of the file were read, they have no fault, and what was found is printed
   pub record ChecksFile
-      (file : List ℕ) (before after : Option (List ℕ)) (log : List (HostCall S P)) : Type 0 where
+      (file : List ℕ) (before after : Option (List ℕ)) (log : List (HostCall S P L)) : Type 0 where
     pub octets : List ℕ
     pub calls : log ≡ ReadsRows file (Ok octets) ∷ []
     pub passes : PassesCheck (kind_of_file file) octets before after
 
   -- the octets of the file were read, and this is why their check stopped
   pub record StopsOnCheck (file : List ℕ) (stop : Stop)
-      (before after : Option (List ℕ)) (log : List (HostCall S P)) : Type 0 where
+      (before after : Option (List ℕ)) (log : List (HostCall S P L)) : Type 0 where
     pub octets : List ℕ
     pub calls : log ≡ ReadsRows file (Ok octets) ∷ []
     pub stops : StopsCheck (kind_of_file file) octets stop before after
 
   -- the file couldn't be read, or its check stopped
   abbrev pub StopsChecking : List ℕ → Stop → Option (List ℕ) → Option (List ℕ)
-      → List (HostCall S P) → Type 0
+      → List (HostCall S P L) → Type 0
   StopsChecking file stop before after log =
       ((log ≡ ReadsRows file (Err stop) ∷ []) × StopsUnbound stop before after)
       ⊎ StopsOnCheck file stop before after log
@@ -166,7 +166,7 @@ module _ {S P : Type 0} where
 
   -- the file's store wasn't opened for another fault than damage, and nothing is written
   pub record StopsUndamaged (file : List ℕ) (stop : Stop)
-      (before after : Option (List ℕ)) (log : List (HostCall S P)) : Type 0 where
+      (before after : Option (List ℕ)) (log : List (HostCall S P L)) : Type 0 where
     pub fault : OpenFault
     pub undamaged : fault ≢ Damaged
     pub calls : log ≡ Opens file (Err fault) ∷ []
@@ -174,32 +174,32 @@ module _ {S P : Type 0} where
 
   -- the file is damaged, it was searched next, and what was found was reported
   pub record StopsAtDamage (file : List ℕ) (stop : Stop)
-      (before after : Option (List ℕ)) (log : List (HostCall S P)) : Type 0 where
+      (before after : Option (List ℕ)) (log : List (HostCall S P L)) : Type 0 where
     pub found : Result (Option FaultyRow) OpenFault
     pub calls : log ≡ Opens file (Err Damaged) ∷ FindsFault file found ∷ []
     pub reports : ReportsDamage found stop before after
 
 -- A store is represented by its books.
-module _ {S P : Type 0} (model : StoreModel S) where
+module _ {S P L : Type 0} (model : StoreModel S) where
   -- ---- an import
 
   -- all octets of the file of rows were imported into the book, and the counts are printed
   pub record ImportsRows (old : S) (book key csv : List ℕ) (before after : Option (List ℕ))
-      (new : S) (log : List (HostCall S P)) : Type 0 where
+      (new : S) (log : List (HostCall S P L)) : Type 0 where
     pub rows : List ℕ
     pub calls : log ≡ ReadsRows csv (Ok rows) ∷ []
     pub prints : PrintsCommand model old (ImportRows book key rows) before after new
 
   -- the import of all octets of the file of rows is why the order stops
   pub record StopsOnImport (old : S) (book key csv : List ℕ) (stop : Stop)
-      (before after : Option (List ℕ)) (new : S) (log : List (HostCall S P)) : Type 0 where
+      (before after : Option (List ℕ)) (new : S) (log : List (HostCall S P L)) : Type 0 where
     pub rows : List ℕ
     pub calls : log ≡ ReadsRows csv (Ok rows) ∷ []
     pub stops : StopsCommand model old (ImportRows book key rows) stop before after new
 
   -- the file of rows couldn't be read: nothing was performed or written
   pub record StopsReadingRows (old : S) (csv : List ℕ) (stop : Stop)
-      (before after : Option (List ℕ)) (new : S) (log : List (HostCall S P)) : Type 0 where
+      (before after : Option (List ℕ)) (new : S) (log : List (HostCall S P L)) : Type 0 where
     pub calls : log ≡ ReadsRows csv (Err stop) ∷ []
     pub unchanged : new ≡ old
     pub unwritten : Keeps before after
@@ -209,7 +209,7 @@ module _ {S P : Type 0} (model : StoreModel S) where
 
   -- The work was done on the store, and its result is printed. Only an import calls the host.
   abbrev pub DoesStoreWork : S → StoreWork → Option (List ℕ) → Option (List ℕ) → S
-      → List (HostCall S P) → Type 0
+      → List (HostCall S P L) → Type 0
   DoesStoreWork old (Perform command) before after new log =
       (log ≡ []) × PrintsCommand model old command before after new
   DoesStoreWork old (ImportFile book key csv) before after new log =
@@ -221,7 +221,7 @@ module _ {S P : Type 0} (model : StoreModel S) where
 
   -- why the work wasn't done on the store, or its result wasn't printed
   abbrev pub StopsStoreWork : S → StoreWork → Stop → Option (List ℕ) → Option (List ℕ) → S
-      → List (HostCall S P) → Type 0
+      → List (HostCall S P L) → Type 0
   StopsStoreWork old (Perform command) stop before after new log =
       (log ≡ []) × StopsCommand model old command stop before after new
   StopsStoreWork old (ImportFile book key csv) stop before after new log =
@@ -236,25 +236,25 @@ module _ {S P : Type 0} (model : StoreModel S) where
 
   -- the file's store was opened, and then the work was done on it
   pub record DoesInFile (file : List ℕ) (work : StoreWork) (before after : Option (List ℕ))
-      (log : List (HostCall S P)) : Type 0 where
+      (log : List (HostCall S P L)) : Type 0 where
     pub store : S
-    pub later : List (HostCall S P)
+    pub later : List (HostCall S P L)
     pub calls : log ≡ Opens file (Ok store) ∷ later
     pub store_after : S
     pub does : DoesStoreWork store work before after store_after later
 
   -- the file's store was opened, and this is why the work stopped
   pub record StopsOnFile (file : List ℕ) (work : StoreWork) (stop : Stop)
-      (before after : Option (List ℕ)) (log : List (HostCall S P)) : Type 0 where
+      (before after : Option (List ℕ)) (log : List (HostCall S P L)) : Type 0 where
     pub store : S
-    pub later : List (HostCall S P)
+    pub later : List (HostCall S P L)
     pub calls : log ≡ Opens file (Ok store) ∷ later
     pub store_after : S
     pub stops : StopsStoreWork store work stop before after store_after later
 
   -- the file wasn't opened, or it was and the work stopped
   abbrev pub StopsInFile : List ℕ → StoreWork → Stop → Option (List ℕ) → Option (List ℕ)
-      → List (HostCall S P) → Type 0
+      → List (HostCall S P L) → Type 0
   StopsInFile file work stop before after log =
       ((fault : OpenFault) × (log ≡ Opens file (Err fault) ∷ [])
       × StopsUnopened fault stop before after)
@@ -263,14 +263,14 @@ module _ {S P : Type 0} (model : StoreModel S) where
   -- ---- verifying a file
 
   -- the file's store was opened, and its books and their number were listed
-  abbrev pub VerifiesFile : List ℕ → Option (List ℕ) → Option (List ℕ) → List (HostCall S P)
+  abbrev pub VerifiesFile : List ℕ → Option (List ℕ) → Option (List ℕ) → List (HostCall S P L)
       → Type 0
   VerifiesFile file before after log = DoesInFile file (ListBooks Verified) before after log
 
   -- the file wasn't opened, and if it is damaged, the row at fault was reported; or it was opened,
   -- and the listing stopped
   abbrev pub StopsVerifying : List ℕ → Stop → Option (List ℕ) → Option (List ℕ)
-      → List (HostCall S P) → Type 0
+      → List (HostCall S P L) → Type 0
   StopsVerifying file stop before after log =
       StopsUndamaged file stop before after log
       ⊎ (StopsAtDamage file stop before after log
@@ -279,20 +279,20 @@ module _ {S P : Type 0} (model : StoreModel S) where
 -- ---- serving
 
 -- the file's store was opened, or it was created, if that was asked for; or neither could be done
-abbrev pub GetsStore : {S P : Type 0} → List ℕ → Bool → Result S OpenFault
-    → List (HostCall S P) → Type 0
+abbrev pub GetsStore : {S P L : Type 0} → List ℕ → Bool → Result S OpenFault
+    → List (HostCall S P L) → Type 0
 GetsStore file creates result log =
     (log ≡ Opens file result ∷ []) ⊎ ((creates ≡ true) × (log ≡ Creates file result ∷ []))
 
 -- A handler is represented by what it does, and an endpoint by the effects of its calls.
-module _ {S P State : Type 0} (does : HandlerRelation State) (fault_reply : FaultReplies)
+module _ {S P L State : Type 0} (does : HandlerRelation State) (fault_reply : FaultReplies)
     (effects : EndpointRelation P) where
   -- An endpoint was bound to the requested port, or to any port if it is 0, with a place for each
   -- connection that may be open at once. The line that announces its port was written, and then all
   -- connections were served. At last the endpoint, as serving left it, was closed. What is logged
   -- of the requests changes none of this.
   pub record ServesAt (requested : ℕ) (limits : ServeLimits) (old : State)
-      (before after : Option (List ℕ)) (log : List (HostCall S P)) : Type 0 where
+      (before after : Option (List ℕ)) (log : List (HostCall S P L)) : Type 0 where
     pub endpoint : P
     pub port : ℕ
     pub new : State
@@ -305,7 +305,7 @@ module _ {S P State : Type 0} (does : HandlerRelation State) (fault_reply : Faul
 
   -- the same, but not all connections were served
   pub record StopsServingAt (requested : ℕ) (limits : ServeLimits) (stop : Stop) (old : State)
-      (before after : Option (List ℕ)) (log : List (HostCall S P)) : Type 0 where
+      (before after : Option (List ℕ)) (log : List (HostCall S P L)) : Type 0 where
     pub endpoint : P
     pub port : ℕ
     pub new : State
@@ -318,20 +318,20 @@ module _ {S P State : Type 0} (does : HandlerRelation State) (fault_reply : Faul
 
   -- no endpoint was bound, or not all connections were served
   abbrev pub StopsAt : ℕ → ServeLimits → Stop → State → Option (List ℕ) → Option (List ℕ)
-      → List (HostCall S P) → Type 0
+      → List (HostCall S P L) → Type 0
   StopsAt requested limits stop old before after log =
       ((log ≡ Binds requested limits.together (Err stop) ∷ []) × StopsUnbound stop before after)
       ⊎ StopsServingAt requested limits stop old before after log
 
 -- The handler begins with a store in this state of its own.
-module _ {S P State : Type 0} (does : HandlerRelation State) (effects : EndpointRelation P)
+module _ {S P L State : Type 0} (does : HandlerRelation State) (effects : EndpointRelation P)
     (state_of : S → State) where
   -- the file's store was opened or created, and then it was served
   pub record ServesStore (file : List ℕ) (creates : Bool) (requested : ℕ) (limits : ServeLimits)
-      (before after : Option (List ℕ)) (log : List (HostCall S P)) : Type 0 where
+      (before after : Option (List ℕ)) (log : List (HostCall S P L)) : Type 0 where
     pub store : S
-    pub first : List (HostCall S P)
-    pub later : List (HostCall S P)
+    pub first : List (HostCall S P L)
+    pub later : List (HostCall S P L)
     pub calls : log ≡ first ++ later
     pub gets : GetsStore file creates (Ok store) first
     pub serves : ServesAt does head_fault_octets effects requested limits (state_of store)
@@ -340,10 +340,10 @@ module _ {S P State : Type 0} (does : HandlerRelation State) (effects : Endpoint
   -- the file's store was opened or created, and this is why serving it stopped
   pub record StopsServingStore (file : List ℕ) (creates : Bool) (requested : ℕ)
       (limits : ServeLimits) (stop : Stop) (before after : Option (List ℕ))
-      (log : List (HostCall S P)) : Type 0 where
+      (log : List (HostCall S P L)) : Type 0 where
     pub store : S
-    pub first : List (HostCall S P)
-    pub later : List (HostCall S P)
+    pub first : List (HostCall S P L)
+    pub later : List (HostCall S P L)
     pub calls : log ≡ first ++ later
     pub gets : GetsStore file creates (Ok store) first
     pub stops : StopsAt does head_fault_octets effects requested limits stop (state_of store)
@@ -351,7 +351,7 @@ module _ {S P State : Type 0} (does : HandlerRelation State) (effects : Endpoint
 
   -- there is no store of the file; or there is, and memory ran out, or serving it stopped
   abbrev pub StopsStore : List ℕ → Bool → ℕ → ServeLimits → Stop
-      → Option (List ℕ) → Option (List ℕ) → List (HostCall S P) → Type 0
+      → Option (List ℕ) → Option (List ℕ) → List (HostCall S P L) → Type 0
   StopsStore file creates requested limits stop before after log =
       ((fault : OpenFault) × GetsStore file creates (Err fault) log
       × StopsUnopened fault stop before after)
@@ -359,17 +359,17 @@ module _ {S P State : Type 0} (does : HandlerRelation State) (effects : Endpoint
       ⊎ StopsServingStore file creates requested limits stop before after log)
 
 -- A store is represented by its books, and an endpoint by the effects of its calls.
-module _ {S P : Type 0} (model : StoreModel S) (effects : EndpointRelation P) where
+module _ {S P L : Type 0} (model : StoreModel S) (effects : EndpointRelation P) where
   -- the file's store was opened and served
   abbrev pub ServesFile : List ℕ → ℕ → ServeLimits → Option (List ℕ) → Option (List ℕ)
-      → List (HostCall S P) → Type 0
+      → List (HostCall S P L) → Type 0
   ServesFile file requested limits before after log =
       ServesStore (ServiceStep model) effects (λ store. store) file false requested limits
       before after log
 
   -- why it wasn't
   abbrev pub StopsServe : List ℕ → ℕ → ServeLimits → Stop → Option (List ℕ) → Option (List ℕ)
-      → List (HostCall S P) → Type 0
+      → List (HostCall S P L) → Type 0
   StopsServe file requested limits stop before after log =
       StopsStore (ServiceStep model) effects (λ store. store) file false requested limits stop
       before after log
@@ -377,28 +377,28 @@ module _ {S P : Type 0} (model : StoreModel S) (effects : EndpointRelation P) wh
   -- the file's store was opened, or created if that was asked for, and served behind a guard of a
   -- server with these names
   abbrev pub RunsGuarded : List ℕ → Bool → List (List ℕ) → ℕ → ServeLimits
-      → Option (List ℕ) → Option (List ℕ) → List (HostCall S P) → Type 0
+      → Option (List ℕ) → Option (List ℕ) → List (HostCall S P L) → Type 0
   RunsGuarded file creates names requested limits before after log =
       ServesStore (guarded (ServiceStep model)) effects (λ store. (names, store)) file creates
       requested limits before after log
 
   -- why it wasn't
   abbrev pub StopsGuarded : List ℕ → Bool → List (List ℕ) → ℕ → ServeLimits → Stop
-      → Option (List ℕ) → Option (List ℕ) → List (HostCall S P) → Type 0
+      → Option (List ℕ) → Option (List ℕ) → List (HostCall S P L) → Type 0
   StopsGuarded file creates names requested limits stop before after log =
       StopsStore (guarded (ServiceStep model)) effects (λ store. (names, store)) file creates
       requested limits stop before after log
 
   -- the same with these files of a site beside the service
   abbrev pub RunsSite : List SiteFile → List ℕ → Bool → List (List ℕ) → ℕ → ServeLimits
-      → Option (List ℕ) → Option (List ℕ) → List (HostCall S P) → Type 0
+      → Option (List ℕ) → Option (List ℕ) → List (HostCall S P L) → Type 0
   RunsSite files file creates names requested limits before after log =
       ServesStore (guarded (with_site (ServiceStep model))) effects
       (λ store. (names, (files, store))) file creates requested limits before after log
 
   -- why it wasn't
   abbrev pub StopsSite : List SiteFile → List ℕ → Bool → List (List ℕ) → ℕ → ServeLimits → Stop
-      → Option (List ℕ) → Option (List ℕ) → List (HostCall S P) → Type 0
+      → Option (List ℕ) → Option (List ℕ) → List (HostCall S P L) → Type 0
   StopsSite files file creates names requested limits stop before after log =
       StopsStore (guarded (with_site (ServiceStep model))) effects
       (λ store. (names, (files, store))) file creates requested limits stop before after log
@@ -406,31 +406,31 @@ module _ {S P : Type 0} (model : StoreModel S) (effects : EndpointRelation P) wh
   -- the files of the folder were read first, and are the site
   pub record RunsFolder (dir file : List ℕ) (creates : Bool) (names : List (List ℕ))
       (requested : ℕ) (limits : ServeLimits) (before after : Option (List ℕ))
-      (log : List (HostCall S P)) : Type 0 where
+      (log : List (HostCall S P L)) : Type 0 where
     pub files : List SiteFile
-    pub later : List (HostCall S P)
+    pub later : List (HostCall S P L)
     pub calls : log ≡ ReadsSite dir (Ok files) ∷ later
     pub runs : RunsSite files file creates names requested limits before after later
 
   -- the files of the folder were read, and this is why serving them and the books stopped
   pub record StopsBesideFolder (dir file : List ℕ) (creates : Bool) (names : List (List ℕ))
       (requested : ℕ) (limits : ServeLimits) (stop : Stop) (before after : Option (List ℕ))
-      (log : List (HostCall S P)) : Type 0 where
+      (log : List (HostCall S P L)) : Type 0 where
     pub files : List SiteFile
-    pub later : List (HostCall S P)
+    pub later : List (HostCall S P L)
     pub calls : log ≡ ReadsSite dir (Ok files) ∷ later
     pub stops : StopsSite files file creates names requested limits stop before after later
 
   -- the files of the folder couldn't be read; or they were, and serving stopped
   abbrev pub StopsFolder : List ℕ → List ℕ → Bool → List (List ℕ) → ℕ → ServeLimits → Stop
-      → Option (List ℕ) → Option (List ℕ) → List (HostCall S P) → Type 0
+      → Option (List ℕ) → Option (List ℕ) → List (HostCall S P L) → Type 0
   StopsFolder dir file creates names requested limits stop before after log =
       ((log ≡ ReadsSite dir (Err stop) ∷ []) × StopsUnbound stop before after)
       ⊎ StopsBesideFolder dir file creates names requested limits stop before after log
 
   -- with the site of a folder, if one was given
   abbrev pub RunsFile : List ℕ → Bool → List (List ℕ) → ℕ → ServeLimits → Option (List ℕ)
-      → Option (List ℕ) → Option (List ℕ) → List (HostCall S P) → Type 0
+      → Option (List ℕ) → Option (List ℕ) → List (HostCall S P L) → Type 0
   RunsFile file creates names requested limits None before after log =
       RunsGuarded file creates names requested limits before after log
   RunsFile file creates names requested limits (Some dir) before after log =
@@ -438,7 +438,7 @@ module _ {S P : Type 0} (model : StoreModel S) (effects : EndpointRelation P) wh
 
   -- why it wasn't
   abbrev pub StopsRun : List ℕ → Bool → List (List ℕ) → ℕ → ServeLimits → Option (List ℕ) → Stop
-      → Option (List ℕ) → Option (List ℕ) → List (HostCall S P) → Type 0
+      → Option (List ℕ) → Option (List ℕ) → List (HostCall S P L) → Type 0
   StopsRun file creates names requested limits None stop before after log =
       StopsGuarded file creates names requested limits stop before after log
   StopsRun file creates names requested limits (Some dir) stop before after log =
@@ -447,7 +447,7 @@ module _ {S P : Type 0} (model : StoreModel S) (effects : EndpointRelation P) wh
   -- ---- all orders
 
   -- the work was done, and its output is printed
-  abbrev pub DoesWork : Work → Option (List ℕ) → Option (List ℕ) → List (HostCall S P) → Type 0
+  abbrev pub DoesWork : Work → Option (List ℕ) → Option (List ℕ) → List (HostCall S P L) → Type 0
   DoesWork Nothing before after log = ⊥
   DoesWork PrintVersion before after log = (log ≡ []) × Appends before after version_output
   DoesWork (CheckFile file) before after log = ChecksFile file before after log
@@ -463,7 +463,7 @@ module _ {S P : Type 0} (model : StoreModel S) (effects : EndpointRelation P) wh
   -- Why the work wasn't done, or its output wasn't printed. `try` has no work here, since it needs
   -- standard input.
   abbrev pub StopsWork : Work → Stop → Option (List ℕ) → Option (List ℕ)
-      → List (HostCall S P) → Type 0
+      → List (HostCall S P L) → Type 0
   StopsWork Nothing stop before after log = (log ≡ []) × StopsAtDevice stop before after
   StopsWork PrintVersion stop before after log =
       (log ≡ []) × StopsOverText version_output stop before after
@@ -480,10 +480,10 @@ module _ {S P : Type 0} (model : StoreModel S) (effects : EndpointRelation P) wh
       StopsInFile model file work stop before after log
 
   -- the work of the order was done, and its output is printed
-  abbrev pub RunsOnHost : Order → Option (List ℕ) → Option (List ℕ) → List (HostCall S P) → Type 0
+  abbrev pub RunsOnHost : Order → Option (List ℕ) → Option (List ℕ) → List (HostCall S P L) → Type 0
   RunsOnHost order before after log = DoesWork (work_of order) before after log
 
   -- why it wasn't
   abbrev pub StopsOnHost : Order → Stop → Option (List ℕ) → Option (List ℕ)
-      → List (HostCall S P) → Type 0
+      → List (HostCall S P L) → Type 0
   StopsOnHost order stop before after log = StopsWork (work_of order) stop before after log

@@ -96,7 +96,7 @@ fn run_try_order<R: Read, W: Write, E: Write>(
 }
 
 /// Runs another order, and reports a stop.
-fn run_other_order<S: BookKeeps + Drop, P: Endpoint, M: Host<S, P>, W: Write, E: Write>(
+fn run_other_order<S: BookKeeps + Drop, P: Endpoint, L, M: Host<S, P, L>, W: Write, E: Write>(
     alloc: Global,
     host: &mut M,
     order: Order,
@@ -113,7 +113,7 @@ fn run_other_order<S: BookKeeps + Drop, P: Endpoint, M: Host<S, P>, W: Write, E:
 }
 
 /// Runs an order on a host, and reports errors on standard error.
-pub fn run_and_report<S: BookKeeps + Drop, P: Endpoint, M: Host<S, P>, R: Read, W: Write, E: Write>(
+pub fn run_and_report<S: BookKeeps + Drop, P: Endpoint, L, M: Host<S, P, L>, R: Read, W: Write, E: Write>(
     alloc: Global,
     host: &mut M,
     order: Result<Order, LineFault>,

@@ -29,9 +29,9 @@ use sync_core::Limits;
 ///
 /// A host also prints the lines of `serve --log`, and says that a long import or opening goes on.
 /// These are no calls, since they change nothing.
-pub trait Host<S, P>: RequestLog {
+pub trait Host<S, P, L>: RequestLog {
     /// What is known of a call: its result, and the host before and after it.
-    ghost calls: { HostCall S P → Self → Self → Type 0 };
+    ghost calls: { HostCall S P L → Self → Self → Type 0 };
 
     /// Creates a new store without books in the file.
     fn create(&mut self, file: &str) -> Result<S, OpenFault>

@@ -50,7 +50,7 @@ fn end_text(alloc: Global, micros: u64) -> Result<Vec<u8>, NoMemory>
 }
 
 /// Says a text, unless there was no memory for it.
-fn say<S, P, M: Host<S, P>>(host: &M, text: Result<Vec<u8>, NoMemory>) {
+fn say<S, P, L, M: Host<S, P, L>>(host: &M, text: Result<Vec<u8>, NoMemory>) {
     if let Ok(text) = text {
         host.say(text.as_slice());
     }
@@ -58,7 +58,7 @@ fn say<S, P, M: Host<S, P>>(host: &M, text: Result<Vec<u8>, NoMemory>) {
 
 /// `run_command` for an import of rows with this number of lines. If there are more than 1,000, and
 /// standard error is a terminal, it says before how many, and afterwards how long it took.
-pub(crate) fn run_import<S: BookStore, P, M: Host<S, P>, W: Write>(
+pub(crate) fn run_import<S: BookStore, P, L, M: Host<S, P, L>, W: Write>(
     alloc: Global,
     host: &M,
     store: &mut S,
@@ -84,7 +84,7 @@ pub(crate) fn run_import<S: BookStore, P, M: Host<S, P>, W: Write>(
 /// Opens the store of the books in the file. If the file has more than 20,000,000 octets, and
 /// standard error is a terminal, it says before how long the file is, and afterwards how long
 /// opening it took.
-pub(crate) fn open_watched<S, P, M: Host<S, P>>(
+pub(crate) fn open_watched<S, P, L, M: Host<S, P, L>>(
     alloc: Global,
     host: &mut M,
     file: &str,

@@ -32,7 +32,7 @@ use std::rt::HostRuntime;
 use sync_core::BookStore;
 
 /// Creates a store without books in the file, and prints `made`.
-fn run_init<S: Drop, P, M: Host<S, P>, W: Write>(
+fn run_init<S: Drop, P, L, M: Host<S, P, L>, W: Write>(
     host: &mut M,
     file: Text,
     writer: &mut W,
@@ -48,7 +48,7 @@ fn run_init<S: Drop, P, M: Host<S, P>, W: Write>(
 
 /// Migrates the file to the current schema, and prints its number of books. The migration remains
 /// if this can't be written.
-fn run_migrate<S, P, M: Host<S, P>, W: Write>(
+fn run_migrate<S, P, L, M: Host<S, P, L>, W: Write>(
     alloc: Global,
     host: &mut M,
     file: Text,
@@ -65,7 +65,7 @@ fn run_migrate<S, P, M: Host<S, P>, W: Write>(
 }
 
 /// Checks the rows or the card of a file, as its name says, and prints what was found.
-fn run_check_of<S, P, M: Host<S, P>, W: Write>(
+fn run_check_of<S, P, L, M: Host<S, P, L>, W: Write>(
     alloc: Global,
     host: &mut M,
     file: &str,
@@ -81,7 +81,7 @@ fn run_check_of<S, P, M: Host<S, P>, W: Write>(
 }
 
 /// Imports a file of rows into a book of the store, and prints the counts.
-fn import_rows<S: BookStore, P, M: Host<S, P>, W: Write>(
+fn import_rows<S: BookStore, P, L, M: Host<S, P, L>, W: Write>(
     alloc: Global,
     host: &mut M,
     store: &mut S,
@@ -106,7 +106,7 @@ fn import_rows<S: BookStore, P, M: Host<S, P>, W: Write>(
 }
 
 /// Does an order's work on a store, and prints the result.
-fn do_store_work<S: BookKeeps, P, M: Host<S, P>, W: Write>(
+fn do_store_work<S: BookKeeps, P, L, M: Host<S, P, L>, W: Write>(
     alloc: Global,
     host: &mut M,
     store: &mut S,
@@ -133,7 +133,7 @@ fn do_store_work<S: BookKeeps, P, M: Host<S, P>, W: Write>(
 }
 
 /// Does an order's work on the store in the file, which is opened first.
-fn use_file<S: BookKeeps + Drop, P, M: Host<S, P>, W: Write>(
+fn use_file<S: BookKeeps + Drop, P, L, M: Host<S, P, L>, W: Write>(
     alloc: Global,
     host: &mut M,
     file: Text,
@@ -150,7 +150,7 @@ fn use_file<S: BookKeeps + Drop, P, M: Host<S, P>, W: Write>(
 }
 
 /// Does an order's work on a host, and prints its output.
-fn do_work<S: BookKeeps + Drop, P: Endpoint, M: Host<S, P>, W: Write>(
+fn do_work<S: BookKeeps + Drop, P: Endpoint, L, M: Host<S, P, L>, W: Write>(
     alloc: Global,
     host: &mut M,
     work: Work,
@@ -201,7 +201,7 @@ fn do_work<S: BookKeeps + Drop, P: Endpoint, M: Host<S, P>, W: Write>(
 /// are served only before the first is accepted. Changes that were made remain if the output can't
 /// be written. The stop for a faulty file is its refusal. `Device` for `Try`, which needs standard
 /// input, and for `Convert`, which needs files of another kind (`cli_convert` runs it).
-pub fn run_on_host<S: BookKeeps + Drop, P: Endpoint, M: Host<S, P>, W: Write>(
+pub fn run_on_host<S: BookKeeps + Drop, P: Endpoint, L, M: Host<S, P, L>, W: Write>(
     alloc: Global,
     host: &mut M,
     order: Order,

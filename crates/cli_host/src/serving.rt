@@ -26,7 +26,7 @@ fn log_if<L>(is_on: bool, log: &L) -> Option<&L> {
 
 /// The store of the books in the file, which is opened; or it is created without books, if that is
 /// asked for and there is no such file.
-fn get_store<S, P, M: Host<S, P>>(
+fn get_store<S, P, L, M: Host<S, P, L>>(
     alloc: Global,
     host: &mut M,
     file: &str,
@@ -43,7 +43,7 @@ fn get_store<S, P, M: Host<S, P>>(
 
 /// Serves the connections to the port. The endpoint is closed last, however serving ended. If it is
 /// logged, the host prints a line for each request and for each fault of a connection.
-fn serve_at<S, P: Endpoint, M: Host<S, P>, H: Handler + Drop, W: Write>(
+fn serve_at<S, P: Endpoint, L, M: Host<S, P, L>, H: Handler + Drop, W: Write>(
     alloc: Global,
     host: &mut M,
     handler: H,
@@ -72,7 +72,7 @@ fn serve_at<S, P: Endpoint, M: Host<S, P>, H: Handler + Drop, W: Write>(
 }
 
 /// Serves the books in the file at the port. The store is opened first.
-pub(crate) fn run_serve<S: BookStore + Drop, P: Endpoint, M: Host<S, P>, W: Write>(
+pub(crate) fn run_serve<S: BookStore + Drop, P: Endpoint, L, M: Host<S, P, L>, W: Write>(
     alloc: Global,
     host: &mut M,
     file: Text,
@@ -95,7 +95,7 @@ pub(crate) fn run_serve<S: BookStore + Drop, P: Endpoint, M: Host<S, P>, W: Writ
 
 /// Serves the books in the file at the port behind a guard of a server with these names, beside
 /// those of the loopback. The store is opened or created first.
-fn run_guarded<S: BookStore + Drop, P: Endpoint, M: Host<S, P>, W: Write>(
+fn run_guarded<S: BookStore + Drop, P: Endpoint, L, M: Host<S, P, L>, W: Write>(
     alloc: Global,
     host: &mut M,
     file: Text,
@@ -120,7 +120,7 @@ fn run_guarded<S: BookStore + Drop, P: Endpoint, M: Host<S, P>, W: Write>(
 }
 
 /// The same with a site beside the service.
-fn run_site<S: BookStore + Drop, P: Endpoint, M: Host<S, P>, W: Write>(
+fn run_site<S: BookStore + Drop, P: Endpoint, L, M: Host<S, P, L>, W: Write>(
     alloc: Global,
     host: &mut M,
     site: Site,
@@ -147,7 +147,7 @@ fn run_site<S: BookStore + Drop, P: Endpoint, M: Host<S, P>, W: Write>(
 }
 
 /// The same with the site of a folder, whose files are read first.
-fn run_folder<S: BookStore + Drop, P: Endpoint, M: Host<S, P>, W: Write>(
+fn run_folder<S: BookStore + Drop, P: Endpoint, L, M: Host<S, P, L>, W: Write>(
     alloc: Global,
     host: &mut M,
     dir: Text,
@@ -174,7 +174,7 @@ fn run_folder<S: BookStore + Drop, P: Endpoint, M: Host<S, P>, W: Write>(
 
 /// Serves the books in the file behind a guard, with the site of a folder beside them if one is
 /// given.
-pub(crate) fn run_file<S: BookStore + Drop, P: Endpoint, M: Host<S, P>, W: Write>(
+pub(crate) fn run_file<S: BookStore + Drop, P: Endpoint, L, M: Host<S, P, L>, W: Write>(
     alloc: Global,
     host: &mut M,
     file: Text,

@@ -15,7 +15,7 @@ use std::io::Write;
 
 /// Opens the store in the file, which tests all its rows, and lists its books and their number. If
 /// the file is damaged, it prints which row is at fault, and why.
-pub(crate) fn run_verify<S: BookKeeps + Drop, P, M: Host<S, P>, W: Write>(
+pub(crate) fn run_verify<S: BookKeeps + Drop, P, L, M: Host<S, P, L>, W: Write>(
     alloc: Global,
     host: &mut M,
     file: Text,
