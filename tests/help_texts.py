@@ -112,6 +112,8 @@ connect
 headers are incomplete, 1 to 3600 [default: 60]
       --create            Create the file if it isn't there
       --log               Print a line for each request on standard error when it is answered
+      --site <DIR>        A folder whose files are served at / and below, beside the books at \
+/books, as clients/desk/site; they are read once, at the start, and may have up to 16 MiB together
   -h, --help              Print help
 
 Example:

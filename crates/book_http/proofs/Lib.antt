@@ -10,3 +10,4 @@ pub mod CutRunLemmas
 pub mod ConnectionLemmas
 pub mod ReaderLemmas
 pub mod ServedHubLemmas
+pub mod ServedSiteLemmas

@@ -59,7 +59,7 @@ module _ {S : Type 0} (model : StoreModel S) where
   premise_before (one ∷ handled) old new (middle, good, done, rest) holds =
       all_premise model (one.request ∷ []) old middle one.reply (one_handled one old middle good done) (premise_before handled middle new rest holds)
 
-  handled_run : (handled : List HandledRequest) (now : SystemState) (old new : S) → StartsAt model now old new → HandledInTurn (ServiceStep model) old handled new
+  pub handled_run : (handled : List HandledRequest) (now : SystemState) (old new : S) → StartsAt model now old new → HandledInTurn (ServiceStep model) old handled new
       → RunsHandled now handled (model.books new)
   unfolding HandledInTurn AreOwnReplies
   handled_run [] now old new starts same = record {

@@ -11,3 +11,4 @@ pub mod ServedConnections
 pub mod OctetRuns
 pub mod OctetPromise
 pub mod ServedHubs
+pub mod ServedSites

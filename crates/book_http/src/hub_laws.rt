@@ -1,6 +1,7 @@
 //! Laws of any number of connections to the service. Each law is a function that does nothing.
 ghost use Rattle.book_http.specs.OctetPromise.{ServiceStep};
 ghost use Rattle.book_http.specs.ServedHubs.{HubsAreOneRun, behind_guard};
+ghost use Rattle.book_http.specs.ServedSites.{ServedSitesAreOneRun};
 ghost use Rattle.http_requests.specs.GuardedHandlers.{guarded};
 
 use sync_core::BookStore;
@@ -17,4 +18,12 @@ pub fn hubs_are_one_run<S: BookStore>()
 /// pass, so one that it refuses changes no book.
 pub fn guarded_hubs_are_one_run<S: BookStore>()
     ensures { HubsAreOneRun (behind_guard S.model) (guarded (ServiceStep S.model)) }
+{}
+
+/// The same of a service with the files of a site beside it, behind a guard. The requests of the run
+/// are those that the guard lets pass and that aren't for a file of the site. A request for a file
+/// gets the site's reply: it is no part of the run, so it changes no book
+/// (`specs/ServedSites.antt`).
+pub fn served_sites_are_one_run<S: BookStore>()
+    ensures { ServedSitesAreOneRun S.model }
 {}

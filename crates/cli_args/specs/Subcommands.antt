@@ -108,10 +108,14 @@ create_switch = switch (codes "create") (codes "create")
 abbrev pub log_switch : Rule
 log_switch = switch (codes "log") (codes "log")
 
+-- the folder of a site
+abbrev pub site_option : Rule
+site_option = free_option (codes "DIR") (codes "site")
+
 abbrev pub run_command : Shape
 run_command = order_command (codes "run")
     (file_arg ∷ port_option (codes "8080") ∷ socket_option ∷ host_option ∷ max_open_option
-    ∷ idle_timeout_option ∷ create_switch ∷ log_switch ∷ [])
+    ∷ idle_timeout_option ∷ create_switch ∷ log_switch ∷ site_option ∷ [])
 
 abbrev pub import_command : Shape
 import_command =

@@ -134,3 +134,15 @@ pub(crate) fn book_arg<'a>(alloc: Global) -> Arg<'a>
         "Name of the book, 1 to 40 characters of a-z, 0-9 and -",
     )
 }
+
+pub(crate) fn site_option<'a>(alloc: Global) -> Arg<'a>
+    ensures { IsArgument lines.site_option result }
+{
+    free_option(
+        alloc,
+        "DIR",
+        "site",
+        "A folder whose files are served at / and below, beside the books at /books, as \
+         clients/desk/site; they are read once, at the start, and may have up to 16 MiB together",
+    )
+}

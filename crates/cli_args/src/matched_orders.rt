@@ -50,6 +50,7 @@ fn run_order_of(alloc: Global, matches: &ArgMatches<'_>) -> Result<Order, LineFa
     let idle_timeout = u64_arg(alloc, matches, "S")?;
     let socket = given_text(alloc, matches, "PATH")?;
     let names = given_texts(alloc, matches, "NAME")?;
+    let site = given_text(alloc, matches, "DIR")?;
     Ok(Order::Run {
         file,
         port,
@@ -59,6 +60,7 @@ fn run_order_of(alloc: Global, matches: &ArgMatches<'_>) -> Result<Order, LineFa
         idle_timeout,
         creates: is_given(matches, "create"),
         is_logged: is_given(matches, "log"),
+        site,
     })
 }
 

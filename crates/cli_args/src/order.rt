@@ -48,6 +48,8 @@ pub enum Order {
         creates: bool,
         /// Whether a line is printed on standard error for each request.
         is_logged: bool,
+        /// The folder of a site that is served beside the books, if it was given.
+        site: Option<Text>,
     },
     /// Import cards from a CSV file.
     Import {

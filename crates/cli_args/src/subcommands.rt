@@ -8,7 +8,7 @@ ghost use Rattle.cli_args.specs.Subcommands.{IsOrderCommand};
 
 use crate::arguments::{
     argument, book_arg, file_arg, flag, free_option, number_arg, number_option, option_arg,
-    repeated_option, switch,
+    repeated_option, site_option, switch,
 };
 use crate::convert_command::convert_command;
 use clap::{Arg, Command};
@@ -211,6 +211,7 @@ fn run_command<'a>(alloc: Global) -> Result<Command<'a>, AllocError>
                 idle_timeout_option(alloc),
                 create_switch(alloc),
                 log_switch(alloc),
+                site_option(alloc),
             ],
         )?,
     )

@@ -30,7 +30,7 @@ use Rattle.sync_core.specs.StoreModels.{StoreModel}
 unopened : (fault : OpenFault) (w : Option (List ℕ)) → StopsUnopened fault (Open fault) w w
 unopened fault w = record { stop_is = refl; unwritten = kept_same w }
 
-unbound : (stop : Stop) (w : Option (List ℕ)) → (stop ≡ out_of_memory) ⊎ (stop ≡ Device) → StopsUnbound stop w w
+pub unbound : (stop : Stop) (w : Option (List ℕ)) → (stop ≡ out_of_memory) ⊎ (stop ≡ Device) → StopsUnbound stop w w
 unbound stop w (inl is) = inl (record { stop_is = is; unwritten = kept_same w })
 unbound stop w (inr is) = inr (record { stop_is = is; unwritten = kept_same w })
 

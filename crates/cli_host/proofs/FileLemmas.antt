@@ -1,5 +1,5 @@
 -- What is left of the output where an order isn't done.
-use Rattle.std.proofs.Common.{◌≡◌, ◌⊎◌, ℕ, Bool, false, List, Option, Result, Ok, Err, IfErr, inl, inr}
+use Rattle.std.proofs.Common.{◌≡◌, ◌⊎◌, ℕ, Bool, false, List, Option, Some, None, Result, Ok, Err, IfErr, inl, inr}
 use Rattle.book_http.specs.ConnectionModels.{ConnectionModel}
 use Rattle.book_http.specs.OctetPromise.{ServiceStep}
 use Rattle.http_replies.specs.Replies.{head_fault_octets}
@@ -7,11 +7,12 @@ use Rattle.http_requests.specs.GuardedHandlers.{guarded}
 use Rattle.http_requests.specs.HandlerRuns.{HandlerRelation}
 use Rattle.hub_server.specs.EndpointRuns.{EndpointRelation}
 use Rattle.hub_server.specs.declared.limits.ServeLimits.{ServeLimits}
+use Rattle.site_files.specs.SiteHandlers.{with_site}
 use Rattle.sync_core.specs.StoreModels.{StoreModel}
 use Rattle.cli_orders.specs.declared.address.Address.{Address}
 use Rattle.cli_orders.specs.declared.stop.Stop.{Stop}
 use Rattle.cli_host.specs.Hosts.{HostCall, LogsCalls}
-use Rattle.cli_host.specs.OrdersOnHost.{HasRefusedFile, HasReportedDamage, KeepsWorkOutput, StopsAtDamage, StopsChecking, StopsInFile, StopsMaking, StopsMigrating, StopsStore, StopsStoreWork, StopsVerifying, StopsWork}
+use Rattle.cli_host.specs.OrdersOnHost.{HasRefusedFile, HasReportedDamage, KeepsWorkOutput, StopsAtDamage, StopsChecking, StopsFolder, StopsInFile, StopsMaking, StopsMigrating, StopsRun, StopsStore, StopsStoreWork, StopsVerifying, StopsWork}
 use Rattle.cli_host.specs.declared.work.StoreWork.{StoreWork}
 use Rattle.cli_host.specs.declared.work.StoreWork.TheVariants.{Perform, ImportFile, ListBooks, MirrorBook}
 use Rattle.cli_host.specs.declared.work.Work.{Work}
@@ -90,6 +91,19 @@ module _ {S P L State : Type 0} (does : HandlerRelation State) (effects : Endpoi
     | inr serving ↦ serving_stop_leaves does head_fault_octets effects serving.address limits (state_of s.store) serving.new serving.endpoint serving.endpoint_after before after stop serving.stops
   ]
 
+module _ {S P L : Type 0} (model : StoreModel S) (effects : EndpointRelation P) where
+  folder_leaves : (dir file : List ℕ) (creates : Bool) (names : List (List ℕ)) (requested : Address) (limits : ServeLimits) (stop : Stop) (before after : Option (List ℕ)) (log : List (HostCall S P L))
+      → StopsFolder model effects dir file creates names requested limits stop before after log → KeepsOutput stop before after ⊎ ((stop ≡ out_of_memory) × WritesListeningLine before after)
+  folder_leaves dir file creates names requested limits stop before after log (inl (unread, inl s)) = inl (keeps_leaves stop before after s.unwritten)
+  folder_leaves dir file creates names requested limits stop before after log (inl (unread, inr s)) = inl (keeps_leaves stop before after s.unwritten)
+  folder_leaves dir file creates names requested limits stop before after log (inr s) =
+      serve_leaves (guarded (with_site (ServiceStep model))) effects (λ store. (names, (s.files, store))) file creates requested limits stop before after s.later s.stops
+
+  run_leaves : (file : List ℕ) (creates : Bool) (names : List (List ℕ)) (requested : Address) (limits : ServeLimits) (site : Option (List ℕ)) (stop : Stop) (before after : Option (List ℕ)) (log : List (HostCall S P L))
+      → StopsRun model effects file creates names requested limits site stop before after log → KeepsOutput stop before after ⊎ ((stop ≡ out_of_memory) × WritesListeningLine before after)
+  run_leaves file creates names requested limits None stop before after log s = serve_leaves (guarded (ServiceStep model)) effects (λ store. (names, store)) file creates requested limits stop before after log s
+  run_leaves file creates names requested limits (Some dir) stop before after log s = folder_leaves dir file creates names requested limits stop before after log s
+
 module _ {S P L Connection : Type 0} (model : StoreModel S) (effects : EndpointRelation P) (stream : ConnectionModel Connection) (coming : L → Option (List (Option Connection))) where
   work_leaves : (work : Work) (stop : Stop) (before after : Option (List ℕ)) (log : List (HostCall S P L)) → StopsWork model effects stream coming work stop before after log → KeepsWorkOutput work stop before after
   work_leaves Nothing stop before after log s = inl (keeps_leaves stop before after s.1.unwritten)
@@ -101,7 +115,7 @@ module _ {S P L Connection : Type 0} (model : StoreModel S) (effects : EndpointR
   work_leaves (CreateFile file) stop before after log s = inl (making_leaves file stop before after log s)
   work_leaves (MigrateFile file) stop before after log s = inl (migrating_leaves file stop before after log s)
   work_leaves (ServeFile file port connections) stop before after log s = inl (turns_leave model stream coming file port connections stop before after log s)
-  work_leaves (RunFile file creates names address limits is_logged) stop before after log s = elim (serve_leaves (guarded (ServiceStep model)) effects (λ store. (names, store)) file creates address limits stop before after log s) [
+  work_leaves (RunFile file creates names address limits is_logged site) stop before after log s = elim (run_leaves model effects file creates names address limits site stop before after log s) [
     | inl kept ↦ inl kept
     | inr announced ↦ inr (inl announced)
   ]

@@ -3,3 +3,4 @@ pub mod TurnLemmas
 pub mod FileLemmas
 pub mod EndingLemmas
 pub mod ListingLemmas
+mod SiteLemmas

@@ -8,6 +8,7 @@ use Rattle.cli_orders.specs.declared.address.Address.TheVariants.{Port, Socket}
 use Rattle.cli_orders.specs.declared.stop.Stop.{Stop}
 use Rattle.cli_orders.specs.declared.stop.Stop.TheVariants.{Device}
 use Rattle.cli_orders.specs.Stops.{out_of_memory}
+use Rattle.site_files.specs.Sites.{SiteFile}
 use Rattle.socket_endpoint.specs.declared.bind_fault.BindFault.{BindFault}
 use Rattle.socket_endpoint.specs.declared.bind_fault.BindFault.TheVariants as bind
 use Rattle.store_check.specs.declared.faults.FaultyRow.{FaultyRow}
@@ -29,6 +30,8 @@ pub data HostCall (Store Endpoint Listener : Type 0) : Type 0 where
   Migrates : List ℕ → Result ℕ OpenFault → HostCall Store Endpoint Listener
   -- reading all octets of the file
   ReadsRows : List ℕ → Result (List ℕ) Stop → HostCall Store Endpoint Listener
+  -- reading all files of the folder, each with its name and its octets
+  ReadsSite : List ℕ → Result (List SiteFile) Stop → HostCall Store Endpoint Listener
   -- binding an endpoint to the address, with places for this number of connections, which returns
   -- the endpoint and its address
   Binds : Address → ℕ → Result (Endpoint × Address) Stop → HostCall Store Endpoint Listener

@@ -62,8 +62,8 @@ work_of Version = PrintVersion
 work_of (Check file) = CheckFile file
 work_of (Init file) = CreateFile file
 work_of (Migrate file) = MigrateFile file
-work_of (Run file port socket names max_open idle_timeout creates is_logged) =
+work_of (Run file port socket names max_open idle_timeout creates is_logged site) =
     RunFile file creates names (address_of port socket)
-    (limits_of endless_connections max_open idle_timeout) is_logged
+    (limits_of endless_connections max_open idle_timeout) is_logged site
 work_of (Serve file port connections) = ServeFile file port connections
 work_of order = store_work_of order

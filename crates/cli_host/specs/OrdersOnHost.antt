@@ -1,7 +1,7 @@
 -- Running an order on a host: the calls that are made of the host, what is done with their results,
 -- and what is printed.
 use Rattle.std.specs.Prelude.{◌≡◌, ◌≢◌, ◌⊎◌, ℕ, Bool, true, false, List, [], ◌∷◌, ◌++◌, Option}
-use Rattle.std.specs.Prelude.{Result, Ok, Err}
+use Rattle.std.specs.Prelude.{Some, None, Result, Ok, Err}
 use Rattle.std.specs.Io.KnownBytes.{Appends, Keeps}
 use Rattle.book_commands.specs.declared.command.Command.TheVariants.{Import as ImportRows}
 use Rattle.book_http.specs.ConnectionModels.{ConnectionModel}
@@ -20,7 +20,7 @@ use Rattle.cli_orders.specs.declared.stop.Stop.TheVariants.{Open, Device}
 pub use Rattle.cli_host.specs.EarlyStops.{StopsAtDevice, StopsForMemory, StopsOverText}
 pub use Rattle.cli_host.specs.EarlyStops.{StopsUnopened}
 use Rattle.cli_host.specs.Hosts.{HostCall, Creates, Looks, Opens, FindsFault, Migrates}
-use Rattle.cli_host.specs.Hosts.{ReadsRows, Binds, Finishes, IsBoundAs}
+use Rattle.cli_host.specs.Hosts.{ReadsRows, ReadsSite, Binds, Finishes, IsBoundAs}
 use Rattle.cli_host.specs.OrderWork.{work_of}
 use Rattle.cli_host.specs.OrdersInTurn.{ServesFile, StopsServe}
 use Rattle.cli_host.specs.declared.work.StoreWork.{StoreWork}
@@ -38,6 +38,8 @@ use Rattle.cli_orders.specs.Versions.{version_output}
 use Rattle.cli_orders.specs.Announcements.{AnnouncesAndServes, StopsServing, WritesListeningLine}
 use Rattle.cli_orders.specs.ReplyTexts.{KeepsOutput}
 use Rattle.cli_orders.specs.Stops.{out_of_memory}
+use Rattle.site_files.specs.SiteHandlers.{with_site}
+use Rattle.site_files.specs.Sites.{SiteFile}
 use Rattle.store_check.specs.declared.faults.FaultyRow.{FaultyRow}
 use Rattle.store_schema.specs.declared.open_fault.OpenFault.{OpenFault}
 use Rattle.store_schema.specs.declared.open_fault.OpenFault.TheVariants.{Damaged}
@@ -50,7 +52,7 @@ StopsUnbound stop before after = StopsForMemory stop before after ⊎ StopsAtDev
 
 -- the work is to serve behind a guard, and the line that announces a port was written
 abbrev pub HasAnnounced : Work → Option (List ℕ) → Option (List ℕ) → Type 0
-HasAnnounced (RunFile file creates names address limits is_logged) before after =
+HasAnnounced (RunFile file creates names address limits is_logged site) before after =
     WritesListeningLine before after
 HasAnnounced work before after = ⊥
 
@@ -343,18 +345,73 @@ module _ {S P L State : Type 0} (does : HandlerRelation State) (effects : Endpoi
 module _ {S P L : Type 0} (model : StoreModel S) (effects : EndpointRelation P) where
   -- the file's store was opened, or created if that was asked for, and served behind a guard of a
   -- server with these names
-  abbrev pub RunsFile : List ℕ → Bool → List (List ℕ) → Address → ServeLimits
+  abbrev pub RunsGuarded : List ℕ → Bool → List (List ℕ) → Address → ServeLimits
       → Option (List ℕ) → Option (List ℕ) → List (HostCall S P L) → Type 0
-  RunsFile file creates names requested limits before after log =
+  RunsGuarded file creates names requested limits before after log =
       ServesStore (guarded (ServiceStep model)) effects (λ store. (names, store)) file creates
       requested limits before after log
 
   -- why it wasn't
-  abbrev pub StopsRun : List ℕ → Bool → List (List ℕ) → Address → ServeLimits → Stop
+  abbrev pub StopsGuarded : List ℕ → Bool → List (List ℕ) → Address → ServeLimits → Stop
       → Option (List ℕ) → Option (List ℕ) → List (HostCall S P L) → Type 0
-  StopsRun file creates names requested limits stop before after log =
+  StopsGuarded file creates names requested limits stop before after log =
       StopsStore (guarded (ServiceStep model)) effects (λ store. (names, store)) file creates
       requested limits stop before after log
+
+  -- the same with these files of a site beside the service
+  abbrev pub RunsSite : List SiteFile → List ℕ → Bool → List (List ℕ) → Address → ServeLimits
+      → Option (List ℕ) → Option (List ℕ) → List (HostCall S P L) → Type 0
+  RunsSite files file creates names requested limits before after log =
+      ServesStore (guarded (with_site (ServiceStep model))) effects
+      (λ store. (names, (files, store))) file creates requested limits before after log
+
+  -- why it wasn't
+  abbrev pub StopsSite : List SiteFile → List ℕ → Bool → List (List ℕ) → Address → ServeLimits
+      → Option (List ℕ) → Option (List ℕ) → List (HostCall S P L) → Type 0
+  StopsSite files file creates names requested limits stop before after log =
+      StopsStore (guarded (with_site (ServiceStep model))) effects
+      (λ store. (names, (files, store))) file creates requested limits stop before after log
+
+  -- the files of the folder were read first, and are the site
+  pub record RunsFolder (dir file : List ℕ) (creates : Bool) (names : List (List ℕ))
+      (requested : Address) (limits : ServeLimits) (before after : Option (List ℕ))
+      (log : List (HostCall S P L)) : Type 0 where
+    pub files : List SiteFile
+    pub later : List (HostCall S P L)
+    pub calls : log ≡ ReadsSite dir (Ok files) ∷ later
+    pub runs : RunsSite files file creates names requested limits before after later
+
+  -- the files of the folder were read, and this is why serving them and the books stopped
+  pub record StopsBesideFolder (dir file : List ℕ) (creates : Bool) (names : List (List ℕ))
+      (requested : Address) (limits : ServeLimits) (stop : Stop) (before after : Option (List ℕ))
+      (log : List (HostCall S P L)) : Type 0 where
+    pub files : List SiteFile
+    pub later : List (HostCall S P L)
+    pub calls : log ≡ ReadsSite dir (Ok files) ∷ later
+    pub stops : StopsSite files file creates names requested limits stop before after later
+
+  -- the files of the folder couldn't be read; or they were, and serving stopped
+  abbrev pub StopsFolder : List ℕ → List ℕ → Bool → List (List ℕ) → Address → ServeLimits → Stop
+      → Option (List ℕ) → Option (List ℕ) → List (HostCall S P L) → Type 0
+  StopsFolder dir file creates names requested limits stop before after log =
+      ((log ≡ ReadsSite dir (Err stop) ∷ []) × StopsUnbound stop before after)
+      ⊎ StopsBesideFolder dir file creates names requested limits stop before after log
+
+  -- with the site of a folder, if one was given
+  abbrev pub RunsFile : List ℕ → Bool → List (List ℕ) → Address → ServeLimits → Option (List ℕ)
+      → Option (List ℕ) → Option (List ℕ) → List (HostCall S P L) → Type 0
+  RunsFile file creates names requested limits None before after log =
+      RunsGuarded file creates names requested limits before after log
+  RunsFile file creates names requested limits (Some dir) before after log =
+      RunsFolder dir file creates names requested limits before after log
+
+  -- why it wasn't
+  abbrev pub StopsRun : List ℕ → Bool → List (List ℕ) → Address → ServeLimits → Option (List ℕ) → Stop
+      → Option (List ℕ) → Option (List ℕ) → List (HostCall S P L) → Type 0
+  StopsRun file creates names requested limits None stop before after log =
+      StopsGuarded file creates names requested limits stop before after log
+  StopsRun file creates names requested limits (Some dir) stop before after log =
+      StopsFolder dir file creates names requested limits stop before after log
 
 -- ---- all orders
 
@@ -371,8 +428,8 @@ module _ {S P L Connection : Type 0} (model : StoreModel S) (effects : EndpointR
   DoesWork (MigrateFile file) before after log = MigratesFile file before after log
   DoesWork (ServeFile file port connections) before after log =
       ServesFile model stream coming file port connections before after log
-  DoesWork (RunFile file creates names address limits is_logged) before after log =
-      RunsFile model effects file creates names address limits before after log
+  DoesWork (RunFile file creates names address limits is_logged site) before after log =
+      RunsFile model effects file creates names address limits site before after log
   DoesWork (VerifyFile file) before after log = VerifiesFile model file before after log
   DoesWork (UseFile file work) before after log = DoesInFile model file work before after log
 
@@ -388,8 +445,8 @@ module _ {S P L Connection : Type 0} (model : StoreModel S) (effects : EndpointR
   StopsWork (MigrateFile file) stop before after log = StopsMigrating file stop before after log
   StopsWork (ServeFile file port connections) stop before after log =
       StopsServe model stream coming file port connections stop before after log
-  StopsWork (RunFile file creates names address limits is_logged) stop before after log =
-      StopsRun model effects file creates names address limits stop before after log
+  StopsWork (RunFile file creates names address limits is_logged site) stop before after log =
+      StopsRun model effects file creates names address limits site stop before after log
   StopsWork (VerifyFile file) stop before after log =
       StopsVerifying model file stop before after log
   StopsWork (UseFile file work) stop before after log =

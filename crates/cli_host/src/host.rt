@@ -1,7 +1,7 @@
 //! The trait of hosts: the files and ports that orders use.
 ghost use Rattle.std.specs.Prelude.{◌≡◌, ◌≢◌, ◌⊎◌, IfErr, IfOk, IfSome, OnErr};
-ghost use Rattle.cli_host.specs.Hosts.{HostCall, Creates, Opens, Migrates, ReadsRows, Binds};
-ghost use Rattle.cli_host.specs.Hosts.{BindsListener, FindsFault, Finishes, IsBoundAs};
+ghost use Rattle.cli_host.specs.Hosts.{HostCall, Creates, Opens, Migrates, ReadsRows, ReadsSite};
+ghost use Rattle.cli_host.specs.Hosts.{Binds, BindsListener, FindsFault, Finishes, IsBoundAs};
 ghost use Rattle.cli_host.specs.Hosts.{Looks, loopback_ip, standard_limits, stop_of_binding};
 ghost use Rattle.std.specs.Net.Socket.{socket_ip, socket_port};
 ghost use Rattle.cli_orders.specs.Stops.{out_of_memory};
@@ -10,6 +10,7 @@ use base_types::Items;
 use book_store::{FileBooks, OpenFault, SqlStore};
 use cli_orders::{Address, Stop, read_rows_of};
 use request_log::RequestLog;
+use site_files::{Site, SiteFault, read_site};
 use socket_endpoint::{BindFault, SocketEndpoint};
 use std::alloc::Global;
 use std::io::{IsTerminal, Read, Write};
@@ -59,6 +60,12 @@ pub trait Host<S, P, L>: RequestLog {
     /// `Memory` if the buffer can't be allocated.
     fn read_rows(&mut self, alloc: Global, file: &str) -> Result<Items<u8>, Stop>
         ensures called { calls (ReadsRows file.now result) self.old self.new }
+        ensures stop { IfErr result (λ stop. (stop ≡ out_of_memory) ⊎ (stop ≡ Stop.Device)) };
+
+    /// Reads the files of a folder and of the folders within it. `Device` if it can't be used, and
+    /// then the host has said why in words; `Memory` if an allocation fails.
+    fn read_site(&mut self, dir: &str) -> Result<Site, Stop>
+        ensures called { calls (ReadsSite dir.now result) self.old self.new }
         ensures stop { IfErr result (λ stop. (stop ≡ out_of_memory) ⊎ (stop ≡ Stop.Device)) };
 
     /// Binds an endpoint to the address, at any free port for port 0, and returns it with the
@@ -172,6 +179,20 @@ fn rows_from<R: Read + Drop>(alloc: Global, opened: io::Result<R>) -> Result<Ite
     Ok(Items::from_vec(rows))
 }
 
+/// The stop for a folder whose files can't be served, after why was said on standard error.
+fn stop_of_site(rt: &HostRuntime, fault: SiteFault) -> Stop
+    ensures { (result ≡ out_of_memory) ⊎ (result ≡ Stop.Device) }
+{
+    match fault {
+        SiteFault::Unusable(words) => {
+            let _said = rt.stderr().write(words.as_str().as_bytes());
+            let _ended = rt.stderr().write(b"\n");
+            Stop::Device
+        }
+        SiteFault::Memory => Stop::out_of_memory(),
+    }
+}
+
 /// The host that the program runs on.
 impl Host<FileBooks, SocketEndpoint, TcpListener> for HostRuntime {
     ghost use Rattle.cli_host.specs.Hosts.{IsAnyCall};
@@ -207,6 +228,13 @@ impl Host<FileBooks, SocketEndpoint, TcpListener> for HostRuntime {
 
     fn read_rows(&mut self, alloc: Global, file: &str) -> Result<Items<u8>, Stop> {
         rows_from(alloc, fs::open(self, file))
+    }
+
+    fn read_site(&mut self, dir: &str) -> Result<Site, Stop> {
+        match read_site(self, dir) {
+            Ok(site) => Ok(site),
+            Err(fault) => Err(stop_of_site(self, fault)),
+        }
     }
 
     fn listen(

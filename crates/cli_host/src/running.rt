@@ -13,7 +13,7 @@ use crate::host::Host;
 use crate::keeps::BookKeeps;
 use crate::listing::run_listing;
 use crate::progress::{line_count, open_watched, run_import};
-use crate::serving::{run_guarded, run_serve};
+use crate::serving::{run_file, run_serve};
 use crate::verifying::run_verify;
 use crate::work::{StoreWork, Work, work_of};
 use base_types::Text;
@@ -184,8 +184,9 @@ fn do_work<S: BookKeeps + Drop, P: Endpoint, L: Listener + Drop, M: Host<S, P, L
             address,
             limits,
             is_logged,
-        } => run_guarded(
-            alloc, host, file, creates, names, address, limits, is_logged, writer,
+            site,
+        } => run_file(
+            alloc, host, file, creates, names, address, limits, is_logged, site, writer,
         ),
         Work::UseFile { file, work } => use_file(alloc, host, file, work, writer),
     }

@@ -1,7 +1,9 @@
 //! Serves the store in a file.
 ghost use Rattle.std.specs.Prelude.{IfErr, OnOk, true};
 ghost use Rattle.cli_host.specs.Hosts.{LogsCalls};
-ghost use Rattle.cli_host.specs.OrdersOnHost.{GetsStore, RunsFile, ServesAt, StopsAt, StopsRun};
+ghost use Rattle.cli_host.specs.OrdersOnHost.{GetsStore, RunsFile, RunsFolder, RunsGuarded};
+ghost use Rattle.cli_host.specs.OrdersOnHost.{RunsSite, ServesAt, StopsAt, StopsFolder};
+ghost use Rattle.cli_host.specs.OrdersOnHost.{StopsGuarded, StopsRun, StopsSite};
 ghost use Rattle.cli_host.specs.OrdersInTurn.{ServesFile, StopsServe};
 
 use crate::host::Host;
@@ -13,6 +15,7 @@ use cli_orders::{Address, Stop, announce_and_serve, announce_and_serve_in_turn};
 use http_requests::{Guarded, Handler};
 use hub_server::{Endpoint, ServeLimits};
 use request_log::{LoggedEndpoint, LoggedHandler};
+use site_files::{Site, WithSite};
 use std::alloc::Global;
 use std::io::Write;
 use sync_core::BookStore;
@@ -116,7 +119,7 @@ pub(crate) fn run_serve<S: BookStore + Drop, P, L: Listener + Drop, M: Host<S, P
 
 /// Serves the books in the file at the address behind a guard of a server with these names, beside
 /// those of the loopback. The store is opened or created first.
-pub(crate) fn run_guarded<S: BookStore + Drop, P: Endpoint, L, M: Host<S, P, L>, W: Write>(
+fn run_guarded<S: BookStore + Drop, P: Endpoint, L, M: Host<S, P, L>, W: Write>(
     alloc: Global,
     host: &mut M,
     file: Text,
@@ -128,14 +131,98 @@ pub(crate) fn run_guarded<S: BookStore + Drop, P: Endpoint, L, M: Host<S, P, L>,
     writer: &mut W,
 ) -> Result<(), Stop>
     ensures done { OnOk result (LogsCalls M.calls host.old host.new
-        (RunsFile S.model P.calls file creates names address limits
+        (RunsGuarded S.model P.calls file creates names address limits
         (W.contents writer.old) (W.contents writer.new))) }
     ensures stopped { IfErr result (λ stop. LogsCalls M.calls host.old host.new
-        (StopsRun S.model P.calls file creates names address limits stop
+        (StopsGuarded S.model P.calls file creates names address limits stop
         (W.contents writer.old) (W.contents writer.new))) }
 {
     let store = get_store(alloc, host, file.as_str(), creates)?;
     let service = Service::new(alloc, store)?;
     let handler = Guarded::new(names, service);
     serve_at(alloc, host, handler, address, limits, is_logged, writer)
+}
+
+/// The same with a site beside the service.
+fn run_site<S: BookStore + Drop, P: Endpoint, L, M: Host<S, P, L>, W: Write>(
+    alloc: Global,
+    host: &mut M,
+    site: Site,
+    file: Text,
+    creates: bool,
+    names: Items<Text>,
+    address: Address,
+    limits: ServeLimits,
+    is_logged: bool,
+    writer: &mut W,
+) -> Result<(), Stop>
+    ensures done { OnOk result (LogsCalls M.calls host.old host.new
+        (RunsSite S.model P.calls site file creates names address limits
+        (W.contents writer.old) (W.contents writer.new))) }
+    ensures stopped { IfErr result (λ stop. LogsCalls M.calls host.old host.new
+        (StopsSite S.model P.calls site file creates names address limits stop
+        (W.contents writer.old) (W.contents writer.new))) }
+{
+    let store = get_store(alloc, host, file.as_str(), creates)?;
+    let service = Service::new(alloc, store)?;
+    let beside = WithSite::new(site, service);
+    let handler = Guarded::new(names, beside);
+    serve_at(alloc, host, handler, address, limits, is_logged, writer)
+}
+
+/// The same with the site of a folder, whose files are read first.
+fn run_folder<S: BookStore + Drop, P: Endpoint, L, M: Host<S, P, L>, W: Write>(
+    alloc: Global,
+    host: &mut M,
+    dir: Text,
+    file: Text,
+    creates: bool,
+    names: Items<Text>,
+    address: Address,
+    limits: ServeLimits,
+    is_logged: bool,
+    writer: &mut W,
+) -> Result<(), Stop>
+    ensures done { OnOk result (LogsCalls M.calls host.old host.new
+        (RunsFolder S.model P.calls dir file creates names address limits
+        (W.contents writer.old) (W.contents writer.new))) }
+    ensures stopped { IfErr result (λ stop. LogsCalls M.calls host.old host.new
+        (StopsFolder S.model P.calls dir file creates names address limits stop
+        (W.contents writer.old) (W.contents writer.new))) }
+{
+    let site = host.read_site(dir.as_str())?;
+    run_site(
+        alloc, host, site, file, creates, names, address, limits, is_logged, writer,
+    )
+}
+
+/// Serves the books in the file behind a guard, with the site of a folder beside them if one is
+/// given.
+pub(crate) fn run_file<S: BookStore + Drop, P: Endpoint, L, M: Host<S, P, L>, W: Write>(
+    alloc: Global,
+    host: &mut M,
+    file: Text,
+    creates: bool,
+    names: Items<Text>,
+    address: Address,
+    limits: ServeLimits,
+    is_logged: bool,
+    site: Option<Text>,
+    writer: &mut W,
+) -> Result<(), Stop>
+    ensures done { OnOk result (LogsCalls M.calls host.old host.new
+        (RunsFile S.model P.calls file creates names address limits site
+        (W.contents writer.old) (W.contents writer.new))) }
+    ensures stopped { IfErr result (λ stop. LogsCalls M.calls host.old host.new
+        (StopsRun S.model P.calls file creates names address limits site stop
+        (W.contents writer.old) (W.contents writer.new))) }
+{
+    match site {
+        None => run_guarded(
+            alloc, host, file, creates, names, address, limits, is_logged, writer,
+        ),
+        Some(dir) => run_folder(
+            alloc, host, dir, file, creates, names, address, limits, is_logged, writer,
+        ),
+    }
 }

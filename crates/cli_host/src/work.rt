@@ -65,6 +65,8 @@ pub enum Work {
         limits: ServeLimits,
         /// Whether a line is printed for each request.
         is_logged: bool,
+        /// The folder of a site that is served beside the books, if there is one.
+        site: Option<Text>,
     },
     /// Uses the store in the file.
     UseFile {
@@ -188,6 +190,7 @@ pub fn work_of(order: Order) -> Work
             idle_timeout,
             creates,
             is_logged,
+            site,
         } => Work::RunFile {
             file,
             creates,
@@ -195,6 +198,7 @@ pub fn work_of(order: Order) -> Work
             address: address_of(port, socket),
             limits: limits_of(ENDLESS_CONNECTIONS, max_open, idle_timeout),
             is_logged,
+            site,
         },
         Order::Serve {
             file,

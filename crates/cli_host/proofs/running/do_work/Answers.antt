@@ -7,7 +7,7 @@ pub returns-in-UseFile-clause-stopped : goal.returns-in-UseFile-clause-stopped
 returns-in-UseFile-clause-stopped g c = rw c.in-UseFile.is c.use_file.ensures.stopped
 
 pub returns-in-RunFile-clause-stopped : goal.returns-in-RunFile-clause-stopped
-returns-in-RunFile-clause-stopped g c = rw c.in-RunFile.is c.run_guarded.ensures.stopped
+returns-in-RunFile-clause-stopped g c = rw c.in-RunFile.is c.run_file.ensures.stopped
 
 pub returns-in-VerifyFile-clause-stopped : goal.returns-in-VerifyFile-clause-stopped
 returns-in-VerifyFile-clause-stopped g c = rw c.in-VerifyFile.is c.run_verify.ensures.stopped

@@ -1,0 +1,4 @@
+pub mod MediaTypes
+pub mod Sites
+pub mod SiteReplies
+pub mod SiteHandlers
