@@ -367,7 +367,7 @@ module _ {S P L : Type 0} (model : StoreModel S) (effects : EndpointRelation P) 
 
   -- why it wasn't
   abbrev pub StopsSite : List SiteFile → List ℕ → Bool → List (List ℕ) → Address → ServeLimits
-      → Option (List ℕ) → Option (List ℕ) → List (HostCall S P L) → Type 0
+      → Stop → Option (List ℕ) → Option (List ℕ) → List (HostCall S P L) → Type 0
   StopsSite files file creates names requested limits stop before after log =
       StopsStore (guarded (with_site (ServiceStep model))) effects
       (λ store. (names, (files, store))) file creates requested limits stop before after log
@@ -406,8 +406,8 @@ module _ {S P L : Type 0} (model : StoreModel S) (effects : EndpointRelation P) 
       RunsFolder dir file creates names requested limits before after log
 
   -- why it wasn't
-  abbrev pub StopsRun : List ℕ → Bool → List (List ℕ) → Address → ServeLimits → Option (List ℕ) → Stop
-      → Option (List ℕ) → Option (List ℕ) → List (HostCall S P L) → Type 0
+  abbrev pub StopsRun : List ℕ → Bool → List (List ℕ) → Address → ServeLimits → Option (List ℕ)
+      → Stop → Option (List ℕ) → Option (List ℕ) → List (HostCall S P L) → Type 0
   StopsRun file creates names requested limits None stop before after log =
       StopsGuarded file creates names requested limits stop before after log
   StopsRun file creates names requested limits (Some dir) stop before after log =
