@@ -138,16 +138,49 @@ class Patience(TogetherTest):
         self.assertGreater(time.monotonic() - begun, 0.8)
 
     def test_body_octet_by_octet(self):
-        """A body may take longer than the patience, if some of it comes."""
+        """A body that comes slowly is handled if it is there in time, beside others."""
         octets = put("staff", "b", "Bob")
         talk, rest = Talk(self), len(octets) - 30
         talk.connection.send(octets[:rest])
         for place in range(rest, len(octets)):
-            time.sleep(0.07)
+            time.sleep(0.01)
             talk.connection.send(octets[place:place + 1])
             if place < len(octets) - 1:
                 self.ask_other(tally("staff"))
         talk.hear(octets)
+        talk.end()
+
+    def end_of_slow_body(self, length):
+        """When a client's connection ends that sends an octet of such a body now and then."""
+        connection, begun = self.connect(), time.monotonic()
+        connection.send(HEAD % length)
+        while not select.select([connection.socket], [], [], 0.1)[0]:
+            connection.send(b"x")
+            self.ask_other(books())
+        self.assertEqual(b"", connection.rest())
+        return time.monotonic() - begun
+
+    def test_body_without_end(self):
+        """An octet now and then doesn't keep a connection open."""
+        seconds = self.end_of_slow_body(4_000)
+        self.assertGreater(seconds, 0.8)
+        self.assertLess(seconds, 1 + SLACK)
+
+    def test_a_long_body_has_longer(self):
+        """One second more for each 4,096 octets: two, for a request of 8,192 and some."""
+        seconds = self.end_of_slow_body(8_192)
+        self.assertGreater(seconds, 2.8)
+        self.assertLess(seconds, 3 + SLACK)
+
+    def test_requests_one_after_another(self):
+        """Each has its own time, so a client that goes on is served for longer than one has."""
+        talk = Talk(self)
+        for _ in range(6):
+            octets = tally("staff")
+            talk.connection.send(octets[:20])
+            time.sleep(0.3)
+            talk.connection.send(octets[20:])
+            talk.hear(octets)
         talk.end()
 
     def test_client_that_takes_nothing(self):
