@@ -383,8 +383,11 @@ class Unit(unittest.TestCase):
                  for it in (ROOT / "examples").glob("*.service")}
         own = units["contacts-follow.service"]
         wanted = {it for it in units["contacts.service"] if "=" in it and not it.startswith(
-            ("ExecStart=", "Description=", "After=", "User=", "StateDirectory="))}
+            ("Description=", "After=", "User=", "StateDirectory=", "Exec", "Type=", "Timeout",
+             # It has less memory, and may reach a server on another machine.
+             "LimitAS=", "MemoryMax=", "IPAddress"))}
         self.assertEqual(set(), wanted - own)
+        self.assertIn("MemoryMax=1G", own)
         self.assertIn("StateDirectory=tosculai-follow", own)
         start = next(it for it in own if it.startswith("ExecStart=")).split()
         self.assertEqual("/var/lib/tosculai-follow", start[2])

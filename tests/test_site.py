@@ -415,7 +415,7 @@ class Desk(ServedTest):
         worker = (SITE / "sw.js").read_text(encoding="utf-8")
         names = re.findall(r'"([^"]+)"', worker[worker.index("FILES = ["):worker.index("];")])
         self.assertIn("js/main.js", names)
-        endings = {it.rpartition(".")[2]: media for it, media in TYPES.items()}
+        endings = {it.rpartition(".")[2]: media for it, media in TYPES.items() if "." in it}
         for name in [*names, "index.html", "sw.js"]:
             path = SITE / ("index.html" if name == "./" else name)
             wanted = found(path.read_bytes(), endings[path.suffix[1:]])

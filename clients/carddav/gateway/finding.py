@@ -52,11 +52,12 @@ def spell_out(text: str) -> str:
 
 
 def searched(texts: Iterable[str], most: int) -> str:
-    """Folded texts for the search, with a space before each word, in both spellings of umlauts."""
+    """Folded texts for the search: each word once, with a space before it, in both spellings."""
     text = " ".join(it for it in texts if it)[:4 * most]
     folded = fold(text)
     spelt = folded if text.isascii() else fold(spell_out(text))
-    return (" " + folded + ("" if spelt == folded else " " + spelt))[:most]
+    words = dict.fromkeys(f"{folded} {'' if spelt == folded else spelt}".split())
+    return "".join(" " + it for it in words)[:most]
 
 
 class Row(NamedTuple):
