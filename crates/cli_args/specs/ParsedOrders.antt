@@ -1,6 +1,7 @@
 -- The order that a command line gives: the value of its matches, by `clap`'s definitions. This
 -- project's own.
-use Rattle.std.specs.Prelude.{ℕ, ◌≡◌, ◌≢◌, ◌-◌, ◌^◌, ◌||◌, ⊤, Bool, true, false, List, [], Option}
+use Rattle.std.specs.Prelude.{ℕ, ◌≡◌, ◌≢◌, ◌-◌, ◌^◌, ◌/◌, ◌%◌, ◌==◌, ◌||◌, ⊤, Bool, true, false}
+use Rattle.std.specs.Prelude.{List, [], Option}
 use Rattle.std.specs.Prelude.{Some, None, Result, Ok, Err, codes, find, option_map, option_and_then}
 use Rattle.std.specs.Prelude.{unwrap_or}
 use Rattle.std.specs.Prelude.{if◌then◌else◌}
@@ -24,6 +25,7 @@ use Rattle.cli_args.specs.declared.order.Order.TheVariants.{Try, Init, Book, Ser
 use Rattle.cli_args.specs.declared.order.Order.TheVariants.{Import, Export, Tally, Forget, Mirror}
 use Rattle.cli_args.specs.declared.order.Order.TheVariants.{Expand, Migrate, Check, Books, Verify}
 use Rattle.cli_args.specs.declared.order.Order.TheVariants.{ServeLogged, Run, Version, Convert}
+use Rattle.cli_args.specs.declared.order.Order.TheVariants.{Resync}
 
 -- ---- the values of arguments and options
 
@@ -139,6 +141,16 @@ expand_order rows = with_book (λ file book.
 abbrev pub migrate_order : List Row → Option Order
 migrate_order = with_file (λ file. Some (Migrate file))
 
+-- half of the number, if it is even
+abbrev pub half_of : ℕ → Option ℕ
+half_of number = if number % 2 == 0 then Some (number / 2) else None
+
+abbrev pub pairs_arg : List Row → Option ℕ
+pairs_arg rows = option_and_then half_of (u64_arg (codes "N") rows)
+
+abbrev pub resync_order : List Row → Option Order
+resync_order rows = with_file (λ file. option_map (Resync file) (pairs_arg rows)) rows
+
 abbrev pub check_order : List Row → Option Order
 check_order = with_file (λ file. Some (Check file))
 
@@ -186,7 +198,8 @@ order_of name rows =
     else (if bytes_eq name (codes "run") then run_order rows
     else (if bytes_eq name (codes "serve") then serve_order rows
     else (if bytes_eq name (codes "migrate") then migrate_order rows
-    else book_order_of name rows))))
+    else (if bytes_eq name (codes "resync") then resync_order rows
+    else book_order_of name rows)))))
 
 -- the order of the matched name; without a name it is `Try`
 abbrev pub named_order : Option (Text × List Row) → Option Order

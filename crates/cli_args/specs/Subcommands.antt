@@ -145,6 +145,10 @@ expand_command = order_command (codes "expand") (file_arg ∷ book_arg ∷ argum
 abbrev pub migrate_command : Shape
 migrate_command = order_command (codes "migrate") (file_arg ∷ [])
 
+abbrev pub resync_command : Shape
+resync_command = order_command (codes "resync")
+    (file_arg ∷ number_option (codes "N") (codes "skip") 2 1000000000 (codes "1000000") ∷ [])
+
 abbrev pub check_command : Shape
 check_command = order_command (codes "check") (file_arg ∷ [])
 
@@ -165,7 +169,7 @@ abbrev pub order_commands : List Shape
 order_commands = try_command ∷ init_command ∷ book_command ∷ run_command ∷ serve_command
     ∷ import_command
     ∷ export_command ∷ tally_command
-    ∷ forget_command ∷ mirror_command ∷ expand_command ∷ migrate_command
+    ∷ forget_command ∷ mirror_command ∷ expand_command ∷ migrate_command ∷ resync_command
     ∷ check_command ∷ convert_command ∷ books_command ∷ verify_command ∷ []
 
 -- `--version` or `-V`; 86 is the letter V

@@ -4,7 +4,8 @@ ghost use Rattle.cli_args.specs.WorkedLines.{WorkedConnections, WorkedConversion
 ghost use Rattle.cli_args.specs.WorkedLines.{WorkedFaults, WorkedFiles, WorkedForms, WorkedLimits};
 ghost use Rattle.cli_args.specs.WorkedLines.{WorkedLogs};
 ghost use Rattle.cli_args.specs.WorkedLines.{WorkedNumbers, WorkedOrders, WorkedPages};
-ghost use Rattle.cli_args.specs.WorkedLines.{WorkedPorts, WorkedRuns, WorkedVersions};
+ghost use Rattle.cli_args.specs.WorkedLines.{WorkedPorts, WorkedResyncs, WorkedRuns};
+ghost use Rattle.cli_args.specs.WorkedLines.{WorkedVersions};
 
 /// Some command lines and their orders, or none.
 /// - `orders`: no argument, `try`, `init`, `book`, `import`, `tally`, `expand` and `migrate`.
@@ -27,6 +28,8 @@ ghost use Rattle.cli_args.specs.WorkedLines.{WorkedPorts, WorkedRuns, WorkedVers
 /// - `numbers`: `forget` accepts 999999999999999, and not one more.
 /// - `pages`: `mirror` accepts a limit of 0 with 1000000 pages; not 1000001 or 0 pages, nor a limit
 ///   of 1000000000000000.
+/// - `resyncs`: `resync` without an option skips 1000000 numbers, which are 500000 pairs; 2 and
+///   1000000000 are accepted, and 3, 0 and 1000000002 are not.
 /// - `faults`: `tally` without a book or with a further argument, `more`, `help` and `--help` have
 ///   no order.
 pub fn worked_lines_are_orders()
@@ -43,5 +46,6 @@ pub fn worked_lines_are_orders()
     ensures forms { WorkedForms }
     ensures numbers { WorkedNumbers }
     ensures pages { WorkedPages }
+    ensures resyncs { WorkedResyncs }
     ensures faults { WorkedFaults }
 {}

@@ -8,6 +8,7 @@ pub mod laws;
 mod matched_orders;
 mod order;
 mod parsing;
+mod resync_order;
 mod subcommands;
 mod values;
 

@@ -5,6 +5,7 @@ ghost use Rattle.cli_args.specs.ParsedOrders.{ParsesTo};
 
 use crate::fault::LineFault;
 use crate::order::Order;
+use crate::resync_order::resync_order;
 use crate::values::{
     form_arg, given_text, given_texts, given_u64, is_given, port_arg, refuse, text_arg, u64_arg,
 };
@@ -287,6 +288,8 @@ fn order_of(alloc: Global, name: &str, matches: &ArgMatches<'_>) -> Result<Order
         serve_order(alloc, matches)
     } else if name == "migrate" {
         migrate_order(alloc, matches)
+    } else if name == "resync" {
+        resync_order(alloc, matches)
     } else {
         book_order_of(alloc, name, matches)
     }

@@ -11,6 +11,7 @@ use crate::arguments::{
     switch,
 };
 use crate::convert_command::convert_command;
+use crate::resync_order::resync_command;
 use clap::{Arg, Command};
 use std::alloc::{AllocError, Global};
 
@@ -452,6 +453,7 @@ fn order_commands<'a>(alloc: Global) -> Result<Vec<Command<'a>>, AllocError>
     let lines = with_command(lines, mirror_command(alloc))?;
     let lines = with_command(lines, expand_command(alloc))?;
     let lines = with_command(lines, migrate_command(alloc))?;
+    let lines = with_command(lines, resync_command(alloc))?;
     let lines = with_command(lines, check_command(alloc))?;
     let lines = with_command(lines, convert_command(alloc))?;
     let lines = with_command(lines, books_command(alloc))?;

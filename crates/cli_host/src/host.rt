@@ -1,11 +1,13 @@
 //! The trait of hosts: the files and ports that orders use.
 ghost use Rattle.std.specs.Prelude.{◌≡◌, ◌≢◌, ◌⊎◌, IfErr, IfOk, IfSome, OnErr};
 ghost use Rattle.cli_host.specs.Hosts.{HostCall, Creates, Opens, Migrates, ReadsRows, Binds};
-ghost use Rattle.cli_host.specs.Hosts.{FindsFault, Finishes, loopback_ip, standard_limits};
+ghost use Rattle.cli_host.specs.Hosts.{FindsFault, Finishes, Resyncs, loopback_ip};
+ghost use Rattle.cli_host.specs.Hosts.{standard_limits};
 ghost use Rattle.cli_host.specs.Hosts.{stop_of_binding};
 ghost use Rattle.std.specs.Net.Socket.{socket_ip, socket_port};
 ghost use Rattle.cli_orders.specs.Stops.{out_of_memory};
 
+use crate::resyncing::resync;
 use base_types::Items;
 use book_store::{FileBooks, OpenFault, SqlStore};
 use cli_orders::{Stop, read_rows_of};
@@ -48,6 +50,11 @@ pub trait Host<S, P>: RequestLog {
     /// Migrates the file to the current schema, and returns its number of books.
     fn migrate_file(&mut self, file: &str) -> Result<u64, OpenFault>
         ensures { calls (Migrates file.now result) self.old self.new };
+
+    /// Resyncs the books of the file with this many pairs, and returns their number. Refused or
+    /// failed as the store's call is, or `Open` if the file can't be opened.
+    fn resync_file(&mut self, file: &str, pairs: u64) -> Result<u64, Stop>
+        ensures { calls (Resyncs file.now pairs result) self.old self.new };
 
     /// Reads a file of rows. `Device` if it can't be read or has more than 8,388,608 octets, and
     /// `Memory` if the buffer can't be allocated.
@@ -143,6 +150,10 @@ impl Host<FileBooks, SocketEndpoint> for HostRuntime {
 
     fn migrate_file(&mut self, file: &str) -> Result<u64, OpenFault> {
         migrate(self, file)
+    }
+
+    fn resync_file(&mut self, file: &str, pairs: u64) -> Result<u64, Stop> {
+        resync(self, file, pairs)
     }
 
     fn read_rows(&mut self, alloc: Global, file: &str) -> Result<Items<u8>, Stop> {

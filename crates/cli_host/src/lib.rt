@@ -8,6 +8,7 @@ mod keeps;
 pub mod laws;
 mod listing;
 mod progress;
+mod resyncing;
 mod running;
 mod serving;
 mod verifying;

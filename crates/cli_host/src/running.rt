@@ -13,6 +13,7 @@ use crate::host::Host;
 use crate::keeps::BookKeeps;
 use crate::listing::run_listing;
 use crate::progress::{line_count, open_watched, run_import};
+use crate::resyncing::run_resync;
 use crate::serving::{run_guarded, run_serve};
 use crate::verifying::run_verify;
 use crate::work::{StoreWork, Work, work_of};
@@ -169,6 +170,7 @@ fn do_work<S: BookKeeps + Drop, P: Endpoint, M: Host<S, P>, W: Write>(
         Work::CheckFile { file } => run_check_of(alloc, host, file.as_str(), writer),
         Work::CreateFile { file } => run_init(host, file, writer),
         Work::MigrateFile { file } => run_migrate(alloc, host, file, writer),
+        Work::ResyncFile { file, pairs } => run_resync(alloc, host, file, pairs, writer),
         Work::VerifyFile { file } => run_verify(alloc, host, file, writer),
         Work::ServeFile {
             file,

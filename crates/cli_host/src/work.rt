@@ -41,6 +41,13 @@ pub enum Work {
         /// The file's name.
         file: Text,
     },
+    /// Resyncs the books of the file.
+    ResyncFile {
+        /// The file's name.
+        file: Text,
+        /// Half of the numbers that each book takes.
+        pairs: u64,
+    },
     /// Opens the store in the file, which tests all its rows, and lists its books.
     VerifyFile {
         /// The file's name.
@@ -200,6 +207,7 @@ pub fn work_of(order: Order) -> Work
         Order::Check { file } => Work::CheckFile { file },
         Order::Init { file } => Work::CreateFile { file },
         Order::Migrate { file } => Work::MigrateFile { file },
+        Order::Resync { file, pairs } => Work::ResyncFile { file, pairs },
         Order::Run {
             file,
             port,
