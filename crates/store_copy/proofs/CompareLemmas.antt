@@ -1,7 +1,6 @@
 -- Tables that are compared with rows.
-use Rattle.std.proofs.Common.{◌≡◌, Bool, IsTrue, IfOk, List, map, IsPermutation, Result, Ok, Err, subst}
+use Rattle.std.proofs.Common.{Bool, IsTrue, IfOk, map, IsPermutation, Result, Ok, Err, subst}
 use Rattle.sqlite.specs.Effect.{Database}
-use Rattle.sqlite.specs.Order.{Row}
 use Rattle.sqlite.specs.State.{State, IsUnchanged}
 use Rattle.sqlite.specs.declared.error.Error.{Error}
 use Rattle.store_tables.specs.Books.{book_listed}

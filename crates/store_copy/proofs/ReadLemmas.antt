@@ -1,8 +1,8 @@
 -- The members, read after the other three tables.
-use Rattle.std.proofs.Common.{◌≡◌, List, map, IsPermutation}
+use Rattle.std.proofs.Common.{List, map, IsPermutation}
 use Rattle.sqlite.specs.Effect.{Database}
 use Rattle.sqlite.specs.Order.{Row}
-use Rattle.sqlite.specs.State.{State, HasCleanDisk, IsUnchanged}
+use Rattle.sqlite.specs.State.{State, IsUnchanged}
 use Rattle.store_tables.specs.Members.{member_cells}
 use Rattle.store_tables.specs.StatementEffects.{OnlyReads, GivenTables}
 use Rattle.store_tables.proofs.SchemaCreationLemmas.{clean_before}
