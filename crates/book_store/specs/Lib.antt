@@ -4,3 +4,4 @@ pub mod Crashes
 pub mod FileRefusals
 pub mod OnConnections
 pub mod FileSearches
+pub mod ClosedFiles
