@@ -23,7 +23,7 @@ use Rattle.cli_args.specs.declared.order.Order.{Order}
 use Rattle.cli_args.specs.declared.order.Order.TheVariants.{Try, Init, Book, Serve, ServeWithLimits}
 use Rattle.cli_args.specs.declared.order.Order.TheVariants.{Import, Export, Tally, Forget, Mirror}
 use Rattle.cli_args.specs.declared.order.Order.TheVariants.{Expand, Migrate, Check, Books, Verify}
-use Rattle.cli_args.specs.declared.order.Order.TheVariants.{ServeLogged, Run, Version, Convert}
+use Rattle.cli_args.specs.declared.order.Order.TheVariants.{ServeLogged, Run, Version, Convert, Copy}
 
 -- ---- the values of arguments and options
 
@@ -139,6 +139,9 @@ expand_order rows = with_book (λ file book.
 abbrev pub migrate_order : List Row → Option Order
 migrate_order = with_file (λ file. Some (Migrate file))
 
+abbrev pub copy_order : List Row → Option Order
+copy_order rows = with_file (λ file. option_map (Copy file) (text_arg (codes "NEW") rows)) rows
+
 abbrev pub check_order : List Row → Option Order
 check_order = with_file (λ file. Some (Check file))
 
@@ -152,14 +155,15 @@ books_order = with_file (λ file. Some (Books file))
 abbrev pub verify_order : List Row → Option Order
 verify_order = with_file (λ file. Some (Verify file))
 
--- the order of this name and these matches, if it is one that only looks at a file
+-- the order of this name and these matches, if it is one that only looks at a file, or copies it
 abbrev pub file_order_of : Text → List Row → Option Order
 file_order_of name rows =
-    if bytes_eq name (codes "check") then check_order rows
+    if bytes_eq name (codes "copy") then copy_order rows
+    else (if bytes_eq name (codes "check") then check_order rows
     else (if bytes_eq name (codes "convert") then convert_order rows
     else (if bytes_eq name (codes "books") then books_order rows
     else (if bytes_eq name (codes "verify") then verify_order rows
-    else None)))
+    else None))))
 
 -- the order of this name and these matches, if it is one that only reads a book or a file
 abbrev pub query_order_of : Text → List Row → Option Order

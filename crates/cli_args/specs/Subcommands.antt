@@ -145,6 +145,9 @@ expand_command = order_command (codes "expand") (file_arg ∷ book_arg ∷ argum
 abbrev pub migrate_command : Shape
 migrate_command = order_command (codes "migrate") (file_arg ∷ [])
 
+abbrev pub copy_command : Shape
+copy_command = order_command (codes "copy") (file_arg ∷ argument (codes "NEW") ∷ [])
+
 abbrev pub check_command : Shape
 check_command = order_command (codes "check") (file_arg ∷ [])
 
@@ -166,7 +169,7 @@ order_commands = try_command ∷ init_command ∷ book_command ∷ run_command �
     ∷ import_command
     ∷ export_command ∷ tally_command
     ∷ forget_command ∷ mirror_command ∷ expand_command ∷ migrate_command
-    ∷ check_command ∷ convert_command ∷ books_command ∷ verify_command ∷ []
+    ∷ copy_command ∷ check_command ∷ convert_command ∷ books_command ∷ verify_command ∷ []
 
 -- `--version` or `-V`; 86 is the letter V
 abbrev pub version_flag : Rule

@@ -39,6 +39,9 @@ WorkedFiles =
     × (order_from (over_file (codes "verify") []) ≡ Some (order.Verify db))
     × (order_from (codes "check" ∷ []) ≡ None)
     × (order_from (over_book (codes "books") []) ≡ None)
+    × (order_from (over_file (codes "copy") (codes "b.db" ∷ []))
+    ≡ Some (order.Copy db (codes "b.db")))
+    × (order_from (over_file (codes "copy") []) ≡ None)
 
 abbrev pub WorkedConversions : Type 0
 WorkedConversions =

@@ -8,7 +8,7 @@ ghost use Rattle.cli_args.specs.WorkedLines.{WorkedPorts, WorkedRuns, WorkedVers
 
 /// Some command lines and their orders, or none.
 /// - `orders`: no argument, `try`, `init`, `book`, `import`, `tally`, `expand` and `migrate`.
-/// - `files`: `check`, `books` and `verify`, each with one file and no more.
+/// - `files`: `check`, `books` and `verify`, each with one file and no more; `copy` with two.
 /// - `conversions`: `convert` with and without its options; 10,000 rows and 8,388,608 octets are
 ///   accepted, and not one more or none.
 /// - `versions`: `--version` and `-V`, also before another order; not after one, nor with a value,

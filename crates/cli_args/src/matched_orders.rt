@@ -187,6 +187,14 @@ fn migrate_order(alloc: Global, matches: &ArgMatches<'_>) -> Result<Order, LineF
     Ok(Order::Migrate { file })
 }
 
+fn copy_order(alloc: Global, matches: &ArgMatches<'_>) -> Result<Order, LineFault>
+    ensures { ParsesTo (parsed.copy_order (rows_of (found_of matches.now))) result }
+{
+    let file = text_arg(alloc, matches, "FILE")?;
+    let target = text_arg(alloc, matches, "NEW")?;
+    Ok(Order::Copy { file, target })
+}
+
 fn check_order(alloc: Global, matches: &ArgMatches<'_>) -> Result<Order, LineFault>
     ensures { ParsesTo (parsed.check_order (rows_of (found_of matches.now))) result }
 {
@@ -223,11 +231,13 @@ fn verify_order(alloc: Global, matches: &ArgMatches<'_>) -> Result<Order, LineFa
     Ok(Order::Verify { file })
 }
 
-/// The order with this name, if it is one that only looks at a file.
+/// The order with this name, if it is one that only looks at a file, or copies it.
 fn file_order_of(alloc: Global, name: &str, matches: &ArgMatches<'_>) -> Result<Order, LineFault>
     ensures { ParsesTo (parsed.file_order_of name.now (rows_of (found_of matches.now))) result }
 {
-    if name == "check" {
+    if name == "copy" {
+        copy_order(alloc, matches)
+    } else if name == "check" {
         check_order(alloc, matches)
     } else if name == "convert" {
         convert_order(alloc, matches)

@@ -136,6 +136,13 @@ pub enum Order {
         /// The path of a store file of schema 1.
         file: Text,
     },
+    /// Copy all books of a store file into a new file.
+    Copy {
+        /// The path of a store file.
+        file: Text,
+        /// The path of the new file.
+        target: Text,
+    },
     /// Check a CSV file or a card, without a store.
     Check {
         /// The path of a file with rows, or with one card if its name ends in `.vcf`.

@@ -377,6 +377,21 @@ fn migrate_command<'a>(alloc: Global) -> Result<Command<'a>, AllocError>
     )
 }
 
+fn copy_command<'a>(alloc: Global) -> Result<Command<'a>, AllocError>
+    ensures { IfOk result (IsOrderCommand lines.copy_command) }
+{
+    let target = argument(alloc, "NEW", "Path of the new file; nothing may be there yet");
+    order_command(
+        alloc,
+        "copy",
+        "Copy all books of a store file into a new file, and print their number",
+        "Example:\n  contacts copy office.db backup.db\n\nThe new file is whole without a log \
+         beside it. It holds no text of a card that was removed or replaced. Every row of both \
+         files is tested. While a server has the file open, it can't be copied.",
+        Vec::from_array(alloc, [file_arg(alloc), target])?,
+    )
+}
+
 fn check_command<'a>(alloc: Global) -> Result<Command<'a>, AllocError>
     ensures { IfOk result (IsOrderCommand lines.check_command) }
 {
@@ -452,6 +467,7 @@ fn order_commands<'a>(alloc: Global) -> Result<Vec<Command<'a>>, AllocError>
     let lines = with_command(lines, mirror_command(alloc))?;
     let lines = with_command(lines, expand_command(alloc))?;
     let lines = with_command(lines, migrate_command(alloc))?;
+    let lines = with_command(lines, copy_command(alloc))?;
     let lines = with_command(lines, check_command(alloc))?;
     let lines = with_command(lines, convert_command(alloc))?;
     let lines = with_command(lines, books_command(alloc))?;

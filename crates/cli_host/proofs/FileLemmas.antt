@@ -9,11 +9,11 @@ use Rattle.hub_server.specs.declared.limits.ServeLimits.{ServeLimits}
 use Rattle.sync_core.specs.StoreModels.{StoreModel}
 use Rattle.cli_orders.specs.declared.stop.Stop.{Stop}
 use Rattle.cli_host.specs.Hosts.{HostCall, LogsCalls}
-use Rattle.cli_host.specs.OrdersOnHost.{HasRefusedFile, HasReportedDamage, KeepsWorkOutput, StopsAtDamage, StopsChecking, StopsInFile, StopsMaking, StopsMigrating, StopsStore, StopsStoreWork, StopsVerifying, StopsWork}
+use Rattle.cli_host.specs.OrdersOnHost.{HasRefusedFile, HasReportedDamage, KeepsWorkOutput, StopsAtDamage, StopsChecking, StopsCopying, StopsInFile, StopsMaking, StopsMigrating, StopsStore, StopsStoreWork, StopsVerifying, StopsWork}
 use Rattle.cli_host.specs.declared.work.StoreWork.{StoreWork}
 use Rattle.cli_host.specs.declared.work.StoreWork.TheVariants.{Perform, ImportFile, ListBooks, MirrorBook}
 use Rattle.cli_host.specs.declared.work.Work.{Work}
-use Rattle.cli_host.specs.declared.work.Work.TheVariants.{Nothing, PrintVersion, CheckFile, CreateFile, MigrateFile, RunFile, ServeFile, UseFile, VerifyFile}
+use Rattle.cli_host.specs.declared.work.Work.TheVariants.{Nothing, PrintVersion, CheckFile, CopyFile, CreateFile, MigrateFile, RunFile, ServeFile, UseFile, VerifyFile}
 use Rattle.cli_orders.specs.Announcements.{WritesListeningLine}
 use Rattle.cli_host.specs.declared.listing.Listing.TheVariants.{Verified}
 use Rattle.cli_orders.specs.ReplyTexts.{KeepsOutput}
@@ -31,6 +31,11 @@ module _ {S P : Type 0} where
   migrating_leaves file stop before after log (inl s) = keeps_leaves stop before after s.2.unwritten
   migrating_leaves file stop before after log (inr (count, migrated, inl s)) = keeps_leaves stop before after s.unwritten
   migrating_leaves file stop before after log (inr (count, migrated, inr s)) = output_kept_by_device stop before after s.stop_is
+
+  copying_leaves : (file target : List ℕ) (stop : Stop) (before after : Option (List ℕ)) (log : List (HostCall S P)) → StopsCopying file target stop before after log → KeepsOutput stop before after
+  copying_leaves file target stop before after log (inl s) = keeps_leaves stop before after s.2.unwritten
+  copying_leaves file target stop before after log (inr (count, copied, inl s)) = keeps_leaves stop before after s.unwritten
+  copying_leaves file target stop before after log (inr (count, copied, inr s)) = output_kept_by_device stop before after s.stop_is
 
   -- a check that was stopped wrote nothing, or the words for why it refuses the file
   checking_leaves : (file : List ℕ) (stop : Stop) (before after : Option (List ℕ)) (log : List (HostCall S P)) → StopsChecking file stop before after log
@@ -97,6 +102,7 @@ module _ {S P : Type 0} (model : StoreModel S) (effects : EndpointRelation P) wh
   ]
   work_leaves (CreateFile file) stop before after log s = inl (making_leaves file stop before after log s)
   work_leaves (MigrateFile file) stop before after log s = inl (migrating_leaves file stop before after log s)
+  work_leaves (CopyFile file target) stop before after log s = inl (copying_leaves file target stop before after log s)
   work_leaves (ServeFile file port limits is_logged) stop before after log s = elim (serve_leaves (ServiceStep model) effects (λ store. store) file false port limits stop before after log s) [
     | inl kept ↦ inl kept
     | inr announced ↦ inr (inl announced)

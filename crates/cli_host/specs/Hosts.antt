@@ -22,6 +22,8 @@ pub data HostCall (Store Endpoint : Type 0) : Type 0 where
   FindsFault : List ℕ → Result (Option FaultyRow) OpenFault → HostCall Store Endpoint
   -- migrating the file to the current schema, which returns its number of books
   Migrates : List ℕ → Result ℕ OpenFault → HostCall Store Endpoint
+  -- copying the books of the file into a new file, which returns their number
+  Copies : List ℕ → List ℕ → Result ℕ OpenFault → HostCall Store Endpoint
   -- reading all octets of the file
   ReadsRows : List ℕ → Result (List ℕ) Stop → HostCall Store Endpoint
   -- binding an endpoint to the port, with places for this number of connections, which returns the

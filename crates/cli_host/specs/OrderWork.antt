@@ -8,11 +8,11 @@ use Rattle.cli_args.specs.declared.order.Order.{Order}
 use Rattle.cli_args.specs.declared.order.Order.TheVariants.{Try, Init, Book, Serve, ServeWithLimits}
 use Rattle.cli_args.specs.declared.order.Order.TheVariants.{Import, Export, Tally, Forget, Mirror}
 use Rattle.cli_args.specs.declared.order.Order.TheVariants.{Expand, Migrate, Check, Books, Verify}
-use Rattle.cli_args.specs.declared.order.Order.TheVariants.{Run, ServeLogged, Version}
+use Rattle.cli_args.specs.declared.order.Order.TheVariants.{Run, ServeLogged, Version, Copy}
 use Rattle.hub_server.specs.declared.limits.ServeLimits.{ServeLimits}
 use Rattle.cli_host.specs.declared.work.Work.{Work}
 use Rattle.cli_host.specs.declared.work.Work.TheVariants.{Nothing, PrintVersion, CheckFile}
-use Rattle.cli_host.specs.declared.work.Work.TheVariants.{CreateFile, MigrateFile, RunFile}
+use Rattle.cli_host.specs.declared.work.Work.TheVariants.{CopyFile, CreateFile, MigrateFile, RunFile}
 use Rattle.cli_host.specs.declared.work.Work.TheVariants.{ServeFile, UseFile, VerifyFile}
 use Rattle.cli_host.specs.declared.work.StoreWork.TheVariants.{Perform, ImportFile, MirrorBook}
 use Rattle.cli_host.specs.declared.work.StoreWork.TheVariants.{ListBooks}
@@ -63,6 +63,7 @@ work_of Version = PrintVersion
 work_of (Check file) = CheckFile file
 work_of (Init file) = CreateFile file
 work_of (Migrate file) = MigrateFile file
+work_of (Copy file target) = CopyFile file target
 work_of (Run file port names max_open idle_timeout creates is_logged) = RunFile file creates names
     port (limits_of endless_connections max_open idle_timeout) is_logged
 work_of (Serve file port connections) =

@@ -11,19 +11,19 @@ use Rattle.http_requests.specs.GuardedHandlers.{guarded}
 use Rattle.http_requests.specs.HandlerRuns.{FaultReplies, HandlerRelation}
 use Rattle.hub_server.specs.EndpointRuns.{EndpointRelation}
 use Rattle.hub_server.specs.declared.limits.ServeLimits.{ServeLimits}
-use Rattle.cli_orders.specs.OrderOutputs.{made_output, migrate_output}
+use Rattle.cli_orders.specs.OrderOutputs.{copy_output, made_output, migrate_output}
 use Rattle.cli_orders.specs.CommandRuns.{PrintsCommand, PrintsMirror, StopsCommand, StopsMirror}
 use Rattle.cli_orders.specs.declared.stop.Stop.{Stop}
 use Rattle.cli_orders.specs.declared.stop.Stop.TheVariants.{Open, Device}
 use Rattle.cli_host.specs.Hosts.{HostCall, Creates, Opens, FindsFault, Migrates, ReadsRows, Binds}
-use Rattle.cli_host.specs.Hosts.{Finishes}
+use Rattle.cli_host.specs.Hosts.{Copies, Finishes}
 use Rattle.cli_host.specs.OrderWork.{work_of}
 use Rattle.cli_host.specs.declared.work.StoreWork.{StoreWork}
 use Rattle.cli_host.specs.declared.work.StoreWork.TheVariants.{Perform, ImportFile, MirrorBook}
 use Rattle.cli_host.specs.declared.work.StoreWork.TheVariants.{ListBooks}
 use Rattle.cli_host.specs.declared.work.Work.{Work}
 use Rattle.cli_host.specs.declared.work.Work.TheVariants.{Nothing, PrintVersion, CheckFile}
-use Rattle.cli_host.specs.declared.work.Work.TheVariants.{CreateFile, MigrateFile, RunFile}
+use Rattle.cli_host.specs.declared.work.Work.TheVariants.{CopyFile, CreateFile, MigrateFile, RunFile}
 use Rattle.cli_host.specs.declared.work.Work.TheVariants.{ServeFile, UseFile, VerifyFile}
 use Rattle.cli_orders.specs.FaultyRows.{ReportsDamage, damage_text}
 use Rattle.cli_orders.specs.Findings.{PassesCheck, PrintsFinding, StopsCheck, kind_of_file}
@@ -136,6 +136,26 @@ module _ {S P : Type 0} where
       ⊎ ((count : ℕ) × (log ≡ Migrates file (Ok count) ∷ [])
       × (StopsForMemory stop before after
       ⊎ StopsOverText (migrate_output count) stop before after))
+
+  -- ---- a copy of a file
+
+  -- the books of the file were copied into a new file, and their number is printed
+  pub record CopiesFile
+      (file target : List ℕ) (before after : Option (List ℕ)) (log : List (HostCall S P))
+      : Type 0 where
+    pub count : ℕ
+    pub calls : log ≡ Copies file target (Ok count) ∷ []
+    pub printed : Appends before after (copy_output count)
+
+  -- they weren't copied, or memory ran out or the writer failed over the text
+  abbrev pub StopsCopying : List ℕ → List ℕ → Stop → Option (List ℕ) → Option (List ℕ)
+      → List (HostCall S P) → Type 0
+  StopsCopying file target stop before after log =
+      ((fault : OpenFault) × (log ≡ Copies file target (Err fault) ∷ [])
+      × StopsUnopened fault stop before after)
+      ⊎ ((count : ℕ) × (log ≡ Copies file target (Ok count) ∷ [])
+      × (StopsForMemory stop before after
+      ⊎ StopsOverText (copy_output count) stop before after))
 
   -- ---- a check of a file
 
@@ -396,6 +416,7 @@ module _ {S P : Type 0} (model : StoreModel S) (effects : EndpointRelation P) wh
   DoesWork (CheckFile file) before after log = ChecksFile file before after log
   DoesWork (CreateFile file) before after log = MakesStore file before after log
   DoesWork (MigrateFile file) before after log = MigratesFile file before after log
+  DoesWork (CopyFile file target) before after log = CopiesFile file target before after log
   DoesWork (ServeFile file port limits is_logged) before after log =
       ServesFile file port limits before after log
   DoesWork (RunFile file creates names port limits is_logged) before after log =
@@ -413,6 +434,8 @@ module _ {S P : Type 0} (model : StoreModel S) (effects : EndpointRelation P) wh
   StopsWork (CheckFile file) stop before after log = StopsChecking file stop before after log
   StopsWork (CreateFile file) stop before after log = StopsMaking file stop before after log
   StopsWork (MigrateFile file) stop before after log = StopsMigrating file stop before after log
+  StopsWork (CopyFile file target) stop before after log =
+      StopsCopying file target stop before after log
   StopsWork (ServeFile file port limits is_logged) stop before after log =
       StopsServe file port limits stop before after log
   StopsWork (RunFile file creates names port limits is_logged) stop before after log =

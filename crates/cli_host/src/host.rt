@@ -1,6 +1,7 @@
 //! The trait of hosts: the files and ports that orders use.
 ghost use Rattle.std.specs.Prelude.{◌≡◌, ◌≢◌, ◌⊎◌, IfErr, IfOk, IfSome, OnErr};
 ghost use Rattle.cli_host.specs.Hosts.{HostCall, Creates, Opens, Migrates, ReadsRows, Binds};
+ghost use Rattle.cli_host.specs.Hosts.{Copies};
 ghost use Rattle.cli_host.specs.Hosts.{FindsFault, Finishes, loopback_ip, standard_limits};
 ghost use Rattle.cli_host.specs.Hosts.{stop_of_binding};
 ghost use Rattle.std.specs.Net.Socket.{socket_ip, socket_port};
@@ -48,6 +49,10 @@ pub trait Host<S, P>: RequestLog {
     /// Migrates the file to the current schema, and returns its number of books.
     fn migrate_file(&mut self, file: &str) -> Result<u64, OpenFault>
         ensures { calls (Migrates file.now result) self.old self.new };
+
+    /// Copies the books of the file into a new file, and returns their number.
+    fn copy_file(&mut self, file: &str, target: &str) -> Result<u64, OpenFault>
+        ensures { calls (Copies file.now target.now result) self.old self.new };
 
     /// Reads a file of rows. `Device` if it can't be read or has more than 8,388,608 octets, and
     /// `Memory` if the buffer can't be allocated.
@@ -143,6 +148,10 @@ impl Host<FileBooks, SocketEndpoint> for HostRuntime {
 
     fn migrate_file(&mut self, file: &str) -> Result<u64, OpenFault> {
         migrate(self, file)
+    }
+
+    fn copy_file(&mut self, file: &str, target: &str) -> Result<u64, OpenFault> {
+        SqlStore::copy_file(self, file, target)
     }
 
     fn read_rows(&mut self, alloc: Global, file: &str) -> Result<Items<u8>, Stop> {

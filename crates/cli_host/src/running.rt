@@ -4,7 +4,7 @@ ghost use Rattle.cli_host.specs.Hosts.{HasLog, LogsCalls};
 ghost use Rattle.cli_host.specs.OrdersOnHost.{ChecksFile, DoesInFile, DoesStoreWork, DoesWork};
 ghost use Rattle.cli_host.specs.OrdersOnHost.{ImportsRows, StopsChecking};
 ghost use Rattle.cli_host.specs.OrdersOnHost.{KeepsOrderOutput, MakesStore, MigratesFile};
-ghost use Rattle.cli_host.specs.OrdersOnHost.{RunsOnHost};
+ghost use Rattle.cli_host.specs.OrdersOnHost.{CopiesFile, RunsOnHost, StopsCopying};
 ghost use Rattle.cli_host.specs.OrdersOnHost.{StopsInFile, StopsMaking, StopsMigrating};
 ghost use Rattle.cli_host.specs.OrdersOnHost.{StopsOnHost, StopsOnImport, StopsReadingRows};
 ghost use Rattle.cli_host.specs.OrdersOnHost.{StopsStoreWork, StopsWork};
@@ -21,8 +21,8 @@ use book_service::Command;
 use book_store::FileBooks;
 use cli_args::Order;
 use cli_orders::{
-    Stop, kind_of_file, made_text, migrate_text, run_check, run_command, run_mirror, version_text,
-    write_out,
+    Stop, copy_text, kind_of_file, made_text, migrate_text, run_check, run_command, run_mirror,
+    version_text, write_out,
 };
 use hub_server::Endpoint;
 use socket_endpoint::SocketEndpoint;
@@ -61,6 +61,25 @@ fn run_migrate<S, P, M: Host<S, P>, W: Write>(
 {
     let books = host.migrate_file(file.as_str())?;
     let text = migrate_text(alloc, books)?;
+    write_out(writer, text.as_slice())
+}
+
+/// Copies the books of the file into a new file, and prints their number. The copy remains if this
+/// can't be written.
+fn run_copy<S, P, M: Host<S, P>, W: Write>(
+    alloc: Global,
+    host: &mut M,
+    file: Text,
+    target: Text,
+    writer: &mut W,
+) -> Result<(), Stop>
+    ensures done { OnOk result (LogsCalls M.calls host.old host.new
+        (CopiesFile file target (W.contents writer.old) (W.contents writer.new))) }
+    ensures stopped { IfErr result (λ stop. LogsCalls M.calls host.old host.new
+        (StopsCopying file target stop (W.contents writer.old) (W.contents writer.new))) }
+{
+    let books = host.copy_file(file.as_str(), target.as_str())?;
+    let text = copy_text(alloc, books)?;
     write_out(writer, text.as_slice())
 }
 
@@ -169,6 +188,7 @@ fn do_work<S: BookKeeps + Drop, P: Endpoint, M: Host<S, P>, W: Write>(
         Work::CheckFile { file } => run_check_of(alloc, host, file.as_str(), writer),
         Work::CreateFile { file } => run_init(host, file, writer),
         Work::MigrateFile { file } => run_migrate(alloc, host, file, writer),
+        Work::CopyFile { file, target } => run_copy(alloc, host, file, target, writer),
         Work::VerifyFile { file } => run_verify(alloc, host, file, writer),
         Work::ServeFile {
             file,

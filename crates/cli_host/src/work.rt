@@ -41,6 +41,13 @@ pub enum Work {
         /// The file's name.
         file: Text,
     },
+    /// Copies the books of the file into a new file.
+    CopyFile {
+        /// The file's name.
+        file: Text,
+        /// The name of the new file.
+        target: Text,
+    },
     /// Opens the store in the file, which tests all its rows, and lists its books.
     VerifyFile {
         /// The file's name.
@@ -200,6 +207,7 @@ pub fn work_of(order: Order) -> Work
         Order::Check { file } => Work::CheckFile { file },
         Order::Init { file } => Work::CreateFile { file },
         Order::Migrate { file } => Work::MigrateFile { file },
+        Order::Copy { file, target } => Work::CopyFile { file, target },
         Order::Run {
             file,
             port,

@@ -1,7 +1,7 @@
 //! The outputs that are one line.
 ghost use Rattle.std.specs.Prelude.{◌≡◌, IfOk};
 ghost use Rattle.cli_orders.specs.OrderOutputs.{book_output, forget_output, import_output};
-ghost use Rattle.cli_orders.specs.OrderOutputs.{made_output, migrate_output};
+ghost use Rattle.cli_orders.specs.OrderOutputs.{copy_output, made_output, migrate_output};
 
 use std::alloc::Global;
 use sync_core::ImportTally;
@@ -46,4 +46,11 @@ pub fn migrate_text(alloc: Global, books: u64) -> Result<Vec<u8>, NoMemory>
     ensures { IfOk result (λ text. text.items ≡ migrate_output books) }
 {
     Ok(format!(in alloc; "migrated {books}\n")?.into_bytes())
+}
+
+/// The output of `copy` for a file with this number of books, such as `copied 2`.
+pub fn copy_text(alloc: Global, books: u64) -> Result<Vec<u8>, NoMemory>
+    ensures { IfOk result (λ text. text.items ≡ copy_output books) }
+{
+    Ok(format!(in alloc; "copied {books}\n")?.into_bytes())
 }

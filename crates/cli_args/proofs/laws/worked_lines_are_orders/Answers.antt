@@ -8,7 +8,7 @@ returns-clause-orders c = (refl, refl, refl, refl, refl, refl, refl, refl)
 
 pub returns-clause-files : goal.returns-clause-files
 unfolding clap_on_literals
-returns-clause-files c = (refl, refl, refl, refl, refl)
+returns-clause-files c = (refl, refl, refl, refl, refl, refl, refl)
 
 pub returns-clause-conversions : goal.returns-clause-conversions
 unfolding clap_on_literals
