@@ -17,7 +17,7 @@ from program import PATIENCE, PROGRAM, ROOT, Folder, Server, run
 
 EXAMPLES = ROOT / "examples"
 # The commands that a backup needs, beside the shell's own.
-COMMANDS = "basename cat cp date flock grep mkdir mktemp mv rm sh sync".split()
+COMMANDS = "basename cat cp cut date flock mkdir mktemp mv rm sh sync".split()
 # Each of these waits until the test has stopped or started its server.
 STOP = 'echo stop > "$TALK/ask"; cat "$TALK/answer"'
 START = 'echo start > "$TALK/ask"; cat "$TALK/answer"'
@@ -171,9 +171,7 @@ class BackupTest(unittest.TestCase):
 
 class Backups(BackupTest):
     def test_all_books(self):
-        if lacking("sqlite3"):
-            self.skipTest("no sqlite3 on this machine")
-        copy = self.back_up_well()
+        copy = self.back_up_well(PATH=self.path_without_sqlite3())
         self.assertEqual(["stop", "start"], self.service.asked)
         self.assert_serves()
         self.assert_whole(copy)
@@ -182,20 +180,18 @@ class Backups(BackupTest):
         found = re.findall(r"^(?:[a-z-]+|cards +\d+)$", tally, re.MULTILINE)
         self.assertEqual(wanted, [re.sub(" +", " ", line) for line in found])
 
-    def test_the_file_alone_is_enough_after_a_checkpoint(self):
-        if lacking("sqlite3"):
-            self.skipTest("no sqlite3 on this machine")
+    def test_the_file_alone_is_enough(self):
         copy = self.back_up_well()
-        alone = self.folder / "alone"
-        alone.mkdir()
-        shutil.copy(copy / "office.db", alone)
-        self.assert_whole(alone)
+        self.assertEqual(["office.db", "tally"], sorted(it.name for it in copy.iterdir()))
+        self.assert_whole(copy)
 
-    def test_named_books_without_sqlite3(self):
-        copy = self.back_up_well("staff", "clients", PATH=self.path_without_sqlite3())
+    def test_named_books(self):
+        copy = self.back_up_well("staff", "clients")
         self.assertEqual(["stop", "start"], self.service.asked)
         self.assert_serves()
         self.assert_whole(copy)
+        lines = (copy / "tally").read_text().splitlines()
+        self.assertEqual(["staff", "clients"], [line for line in lines if " " not in line])
 
     def test_only_the_owner_may_read_a_copy(self):
         copy = self.back_up_well("staff")
@@ -279,10 +275,6 @@ class FailedBackups(BackupTest):
     def test_no_copy_would_be_kept(self):
         changed = {"KEEP": "0"}
         self.assert_fails([], self.service.file, self.copies, "staff", **changed)
-
-    def test_no_books_and_no_sqlite3(self):
-        changed = {"PATH": self.path_without_sqlite3()}
-        self.assert_fails([], self.service.file, self.copies, **changed)
 
     def test_no_folder(self):
         self.assert_fails([], self.service.file)
