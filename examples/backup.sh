@@ -1,11 +1,11 @@
 #!/bin/sh
 # Backs up a file of books. It stops the service, copies the file and its log, starts the service
-# again, and then opens the copy, which tests all of its rows. The copy is the folder
-# FOLDER/DATE-TIME. If anything fails, the service is started again, the new copy is removed, older
-# copies are kept, and the status isn't 0.
+# again, and makes one file of the two by `contacts copy`, which tests all of their rows. The backup
+# is in the folder FOLDER/DATE-TIME, with the tallies of its books. If anything fails, the service is
+# started again, the new copy is removed, older copies are kept, and the status isn't 0.
 #
 # Usage: backup.sh FILE FOLDER [BOOK ..]
-#   Without a BOOK it prints the tallies of all books, which needs sqlite3.
+#   With names of books, it lists the tallies of these alone.
 # Environment:
 #   CONTACTS  the program; by default `contacts`
 #   STOP      a shell command that stops the service and waits until it has ended
@@ -27,7 +27,6 @@ stop=${STOP:-systemctl stop contacts.service}
 start=${START:-systemctl start contacts.service}
 keep=${KEEP:-14}
 [ "$keep" -ge 1 ] || fail 'KEEP is at least 1'
-[ $# -gt 0 ] || command -v sqlite3 > /dev/null || fail 'name the books, or install sqlite3'
 
 stopped= part=
 end() {
@@ -52,24 +51,26 @@ part=$(mktemp -d "$folder/part.XXXXXX")
 
 stopped=yes
 sh -c "$stop" 9>&-
-cp -p "$file" "$part/"
-[ ! -e "$file-wal" ] || cp -p "$file-wal" "$part/"
+mkdir "$part/pair"
+cp -p "$file" "$part/pair/"
+[ ! -e "$file-wal" ] || cp -p "$file-wal" "$part/pair/"
 # After a signal the service is started again, even if this start is done; that is harmless.
 sh -c "$start" 9>&-
 stopped=
 
-copy=$part/$(basename "$file")
-if command -v sqlite3 > /dev/null; then
-    # Write the changes of the log into the copy's file.
-    sqlite3 "$copy" 'PRAGMA wal_checkpoint(TRUNCATE)' | grep -q '^0|' || fail 'no checkpoint'
-    [ $# -gt 0 ] || set -- $(sqlite3 "$copy" 'SELECT name FROM book ORDER BY name')
+# One file of the two, which needs no log and has no text of cards that were removed.
+name=$(basename "$file")
+"$contacts" copy "$part/pair/$name" "$part/$name" > /dev/null
+if [ $# -eq 0 ]; then
+    "$contacts" books "$part/pair/$name" > "$part/pair/$name.books"
+    set -- $(cut -d ' ' -f 2 "$part/pair/$name.books")
 fi
-[ $# -gt 0 ] || fail 'the file has no book'
 for book; do
     echo "$book"
     # A name may begin with a hyphen.
-    "$contacts" tally "$copy" -- "$book"
+    "$contacts" tally "$part/pair/$name" -- "$book"
 done > "$part/tally"
+rm -r "$part/pair"
 sync "$part"/*
 mv "$part" "$folder/$date"
 part=
