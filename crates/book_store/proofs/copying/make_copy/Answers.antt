@@ -1,4 +1,3 @@
-use Rattle.std.proofs.Common.{IfOk, Result, Ok, Err}
 use Rattle.sqlite.specs.Held.{state}
 use Rattle.book_store.proofs.CopyLemmas.{both, copied_whole}
 use Rattle.book_store.proofs.copying.make_copy.Goals as goal

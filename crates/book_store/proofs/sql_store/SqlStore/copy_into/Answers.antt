@@ -60,3 +60,9 @@ returns-clause-books g c =
     let new = state g.S.Store c.list_tables.new.conn in
     subst (λ (v : StoreView _). IfOk c.make_copy.result (λ copy. IsOpenOnHonestDisk new → IsOpenOnHonestDisk (state g.T.Store copy.conn) → stored_books (state g.T.Store copy.conn) ≡ stored_books (state g.S.Store v.conn))) c.self.view_is
     (both c.make_copy.result _ _ _ (λ copy holds again honest order. copied_books old new (state g.T.Store copy.conn) c.self.inside.limits c.in-Ok.rows c.self.invariant.0 c.list_tables.ensures.reads_only c.in-Ok.ensures.lists honest (holds order)) c.make_copy.ensures.holds c.make_copy.ensures.holds)
+
+pub invariant_of-self-2 : goal.invariant_of-self-2
+invariant_of-self-2 g c =
+    let old = state g.S.Store c.self.inside.conn in
+    let new = state g.S.Store c.list_tables.new.conn in
+    (still_store old new c.self.inside.limits c.self.invariant.0 c.list_tables.ensures.reads_only, still_counts old new c.self.inside.limits c.self.inside.counts c.self.invariant.0 c.list_tables.ensures.reads_only c.self.invariant.1)

@@ -1,10 +1,5 @@
-use Rattle.std.proofs.Common.{IfOk, IsTrue, subst}
 use Rattle.sqlite.specs.Held.{state}
-use Rattle.store_copy.specs.CopiedRows.{IsCopy}
-use Rattle.store_lookups.specs.StoredBooks.{IsOpenOnHonestDisk}
-use Rattle.store_tables.specs.StatementEffects.{OnlyReads}
 use Rattle.store_writes.proofs.CallLemmas.{read_before}
-use Rattle.book_store.specs.StoreViews.{StoreView}
 use Rattle.book_store.proofs.CopyLemmas.{confirmed_if, confirmed_shows, confirmed_survives}
 use Rattle.book_store.proofs.CountLemmas.{still_counts}
 use Rattle.book_store.proofs.StoreLemmas.{still_store}
