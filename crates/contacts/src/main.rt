@@ -3,6 +3,8 @@
 //! prints the book's initial report.
 #![tactic(auto)]
 
+mod streams;
+
 use base_types::Text;
 use cli_args::{LineFault, Order};
 use cli_convert::{RowsOutlet, Wanted, run_convert};
@@ -10,6 +12,7 @@ use cli_host::{note_waiting, order_of_args, run_and_report};
 use std::env;
 use std::io::IsTerminal;
 use std::process::ExitCode;
+use streams::{hold_input, hold_output};
 
 /// The text that was given, if any was.
 fn given(text: &Option<Text>) -> Option<&str> {
@@ -40,6 +43,10 @@ fn conversion_of(order: &Result<Order, LineFault>) -> Option<Wanted<'_>> {
 }
 
 fn main(rt: HostRuntime) -> ExitCode {
+    // They are held until the program ends, so that no file or socket gets one of their numbers.
+    let _input = hold_input(&rt);
+    let _output = hold_output(&rt);
+    let _errors = hold_output(&rt);
     let order = order_of_args(rt.alloc(), env::args(&rt));
     if let Some(wanted) = conversion_of(&order) {
         let mut rows = RowsOutlet {
