@@ -18,4 +18,8 @@ pub mod CheckLaws
 pub mod Versions
 pub mod RowFaultWords
 pub mod FaultyRows
+pub mod Advice
+pub mod StopWords
+pub mod RowCauses
+pub mod Sentences
 pub mod internal
