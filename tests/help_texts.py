@@ -36,6 +36,11 @@ Options:
   -V, --version  Print the version of the program, of its files and of its toolchain
   -h, --help     Print help
 
+Start an office: run, init, book, serve.
+Move in:         convert, check, import.
+Look:            books, tally, export, mirror, expand, verify.
+Keep:            migrate, forget.
+
 Without a command, `try` runs. `contacts help COMMAND` shows the arguments, defaults and limits of \
 a command.
 

@@ -478,7 +478,11 @@ pub(crate) fn contacts_command<'a>(alloc: Global) -> Result<Command<'a>, AllocEr
     Command::new(alloc, "contacts")
         .about("Contact server that stores address books and syncs them to many devices")
         .after_help(
-            "Without a command, `try` runs. `contacts help COMMAND` shows the arguments, defaults \
+            "Start an office: run, init, book, serve.\n\
+             Move in:         convert, check, import.\n\
+             Look:            books, tally, export, mirror, expand, verify.\n\
+             Keep:            migrate, forget.\n\n\
+             Without a command, `try` runs. `contacts help COMMAND` shows the arguments, defaults \
              and limits of a command.\n\nExample:\n  contacts tally office.db staff",
         )
         .no_binary_name(true)
