@@ -1,8 +1,9 @@
 -- The host that orders run on: the calls that are made of it. This project's own.
-use Rattle.std.specs.Prelude.{◌≡◌, ⊤, ℕ, List, [], ◌∷◌, Option, Result}
+use Rattle.std.specs.Prelude.{◌≡◌, ⊤, ℕ, Bool, List, [], ◌∷◌, Option, Result}
 use Rattle.std.specs.declared.net.ip_addr.IpAddr.{IpAddr}
 use Rattle.std.specs.declared.net.ip_addr.IpAddr.TheVariants.{V4}
 use Rattle.book_model.specs.Bounds.{Bounds}
+use Rattle.cli_orders.specs.declared.found_cause.FoundCause.{FoundCause}
 use Rattle.cli_orders.specs.declared.stop.Stop.{Stop}
 use Rattle.cli_orders.specs.declared.stop.Stop.TheVariants.{Device}
 use Rattle.cli_orders.specs.Stops.{out_of_memory}
@@ -30,6 +31,13 @@ pub data HostCall (Store Endpoint : Type 0) : Type 0 where
   -- closing the endpoint, after its connections were served
   Finishes : Endpoint → HostCall Store Endpoint
 
+-- What a host is asked after a stop: why a store file, which the order makes if it isn't there or
+-- doesn't, a file of rows or a port couldn't be used. No question changes anything.
+pub data HostQuestion : Type 0 where
+  OfStore : List ℕ → Bool → HostQuestion
+  OfRows : List ℕ → HostQuestion
+  OfPort : ℕ → HostQuestion
+
 -- A host is represented by what is known of each call: its result, and the host before and after
 -- it.
 module _ {S P Host : Type 0} (calls : HostCall S P → Host → Host → Type 0) where
@@ -52,6 +60,13 @@ pub record HasLog {S P : Type 0} (Holds : List (HostCall S P) → Type 0) : Type
 -- nothing is known of a call
 abbrev pub IsAnyCall : {S P Host : Type 0} → HostCall S P → Host → Host → Type 0
 IsAnyCall call old new = ⊤
+
+-- nothing is known of whether somebody watches, and of why something couldn't be used
+abbrev pub IsAnyWatch : {Host : Type 0} → Host → Bool → Type 0
+IsAnyWatch host is_watched = ⊤
+
+abbrev pub IsAnyCause : {Host : Type 0} → Host → HostQuestion → FoundCause → Type 0
+IsAnyCause host question cause = ⊤
 
 -- 127.0.0.1, which only programs of the host can connect to
 abbrev pub loopback_ip : IpAddr

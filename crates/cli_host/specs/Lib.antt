@@ -4,6 +4,8 @@ pub mod Waiting
 pub mod Progress
 pub mod Hosts
 pub mod Keeps
+pub mod Naming
+pub mod Words
 pub mod Listings
 pub mod OrdersOnHost
 pub mod Arguments

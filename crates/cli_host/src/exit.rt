@@ -1,20 +1,24 @@
 //! The entry point of the program: runs an order, reports errors, and returns how it ended.
-ghost use Rattle.std.specs.Prelude.{◌≡◌, ◌≢◌, ◌⊎◌, List, ℕ, IfOk, IfSome, Ok, Err, string_bytes};
+ghost use Rattle.std.specs.Prelude.{◌≡◌, ◌≢◌, ◌++◌, List, ℕ, IfOk, IsOkAnd, IfSome, Ok, Err};
+ghost use Rattle.std.specs.Prelude.{string_bytes};
 ghost use Rattle.std.specs.Io.KnownBytes.{Keeps};
 ghost use Rattle.cli_args.specs.declared.fault.LineFault.{LineFault as TheFault};
 ghost use Rattle.cli_args.specs.declared.order.Order.{Order as TheOrder};
-ghost use Rattle.cli_host.specs.Exits.{EndsOrder, IsTryDone, IsTryStopped, ReportsBadArguments};
-ghost use Rattle.cli_host.specs.Exits.{ReportsResult, ReportsStop, with_line_feed};
+ghost use Rattle.cli_host.specs.Exits.{EndsOrder, EndsTry, ReportsBadArguments, ReportsNoMemory};
+ghost use Rattle.cli_host.specs.Exits.{ReportsStop, with_line_feed};
 ghost use Rattle.cli_host.specs.Hosts.{LogsCalls};
+ghost use Rattle.cli_host.specs.Words.{IsSaid, Says};
 ghost use Rattle.cli_orders.specs.Inputs.{read_octets_max};
-ghost use Rattle.cli_orders.specs.Stops.{out_of_memory, stop_line};
+ghost use Rattle.cli_orders.specs.Stops.{stop_line};
 ghost use Rattle.book_http.specs.Streams.{ReadsAtMost};
 
 use crate::host::Host;
 use crate::keeps::BookKeeps;
+use crate::naming::names_to_say;
 use crate::running::run_on_host;
+use crate::words::words_for;
 use cli_args::{LineFault, Order};
-use cli_orders::{Stop, run_try, write_out};
+use cli_orders::{OrderNames, Stop, run_try, write_out};
 use hub_server::Endpoint;
 use std::alloc::Global;
 use std::io::{Read, Write};
@@ -30,39 +34,82 @@ pub struct ProgramExit {
     pub reported: Result<(), Stop>,
 }
 
-/// The line that reports a stop.
-fn format_stop(alloc: Global, stop: Stop) -> Result<String, NoMemory>
-    ensures { IfOk result (λ line. string_bytes line ≡ with_line_feed (stop_line stop)) }
+/// The words for a stop, and its line.
+fn format_stop(alloc: Global, words: &str, stop: Stop) -> Result<String, NoMemory>
+    ensures { IfOk result (λ text.
+        string_bytes text ≡ words.now ++ with_line_feed (stop_line stop)) }
 {
-    Ok(format!(in alloc; "{stop}\n")?)
+    Ok(format!(in alloc; "{words}{stop}\n")?)
 }
 
-/// Prints the line of a stop. Without memory for the line, it prints the stop for memory instead.
-fn report_stop<E: Write>(alloc: Global, errors: &mut E, stop: Stop) -> ProgramExit
-    ensures { ReportsStop stop (E.contents errors.old) (E.contents errors.new) result }
+/// Prints the stop for memory.
+fn report_no_memory<E: Write>(errors: &mut E) -> ProgramExit
+    ensures { ReportsNoMemory (E.contents errors.old) (E.contents errors.new) result }
 {
-    match format_stop(alloc, stop) {
-        Ok(line) => ProgramExit {
-            reported: write_out(errors, line.as_bytes()),
-            status: stop.status(),
-        },
-        Err(NoMemory) => ProgramExit {
-            reported: write_out(errors, b"fault no-memory 20\n"),
-            status: Stop::out_of_memory().status(),
-        },
+    ProgramExit {
+        reported: write_out(errors, b"fault no-memory 20\n"),
+        status: Stop::out_of_memory().status(),
     }
 }
 
-/// Reports the stop, if any.
-fn report_result<E: Write>(alloc: Global, errors: &mut E, done: Result<(), Stop>) -> ProgramExit
-    ensures { ReportsResult done (E.contents errors.old) (E.contents errors.new) result }
+/// Prints the words for a stop, and its line. Without memory for them, it prints the stop for
+/// memory instead.
+fn report_words<E: Write>(alloc: Global, errors: &mut E, words: &str, stop: Stop) -> ProgramExit
+    ensures { ReportsStop (λ _ said. said ≡ words.now) stop
+        (E.contents errors.old) (E.contents errors.new) result }
 {
-    match done {
-        Ok(()) => ProgramExit {
-            reported: Ok(()),
-            status: 0,
+    match format_stop(alloc, words, stop) {
+        Ok(report) => ProgramExit {
+            reported: write_out(errors, report.as_bytes()),
+            status: stop.status(),
         },
-        Err(stop) => report_stop(alloc, errors, stop),
+        Err(NoMemory) => report_no_memory(errors),
+    }
+}
+
+/// Prints what is said of a stop of an order with these names, and its line.
+fn report_named<S, P, M: Host<S, P>, E: Write>(
+    alloc: Global,
+    host: &M,
+    errors: &mut E,
+    names: &Option<OrderNames>,
+    stop: Stop,
+) -> ProgramExit
+    ensures { ReportsStop (IsSaid M.finds host.now names.now) stop
+        (E.contents errors.old) (E.contents errors.new) result }
+{
+    match words_for(alloc, host, names, stop) {
+        Ok(words) => report_words(alloc, errors, words.as_str(), stop),
+        Err(NoMemory) => report_no_memory(errors),
+    }
+}
+
+/// Prints what is said of a stop, and its line, if the names of the order could be kept.
+fn report_stop<S, P, M: Host<S, P>, E: Write>(
+    alloc: Global,
+    host: &M,
+    errors: &mut E,
+    names: Result<Option<OrderNames>, NoMemory>,
+    stop: Stop,
+) -> ProgramExit
+    ensures { ReportsStop
+        (λ at words. IsOkAnd names (λ kept. IsSaid M.finds host.now kept at words)) stop
+        (E.contents errors.old) (E.contents errors.new) result }
+{
+    match names {
+        Ok(names) => report_named(alloc, host, errors, &names, stop),
+        Err(NoMemory) => report_no_memory(errors),
+    }
+}
+
+/// Reports nothing.
+fn succeed() -> ProgramExit
+    ensures reported { result.reported ≡ Ok tt }
+    ensures status { result.status ≡ 0 }
+{
+    ProgramExit {
+        reported: Ok(()),
+        status: 0,
     }
 }
 
@@ -77,22 +124,25 @@ fn report_bad_arguments<E: Write>(errors: &mut E, text: &str) -> ProgramExit
 }
 
 /// Runs the order `try`, and reports a stop.
-fn run_try_order<R: Read, W: Write, E: Write>(
+fn run_try_order<S, P, M: Host<S, P>, R: Read, W: Write, E: Write>(
     alloc: Global,
+    host: &M,
     reader: &mut R,
     writer: &mut W,
     errors: &mut E,
 ) -> ProgramExit
     ensures ends { IfSome (R.remaining reader.old) (λ input.
-        IsTryDone input (W.contents writer.old) (W.contents writer.new) (E.contents errors.old)
-        (E.contents errors.new) result
-        ⊎ IsTryStopped input (W.contents writer.old) (W.contents writer.new)
+        EndsTry (Says M.watches M.finds host.now host.now TheOrder.Try) input
+        (W.contents writer.old) (W.contents writer.new)
         (E.contents errors.old) (E.contents errors.new) result) }
     ensures at_most { ReadsAtMost read_octets_max
         (R.remaining reader.old) (R.remaining reader.new) }
 {
-    let done = run_try(alloc, reader, writer);
-    report_result(alloc, errors, done)
+    let names = names_to_say(alloc, host, &Order::Try);
+    match run_try(alloc, reader, writer) {
+        Ok(()) => succeed(),
+        Err(stop) => report_stop(alloc, host, errors, names, stop),
+    }
 }
 
 /// Runs another order, and reports a stop.
@@ -104,12 +154,15 @@ fn run_other_order<S: BookKeeps + Drop, P: Endpoint, M: Host<S, P>, W: Write, E:
     errors: &mut E,
 ) -> ProgramExit
     ensures { LogsCalls M.calls host.old host.new
-        (EndsOrder S.model P.calls order
+        (EndsOrder S.model P.calls (Says M.watches M.finds host.old host.new order) order
         (W.contents writer.old) (W.contents writer.new)
         (E.contents errors.old) (E.contents errors.new) result) }
 {
-    let done = run_on_host(alloc, host, order, writer);
-    report_result(alloc, errors, done)
+    let names = names_to_say(alloc, &*host, &order);
+    match run_on_host(alloc, host, order, writer) {
+        Ok(()) => succeed(),
+        Err(stop) => report_stop(alloc, &*host, errors, names, stop),
+    }
 }
 
 /// Runs an order on a host, and reports errors on standard error.
@@ -123,9 +176,8 @@ pub fn run_and_report<S: BookKeeps + Drop, P: Endpoint, M: Host<S, P>, R: Read, 
 ) -> ProgramExit
     // The output for the input is printed and nothing is reported, or the stop is reported.
     ensures try_order { order ≡ Ok TheOrder.Try → IfSome (R.remaining reader.old) (λ input.
-        IsTryDone input (W.contents writer.old) (W.contents writer.new) (E.contents errors.old)
-        (E.contents errors.new) result
-        ⊎ IsTryStopped input (W.contents writer.old) (W.contents writer.new)
+        EndsTry (Says M.watches M.finds host.old host.new TheOrder.Try) input
+        (W.contents writer.old) (W.contents writer.new)
         (E.contents errors.old) (E.contents errors.new) result) }
 
     // `try` reads no more than a prefix of its input, and calls no host.
@@ -137,7 +189,7 @@ pub fn run_and_report<S: BookKeeps + Drop, P: Endpoint, M: Host<S, P>, R: Read, 
     // whole log of calls that were made of the host is that of the order.
     ensures other_order { (other : TheOrder) → order ≡ Ok other → other ≢ TheOrder.Try →
         LogsCalls M.calls host.old host.new
-        (EndsOrder S.model P.calls other
+        (EndsOrder S.model P.calls (Says M.watches M.finds host.old host.new other) other
         (W.contents writer.old) (W.contents writer.new)
         (E.contents errors.old) (E.contents errors.new) result) }
 
@@ -152,14 +204,14 @@ pub fn run_and_report<S: BookKeeps + Drop, P: Endpoint, M: Host<S, P>, R: Read, 
 
     // If memory ran out while the arguments were read, it reports that, and does nothing else.
     ensures memory { order ≡ Err TheFault.Memory →
-        ReportsStop out_of_memory (E.contents errors.old) (E.contents errors.new) result
+        ReportsNoMemory (E.contents errors.old) (E.contents errors.new) result
         × Keeps (W.contents writer.old) (W.contents writer.new)
         × (host.new ≡ host.old) }
 {
     match order {
-        Ok(Order::Try) => run_try_order(alloc, reader, writer, errors),
+        Ok(Order::Try) => run_try_order(alloc, &*host, reader, writer, errors),
         Ok(order) => run_other_order(alloc, host, order, writer, errors),
         Err(LineFault::Bad { text }) => report_bad_arguments(errors, text.as_str()),
-        Err(LineFault::Memory) => report_stop(alloc, errors, Stop::out_of_memory()),
+        Err(LineFault::Memory) => report_no_memory(errors),
     }
 }

@@ -1,14 +1,17 @@
 //! The trait of hosts: the files and ports that orders use.
-ghost use Rattle.std.specs.Prelude.{◌≡◌, ◌≢◌, ◌⊎◌, IfErr, IfOk, IfSome, OnErr};
+ghost use Rattle.std.specs.Prelude.{◌≡◌, ◌≢◌, ◌⊎◌, Bool, IfErr, IfOk, IfSome, OnErr};
 ghost use Rattle.cli_host.specs.Hosts.{HostCall, Creates, Opens, Migrates, ReadsRows, Binds};
+ghost use Rattle.cli_host.specs.Hosts.{HostQuestion, OfStore, OfRows, OfPort};
 ghost use Rattle.cli_host.specs.Hosts.{FindsFault, Finishes, loopback_ip, standard_limits};
 ghost use Rattle.cli_host.specs.Hosts.{stop_of_binding};
 ghost use Rattle.std.specs.Net.Socket.{socket_ip, socket_port};
 ghost use Rattle.cli_orders.specs.Stops.{out_of_memory};
+ghost use Rattle.cli_orders.specs.declared.found_cause.FoundCause.{FoundCause};
 
+use crate::causes::{port_cause, rows_cause, store_cause};
 use base_types::Items;
 use book_store::{FileBooks, OpenFault, SqlStore};
-use cli_orders::{Stop, read_rows_of};
+use cli_orders::{FoundCause, Stop, read_rows_of};
 use request_log::RequestLog;
 use socket_endpoint::{BindFault, SocketEndpoint};
 use std::alloc::Global;
@@ -26,11 +29,17 @@ use sync_core::Limits;
 /// The contracts of the real host say neither what a file holds nor who connects to a port. The
 /// contracts over any host say which calls are made of it, and one body runs orders on all hosts.
 ///
-/// A host also prints the lines of `serve --log`, and says that a long import or opening goes on.
-/// These are no calls, since they change nothing.
+/// A host also prints the lines of `serve --log`, says that a long import or opening goes on, and
+/// says why a file or a port couldn't be used. These are no calls, since they change nothing.
 pub trait Host<S, P>: RequestLog {
     /// What is known of a call: its result, and the host before and after it.
     ghost calls: { HostCall S P → Self → Self → Type 0 };
+
+    /// What is known of whether somebody watches standard error.
+    ghost watches: { Self → Bool → Type 0 };
+
+    /// What is known of the cause that the host finds.
+    ghost finds: { Self → HostQuestion → FoundCause → Type 0 };
 
     /// Creates a new store without books in the file.
     fn create(&mut self, file: &str) -> Result<S, OpenFault>
@@ -70,10 +79,25 @@ pub trait Host<S, P>: RequestLog {
     fn is_missing(&self, file: &str) -> bool;
 
     /// Whether somebody watches standard error: whether it is a terminal.
-    fn has_watcher(&self) -> bool;
+    fn has_watcher(&self) -> bool
+        ensures { watches self.now result };
 
     /// Says a text on standard error. If it can't be written, it is lost.
     fn say(&self, text: &[u8]);
+
+    /// Looks for why the store file can't be used, which the order makes if it isn't there, or
+    /// doesn't. For this it may open the file once more, and make a file beside it, which it
+    /// removes.
+    fn cause_of_store(&self, file: &str, makes_file: bool) -> FoundCause
+        ensures { finds self.now (OfStore file.now makes_file) result };
+
+    /// Looks for why the file of rows can't be read, or isn't one.
+    fn cause_of_rows(&self, file: &str) -> FoundCause
+        ensures { finds self.now (OfRows file.now) result };
+
+    /// Looks for why no endpoint can be bound to the port.
+    fn cause_of_port(&self, port: u16) -> FoundCause
+        ensures { finds self.now (OfPort port) result };
 
     /// Closes the endpoint, after its connections were served.
     fn finish(&mut self, endpoint: P)
@@ -81,7 +105,7 @@ pub trait Host<S, P>: RequestLog {
 }
 
 /// The socket address of the port at 127.0.0.1, which only programs of this host can connect to.
-fn loopback(port: u16) -> SocketAddr
+pub(crate) fn loopback(port: u16) -> SocketAddr
     ensures ip { socket_ip result ≡ loopback_ip }
     ensures port { socket_port result ≡ port }
 {
@@ -121,9 +145,13 @@ fn rows_from<R: Read + Drop>(alloc: Global, opened: io::Result<R>) -> Result<Ite
 
 /// The host that the program runs on.
 impl Host<FileBooks, SocketEndpoint> for HostRuntime {
-    ghost use Rattle.cli_host.specs.Hosts.{IsAnyCall};
+    ghost use Rattle.cli_host.specs.Hosts.{IsAnyCall, IsAnyCause, IsAnyWatch};
 
     ghost calls = { IsAnyCall };
+
+    ghost watches = { IsAnyWatch };
+
+    ghost finds = { IsAnyCause };
 
     fn create(&mut self, file: &str) -> Result<FileBooks, OpenFault>
         ensures limits { IfOk result (λ store. store.limits ≡ standard_limits) }
@@ -188,6 +216,18 @@ impl Host<FileBooks, SocketEndpoint> for HostRuntime {
 
     fn say(&self, text: &[u8]) {
         let _said = self.stderr().write(text);
+    }
+
+    fn cause_of_store(&self, file: &str, makes_file: bool) -> FoundCause {
+        store_cause(self, file, makes_file)
+    }
+
+    fn cause_of_rows(&self, file: &str) -> FoundCause {
+        rows_cause(self, file)
+    }
+
+    fn cause_of_port(&self, port: u16) -> FoundCause {
+        port_cause(self, port)
     }
 
     fn finish(&mut self, endpoint: SocketEndpoint) {

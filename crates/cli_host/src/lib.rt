@@ -2,16 +2,19 @@
 #![tactic(auto)]
 
 mod args;
+mod causes;
 mod exit;
 mod host;
 mod keeps;
 pub mod laws;
 mod listing;
+mod naming;
 mod progress;
 mod running;
 mod serving;
 mod verifying;
 mod waiting;
+mod words;
 mod work;
 
 pub use args::order_of_args;

@@ -1,0 +1,21 @@
+use Rattle.std.proofs.Common.{◌≡◌, ◌∷◌, ◌++◌, [], sym, subst, ◌∙◌, ap, arith}
+use Rattle.std.specs.Fmt.{decimal}
+use Rattle.std.specs.Prelude.{codes, OnOk}
+use Rattle.std.specs.Io.KnownBytes.{Appends}
+use Rattle.std.proofs.lemmas.Fmt.{decimal_step, decimal_digit}
+use Rattle.book_http.specs.Streams.{WritesPrefix}
+use Rattle.cli_orders.specs.Stops.{status_of}
+use Rattle.cli_host.proofs.exit.report_no_memory.Goals as goal
+
+twenty : decimal 20 ≡ 50 ∷ 48 ∷ []
+twenty = decimal_step 20 (omega arith) (omega arith) ∙ ap (λ ds. ds ++ 48 ∷ []) (decimal_digit 2 (omega arith))
+
+-- the line has the number of the stop in decimal digits
+pub returns : goal.returns
+returns g c = record {
+  reports = record {
+    whole = subst (λ digits. OnOk c.write_out.result (Appends (g.E.Write.contents c.args.errors.now) (g.E.Write.contents c.write_out.new.writer) (codes "fault no-memory " ++ (digits ++ 10 ∷ [])))) (sym twenty) c.write_out.ensures.written;
+    front = subst (λ digits. WritesPrefix (codes "fault no-memory " ++ (digits ++ 10 ∷ [])) (g.E.Write.contents c.args.errors.now) (g.E.Write.contents c.write_out.new.writer)) (sym twenty) c.write_out.ensures.prefix;
+  };
+  status_is = c.status.ensures ∙ ap status_of c.out_of_memory.ensures;
+}
