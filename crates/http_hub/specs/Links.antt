@@ -71,6 +71,16 @@ link_after_failure link = record {
   request_length = link.request_length;
 }
 
+-- what the connection came to hold was dropped: its session is closed, and this reply is pending
+abbrev pub link_after_refusal : List ℕ → ℕ → LinkValue
+link_after_refusal reply now = record {
+  session = None;
+  pending = reply;
+  active_at = now;
+  request_since = None;
+  request_length = 0;
+}
+
 -- the link after a piece, with these replies, this session, and a request of this length
 abbrev pub link_after_piece :
     LinkValue → List ℕ → List ℕ → Option (List ℕ) → ℕ → ℕ → LinkValue

@@ -2,8 +2,10 @@
 ghost use Rattle.std.specs.Prelude.{◌≡◌, ◌↔◌, ◌≤◌, ◌<◌, ◌+◌, [], None, length};
 ghost use Rattle.std.specs.Prelude.{IfOk, OnErr, IsTrue};
 ghost use Rattle.http_requests.specs.SessionFeeding.{FeedsPieceInPart};
+ghost use Rattle.http_hub.specs.Holdings.{load_of, request_load};
 ghost use Rattle.http_hub.specs.Links.{IsFirstTime, ReceivesPiece, extra_time, has_expired};
-ghost use Rattle.http_hub.specs.Links.{is_long_ago, link_after_failure, link_after_sent, new_link};
+ghost use Rattle.http_hub.specs.Links.{is_long_ago, link_after_failure, link_after_refusal};
+ghost use Rattle.http_hub.specs.Links.{link_after_sent, new_link};
 ghost use Rattle.http_hub.specs.Links.{since_after_piece, since_after_sent};
 
 use crate::expiry::earlier;
@@ -196,6 +198,40 @@ impl Link {
         self.sent_count = 0;
         self.active_at = now;
         Ok(())
+    }
+
+    /// The octets of its incomplete request, all of them once its head is complete.
+    fn request_load(&self) -> usize
+        ensures { result ≡ request_load self.now.session self.now.request_length }
+    {
+        if self.session.closed() {
+            0
+        } else if self.request_len == 0 {
+            self.session.held_len()
+        } else {
+            self.request_len
+        }
+    }
+
+    /// How many octets the connection holds: those of its incomplete request, all of them once its
+    /// head is complete, and the pending ones.
+    pub fn load(&self) -> u128
+        ensures { result ≡ load_of self.now }
+    {
+        let pending = self.out.len() - self.sent_count;
+        self.request_load() as u128 + pending as u128
+    }
+
+    /// Drops what the connection holds. Its session is closed, and the reply is pending.
+    pub fn refuse(&mut self, alloc: Global, reply: Vec<u8>, now: u64)
+        ensures { self.new ≡ link_after_refusal reply.items now }
+    {
+        self.session.close(alloc);
+        self.out = reply;
+        self.sent_count = 0;
+        self.active_at = now;
+        self.request_since = None;
+        self.request_len = 0;
     }
 
     /// Records that the first `count` pending octets were sent.

@@ -350,6 +350,16 @@ impl Progress {
         }
     }
 
+    /// Closes the session, and drops what it holds.
+    pub(crate) fn close(&mut self, alloc: Global)
+        ensures holds { MatchesStage self.new.held.items self.new.stage }
+        ensures is_closed { IsClosed self.new.stage }
+        ensures released { HoldsNoneIfClosed self.new.held.items self.new.stage }
+    {
+        self.held = Vec::new(alloc);
+        self.stage = Stage::Closed;
+    }
+
     /// Drops the octets that a closed session still holds.
     pub(crate) fn release_if_closed(&mut self, alloc: Global)
         requires holds { MatchesStage self.old.held.items self.old.stage }
