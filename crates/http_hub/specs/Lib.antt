@@ -6,3 +6,4 @@ pub mod Holdings
 pub mod PlaceCounts
 pub mod HubRuns
 pub mod PieceRequests
+pub mod BoundedHubs
