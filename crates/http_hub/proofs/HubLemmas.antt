@@ -136,7 +136,7 @@ module _ (hub : HubValue) (links : List LinkValue) (is : AreAllLinks hub links) 
     }
 
 -- a link that was changed and then refused was refused
-refused_link : (before full after : HubValue) (place : ℕ) (slot other : Slot) (next last : LinkValue) → IsAt before place slot → full ≡ with_link before place slot.serial next
+pub refused_link : (before full after : HubValue) (place : ℕ) (slot other : Slot) (next last : LinkValue) → IsAt before place slot → full ≡ with_link before place slot.serial next
     → IsAt full place other → after ≡ with_link full place other.serial last → after ≡ with_link before place slot.serial last
 refused_link before full after place slot other next last found full_is at after_is =
     let changed : Slot = record { serial = slot.serial; link = next } in
