@@ -8,7 +8,7 @@ returns-clause-received g c =
       session = c.feed.new.self;
       feeds = search rules;
       none_pending = search rules;
-      request_length = c.held_request_len.result;
+      request_length = c.held_request_len-self-inside.result;
       is_request_length = search rules;
       after_is = search rules;
     }
