@@ -1,5 +1,5 @@
 -- What a session was fed was handled from the front.
-use Rattle.std.proofs.Common.{◌≡◌, ℕ, List, ◌++◌, false, Option, Some, None, inl, inr, cc}
+use Rattle.std.proofs.Common.{◌≡◌, ℕ, List, ◌++◌, false, Option, Some, None, inl, inr}
 use Rattle.http_requests.specs.HandlerRuns.{HandlerRelation, FaultReplies}
 use Rattle.http_requests.specs.SessionFeeding.{FeedsPiece, FeedsPieceInPart, FeedsSession}
 use Rattle.http_requests.specs.SessionFeeding.{HandlesSomePrefix}
