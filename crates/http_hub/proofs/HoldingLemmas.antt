@@ -1,7 +1,10 @@
 -- What the connections of a hub hold, after each change of a place.
-use Rattle.std.proofs.Common.{◌≡◌, ◌∙◌, ◌==◌, ◌+◌, ◌-◌, ◌≤◌, ◌<◌, ◌⊎◌, ◌||◌, ℕ, zero, suc, Bool, true, false, List, [], ◌∷◌, Option, Some, None, inl, inr, refl, sym, ap, subst, arith, drop, eq-eqb, length, nat_eq, nat_le, replicate, slice_get, slice_set}
+use Rattle.std.proofs.Common.{◌≡◌, ◌∙◌, ◌==◌, ◌+◌, ◌-◌, ◌≤◌, ◌<◌, ◌≢◌, ◌⊎◌, ◌||◌, ℕ, zero, suc, Bool, true, false, List, [], ◌∷◌, Option, Some, None, inl, inr, refl, sym, ap, subst, arith, drop, eq-eqb, length, replicate, slice_get, slice_set}
+use Rattle.std.proofs.lemmas.List.{length-drop}
 use Rattle.std.proofs.lemmas.List.Sums.{sum_by-cons}
 use Rattle.std.proofs.lemmas.Bool.{eqb-true}
+use Rattle.std.proofs.lemmas.Bool.Decides.{eqb_tells, leb_tells}
+use Rattle.std.proofs.Math.Dec.{eqb, leb}
 use Rattle.http_hub.specs.BoundedHubs.{may_hold}
 use Rattle.http_hub.specs.Holdings.{AreWithin, large_at, large_part, large_total, load_of, most_small, request_load}
 use Rattle.http_hub.specs.Hubs.{EndsAt, HubValue, IsAt, OpensAt, SendsAt, with_link}
@@ -30,28 +33,45 @@ part_of_total slots place slot found = let changed = total_set slots place slot 
 
 pub total_none : (limit : ℕ) → large_total (replicate limit None) ≡ 0
 total_none zero = refl
-total_none (suc limit) = total_cons None (replicate limit None) ∙ total_none limit
+total_none (suc limit) = let more = total_cons None (replicate limit None) in let rest = total_none limit in omega (arith, more, rest)
 
 -- ---- what a connection holds, after each change of its link
 
+large_by : (load : ℕ) → ((leb load most_small ≡ true) × (load ≤ most_small)) ⊎ ((leb load most_small ≡ false) × (most_small < load))
+    → ((large_part load ≡ 0) × (load ≤ most_small)) ⊎ ((large_part load ≡ load) × (most_small < load))
+large_by load (inl few) = inl (rw few.0 refl, few.1)
+large_by load (inr many) = inr (rw many.0 refl, many.1)
+
+-- nothing of a small load counts, and all of a large one
+pub large_cases : (load : ℕ) → ((large_part load ≡ 0) × (load ≤ most_small)) ⊎ ((large_part load ≡ load) × (most_small < load))
+large_cases load = large_by load (leb_tells load most_small)
+
+less_by : (less more : ℕ) → less ≤ more → ((large_part less ≡ 0) × (less ≤ most_small)) ⊎ ((large_part less ≡ less) × (most_small < less))
+    → ((large_part more ≡ 0) × (more ≤ most_small)) ⊎ ((large_part more ≡ more) × (most_small < more)) → large_part less ≤ large_part more
+less_by less more fewer (inl small) other = omega (arith, small.0)
+less_by less more fewer (inr large) (inl small) = omega (arith, large.1, small.1, fewer)
+less_by less more fewer (inr large) (inr too) = omega (arith, large.0, too.0, fewer)
+
 large_less : (less more : ℕ) → less ≤ more → large_part less ≤ large_part more
-large_less less more fewer = by_test (nat_le less most_small) refl (nat_le more most_small) refl
-  where
-    by_test : (b : Bool) → nat_le less most_small ≡ b → (c : Bool) → nat_le more most_small ≡ c → large_part less ≤ large_part more
-    by_test b is c are = omega (arith, fewer)
+large_less less more fewer = less_by less more fewer (large_cases less) (large_cases more)
 
 pub sent_holds_less : (link : LinkValue) (count now : ℕ) → large_part (load_of (link_after_sent link count now)) ≤ large_part (load_of link)
 sent_holds_less link count now =
-    large_less (load_of (link_after_sent link count now)) (load_of link) (omega arith)
+    let left = length-drop count link.pending in
+    let request : ℕ = request_load link.session link.request_length in
+    large_less (request + length (drop count link.pending)) (request + length link.pending) (omega (arith, left))
 
 pub failed_holds_less : (link : LinkValue) → large_part (load_of (link_after_failure link)) ≤ large_part (load_of link)
-failed_holds_less link = large_less (load_of (link_after_failure link)) (load_of link) (omega arith)
+failed_holds_less link =
+    let request : ℕ = request_load link.session link.request_length in
+    large_less (0 + length link.pending) (request + length link.pending) (omega arith)
+
+refused_by : (load : ℕ) → load ≤ most_small → ((large_part load ≡ 0) × (load ≤ most_small)) ⊎ ((large_part load ≡ load) × (most_small < load)) → large_part load ≡ 0
+refused_by load few (inl small) = small.0
+refused_by load few (inr large) = let more = large.1 in absurd (omega (arith, few, more))
 
 pub refused_holds_none : (reply : List ℕ) (now : ℕ) → length reply ≤ most_small → large_part (load_of (link_after_refusal reply now)) ≡ 0
-refused_holds_none reply now small = by_test (nat_le (0 + length reply) most_small) refl
-  where
-    by_test : (b : Bool) → nat_le (0 + length reply) most_small ≡ b → large_part (load_of (link_after_refusal reply now)) ≡ 0
-    by_test b is = omega (arith, small)
+refused_holds_none reply now small = refused_by (0 + length reply) (omega (arith, small)) (large_cases (0 + length reply))
 
 -- ---- the bound
 
@@ -80,28 +100,26 @@ within_set most slots place old new found less (inr (one, slot, at, all)) = by_p
 
 -- ---- a piece
 
+fitting_by : (most : ℕ) (slots before : List (Option Slot)) (place : ℕ) (old : Option Slot) (slot : Slot) (own others : ℕ) → own ≡ large_at (Some slot) → others ≡ large_total slots - own
+    → slice_get before place ≡ Some old → slots ≡ slice_set before place (Some slot) → slice_get slots place ≡ Some (Some slot) → may_hold most own others ≡ true → AreWithin most before
+    → ((eqb own 0 ≡ true) × (own ≡ 0)) ⊎ ((eqb own 0 ≡ false) × (own ≢ 0)) → ((eqb others 0 ≡ true) × (others ≡ 0)) ⊎ ((eqb others 0 ≡ false) × (others ≢ 0))
+    → ((leb (own + others) most ≡ true) × (own + others ≤ most)) ⊎ ((leb (own + others) most ≡ false) × (most < own + others)) → AreWithin most slots
+fitting_by most slots before place old slot own others own_is others_are found is at fits within (inl none) b c =
+    let nothing : large_at (Some slot) ≤ large_at old = omega (arith, own_is, none.1) in
+    subst (λ (xs : List (Option Slot)). AreWithin most xs) (sym is) (within_set most before place old (Some slot) found nothing within)
+fitting_by most slots before place old slot own others own_is others_are found is at fits within (inr some) (inl none) c =
+    let part = part_of_total slots place (Some slot) at in
+    inr (place, Some slot, at, omega (arith, own_is, others_are, none.1, part))
+fitting_by most slots before place old slot own others own_is others_are found is at fits within (inr some) (inr more) (inl few) =
+    let part = part_of_total slots place (Some slot) at in
+    inl (omega (arith, own_is, others_are, few.1, part))
+fitting_by most slots before place old slot own others own_is others_are found is at fits within (inr some) (inr more) (inr many) =
+    let no : false ≡ true = rw (some.0, more.0, many.0) at fits in absurd (cc no)
+
 -- what a connection may hold keeps the bound
 pub fitting_within : (most : ℕ) (slots before : List (Option Slot)) (place : ℕ) (old : Option Slot) (slot : Slot) → slice_get before place ≡ Some old → slots ≡ slice_set before place (Some slot)
     → slice_get slots place ≡ Some (Some slot) → may_hold most (large_at (Some slot)) (large_total slots - large_at (Some slot)) ≡ true → AreWithin most before → AreWithin most slots
-fitting_within most slots before place old slot found is at fits within = by_own (nat_eq own 0) refl (nat_eq others 0) refl
-  where
-    own : ℕ
-    own = large_at (Some slot)
-
-    others : ℕ
-    others = large_total slots - own
-
-    part : own ≤ large_total slots
-    part = part_of_total slots place (Some slot) at
-
-    by_own : (b : Bool) → nat_eq own 0 ≡ b → (c : Bool) → nat_eq others 0 ≡ c → AreWithin most slots
-    by_own true own_is c others_is =
-        let none : own ≡ 0 = nat_eq-true own 0 own_is in
-        subst (λ (xs : List (Option Slot)). AreWithin most xs) (sym is) (within_set most before place old (Some slot) found (omega (arith, none)) within)
-    by_own false own_is true others_is =
-        let none : others ≡ 0 = nat_eq-true others 0 others_is in
-        inr (place, Some slot, at, omega (arith, none, part))
-    by_own false own_is false others_is =
-        let sum : nat_le (own + others) most ≡ true = sym (rw (own_is, others_is) refl) ∙ fits in
-        let few : own + others ≤ most = nat_le-true (own + others) most sum in
-        inl (omega (arith, few, part))
+fitting_within most slots before place old slot found is at fits within =
+    let own : ℕ = large_at (Some slot) in
+    let others : ℕ = large_total slots - own in
+    fitting_by most slots before place old slot own others refl refl found is at fits within (eqb_tells own 0) (eqb_tells others 0) (leb_tells (own + others) most)

@@ -173,23 +173,23 @@ module _ {S : Type 0} (does : HandlerRelation S) (fault_reply : FaultReplies) wh
   closed_gives_none connection [] before after w v runs closed = refl
   closed_gives_none connection (Opens now ∷ steps) before after w v (between, middle, (same, grown), runs) closed =
       closed_gives_none connection steps between after middle v runs (ap (λ links. session_of (slice_get links connection)) grown ∙ new_session before now connection ∙ closed)
-  closed_gives_none connection (Receives place piece replies now ∷ steps) before after w v (between, middle, (received, replies_are), runs) closed = by_place (place == connection) refl
+  closed_gives_none connection (Receives place piece replies now ∷ steps) before after w v (between, middle, (received, replies_are), runs) closed = by_place (closed_gives_none connection steps between after middle v runs) (place == connection) refl
     where
       given : Bool → List ℕ
       given c = replies_in (cond c ((piece, Some replies) ∷ pieces_of connection (pieces_in steps)) (pieces_of connection (pieces_in steps)))
 
-      by_place : (b : Bool) → (place == connection) ≡ b → given (place == connection) ≡ []
-      by_place true e =
+      by_place : (session_of (slice_get between connection) ≡ None → replies_to connection (pieces_in steps) ≡ []) → (b : Bool) → (place == connection) ≡ b → given (place == connection) ≡ []
+      by_place rest true e =
           let was : received.link.session ≡ None = sym (ap session_of received.found) ∙ ap (λ n. session_of (slice_get before n)) (eqb-true place connection e) ∙ closed in
           let fed : FeedsPiece does fault_reply None w piece received.receives.replies middle received.receives.session =
           subst (λ s. FeedsPiece does fault_reply s w piece received.receives.replies middle received.receives.session) was received.receives.feeds in
           let next : session_of (slice_get between connection) ≡ None = ap (λ links. session_of (slice_get links connection)) received.after_is
           ∙ shown session_of before place connection received.next received.link true e received.found ∙ ap (λ (l : LinkValue). l.session) received.receives.after_is ∙ fed.2 in
-          ap given e ∙ ap (λ t. t ++ replies_to connection (pieces_in steps)) (sym replies_are ∙ fed.0) ∙ closed_gives_none connection steps between after middle v runs next
-      by_place false e =
+          ap given e ∙ ap (λ t. t ++ replies_to connection (pieces_in steps)) (sym replies_are ∙ fed.0) ∙ rest next
+      by_place rest false e =
           let next : session_of (slice_get between connection) ≡ None = ap (λ links. session_of (slice_get links connection)) received.after_is
           ∙ shown session_of before place connection received.next received.link false e received.found ∙ closed in
-          ap given e ∙ closed_gives_none connection steps between after middle v runs next
+          ap given e ∙ rest next
   closed_gives_none connection (Fails place piece ∷ steps) before after w v (between, middle, failed, runs) closed =
       no_replies (place == connection) piece (pieces_of connection (pieces_in steps))
       ∙ closed_gives_none connection steps between after middle v runs (ap (λ links. session_of (slice_get links connection)) failed.after_is

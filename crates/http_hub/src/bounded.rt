@@ -2,7 +2,7 @@
 ghost use Rattle.std.specs.Prelude.{◌≡◌, ◌↔◌, ◌≤◌, ◌<◌, ◌+◌, ◌⊎◌, [], length, None, Some};
 ghost use Rattle.std.specs.Prelude.{IfOk, IsTrue, MatchOption};
 ghost use Rattle.http_requests.specs.declared.head_fault.HeadFault.TheVariants.{Busy};
-ghost use Rattle.http_hub.specs.BoundedHubs.{ReceivesWithin, may_hold};
+ghost use Rattle.http_hub.specs.BoundedHubs.{ReceivesWithin, SettlesAt, may_hold};
 ghost use Rattle.http_hub.specs.Holdings.{large_at, large_total, most_small};
 ghost use Rattle.http_hub.specs.HubRuns.{pending_of, session_of};
 ghost use Rattle.http_hub.specs.Hubs.{EndsAt, IsAt, IsFreeAt, IsOpenAt, OpensAt, SendsAt};
@@ -26,7 +26,7 @@ const REPLY_OCTETS_MAX: usize = 16_384;
 #[derive(Debug, Drop)]
 pub struct BoundedHub {
     hub: Hub,
-    large_total: u128,
+    large_sum: u128,
 }
 
 impl Model for BoundedHub {
@@ -38,7 +38,7 @@ impl Model for BoundedHub {
 
     ghost view = { λ bounded. bounded.hub };
 
-    ghost invariant = { λ bounded. bounded.large_total ≡ large_total bounded.hub.slots };
+    ghost invariant = { λ bounded. bounded.large_sum ≡ large_total bounded.hub.slots };
 }
 
 /// Whether a connection may hold its octets beside those of the others.
@@ -63,6 +63,28 @@ fn refusal<H: Handler>(alloc: Global, handler: &H) -> Vec<u8>
     }
 }
 
+/// Drops what the connection at the place holds, if it may not hold that beside others of which the
+/// large ones hold this many octets.
+fn settle<H: Handler>(
+    hub: &mut Hub,
+    alloc: Global,
+    handler: &H,
+    place: usize,
+    now: u64,
+    most: u64,
+    others: u128,
+)
+    requires is_open { IsOpenAt hub.old place }
+    requires others { (slot : Slot) → IsAt hub.old place slot
+        → large_total hub.old.slots ≡ others + large_at (Some slot) }
+    ensures { SettlesAt H.fault_reply most place hub.old now hub.new }
+{
+    if !may_hold(most, hub.large_part(place), others) {
+        let reply = refusal(alloc, handler);
+        hub.refuse(alloc, place, reply, now);
+    }
+}
+
 /// Feeds a piece to the connection at the place, beside others of which the large ones hold this
 /// many octets.
 fn receive_beside<H: Handler>(
@@ -83,14 +105,10 @@ fn receive_beside<H: Handler>(
     ensures { ReceivesWithin H.does H.fault_reply most place
         hub.old handler.old piece.now now handler.new hub.new }
 {
-    if hub.receive(alloc, handler, place, piece, now).is_err() {
-        return;
+    match hub.receive(alloc, handler, place, piece, now) {
+        Ok(()) => settle(hub, alloc, &*handler, place, now, most, others),
+        Err(NoMemory) => {}
     }
-    if may_hold(most, hub.large_part(place), others) {
-        return;
-    }
-    let reply = refusal(alloc, &*handler);
-    hub.refuse(alloc, place, reply, now);
 }
 
 impl BoundedHub {
@@ -101,7 +119,7 @@ impl BoundedHub {
         let hub = Hub::new(alloc, limit)?;
         Ok(BoundedHub {
             hub,
-            large_total: 0,
+            large_sum: 0,
         })
     }
 
@@ -210,9 +228,9 @@ impl BoundedHub {
         ensures { ReceivesWithin H.does H.fault_reply most place
             self.old handler.old piece.now now handler.new self.new }
     {
-        let others = self.large_total - self.hub.large_part(place);
+        let others = self.large_sum - self.hub.large_part(place);
         receive_beside(&mut self.hub, alloc, handler, place, piece, now, most, others);
-        self.large_total = others + self.hub.large_part(place);
+        self.large_sum = others + self.hub.large_part(place);
     }
 
     /// Records that the first `count` pending octets were sent to the connection at the place.
@@ -222,9 +240,9 @@ impl BoundedHub {
         requires within { count ≤ length (pending_of (link_at self.old place)) }
         ensures { SendsAt place self.old count now self.new }
     {
-        let others = self.large_total - self.hub.large_part(place);
+        let others = self.large_sum - self.hub.large_part(place);
         self.hub.mark_sent(place, count, now);
-        self.large_total = others + self.hub.large_part(place);
+        self.large_sum = others + self.hub.large_part(place);
     }
 
     /// Ends the connection at the place, which is then free.
@@ -232,7 +250,7 @@ impl BoundedHub {
         requires { IsOpenAt self.old place }
         ensures { EndsAt place self.old self.new }
     {
-        self.large_total -= self.hub.large_part(place);
+        self.large_sum -= self.hub.large_part(place);
         self.hub.end(place);
     }
 
