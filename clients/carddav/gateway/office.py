@@ -1,16 +1,14 @@
 """Connections to the contact server, by TCP or by a socket of the file system.
 
 The client itself is `clients/python/tosculai.py`. Here is what a program with threads needs
-besides: a pool of its connections, and `unix:PATH`.
+besides: a pool of its connections.
 """
 
-import socket
 import time
 from contextlib import ExitStack, contextmanager
-from http.client import HTTPConnection
-from typing import Any, Dict, Iterator, List, NamedTuple
+from typing import Any, Iterator, List, NamedTuple
 
-from tosculai import Office
+from tosculai import Office, UnixConnection as UnixConnection
 
 # Seconds after which a connection isn't used again: the server closes it after 60 of silence, and a
 # request that is sent at that moment gets no reply (docs/CLIENTS.md, step 1).
@@ -20,36 +18,9 @@ PAUSE = 0.2  # seconds between two attempts: a phone waits for its reply
 TIMEOUT = 20.0
 
 
-class UnixConnection(HTTPConnection):
-    """A connection to a socket of the file system."""
-
-    def __init__(self, path: str, port: Any = None, timeout: float = TIMEOUT) -> None:
-        super().__init__("localhost", timeout=timeout)
-        self._place = path
-
-    def connect(self) -> None:
-        self.sock = socket.socket(socket.AF_UNIX, socket.SOCK_STREAM)
-        self.sock.settimeout(self.timeout)
-        self.sock.connect(self._place)
-
-
-class UnixOffice(Office):
-    """A server at a socket of the file system."""
-
-    def __init__(self, path: str, **options: Any) -> None:
-        super().__init__("http://localhost", **options)
-        self._kind, self._place = UnixConnection, (path, None)
-        self.url = "unix:" + path
-
-
 def new_office(server: str) -> Office:
     """The office at a URL, or at `unix:PATH`; a ValueError if it is neither."""
-    options: Dict[str, Any] = {"timeout": TIMEOUT, "attempts": ATTEMPTS, "pause": PAUSE}
-    if server.startswith("unix:"):
-        if not server[5:]:
-            raise ValueError("unix: needs the path of a socket")
-        return UnixOffice(server[5:], **options)
-    return Office(server, **options)
+    return Office(server, timeout=TIMEOUT, attempts=ATTEMPTS, pause=PAUSE)
 
 
 class Kept(NamedTuple):

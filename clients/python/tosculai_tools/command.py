@@ -42,7 +42,9 @@ def trusting(ca_file: Optional[str]) -> Optional[ssl.SSLContext]:
 
 
 def office_at(url: str, ca_file: Optional[str] = None) -> Office:
-    """The office at a URL, with the user of ~/.netrc if the URL has none."""
+    """The office at a URL, with the user of ~/.netrc if the URL has none, or at `unix:PATH`."""
+    if url.startswith("unix:"):
+        return Office(url)
     url = url if "://" in url else "http://" + url
     parts = urlsplit(url)
     try:
@@ -176,7 +178,7 @@ def parser() -> argparse.ArgumentParser:
     def add(name: str, call: Callable[..., Any], text: str, *arguments: str) -> Any:
         one = commands.add_parser(name, help=text, description=text)
         one.set_defaults(call=call, book="")
-        one.add_argument("url", metavar="URL", help="such as http://127.0.0.1:8080")
+        one.add_argument("url", metavar="URL", help="such as http://127.0.0.1:8080, or unix:PATH")
         one.add_argument("--ca-file", metavar="FILE", help="for https: trust the certificates of "
                          "this file (PEM), and no others")
         for argument in arguments:
