@@ -44,6 +44,7 @@ def adapted(text: str) -> bytes:
     """A text of the repository with the paths of the package."""
     text = text.replace("#!/usr/bin/env python3\n", "#!/usr/bin/python3\n", 1)
     text = text.replace("$here/../contacts", "@PREFIX@/bin/contacts")
+    text = text.replace("$here/../clients/desk/site", "@PREFIX@/share/tosculai/desk")
     text = text.replace("$here/../clients/", "@PREFIX@/share/tosculai/")
     return text.replace("/usr/local/", "@PREFIX@/").encode()
 

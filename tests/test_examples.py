@@ -5,6 +5,7 @@ The scripts must do what their comments and docs/OPERATING.md say.
 """
 
 import fcntl
+import json
 import os
 import re
 import shutil
@@ -15,6 +16,7 @@ import threading
 import time
 import unittest
 from fnmatch import fnmatch
+from urllib.request import urlopen
 
 from help_texts import HELP
 from http_requests import create, get, put
@@ -50,6 +52,28 @@ class Office(unittest.TestCase):
         printed = done.stdout.decode()
         self.assertEqual(0, done.returncode, printed)
         self.assertTrue(printed.endswith("\noffice: all steps went as they should\n"), printed)
+
+
+class Look(unittest.TestCase):
+    def test_the_desk_over_the_sample_office(self):
+        with Folder() as folder:
+            for again in range(2):
+                port = free_port()
+                script = subprocess.Popen(
+                    [str(EXAMPLES / "look.sh"), "--port", port], cwd=folder,
+                    env={**os.environ, "CONTACTS": PROGRAM}, stdout=subprocess.PIPE)
+                try:
+                    lines = [script.stdout.readline() for _ in range(1 if again else 4)]
+                    self.assertEqual(f"listening 127.0.0.1:{port}\n".encode(), lines[-1])
+                    base = f"http://127.0.0.1:{port}"
+                    with urlopen(base + "/", timeout=PATIENCE) as page:
+                        self.assertEqual((EXAMPLES.parent / "clients/desk/site/index.html")
+                                         .read_bytes(), page.read())
+                    with urlopen(base + "/books/staff/tally", timeout=PATIENCE) as tally:
+                        self.assertEqual(212, json.load(tally)["cards"])
+                finally:
+                    script.kill()
+                    script.communicate()
 
 
 class MoveIn(unittest.TestCase):
