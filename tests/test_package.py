@@ -276,7 +276,7 @@ class Deb(unittest.TestCase):
                          set(re.findall(r"(?m)^#   (--[\w-]+)", text)))
         read = subprocess.run(["sh"], input=f"{text}\necho $CONTACTS_OPTIONS".encode(), check=True,
                               stdout=subprocess.PIPE).stdout
-        self.assertEqual(b"--port 8080\n", read)
+        self.assertEqual(b"--socket /run/tosculai/office.sock\n", read)
         unit = files["usr/lib/systemd/system/contacts.service"].decode()
         self.assertIn("\nEnvironmentFile=-/etc/default/tosculai\nExecStart=/usr/bin/contacts run "
                       "/var/lib/tosculai/office.db --create $CONTACTS_OPTIONS\n", unit)
