@@ -61,7 +61,7 @@ class Front:
             ("listen 443", f"listen {self.address}"),
             ("/etc/ssl/", f"{folder}/"),
             ("/etc/nginx/contacts.users", f"{folder}/users"),
-            ("127.0.0.1:8080", f"127.0.0.1:{port}"),
+            ("unix:/run/tosculai/office.sock", f"127.0.0.1:{port}"),
             ("127.0.0.1:8090", f"127.0.0.1:{gateway}"),
         ]:
             if old not in text:
