@@ -50,7 +50,8 @@ class Alone:
 
 
 def has_site(program):
-    said = subprocess.run([program, "--help"], stdout=subprocess.PIPE, stderr=subprocess.STDOUT)
+    said = subprocess.run([program, "run", "--help"], stdout=subprocess.PIPE,
+                          stderr=subprocess.STDOUT)
     return b"--site" in said.stdout
 
 
