@@ -108,8 +108,14 @@ AUDIT = r"""(() => {
     const stops = all('button, a[href], input, select, textarea, summary, [tabindex="0"]')
         .filter((it) => it.tabIndex >= 0 && !it.closest('.skip, .toast') && !isSticky(it))
         .filter((it) => !document.querySelector('dialog[open]') || it.closest('dialog'));
+    // What is scrolled out of sight counts where it would be without the scrolling.
+    const placeOf = (node) => {
+        const box = node.getBoundingClientRect();
+        for (let at = node.parentElement; at; at = at.parentElement) box.y += at.scrollTop;
+        return box;
+    };
     for (let at = 1; at < stops.length; at += 1) {
-        const [one, next] = [stops[at - 1], stops[at]].map((it) => it.getBoundingClientRect());
+        const [one, next] = [stops[at - 1], stops[at]].map(placeOf);
         if (next.bottom <= one.top && next.left < one.right) wrong('Tab goes up to', stops[at]);
     }
     if (document.documentElement.scrollWidth > innerWidth) found.push('wider than the page');

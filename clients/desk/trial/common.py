@@ -45,6 +45,9 @@ class Trial:
                 page.said.clear()
             except Exception:
                 pass  # the browser is gone
+        # The next steps find the network and a desk as they would have without this one.
+        self.office.reopen()
+        self.desks.pop("away", None)
 
 
 def until(condition, seconds=60):

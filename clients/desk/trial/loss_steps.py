@@ -4,10 +4,10 @@ import json
 import time
 
 from access import audit
-from between import fill_disk, refuse
+from between import fill_disk, hold, refuse
 from common import keep_files
 from office import logical
-from steps import STATE, TITLE, fault, fill, search, stored, until
+from steps import STATE, TITLE, fault, fill, more, search, stored, until
 
 FORM = "document.querySelector('.form')"
 CARD = "(document.querySelector('#pane .card')?.innerText ?? '')"
@@ -86,6 +86,48 @@ def save_while_away(trial):
     page.wait(f"{TITLE} === 'Bea Later'")
     until(lambda: "Bea Later" in names(office))
     assert names(office).count("Ada Early") == 1
+
+
+NEW_CARD = "document.dispatchEvent(new KeyboardEvent('keydown'," \
+    " { altKey: true, code: 'KeyN', bubbles: true }))"
+HEADING = "document.querySelector('.form h2')?.textContent"
+
+
+@fault
+def form_at_once(trial):
+    """Who begins a new card right after Save, Cancel or Delete gets its form, and keeps it."""
+    page, office = at_desk(trial), trial.office
+
+    def stays():
+        page.wait(f"{HEADING} === 'New person' && !{FIELDS}.some((it) => it.includes('Instant'))")
+        page.rest(2000)
+        assert page.run(HEADING) == "New person", "the form was taken away"
+
+    new_form(page, "Ida", "Instant")
+    hold(page, 1500)  # the browser's disk is slow
+    page.press("Save")
+    page.run(NEW_CARD)
+    stays()
+    until(lambda: "Ida Instant" in names(office))
+    fill(page, "Given name", "Instant")
+    page.run(f"([...{FORM}.querySelectorAll('button')]"
+             f".find((it) => it.textContent === 'Cancel').click(), {NEW_CARD})")
+    stays()
+    page.press("Cancel", FORM)
+    search(page, "ida instant")
+    page.wait(f"{TITLE} === 'Ida Instant'")
+    more(page, "Delete")
+    hold(page, 1500)
+    page.press("Delete", "document.querySelector('dialog')")
+    page.wait("!document.querySelector('dialog')")
+    page.run(NEW_CARD)
+    stays()
+    until(lambda: "Ida Instant" not in names(office))
+    # Nor does an Undo lead away from a form.
+    page.press("Undo", "document.querySelector('#toast')")
+    until(lambda: "Ida Instant" in names(office))
+    stays()
+    page.press("Cancel", FORM)
 
 
 @fault

@@ -56,6 +56,16 @@ export class Pane {
     this.go(`#/card/${book}/${part(uid)}`, isInstead);
   }
 
+  /** Whether a form is shown, or on its way. */
+  get hasForm() {
+    return Boolean(this.form) || /^#\/(new|edit)\//.test(location.hash);
+  }
+
+  /** Shows a card of which something was done by now. Nobody is led away from a form. */
+  lead(book, uid, isInstead = false) {
+    if (!this.hasForm) this.open(book, uid, isInstead);
+  }
+
   goEdit(book, uid) {
     this.go(`#/edit/${book}/${part(uid)}`);
   }
@@ -269,7 +279,7 @@ export class Pane {
       return;
     }
     if (!form) {
-      await this.show(place.book, place.uid, true);
+      this.open(place.book, place.uid, true);
       return;
     }
     this.set({ kind: "form", book: place.book, uid: place.uid });

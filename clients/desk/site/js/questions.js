@@ -119,7 +119,7 @@ export async function giveUp(desk, entry) {
   if (from) {
     await desk.queue.move([[book, uid, from]]);
     await desk.changed();
-    desk.pane.open(from, uid, true);
+    desk.pane.lead(from, uid, true);
     desk.frame.toast(t("moveStayed", { name: nameIn(entry.text), book: from }));
     return;
   }
@@ -132,7 +132,7 @@ export async function giveUp(desk, entry) {
     run: async () => {
       await desk.queue.save({ ...entry, version: entry.version });
       await desk.changed();
-      desk.pane.open(book, uid);
+      desk.pane.lead(book, uid);
     },
   });
 }
