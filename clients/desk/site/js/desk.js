@@ -47,6 +47,7 @@ export class Desk {
       faces: new Faces((book, uid) => this.queue.seen(book, uid)),
       pick: (row, isFinal) => this.picked(row, isFinal),
       marked: (rows) => this.head.showMarked(rows),
+      drew: () => this.mark(),
     });
     this.letters = new Letters(document.getElementById("letters"), {
       top: () => this.list.first,
