@@ -123,6 +123,22 @@ AUDIT = r"""(() => {
 })()"""
 
 
+# On a phone fingers need 44 by 44 for what is pressed, and the search and its buttons one row.
+TOUCH = """(() => {
+    const all = 'button, input, select, textarea, summary, [role=option], .quick a, a.copy';
+    const small = [...document.querySelectorAll(all)].filter((it) => it.checkVisibility())
+        .map((it) => [it, (it.closest('label') ?? it).getBoundingClientRect()])
+        .filter(([, box]) => Math.min(box.width, box.height) < 43.5)
+        .map(([it, box]) => `${it.localName}.${it.className} ${it.textContent.slice(0, 20)} `
+            + `${box.width} x ${box.height}`);
+    const top = [...document.querySelector('.top').children]
+        .filter((it) => it.checkVisibility() && it.getBoundingClientRect().height > 1)
+        .map((it) => it.getBoundingClientRect());
+    const isRow = top.every((it) => it.top < top[0].bottom && it.bottom > top[0].top);
+    return [...small, ...(isRow ? [] : ['the top has several rows'])];
+})()"""
+
+
 # Colours change within 90 ms, if the machine has time for it.
 CALM = """new Promise((done) => setTimeout(done, 150)).then(() => Promise.all(
     document.getAnimations().map((it) => it.finished.catch(() => {})))).then(() => null)"""

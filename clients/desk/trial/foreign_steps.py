@@ -42,7 +42,8 @@ SUBMIT = """(([address, body, isInSandbox]) => {
 # What became of a request by a script: whether the script saw an answer.
 FETCH = """(([address, method, mode, body, credentials = 'include']) =>
     fetch(address, { method, mode, body: body || undefined, credentials })
-        .then(async (reply) => [reply.type, reply.status, await reply.text()], () => ['none', 0, '']))"""
+        .then(async (reply) => [reply.type, reply.status, await reply.text()],
+            () => ['none', 0, '']))"""
 BEACON = "(([address, body]) => navigator.sendBeacon(address, body))"
 
 

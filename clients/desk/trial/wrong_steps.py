@@ -271,6 +271,15 @@ def others_edits(trial):
     office.put("clients", "c19", text.replace("Studio manager", "Studio chief"))
     page.run("window.dispatchEvent(new Event('focus'))")
     page.wait(f"{CARD}.includes('Studio chief')", 5)
+    # At once after a change of one's own.
+    open_form(page, "hugo", "Hugo Petit")
+    fill(page, "Position", "Senior partner")
+    page.asked.clear()
+    page.press("Save")
+    stored(office, "c07", "TITLE:Senior partner")
+    page.rest(3000)
+    put = next(at for at, it in enumerate(page.asked) if "/cards/c07" in it)
+    assert [it for it in page.asked[put:] if "/clients/sync" in it], page.asked
 
 
 EDIT = """(async ([book, edits]) => {
