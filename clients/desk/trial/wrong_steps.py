@@ -34,6 +34,14 @@ def nobody_shown(trial):
         time.sleep(0.3)
     time.sleep(2)
     page.wait(f"{TITLE} === 'Gwen Ashdown'", 5)
+    # That a card isn't here is said, and what is searched for doesn't take its place.
+    page.run("location.hash = '#/card/clients/not-there'")
+    page.wait(f"{PANE}.includes('This card isn')")
+    office.put("clients", "empty", card("empty", "FN:Aaf Nobody"))
+    page.press("Update now")
+    page.wait("document.querySelector('#books').textContent.includes('clients')")
+    page.rest(1500)
+    assert page.run(TITLE) is None and not page.run("Boolean(document.querySelector('#pane a'))")
     status, _, _ = office.request("PUT", "/books/empty")
     assert status in (201, 409), status
     page.press("Update now")

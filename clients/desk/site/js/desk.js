@@ -267,7 +267,7 @@ export class Desk {
     if (!pane.shown && !pane.missing) pane.blank();
     this.drawState();
     // What was searched for may come later than the search.
-    const isEmpty = !pane.shown && !pane.cardKey;
+    const isEmpty = !pane.shown && !pane.cardKey && !pane.missing;
     if (text !== "" && rows.length && isEmpty && !frame.isNarrow) this.list.select(0);
     this.mark();
   }
