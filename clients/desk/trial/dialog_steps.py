@@ -64,7 +64,7 @@ def dialogs(trial):
         page.key("Escape")
         hands.at("search")
     hands.press("Trash")
-    look(page, hands, "the trash", "Deleted, changed")
+    look(page, hands, "the trash", "Trash")
     page.key("Escape")
     search(page, "tilda twin")
     page.wait("document.querySelectorAll('#list .row').length === 2")

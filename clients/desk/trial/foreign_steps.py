@@ -107,10 +107,13 @@ def changes(number):
     ]
 
 
-def attack(page, other, office, number):
-    """All that a page at `other` can send to `office`. Returns how many requests that were."""
-    sent = 0
-    for path, body in changes(number):
+def attack(page, other, office, number, heard):
+    """
+    All that a page at `other` can send to `office`. `heard` says how many changes came there so
+    far. Returns how many came from here.
+    """
+    before = heard()
+    for sent, (path, body) in enumerate(changes(number)):
         page.go(other)
         called(page, SUBMIT, office + path, body, False)
         page.wait(f"location.href.startsWith({json.dumps(office)})", 20)
@@ -119,8 +122,7 @@ def attack(page, other, office, number):
         assert reply[0] in ("opaque", "none") and not reply[2], reply
         called(page, SUBMIT, office + path, body, True)
         called(page, BEACON, office + path, body)
-        sent += 4
-        page.rest(300)
+        until(lambda: heard() >= before + 4 * sent + 4)
     for method, path, body in (
         ("PUT", "books/staff/cards/evil", card("evil", "FN:Evil")),
         ("PUT", "books/evil", ""), ("DELETE", "books/staff/cards/hidden", ""),
@@ -130,7 +132,7 @@ def attack(page, other, office, number):
         assert reply == ["none", 0, ""], (method, path, reply)
     reply = called(page, FETCH, office + "books/staff/sync", "GET", "no-cors", "")
     assert reply == ["opaque", 0, ""] or reply[0] == "none", reply
-    return sent
+    return heard() - before
 
 
 def prepare(ask):
@@ -155,17 +157,20 @@ def other_site(trial):
     alone = Alone(trial.office, "guarded")
     other, older = Server(), Server(Older, to=alone.port)
     sites = [f"http://{name}:{other.port}/" for name in ("localhost", "127.0.0.1")]
+    def refused():
+        return alone.log().count("refused foreign-site 32 status 403")
+
     try:
         before = prepare(alone.ask)
         page = trial.browser.page(trial.browser.context())
         sent = sum(
-            attack(page, site, f"http://{name}:{alone.port}/", number)
+            attack(page, site, f"http://{name}:{alone.port}/", number, refused)
             for number, (site, name) in enumerate(
                 (site, name) for site in sites for name in ("127.0.0.1", "localhost")))
-        until(lambda: alone.log().count("refused foreign-site 32 status 403") >= sent, 20)
         assert state(alone.ask) == before
         # The same requests without the two fields are accepted: so it is the guard that refuses.
-        attack(page, sites[0], f"http://127.0.0.1:{older.port}/", 9)
+        attack(page, sites[0], f"http://127.0.0.1:{older.port}/", 9,
+               lambda: alone.log().count("request POST "))
         after = state(alone.ask)
         assert b"Evil" in after[1] and HIDDEN.encode() in after[3] and after[2] != before[2], after
     finally:
@@ -188,7 +193,8 @@ def other_site_before_nginx(trial):
         desk = trial.desks["admin"]
         page = trial.browser.page(desk.context)
         for number, name in enumerate(("localhost", "127.0.0.1")):
-            attack(page, f"http://{name}:{other.port}/", office.front, number)
+            attack(page, f"http://{name}:{other.port}/", office.front, number,
+                   lambda: sum(" POST " in it for it in office.heard()))
         refused = [it for it in office.heard() if it.startswith("403 admin POST")]
         # A form that leads away from the page has the user's password.
         for path, _ in changes(0) + changes(1)[:1]:

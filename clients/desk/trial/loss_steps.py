@@ -332,6 +332,7 @@ def conflict_offline(trial):
         "TITLE:Their position" if it.startswith("TITLE") else it for it in logical(text)))
     office.open()
     page.go(office.front)
+    page.front()  # it is asked where the user is, whichever tab sent it
     page.wait("document.querySelector('dialog table.conflict')")
     shown = page.run("document.querySelector('dialog').innerText")
     assert "My position" in shown and "Their position" in shown, shown

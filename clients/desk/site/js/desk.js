@@ -4,7 +4,6 @@ import { Bulk } from "./bulk.js";
 import { Api, Fault } from "./api.js";
 import { Drafts } from "./drafts.js";
 import { Duplicates } from "./duplicates.js";
-import { ASKS } from "./entries.js";
 import { Faces } from "./faces.js";
 import { Frame } from "./frame.js";
 import { History } from "./history.js";
@@ -15,7 +14,7 @@ import { Memory } from "./memory.js";
 import { Outbox } from "./outbox.js";
 import { Pane } from "./pane.js";
 import { Queue } from "./queue.js";
-import { askNext, showWaiting } from "./questions.js";
+import { askNext, closeAnswered, showWaiting } from "./questions.js";
 import { keyOf, Shelf } from "./shelf.js";
 import { Follower } from "./sync.js";
 import { t } from "./say.js";
@@ -64,6 +63,7 @@ export class Desk {
     this.chosen = "";
     this.mayList = true;
     this.later = new Set(); // questions that somebody put off
+    this.asked = null; // the entry about which somebody is asked now
     this.drawing = 0;
     this.showing = 0;
     this.tabs = new BroadcastChannel("desk");
@@ -176,7 +176,9 @@ export class Desk {
     this.refresh(keys);
     this.draw();
     this.drawWaiting();
-    if (isOurs && this.entries.some((it) => it.state === ASKS)) askNext(this);
+    closeAnswered(this);
+    // What another tab has sent is asked where the user is.
+    if (isOurs || document.hasFocus()) askNext(this);
   }
 
   /** A change couldn't be kept in this browser, as on a full disk: all is as it was. */
@@ -465,6 +467,7 @@ export class Desk {
   wake() {
     this.follow();
     this.outbox.run();
+    askNext(this);
   }
 
   heard(data) {

@@ -26,7 +26,7 @@ export class History {
   }
 
   /** What is kept of what was deleted, overwritten or dropped; some of it put back. */
-  async trash(title = t("trashTitle"), isWanted = () => true) {
+  async trash(title = t("trash"), isWanted = () => true) {
     const { desk } = this;
     const kept = (await desk.trash.all()).filter(isWanted)
       .filter((it) => it.why !== BY_OTHERS || !this.placesOf(it.uid).length);

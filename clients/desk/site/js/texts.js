@@ -90,7 +90,6 @@ export const TEXTS = {
   note: "Note",
   categories: "Categories",
   related: "Related",
-  languages: "Language and time zone",
   birthday: "Birthday",
   anniversary: "Anniversary",
   members: "Members",
@@ -132,7 +131,6 @@ export const TEXTS = {
   joinByOther: "of the other card",
   joined: "Put together: {name}",
   trash: "Trash",
-  trashTitle: "Deleted, changed or dropped here",
   trashText:
     "For 30 days this browser keeps what was deleted, overwritten or dropped in it. Putting it " +
     "back takes nothing else away.",
