@@ -172,7 +172,8 @@ export class Pane {
     const { shown } = this;
     if (shown?.kind !== "card") return;
     const seen = await this.desk.queue.seen(shown.book, shown.uid);
-    if (this.shown !== shown || this.coming) return;
+    // Another card may have been chosen by now, which isn't there yet.
+    if (this.shown !== shown || this.comingKey !== null) return;
     // Not while something of it is pressed, or while its menu is open.
     if (this.desk.isHeld || openMenu(this.node)) {
       setTimeout(() => this.again(), 150);
