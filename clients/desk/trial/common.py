@@ -43,6 +43,7 @@ class Trial:
             try:
                 page.picture(self.pictures / f"failed-{name}-{user}.png")
                 page.said.clear()
+                page.size(1280, 800)
             except Exception:
                 pass  # the browser is gone
         # The next steps find the network and a desk as they would have without this one.

@@ -123,18 +123,18 @@ export class Actions {
     if (!mails.length) {
       toast.call(this.desk.frame, t("mailNobody"));
     } else if (!href) {
-      this.copy(mails.join(", "));
-      toast.call(this.desk.frame, t("mailTooMany", { n: mails.length }) + said);
+      this.copy(mails.join(", "), t("mailTooMany", { n: mails.length }) + said);
     } else {
       location.href = href;
       toast.call(this.desk.frame, count("mailOpened", mails.length) + said);
     }
   }
 
-  async copy(value) {
+  /** Copies a value, and says so: in these words, if there are some. */
+  async copy(value, said = t("copied", { text: value })) {
     try {
       await navigator.clipboard.writeText(value);
-      this.desk.frame.toast(t("copied", { text: value }));
+      this.desk.frame.toast(said);
     } catch {
       this.desk.frame.toast(t("copyBad"));
     }
