@@ -13,7 +13,7 @@ from gateway import cards
 from gateway.books import Shelf
 from gateway.office import Offices
 from gateway.state import State
-from tosculai import lines_of, same
+from tosculai import Unreachable, lines_of, same
 
 
 def nobody(name):
@@ -290,6 +290,31 @@ class Following(GatewayTest):
                 self.assertGreater(self.count, at)
                 self.assertEqual(self.members(self.staff), {it.uid for it in self.book.entries()})
                 self.forget(f"u{at + 100}")
+
+    def test_a_book_that_is_read_anew_can_be_read_meanwhile(self):
+        """A reply in progress finds the cards that are there: a 404 would remove them from a phone.
+
+        If the load breaks off, none of them goes, and none that is gone stays after the next one.
+        """
+        for number in range(130):
+            self.staff.put(card(f"u{number:03}", "U"))
+        self.book.refresh()
+        self.forget("u007")
+        found = []
+
+        def one():
+            self.count += 1
+            found.append(len(self.book.entries()))
+            if self.count == 3:  # the first request is refused, the next ones read two pages
+                raise Unreachable("the server is away")
+            return self.one()
+
+        self.shelf.offices.one = one
+        with self.assertRaises(Unreachable):
+            self.book.refresh()
+        self.assertEqual([130] * 3, found)
+        self.book.refresh()
+        self.assertEqual(self.members(self.staff), {it.uid for it in self.book.entries()})
 
     def forget(self, uid):
         self.staff.remove(uid)

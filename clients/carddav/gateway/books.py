@@ -7,7 +7,7 @@ sent with the version that the client saw, so nobody's edit is overwritten unsee
 
 import threading
 import time
-from typing import Callable, Collection, Dict, Iterator, List, NamedTuple, Optional, Tuple
+from typing import Callable, Collection, Dict, Iterator, List, NamedTuple, Optional, Set, Tuple
 
 from tosculai import Card, InvalidToken, NoSuchBook, Page, lines_of
 
@@ -92,40 +92,54 @@ class AddressBook:
     # Following the server.
 
     def refresh(self) -> str:
-        """Brings the copy to what the server has, and returns the token of that for clients."""
+        """Brings the copy to what the server has, and returns the token of that for clients.
+
+        The server may refuse the copy's token, also between two pages, if the book forgets or
+        starts anew. Then all cards are read again.
+        """
         with self.lock:
-            token, loading = self.state.token(self.number), None
-            for page in self._pages(token):
-                loading = loading or (Loading(self) if page.truncated else None)
-                if loading:
-                    loading.tell(len(page.members))
-                if page.members or page.token != token:
-                    self.state.apply(self.number, [row_of(it) for it in page.members], page.token)
-                    self._tell(page.members)
-                token = page.token
-            if loading:
-                loading.end()
+            for left in reversed(range(ROUNDS)):
+                try:
+                    token = self._follow(self.state.token(self.number))
+                    break
+                except InvalidToken:
+                    if not left:
+                        raise
+                    self.shelf.say(f"{self.name}: the server refuses the copy's token; all cards "
+                                   "anew")
+                    self._restart()
             self.state.whole(self.number)
             return self._wrapped(token)
 
-    def _pages(self, token: str) -> Iterator[Page]:
-        """All pages since the token; since ever if it is refused, after the copy was cleared.
+    def _follow(self, token: str) -> str:
+        """Brings the copy from this token to the newest one.
 
-        It may be refused between two pages, too, if the book forgets or starts anew meanwhile.
+        Without a token all cards are read. Those that were in the copy before stay until the end,
+        since a reply to a program may be reading them: a card that it misses is removed there.
         """
-        for left in reversed(range(ROUNDS)):
-            try:
-                yield from self.pages(token)
-                return
-            except InvalidToken:
-                if not left:
-                    raise
-                self.shelf.say(f"{self.name}: the server refuses the copy's token; all cards anew")
-                self._clear()
-                token = ""
+        seen: Optional[Set[str]] = None if token or not self.state.count(self.number) else set()
+        loading = None
+        for page in self.pages(token):
+            loading = loading or (Loading(self) if page.truncated else None)
+            if loading:
+                loading.tell(len(page.members))
+            if page.members or page.token != token:
+                rows = [row_of(it) for it in page.members]
+                if seen is None:
+                    self.state.apply(self.number, rows, page.token)
+                else:
+                    seen.update(it.uid for it in rows)
+                    self.state.apply(self.number, rows, "" if page.truncated else page.token,
+                                     None if page.truncated else seen)
+                self._tell(page.members)
+            token = page.token
+        if loading:
+            loading.end()
+        return token
 
-    def _clear(self) -> None:
-        self.state.clear(self.number)
+    def _restart(self) -> None:
+        """Lets the next refresh read all cards."""
+        self.state.drop_token(self.number)
         self._people = None
 
     def _tell(self, members: List[Card]) -> None:
@@ -161,7 +175,7 @@ class AddressBook:
             found = self.state.entry(self.number, uid)
             if (found and found.version) == (old and old.version):
                 self.shelf.say(f"{self.name}: the copy isn't the server's; all cards anew")
-                self._clear()
+                self._restart()
                 self.refresh()
 
     # Reading.

@@ -19,7 +19,7 @@ import secrets
 import sqlite3
 import threading
 from contextlib import contextmanager
-from typing import Iterable, Iterator, List, NamedTuple, Optional, Tuple
+from typing import Collection, Iterable, Iterator, List, NamedTuple, Optional, Tuple
 
 SCHEMA_NUMBER = "1"
 SCHEMA = """
@@ -163,18 +163,25 @@ class State:
         found = self.rows("SELECT token FROM books WHERE book = ?", book)
         return str(found[0][0]) if found else ""
 
-    def clear(self, book: int) -> None:
+    def drop_token(self, book: int) -> None:
+        """Lets the copy be read anew; its cards stay until that is done."""
         with self.changing():
-            self._db.execute("DELETE FROM cards WHERE book = ?", (book,))
             self._db.execute("DELETE FROM books WHERE book = ?", (book,))
             self._db.execute("UPDATE views SET token = '' WHERE book = ?", (book,))
 
-    def apply(self, book: int, rows: List[Row], token: str) -> None:
-        """Puts a page of the server into the copy, and keeps its token, in one transaction."""
+    def apply(self, book: int, rows: List[Row], token: str,
+              only: Optional[Collection[str]] = None) -> None:
+        """Puts a page of the server into the copy, and keeps its token, in one transaction.
+
+        If `only` is given, the copy keeps no card but those of these UIDs.
+        """
         there = [row for row in rows if row.text]
         gone = [(book, row.uid) for row in rows if not row.text]
         self.assign(book, [row.uid for row in there])  # before a client may be told of them
         with self.changing():
+            if only is not None:
+                found = self._db.execute("SELECT uid FROM cards WHERE book = ?", (book,))
+                gone += [(book, uid) for uid, in found if uid not in only]
             self._db.executemany("DELETE FROM cards WHERE book = ? AND uid = ?", gone)
             self._db.executemany("INSERT OR REPLACE INTO cards VALUES (?, ?, ?, ?, ?)",
                                  [(book, *row) for row in there])
