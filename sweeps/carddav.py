@@ -55,6 +55,8 @@ BUGS = [
      '            self._db.execute("DELETE FROM books WHERE book = ?", (book,))\n',
      '            self._db.execute("DELETE FROM books WHERE book = ?", (book,))\n'
      '            self._db.execute("DELETE FROM cards WHERE book = ?", (book,))\n', "carddav_cards"),
+    ("a book's number is another book's", "carddav/gateway/books.py",
+     "        if not known.items() <= found.items():\n", "        if False:\n", "carddav_resync"),
     ("what is gone stays in a copy that is read anew", "carddav/gateway/state.py",
      "for uid, in found if uid not in only]", "for uid, in found if False]", "carddav_cards"),
     ("a token without the epoch is accepted", "carddav/gateway/books.py",
@@ -128,7 +130,7 @@ BUGS = [
      "SUMMARY:{escaped(texts.summary(kind, name, date.year))}",
      "SUMMARY:{texts.summary(kind, name, date.year)}", "birthdays"),
     ("umlauts have one spelling", "carddav/gateway/finding.py",
-     '("" if spelt == folded else " " + spelt)', '""', "find"),
+     "{'' if spelt == folded else spelt}", "", "find"),
     ("another book is read by LDAP", "ldap/directory/entries.py",
      'if rights.get(it, rights.get("*"))]', "if rights]", "ldap"),
     ("a password without TLS is taken", "ldap/directory/session.py",

@@ -7,6 +7,7 @@ sent with the version that the client saw, so nobody's edit is overwritten unsee
 
 import threading
 import time
+from contextlib import ExitStack
 from typing import Callable, Collection, Dict, Iterator, List, NamedTuple, Optional, Set, Tuple
 
 from tosculai import Card, InvalidToken, NoSuchBook, Page, lines_of
@@ -49,9 +50,18 @@ class Shelf:
         self._lock = threading.Lock()
 
     def names(self) -> List[str]:
-        """The names of all books, as the server has them now."""
+        """The names of all books, as the server has them now.
+
+        A book is never removed, and keeps its number. So if one of before isn't there, another file
+        is served, and each program lists all cards again.
+        """
+        known = self.state.books()
         with self.offices.one() as office:
             found = {str(it["name"]): int(it["id"]) for it in office.books()}
+        if not known.items() <= found.items():
+            self._start_over()
+        if known != found:
+            self.state.note_books(found)
         with self._lock:
             for name, number in found.items():
                 if name not in self._books or self._books[name].number != number:
@@ -59,6 +69,15 @@ class Shelf:
             for name in set(self._books) - set(found):
                 del self._books[name]
         return sorted(found)
+
+    def _start_over(self) -> None:
+        self.say("a book is gone from the server, so its file is another one: all cards anew")
+        with ExitStack() as locks:
+            for book in sorted(self._books.values(), key=lambda it: it.number):
+                locks.enter_context(book.lock)
+            self.state.start_over()
+            for book in self._books.values():
+                book.forget_people()
 
     def book(self, name: str) -> "AddressBook":
         if name not in self._books:
@@ -109,7 +128,7 @@ class AddressBook:
                                    "anew")
                     self._restart()
             self.state.whole(self.number)
-            return self._wrapped(token)
+            return wrapped_token(token, self.state.epoch)
 
     def _follow(self, token: str) -> str:
         """Brings the copy from this token to the newest one.
@@ -140,6 +159,9 @@ class AddressBook:
     def _restart(self) -> None:
         """Lets the next refresh read all cards."""
         self.state.drop_token(self.number)
+        self.forget_people()
+
+    def forget_people(self) -> None:
         self._people = None
 
     def _tell(self, members: List[Card]) -> None:
@@ -224,10 +246,6 @@ class AddressBook:
 
     # Tokens of clients.
 
-    def _wrapped(self, token: str) -> str:
-        """A token for clients: that of the server, and the epoch of the names."""
-        return f"{token}?names={self.state.epoch}"
-
     def _unwrapped(self, wrapped: str) -> str:
         token, _, epoch = wrapped.rpartition("?names=")
         if wrapped and (epoch != self.state.epoch or not token):
@@ -236,7 +254,7 @@ class AddressBook:
 
     def changes(self, wrapped: str, limit: Optional[int] = None) -> Changes:
         """What changed since a client's token, or since ever. Raises InvalidToken."""
-        token = self._unwrapped(wrapped)
+        token, epoch = self._unwrapped(wrapped), self.state.epoch
         with self.lock:
             now = self.refresh()
             if not wrapped and limit is None:
@@ -249,7 +267,8 @@ class AddressBook:
             members.update((it.uid, bool(it.version)) for it in page.members)
             token, truncated = page.token, page.truncated
         self.refresh()  # so the copy is as new as the pages, or newer
-        return self._told(members, bool(wrapped), self._wrapped(token), truncated)
+        # If the names were lost meanwhile, the token of before them is refused.
+        return self._told(members, bool(wrapped), wrapped_token(token, epoch), truncated)
 
     def _told(self, members: Dict[str, bool], has_token: bool, token: str,
               truncated: bool) -> Changes:
@@ -282,6 +301,11 @@ class Loading:
     def end(self) -> None:
         seconds = time.monotonic() - self._begun
         self._book.shelf.say(f"{self._book.name}: {self._count:,} changes read in {seconds:.1f} s")
+
+
+def wrapped_token(token: str, epoch: str) -> str:
+    """A token for clients: that of the server, and the epoch of the names."""
+    return f"{token}?names={epoch}"
 
 
 def row_of(card: Card) -> Row:

@@ -197,12 +197,15 @@ def query(answer: Answer, wanted: Optional[ET.Element], limit: Optional[int]) ->
 def _matching(answer: Answer, wanted: Optional[ET.Element], limit: Optional[int]) -> Iterator[str]:
     count = 0
     for entry in answer.book.entries():
+        text = ""
         if wanted is not None and len(wanted):
-            text = answer.book.text(entry)
-            if text is None or not filters.matches(wanted, cards.written(text, answer.wanted.as4)):
+            found = answer.book.card("cards.uid", entry.uid)  # it may have been edited meanwhile
+            if not found or not filters.matches(wanted, cards.written(found[1],
+                                                                      answer.wanted.as4)):
                 continue
+            entry, text = found
         if count == limit:
             yield answer.more()
             return
-        yield answer.of(entry)
+        yield answer.full(entry, text) if text else answer.of(entry)
         count += 1

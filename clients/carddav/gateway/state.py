@@ -19,7 +19,7 @@ import secrets
 import sqlite3
 import threading
 from contextlib import contextmanager
-from typing import Collection, Iterable, Iterator, List, NamedTuple, Optional, Tuple
+from typing import Collection, Dict, Iterable, Iterator, List, NamedTuple, Optional, Tuple
 
 SCHEMA_NUMBER = "1"
 SCHEMA = """
@@ -135,8 +135,19 @@ class State:
                 self._db.execute(f"DELETE FROM {table}")
             self.epoch = secrets.token_hex(4)
             self._db.execute("UPDATE facts SET value = ? WHERE name = 'epoch'", (self.epoch,))
+            self._db.execute("DELETE FROM facts WHERE name GLOB 'book:*'")
             self._db.execute("INSERT OR IGNORE INTO stale SELECT DISTINCT book FROM names")
         self._stale = {int(it) for it, in self._db.execute("SELECT book FROM stale")}
+
+    def books(self) -> Dict[str, int]:
+        """The books that the office is known to have: their numbers by name."""
+        found = self.rows("SELECT substr(name, 6), value FROM facts WHERE name GLOB 'book:*'")
+        return {str(name): int(number) for name, number in found}
+
+    def note_books(self, books: Dict[str, int]) -> None:
+        with self.changing(durably=True):
+            self._db.executemany("INSERT OR IGNORE INTO facts VALUES (?, ?)",
+                                 [(f"book:{name}", str(it)) for name, it in books.items()])
 
     def whole(self, book: int) -> None:
         """Notes that the copy has the whole book, before a client gets a token of it."""
