@@ -55,6 +55,11 @@ BUGS = [
      '            self._db.execute("DELETE FROM books WHERE book = ?", (book,))\n',
      '            self._db.execute("DELETE FROM books WHERE book = ?", (book,))\n'
      '            self._db.execute("DELETE FROM cards WHERE book = ?", (book,))\n', "carddav_cards"),
+    ("a card that is edited while it is read isn't found", "carddav/gateway/dav.py",
+     '        found = place.book.card("names.name", place.name)\n',
+     "        entry = place.book.named(place.name)\n"
+     "        old = place.book.text(entry) if entry else None\n"
+     "        found = (entry, old) if entry and old else None\n", "carddav_cards"),
     ("a book's number is another book's", "carddav/gateway/books.py",
      "        if not known.items() <= found.items():\n", "        if False:\n", "carddav_resync"),
     ("what is gone stays in a copy that is read anew", "carddav/gateway/state.py",
@@ -111,7 +116,7 @@ BUGS = [
     ("people don't follow the book", "carddav/gateway/books.py",
      "                    self._tell(page.members)\n", "", "find"),
     ("a book that is read anew keeps its people", "carddav/gateway/books.py",
-     "        self.state.drop_token(self.number)\n        self._people = None",
+     "        self.state.drop_token(self.number)\n        self.forget_people()",
      "        self.state.drop_token(self.number)", "phonebook"),
     ("a refusal is a caller's name", "carddav/gateway/feeds.py",
      '({"X-Reason": words} if words else {})}, b"")',
