@@ -55,6 +55,9 @@ BUGS = [
      '            self._db.execute("DELETE FROM books WHERE book = ?", (book,))\n',
      '            self._db.execute("DELETE FROM books WHERE book = ?", (book,))\n'
      '            self._db.execute("DELETE FROM cards WHERE book = ?", (book,))\n', "carddav_cards"),
+    ("Thunderbird asks with a refused token for ever", "carddav/gateway/reports.py",
+     'code = 400 if answer.request.program == "Thunderbird" else 403', "code = 403",
+     "carddav_rules"),
     ("a card that is edited while it is read isn't found", "carddav/gateway/dav.py",
      '        found = place.book.card("names.name", place.name)\n',
      "        entry = place.book.named(place.name)\n"

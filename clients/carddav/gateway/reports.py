@@ -151,7 +151,10 @@ def sync(answer: Answer, root: ET.Element, limit: Optional[int]) -> Iterator[str
     try:
         changes = answer.book.changes((root.findtext(dav("sync-token")) or "").strip(), limit)
     except InvalidToken:
-        raise Fault(403, "the token is refused: list all cards, without a token",
+        # RFC 6578 has 403 for this. Thunderbird lists all cards after a 400 alone, and would ask
+        # with the same token for ever.
+        code = 400 if answer.request.program == "Thunderbird" else 403
+        raise Fault(code, "the token is refused: list all cards, without a token",
                     BAD_TOKEN) from None
     return _synced(answer, changes.there, changes.gone, changes.token, changes.truncated)
 
