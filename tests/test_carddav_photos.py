@@ -18,8 +18,8 @@ from tosculai import lines_of
 
 LARGE = bytes(random.Random(1).getrandbits(8) for _ in range(400_000))
 # What may come before a file.
-HEADS = ["PHOTO;ENCODING=b;TYPE=JPEG:", 'item1.photo;encoding=B;X-P="a:b":', "PHOTO;X=é;ENCODING=b:",
-         "LOGO:data:image/png;base64,", "KEY;PREF=1:DATA:a/b;c=d;BASE64,"]
+HEADS = ["PHOTO;ENCODING=b;TYPE=JPEG:", 'item1.photo;encoding=B;X-P="a:b":',
+         "PHOTO;X=é;ENCODING=b:", "LOGO:data:image/png;base64,", "KEY;PREF=1:DATA:a/b;c=d;BASE64,"]
 
 
 class Photos(GatewayTest):

@@ -154,9 +154,9 @@ class State:
         if book not in self._stale:
             return
         with self.changing(durably=True):
-            self._db.execute("DELETE FROM names WHERE book = ? AND (old = 1 OR NOT EXISTS (SELECT 1"
-                             " FROM cards WHERE cards.book = names.book AND cards.uid = names.uid))",
-                             (book,))
+            self._db.execute("DELETE FROM names WHERE book = ? AND (old = 1 OR NOT EXISTS ("
+                             "SELECT 1 FROM cards WHERE cards.book = names.book AND"
+                             " cards.uid = names.uid))", (book,))
             self._db.execute("DELETE FROM stale WHERE book = ?", (book,))
         self._stale.discard(book)
 
