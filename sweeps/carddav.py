@@ -119,7 +119,7 @@ BUGS = [
     ("a removed card is still found", "carddav/gateway/people.py",
      "self.numbers.drop(uid, (it.text for it in old.phones))", "pass", "phonebook"),
     ("people don't follow the book", "carddav/gateway/books.py",
-     "                    self._tell(page.members)\n", "", "find"),
+     "                self._tell(page.members)\n", "", "find"),
     ("a book that is read anew keeps its people", "carddav/gateway/books.py",
      "        self.state.drop_token(self.number)\n        self.forget_people()",
      "        self.state.drop_token(self.number)", "phonebook"),
