@@ -110,6 +110,58 @@ class Conditions(GatewayTest):
         self.assertLess({"LANG:de", "TEL:+2"}, set(lines_of(self.staff.get("a").text)))
 
 
+class WithoutConditions(GatewayTest):
+    """Thunderbird changes cards without If-Match: others may have changed them since it read them.
+
+    As its CardDAVDirectory does it: it reads by reports, and sends no condition at all.
+    """
+
+    AGENT = "Mozilla/5.0 (X11; Linux x86_64; rv:153.0) Gecko/20100101 Thunderbird/153.8.0"
+
+    def setUp(self):
+        super().setUp()
+        self.thunderbird = self.stack.client(program=self.AGENT)
+        self.addCleanup(self.thunderbird.close)
+
+    def read(self):
+        return self.thunderbird.multiget(STAFF, [STAFF + "a.vcf"]).cards()[STAFF + "a.vcf"]
+
+    def put(self, text):
+        self.assertEqual(204, self.thunderbird.ask("PUT", STAFF + "a.vcf", text).status)
+        return lines_of(self.staff.get("a").text)
+
+    def test_edits_of_both_are_kept(self):
+        self.staff.put(card("a", "Ann", "TEL:+1", "TEL:+9", "NOTE:old", "LANG:fr"))
+        text = self.read()
+        for lines in (["TEL:+2", "TEL:+9", "NOTE:old"], ["TEL:+2", "TEL:+9", "EMAIL:a@e.test"]):
+            self.staff.put(card("a", "Ann", *lines, "LANG:de"))
+            self.dav.sync(STAFF)
+        self.stack.restart()
+        self.dav.close()
+        self.thunderbird.close()
+        found = self.put(text.replace("FN:Ann", "FN:Anna").replace("TEL:+9", "TEL:+8"))
+        self.assertLessEqual({"FN:Anna", "TEL:+2", "TEL:+8", "EMAIL:a@e.test", "LANG:de"},
+                             set(found))
+        self.assertFalse({"TEL:+1", "TEL:+9", "NOTE:old", "FN:Ann"} & set(found), found)
+
+    def test_both_change_one_line(self):
+        """Both numbers stay; of a name, which a card has once, the later one."""
+        self.staff.put(card("a", "Ann", "TEL:+1", "N:Lee;Ann;;;"))
+        text = self.read()
+        self.staff.put(card("a", "Anne", "TEL:+2", "N:Lee;Anne;;;"))
+        found = self.put(text.replace("Ann", "Anna").replace("TEL:+1", "TEL:+3"))
+        self.assertEqual(["FN:Anna", "N:Lee;Anna;;;", "TEL:+2", "TEL:+3"],
+                         sorted(it for it in found if it.startswith(("FN", "N:", "TEL"))))
+
+    def test_what_it_has_read_it_may_take_back(self):
+        self.staff.put(card("a", "Ann", "TEL:+1"))
+        text = self.read()
+        self.staff.put(card("a", "Ann", "TEL:+2"))
+        self.read()
+        self.assertIn("TEL:+1", self.put(text))
+        self.assertNotIn("TEL:+2", lines_of(self.staff.get("a").text))
+
+
 class Names(GatewayTest):
     """Names that clients choose are kept, also of removed cards, and over kills."""
 

@@ -215,6 +215,28 @@ def merged(lines: List[str], base: List[str]) -> List[str]:
     return [it for it in whole if it]
 
 
+def rebased(was: str, own: str, other: str) -> str:
+    """The edit that made `own` of `was`, made of `other`.
+
+    What it removed goes, and what it added comes. Of a property that a card has once its value wins.
+    """
+    before, after = Counter(map(key_of, lines_of(was))), Counter(map(key_of, lines_of(own)))
+    gone, new = before - after, after - before
+    once = {name_of(it) for it in lines_of(own) if new[key_of(it)]} & {"PRODID", *vcard3.ONCE}
+    lines = []
+    for it in lines_of(other):
+        new[key_of(it)] -= 1  # others made the same edit, or no edit was made
+        if gone[key_of(it)]:
+            gone[key_of(it)] -= 1
+        elif name_of(it) not in once or new[key_of(it)] >= 0:
+            lines.append(it)
+    for it in lines_of(own):
+        if new[key_of(it)] > 0:
+            new[key_of(it)] -= 1
+            lines.insert(len(lines) - 1, it)
+    return "".join(it + "\r\n" for it in merged(lines, lines_of(other)))
+
+
 def name_of(text: str) -> str:
     """The name of a line's property."""
     head = re.split("[:;]", text, 1)[0]

@@ -17,7 +17,7 @@ from gateway import cards
 from gateway.books import AddressBook, Missing
 from gateway.files import Files
 from gateway.photos import Fitted
-from gateway.state import Entry
+from gateway.state import Entry, reader_of
 
 ROUNDS = 5  # attempts of a change without a condition, if others change the card meanwhile
 
@@ -93,7 +93,7 @@ def put(book: AddressBook, name: str, sent: Sent, conditions: Conditions) -> Sto
             fault = conditions.fault(old)
             if fault and not (old and conditions.match):
                 raise fault
-            fitted = merged(book, name, sent, old, base)
+            fitted = merged_unseen(book, name, sent, conditions, old, base)
             if fault and lines_of(fitted.text) != lines_of(base):
                 raise fault  # else the edit was made before, and its reply was lost
             stored = put_once(book, name, sent, old, base, fitted)
@@ -153,6 +153,18 @@ def merged(book: AddressBook, name: str, sent: Sent, old: Optional[Entry], base:
     bare = book.shelf.photos.bare(base)
     whole = cards.newer(sent.text, bare.text, book.has, uid, knows)
     return book.shelf.photos.fitted(whole, bare, sent.files, sent.address)
+
+
+def merged_unseen(book: AddressBook, name: str, sent: Sent, conditions: Conditions,
+                  old: Optional[Entry], base: str) -> Fitted:
+    """The same, also if the program doesn't say which version it has edited, and somebody has
+    changed the card since it read it: then the edits of both are in it."""
+    reader = reader_of(sent.user, sent.program)
+    seen = book.state.seen(reader, book.number, old.uid) if old and not conditions.any else None
+    if seen is None:
+        return merged(book, name, sent, old, base)
+    fitted = merged(book, name, sent, old, seen)
+    return fitted._replace(text=cards.rebased(seen, fitted.text, base))
 
 
 def check_uid(book: AddressBook, name: str, old: Optional[Entry], uid: str) -> None:

@@ -16,6 +16,10 @@ NO_REPORT, NO_DEPTH = f"{{{D}}}supported-report", f"{{{D}}}propfind-finite-depth
 NO_COLLATION = f"{{{C}}}supported-collation"
 
 
+# Programs that change a card without saying which version of it they have read.
+BLIND = ("Thunderbird",)
+
+
 class Request(NamedTuple):
     method: str
     target: str  # as it was sent

@@ -9,12 +9,12 @@ from tosculai import InvalidToken
 from gateway import cards, davxml, filters
 from gateway.books import AddressBook, Missing, Shelf
 from gateway.davxml import HEAD, SPACES, element, escaped, href, status
-from gateway.messages import (BAD_TOKEN, NO_REPORT, NO_VERSION, TOO_MANY, XML, Fault, Reply,
+from gateway.messages import (BAD_TOKEN, BLIND, NO_REPORT, NO_VERSION, TOO_MANY, XML, Fault, Reply,
                               Request)
 from gateway.photos import Photos
 from gateway.places import Place, place_of
 from gateway.properties import ADDRESS_DATA, GETETAG, REPORTS, Resource, card, dav, respond
-from gateway.state import Entry
+from gateway.state import Entry, reader_of
 
 END = "</D:multistatus>\n"
 
@@ -117,6 +117,9 @@ class Answer(NamedTuple):
 
     def full(self, entry: Entry, text: str) -> str:
         """The response for a card with its text."""
+        if self.wanted.has_data and self.request.program in BLIND:
+            reader = reader_of(self.request.user, self.request.program)
+            self.book.state.note_seen(reader, self.book.number, entry)
         it = Resource(self.request, self.card_place(entry.name), self.has4, entry)
         data = escaped(self.data(text)) if self.wanted.has_data else None
         return respond(it, self.wanted.tags, self.wanted.minimal, data)

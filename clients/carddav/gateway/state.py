@@ -4,6 +4,8 @@
   A name is kept for good, also of a card that was removed: its removal is told under that name.
 - **Copies.** The cards of each book with the server's token, so that memory holds no texts and a
   start reads nothing again. They can be lost: they are made anew.
+- **What was seen.** Which version of a card a program has read that doesn't say so when it changes
+  one, and the texts of the last versions, from which its edit is told.
 - **Files.** Who was the first to store each file of photos.py, and how large it is.
 - **Views.** What is shown to programs whose groups are categories (shown.py).
 - **The epoch** is a part of each token for clients. If this file is lost, so are the names; then
@@ -33,6 +35,11 @@ CREATE TABLE IF NOT EXISTS cards (book INTEGER NOT NULL, uid TEXT NOT NULL,
     version INTEGER NOT NULL, etag TEXT NOT NULL, card TEXT NOT NULL, UNIQUE (book, uid));
 CREATE TABLE IF NOT EXISTS known (program TEXT NOT NULL, property TEXT NOT NULL,
     PRIMARY KEY (program, property)) WITHOUT ROWID;
+CREATE TABLE IF NOT EXISTS seen (program TEXT NOT NULL, book INTEGER NOT NULL, uid TEXT NOT NULL,
+    version INTEGER NOT NULL, PRIMARY KEY (book, uid, program)) WITHOUT ROWID;
+CREATE TABLE IF NOT EXISTS olds (number INTEGER PRIMARY KEY, book INTEGER NOT NULL,
+    uid TEXT NOT NULL, version INTEGER NOT NULL, card TEXT NOT NULL);
+CREATE INDEX IF NOT EXISTS olds_of_cards ON olds (book, uid, version);
 CREATE TABLE IF NOT EXISTS files (digest TEXT PRIMARY KEY, user TEXT NOT NULL,
     octets INTEGER NOT NULL) WITHOUT ROWID;
 CREATE TABLE IF NOT EXISTS views (book INTEGER PRIMARY KEY, token TEXT NOT NULL,
@@ -52,6 +59,7 @@ CREATE TABLE IF NOT EXISTS wishes (book INTEGER NOT NULL, uid TEXT NOT NULL, dig
     joins TEXT NOT NULL, leaves TEXT NOT NULL, teams TEXT NOT NULL, PRIMARY KEY (book, uid))
     WITHOUT ROWID;
 """
+OLDS_MAX, OLD_MAX = 5_000, 65_536  # texts of former versions, and characters of one
 VIEWS = ("views", "shown", "teams", "members", "wishes")  # what shown.py keeps
 PLAIN = re.compile(r"[A-Za-z0-9_][A-Za-z0-9_@.=+-]{0,99}")
 ENTRIES = ("SELECT names.name, cards.uid, cards.version, cards.etag FROM cards JOIN names"
@@ -131,7 +139,7 @@ class State:
         once a book is read.
         """
         with self.changing(durably=True):
-            for table in ("books", "cards", *VIEWS):
+            for table in ("books", "cards", "seen", "olds", *VIEWS):
                 self._db.execute(f"DELETE FROM {table}")
             self.epoch = secrets.token_hex(4)
             self._db.execute("UPDATE facts SET value = ? WHERE name = 'epoch'", (self.epoch,))
@@ -193,10 +201,38 @@ class State:
             if only is not None:
                 found = self._db.execute("SELECT uid FROM cards WHERE book = ?", (book,))
                 gone += [(book, uid) for uid, in found if uid not in only]
-            self._db.executemany("DELETE FROM cards WHERE book = ? AND uid = ?", gone)
+            for table in "cards", "seen", "olds":
+                self._db.executemany(f"DELETE FROM {table} WHERE book = ? AND uid = ?", gone)
+            self._keep_olds(book, there)
             self._db.executemany("INSERT OR REPLACE INTO cards VALUES (?, ?, ?, ?, ?)",
                                  [(book, *row) for row in there])
             self._db.execute("INSERT OR REPLACE INTO books VALUES (?, ?)", (book, token))
+
+    def _keep_olds(self, book: int, rows: List[Row]) -> None:
+        """Keeps the texts that these rows replace, and drops those that were kept long ago."""
+        self._db.executemany("INSERT INTO olds (book, uid, version, card) SELECT book, uid, version,"
+                             " card FROM cards WHERE book = ? AND uid = ? AND version <> ?"
+                             f" AND length(card) <= {OLD_MAX}",
+                             [(book, row.uid, row.version) for row in rows])
+        self._db.execute("DELETE FROM olds WHERE number <= (SELECT max(number) FROM olds) - ?",
+                         (OLDS_MAX,))
+
+    def note_seen(self, program: str, book: int, entry: Entry) -> None:
+        """Notes that the program has read this version of the card."""
+        with self.changing():
+            self._db.execute("INSERT OR REPLACE INTO seen VALUES (?, ?, ?, ?)",
+                             (program, book, entry.uid, entry.version))
+
+    def seen(self, program: str, book: int, uid: str) -> Optional[str]:
+        """The text of the version that the program read last, if it isn't the card's present one
+        and is kept."""
+        found = self.rows("SELECT olds.card FROM seen JOIN olds ON olds.book = seen.book AND"
+                          " olds.uid = seen.uid AND olds.version = seen.version WHERE"
+                          " seen.program = ? AND seen.book = ? AND seen.uid = ? AND NOT EXISTS ("
+                          "SELECT 1 FROM cards WHERE cards.book = seen.book AND"
+                          " cards.uid = seen.uid AND cards.version = seen.version)"
+                          " ORDER BY olds.number DESC LIMIT 1", program, book, uid)
+        return str(found[0][0]) if found else None
 
     def entries(self, book: int) -> List[Entry]:
         return [Entry(*row) for row in self.rows(ENTRIES, book)]
@@ -318,6 +354,11 @@ class State:
     def forget_file(self, digest: str) -> None:
         with self.changing():
             self._db.execute("DELETE FROM files WHERE digest = ?", (digest,))
+
+
+def reader_of(user: str, program: str) -> str:
+    """What a user's program is called in the table of what was seen."""
+    return f"{user} {program}"
 
 
 Undo = List[Tuple[str, str, Optional[int]]]  # rows of names as they were; None was no row
