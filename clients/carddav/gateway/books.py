@@ -72,11 +72,12 @@ class Shelf:
 
     def _start_over(self) -> None:
         self.say("a book is gone from the server, so its file is another one: all cards anew")
+        books = sorted(self._books.values(), key=lambda it: it.number)
         with ExitStack() as locks:
-            for book in sorted(self._books.values(), key=lambda it: it.number):
+            for book in books:
                 locks.enter_context(book.lock)
             self.state.start_over()
-            for book in self._books.values():
+            for book in books:
                 book.forget_people()
 
     def book(self, name: str) -> "AddressBook":
