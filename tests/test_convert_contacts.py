@@ -9,6 +9,7 @@ import io
 import unittest
 import uuid
 
+from contact_rows import EXPORTS
 from converted_cards import added_uid
 from order_trials import OrderTest
 from program import ROOT, Ended, run
@@ -163,6 +164,17 @@ class ConvertContacts(OrderTest):
                 wanted = [row_uid(OUTLOOK_ROWS[place]) for place in (0, 2, 4)]
                 self.assertEqual(wanted, [row[0] for row in rows])
                 self.checked(ended.out, 3)
+
+    def test_whole_cards(self):
+        """The lines of each card in their order, with its UID."""
+        for title, octets, lines, report in EXPORTS:
+            with self.subTest(title):
+                ended = self.convert(octets)
+                self.assertEqual(report, ended.err.decode())
+                [[uid, card]] = rows_of(ended.out)
+                self.assertEqual(lines[0], "UID:" + uid)
+                whole = ["BEGIN:VCARD", "VERSION:4.0", *lines, "END:VCARD", ""]
+                self.assertEqual(whole, card.replace("\r\n ", "").split("\r\n"))
 
     def test_windows_1252(self):
         octets = csv_text([OUTLOOK_HEAD, JURGEN]).encode("cp1252")

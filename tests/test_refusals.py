@@ -92,6 +92,11 @@ AS_BEFORE = [
     ),
 ]
 
+# What follows the address in texts that are no tokens.
+NO_NUMBERS = [
+    "1", "1/4/", "/4/4", "1//4", "1/4/4/4", "01/4/4", "1/0/00", "1/-3/4", "1/4/4 ", "1/4/a",
+    "1/4/10000000000000", "10000000000000/4/4", "1/4/99999999999999999999",
+]
 REFUSALS = [
     ("no book to count", tally("none"), NOT_FOUND, NO_BOOK),
     ("no book to report", sync("none"), NOT_FOUND, NO_BOOK),
@@ -140,6 +145,12 @@ REFUSALS = [
     ("a sign", sync("staff", "1/+3/4"), FORBIDDEN, bad_token(1)),
     ("two numbers", sync("staff", "1/4"), FORBIDDEN, bad_token(1)),
     ("more after it", sync("staff", "1/4/4/"), FORBIDDEN, bad_token(1)),
+    *((f"no numbers: {it!r}", sync("staff", it), FORBIDDEN, bad_token(1)) for it in NO_NUMBERS),
+    ("numbers alone", with_token("1/4/4"), FORBIDDEN, bad_token(1)),
+    ("a space before it", with_token(f"+{SYNC}1/4/4"), FORBIDDEN, bad_token(1)),
+    ("a scheme in capitals", with_token(f"HTTP{SYNC[4:]}1/4/4"), FORBIDDEN, bad_token(1)),
+    ("nothing after the address", with_token(SYNC), FORBIDDEN, bad_token(1)),
+    ("the greatest numbers", sync("staff", "/".join(["9" * 13] * 3)), FORBIDDEN, bad_token(2)),
     ("another scheme", with_token("https://contacts.invalid/sync/1/4/4"), FORBIDDEN, bad_token(1)),
     ("digits of another script", sync("staff", "1/\u0664/4"), FORBIDDEN, bad_token(1)),
     ("a token of another book", sync("staff", "2/1/1"), FORBIDDEN, bad_token(2)),
@@ -275,6 +286,19 @@ CARDS = [
 ]
 
 
+# A line, another spelling of it, and lines that differ from the one before in one part each.
+LINE = 'g.TEL;TYPE=a,"b";PREF=1:1'
+SAME_LINE = 'g.tel;TYPE=a,"b";PR\n EF=1:1'
+OTHER_LINES = [
+    'h.TEL;TYPE=a,"b";PREF=1:1',
+    "h.TEL;TYPE=a,b;PREF=1:1",
+    "h.TEL;TYPE=a,b;PREF=1:2",
+    "TEL;TYPE=a,b;PREF=1:2",
+    "TEL;TYPE=a;PREF=1:2",
+    "X-TEL;TYPE=a;PREF=1:2",
+]
+
+
 def import_of(rows):
     return import_rows("staff", "k2", rows)
 
@@ -376,6 +400,26 @@ class RefusalsTest(WalkTest):
                 ("a book", create(f"b{number}"), CREATED, f'{{"id":{number}}}'),
                 (title, import_rows(f"b{number}", "k", rows), OK, ONE_IMPORTED),
                 (title, export(f"b{number}", "columns"), OK, COLUMNS + exported),
+            ])
+
+    def test_names_of_books(self):
+        names = ["-", "a-0", "0", "aaaaaaaaaabbbbbbbbbbccccccccccdddddddddd"]
+        rows = [(it, create(it), CREATED, f'{{"id":{at}}}') for at, it in enumerate(names, 1)]
+        self.walk([*rows, (names[3] + "x", create(names[3] + "x"), BAD, BAD_NAME)])
+
+    def test_equal_cards(self):
+        """A card that says the same isn't stored again; one with another part of a line is."""
+        self.walk([BOOKS[0], ("a card", put_text("z", with_line(LINE)), CREATED, NEW_CARD % 1)])
+        unchanged = '{"put":"unchanged","version":%d}'
+        for number, line in enumerate(OTHER_LINES, 2):
+            edited = f'{{"put":"edited","version":{number}}}'
+            self.walk([
+                ("the same", put_text("z", with_line(LINE)), OK, unchanged % 1),
+                ("in another spelling", put_text("z", with_line(SAME_LINE)), OK, unchanged % 1),
+            ] if number == 2 else [])
+            self.walk([
+                (line, put_text("z", with_line(line)), OK, edited),
+                (f"{line}, again", put_text("z", with_line(line)), OK, unchanged % number),
             ])
 
     def next_card(self):
