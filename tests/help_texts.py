@@ -26,6 +26,8 @@ book's initial report
   mirror   Sync a book to a new device page by page, and print the device's copy
   expand   List the people in a group and in its nested groups
   migrate  Convert a store file from schema 1 to schema 2, and print its number of books
+  resync   Make every device start again after the file was put back from a copy, and print its \
+number of books
   check    Check a CSV file or a vCard, and print its number of rows or the first fault
   convert  Convert cards and contacts of other programs to vCard 4.0, as CSV for `import`
   books    List the books with their ids, cards, numbers, horizons and keeps
@@ -281,6 +283,27 @@ Options:
 
 Example:
   contacts migrate office.db
+"""
+
+HELP["resync"] = """\
+Make every device start again after the file was put back from a copy, and print its number of books
+
+Usage: contacts resync [OPTIONS] <FILE>
+
+Arguments:
+  <FILE>  Path of the store file
+
+Options:
+      --skip <N>  Even number of changes to skip in each book, 2 to 1000000000; it must be greater \
+than the number of changes that were lost [default: 1000000]
+  -h, --help      Print help
+
+Example:
+  contacts resync office.db
+
+Each book takes N change numbers and forgets all removals, so every older sync token is refused and \
+every device copies the book anew. Cards stay as they are. All books change in one transaction. \
+Refused if a book would pass 1,000,000,000,000 changes.
 """
 
 HELP["check"] = """\

@@ -38,7 +38,9 @@ pub use faulty_row::report_damage;
 pub use finding::{FileKind, Finding, kind_of_file};
 pub use input::read_input;
 pub use mirror_output::mirror_text;
-pub use one_line_outputs::{book_text, forget_text, import_text, made_text, migrate_text};
+pub use one_line_outputs::{
+    book_text, forget_text, import_text, made_text, migrate_text, resync_text,
+};
 pub use reading::{read_at_most, read_rows_of};
 pub use serving::{announce_and_serve, announce_and_serve_in_turn};
 pub use stop::Stop;
