@@ -11,7 +11,7 @@ ghost use Rattle.cli_orders.specs.Stops.{out_of_memory, stop_line};
 ghost use Rattle.book_http.specs.Streams.{ReadsAtMost};
 
 use crate::host::Host;
-use crate::keeps::BookKeeps;
+use crate::admin_store::AdminStore;
 use crate::running::run_on_host;
 use book_http::Listener;
 use cli_args::{LineFault, Order};
@@ -98,7 +98,7 @@ fn run_try_order<R: Read, W: Write, E: Write>(
 
 /// Runs another order, and reports a stop.
 fn run_other_order<
-    S: BookKeeps + Drop,
+    S: AdminStore + Drop,
     P: Endpoint,
     L: Listener + Drop,
     M: Host<S, P, L>,
@@ -116,7 +116,7 @@ fn run_other_order<
 
 /// Runs an order on a host, and reports errors on standard error.
 pub fn run_and_report<
-    S: BookKeeps + Drop,
+    S: AdminStore + Drop,
     P: Endpoint,
     L: Listener + Drop,
     M: Host<S, P, L>,

@@ -1,14 +1,16 @@
 //! The trait of hosts: the files and ports that orders use.
 ghost use Rattle.std.specs.Prelude.{◌≡◌, ◌≢◌, ◌⊎◌, IfErr, IfOk, IfSome, OnErr};
-ghost use Rattle.cli_host.specs.Hosts.{HostCall, Creates, Opens, Migrates, ReadsRows, ReadsSite};
+ghost use Rattle.cli_host.specs.Hosts.{HostCall, Copies, Creates, Opens, Migrates, ReadsRows};
+ghost use Rattle.cli_host.specs.Hosts.{ReadsSite, Restores};
 ghost use Rattle.cli_host.specs.Hosts.{Binds, BindsListener, FindsFault, Finishes, IsBoundAs};
 ghost use Rattle.cli_host.specs.Hosts.{Looks, loopback_ip, standard_limits, stop_of_binding};
 ghost use Rattle.std.specs.Net.Socket.{socket_ip, socket_port};
 ghost use Rattle.cli_orders.specs.Stops.{out_of_memory};
 
+use crate::restoring::restore_file;
 use base_types::Items;
 use book_store::{FileBooks, OpenFault, SqlStore};
-use cli_orders::{Address, Stop, read_rows_of};
+use cli_orders::{Address, Restored, Stop, read_rows_of};
 use request_log::RequestLog;
 use site_files::{Site, SiteFault, read_site};
 use socket_endpoint::{BindFault, SocketEndpoint};
@@ -55,6 +57,16 @@ pub trait Host<S, P, L>: RequestLog {
     /// Migrates the file to the current schema, and returns its number of books.
     fn migrate_file(&mut self, file: &str) -> Result<u64, OpenFault>
         ensures { calls (Migrates file.now result) self.old self.new };
+
+    /// Copies the store in the file into a new file, and returns its number of books. `NotEmpty` if
+    /// something is there.
+    fn copy_file(&mut self, file: &str, target: &str) -> Result<u64, OpenFault>
+        ensures { calls (Copies file.now target.now result) self.old self.new };
+
+    /// Puts the copy in the file `backup` back in place of the file, and makes every device start
+    /// again. Returns what became of the file. After an error the file is as it was.
+    fn restore_file(&mut self, backup: &str, file: &str, pairs: u64) -> Result<Restored, Stop>
+        ensures { calls (Restores backup.now file.now pairs result) self.old self.new };
 
     /// Reads a file of rows. `Device` if it can't be read or has more than 8,388,608 octets, and
     /// `Memory` if the buffer can't be allocated.
@@ -224,6 +236,14 @@ impl Host<FileBooks, SocketEndpoint, TcpListener> for HostRuntime {
 
     fn migrate_file(&mut self, file: &str) -> Result<u64, OpenFault> {
         migrate(self, file)
+    }
+
+    fn copy_file(&mut self, file: &str, target: &str) -> Result<u64, OpenFault> {
+        SqlStore::copy_file(self, file, target)
+    }
+
+    fn restore_file(&mut self, backup: &str, file: &str, pairs: u64) -> Result<Restored, Stop> {
+        restore_file(self, backup, file, pairs)
     }
 
     fn read_rows(&mut self, alloc: Global, file: &str) -> Result<Items<u8>, Stop> {

@@ -17,6 +17,7 @@ pub mod Hints
 pub mod Findings
 pub mod CheckLaws
 pub mod Versions
+pub mod RestoreOutputs
 pub mod RowFaultWords
 pub mod FaultyRows
 pub mod internal

@@ -19,6 +19,7 @@ mod line_starts;
 mod mirror_output;
 mod one_line_outputs;
 mod reading;
+mod restore_output;
 mod row_fault_words;
 mod serving;
 mod shown;
@@ -39,9 +40,10 @@ pub use finding::{FileKind, Finding, kind_of_file};
 pub use input::read_input;
 pub use mirror_output::mirror_text;
 pub use one_line_outputs::{
-    book_text, forget_text, import_text, made_text, migrate_text, resync_text,
+    book_text, copy_text, forget_text, import_text, made_text, migrate_text, resync_text,
 };
 pub use reading::{read_at_most, read_rows_of};
+pub use restore_output::{Restored, restore_text};
 pub use serving::{announce_and_serve, announce_and_serve_in_turn};
 pub use stop::Stop;
 pub use tally_output::tally_text;
