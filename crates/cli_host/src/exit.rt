@@ -10,8 +10,8 @@ ghost use Rattle.cli_orders.specs.Inputs.{read_octets_max};
 ghost use Rattle.cli_orders.specs.Stops.{out_of_memory, stop_line};
 ghost use Rattle.book_http.specs.Streams.{ReadsAtMost};
 
-use crate::host::Host;
 use crate::admin_store::AdminStore;
+use crate::host::Host;
 use crate::running::run_on_host;
 use book_http::Listener;
 use cli_args::{LineFault, Order};

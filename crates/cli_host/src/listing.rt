@@ -44,7 +44,11 @@ fn write_row(out: &mut Vec<u8>, line: &BookLine, tally: &Tally, keep: u64) -> Re
 }
 
 /// Appends the line of a book of the store, with the number of its live cards and its keep.
-fn write_book<S: AdminStore>(store: &mut S, out: &mut Vec<u8>, line: &BookLine) -> Result<(), Denied>
+fn write_book<S: AdminStore>(
+    store: &mut S,
+    out: &mut Vec<u8>,
+    line: &BookLine,
+) -> Result<(), Denied>
     ensures premise { S.model.premise store.new → S.model.premise store.old }
     ensures kept { KeepsBooks S.model store.old store.new }
     ensures fault { IfFault result (IsOutOfMemoryOr S.model.may_fault) }

@@ -9,9 +9,9 @@ ghost use Rattle.cli_host.specs.OrdersOnHost.{StopsInFile, StopsMaking, StopsMig
 ghost use Rattle.cli_host.specs.OrdersOnHost.{StopsOnHost, StopsOnImport, StopsReadingRows};
 ghost use Rattle.cli_host.specs.OrdersOnHost.{StopsStoreWork, StopsWork};
 
-use crate::host::Host;
 use crate::admin_store::AdminStore;
 use crate::copying::{run_copy, run_restore};
+use crate::host::Host;
 use crate::listing::run_listing;
 use crate::progress::{line_count, open_watched, run_import};
 use crate::resyncing::run_resync;

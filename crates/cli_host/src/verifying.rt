@@ -3,8 +3,8 @@ ghost use Rattle.std.specs.Prelude.{IfErr, OnOk};
 ghost use Rattle.cli_host.specs.Hosts.{LogsCalls};
 ghost use Rattle.cli_host.specs.OrdersOnHost.{StopsVerifying, VerifiesFile};
 
-use crate::host::Host;
 use crate::admin_store::AdminStore;
+use crate::host::Host;
 use crate::listing::{Listing, run_listing};
 use crate::progress::open_watched;
 use base_types::Text;
