@@ -14,6 +14,7 @@ use sync_core::{BookStore, Denied, Limits, Refusal};
 const KEPT_NAMES_MAX: u32 = 10_000;
 
 /// What is at the name of the file that is replaced.
+#[derive(Drop)]
 enum Old {
     /// Nothing, or a file without octets.
     Vacant,
@@ -25,11 +26,18 @@ enum Old {
 }
 
 /// Fails with `Device` where the system does.
-fn on_device<T>(result: io::Result<T>) -> Result<T, Stop> {
-    match result {
+fn on_device<T>(done: io::Result<T>) -> Result<T, Stop> {
+    match done {
         Ok(value) => Ok(value),
         Err(_) => Err(Stop::Device),
     }
+}
+
+fn add(names: &mut Vec<Text>, name: Text) -> Result<(), NoMemory> {
+    if names.push(name).is_err() {
+        return Err(NoMemory);
+    }
+    Ok(())
 }
 
 /// The name of the file's log.
@@ -59,7 +67,7 @@ fn names_by_age(alloc: Global, store: &mut FileBooks) -> Result<Vec<Text>, Stop>
     for id in 1..=lines.len() as u64 {
         for line in lines.as_slice() {
             if line.id == id {
-                names.push(Text::copy_of(alloc, line.name.as_str())?)?;
+                add(&mut names, Text::copy_of(alloc, line.name.as_str())?)?;
             }
         }
     }
@@ -80,7 +88,7 @@ fn look_at_old(rt: &HostRuntime, file: &str) -> Result<Old, Stop> {
             let names = names_by_age(rt.alloc(), &mut store)?;
             Ok(Old::Read(store, names))
         }
-        Err(OpenFault::NotOurs) | Err(OpenFault::OtherSchema(_)) | Err(OpenFault::Damaged) => {
+        Err(OpenFault::NotOurs) | Err(OpenFault::OtherSchema { .. }) | Err(OpenFault::Damaged) => {
             Ok(Old::Unread)
         }
         Err(fault) => Err(Stop::Open(fault)),
@@ -98,7 +106,7 @@ fn make_missing<S: BookStore>(
     let mut made = Vec::new(alloc);
     for name in names {
         match store.create_book(name.as_str()) {
-            Ok(_id) => made.push(Text::copy_of(alloc, name.as_str())?)?,
+            Ok(_id) => add(&mut made, Text::copy_of(alloc, name.as_str())?)?,
             Err(Denied::Refused(Refusal::BookExists)) => {}
             Err(denied) => return Err(Stop::from(denied)),
         }
@@ -176,10 +184,10 @@ fn keep_old(rt: &HostRuntime, file: &str) -> Result<Items<Text>, Stop> {
     if fs::exists(rt, log.as_str()).unwrap_or(false) {
         let kept_log = log_of(alloc, name.as_str())?;
         keep_file(rt, log.as_str(), kept_log.as_str())?;
-        names.push(Text::new(name))?;
-        names.push(Text::new(kept_log))?;
+        add(&mut names, Text::new(name))?;
+        add(&mut names, Text::new(kept_log))?;
     } else {
-        names.push(Text::new(name))?;
+        add(&mut names, Text::new(name))?;
     }
     Ok(Items::from_vec(names))
 }
