@@ -20,4 +20,8 @@ pub mod Versions
 pub mod RestoreOutputs
 pub mod RowFaultWords
 pub mod FaultyRows
+pub mod Advice
+pub mod StopWords
+pub mod RowCauses
+pub mod Sentences
 pub mod internal
