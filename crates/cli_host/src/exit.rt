@@ -12,7 +12,9 @@ ghost use Rattle.book_http.specs.Streams.{ReadsAtMost};
 
 use crate::admin_store::AdminStore;
 use crate::host::Host;
+use crate::naming::names_to_say;
 use crate::running::run_on_host;
+use crate::words::say_why;
 use book_http::Listener;
 use cli_args::{LineFault, Order};
 use cli_orders::{Stop, run_try, write_out};
@@ -110,7 +112,11 @@ fn run_other_order<
         (W.contents writer.old) (W.contents writer.new)
         (E.contents errors.old) (E.contents errors.new) result) }
 {
+    let names = names_to_say(alloc, &*host, &order);
     let done = run_on_host(alloc, host, order, writer);
+    if let Err(stop) = &done {
+        say_why(alloc, &*host, names, *stop);
+    }
     report_result(alloc, errors, done)
 }
 

@@ -7,10 +7,11 @@ ghost use Rattle.cli_host.specs.Hosts.{Looks, loopback_ip, standard_limits, stop
 ghost use Rattle.std.specs.Net.Socket.{socket_ip, socket_port};
 ghost use Rattle.cli_orders.specs.Stops.{out_of_memory};
 
+use crate::causes::{port_cause, rows_cause, socket_cause, store_cause};
 use crate::restoring::restore_file;
 use base_types::Items;
 use book_store::{FileBooks, OpenFault, SqlStore};
-use cli_orders::{Address, Restored, Stop, read_rows_of};
+use cli_orders::{Address, FoundCause, Restored, Stop, read_rows_of};
 use request_log::RequestLog;
 use site_files::{Site, SiteFault, read_site};
 use socket_endpoint::{BindFault, SocketEndpoint};
@@ -30,8 +31,9 @@ use sync_core::Limits;
 /// The contracts of the real host say neither what a file holds nor who connects to a port. The
 /// contracts over any host say which calls are made of it, and one body runs orders on all hosts.
 ///
-/// A host also prints the lines of `run --log`, and says that a long import or opening goes on.
-/// These are no calls, since they change nothing.
+/// A host also prints the lines of `run --log`, says that a long import or opening goes on, and looks
+/// for why a file, a socket or a port couldn't be used. These are no calls, since they change
+/// nothing.
 pub trait Host<S, P, L>: RequestLog {
     /// What is known of a call: its result, and the host before and after it.
     ghost calls: { HostCall S P L → Self → Self → Type 0 };
@@ -109,13 +111,27 @@ pub trait Host<S, P, L>: RequestLog {
     /// Says a text on standard error. If it can't be written, it is lost.
     fn say(&self, text: &[u8]);
 
+    /// Looks for why the store file can't be used, which the order makes if it isn't there, or
+    /// doesn't. For this it may open the file once more, and make a file beside it, which it
+    /// removes.
+    fn cause_of_store(&self, file: &str, makes_file: bool) -> FoundCause;
+
+    /// Looks for why the file of rows can't be read, or isn't one.
+    fn cause_of_rows(&self, file: &str) -> FoundCause;
+
+    /// Looks for why no endpoint can be bound to a Unix socket at the path.
+    fn cause_of_socket(&self, path: &str) -> FoundCause;
+
+    /// Looks for why no endpoint can be bound to the port.
+    fn cause_of_port(&self, port: u16) -> FoundCause;
+
     /// Closes the endpoint, after its connections were served.
     fn finish(&mut self, endpoint: P)
         ensures { calls (Finishes endpoint) self.old self.new };
 }
 
 /// The socket address of the port at 127.0.0.1, which only programs of this host can connect to.
-fn loopback(port: u16) -> SocketAddr
+pub(crate) fn loopback(port: u16) -> SocketAddr
     ensures ip { socket_ip result ≡ loopback_ip }
     ensures port { socket_port result ≡ port }
 {
@@ -301,6 +317,22 @@ impl Host<FileBooks, SocketEndpoint, TcpListener> for HostRuntime {
 
     fn say(&self, text: &[u8]) {
         let _said = self.stderr().write(text);
+    }
+
+    fn cause_of_store(&self, file: &str, makes_file: bool) -> FoundCause {
+        store_cause(self, file, makes_file)
+    }
+
+    fn cause_of_rows(&self, file: &str) -> FoundCause {
+        rows_cause(self, file)
+    }
+
+    fn cause_of_socket(&self, path: &str) -> FoundCause {
+        socket_cause(self, path)
+    }
+
+    fn cause_of_port(&self, port: u16) -> FoundCause {
+        port_cause(self, port)
     }
 
     fn finish(&mut self, endpoint: SocketEndpoint) {

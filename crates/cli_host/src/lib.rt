@@ -3,10 +3,12 @@
 
 mod admin_store;
 mod args;
+mod causes;
 mod copying;
 mod exit;
 mod host;
 mod listing;
+mod naming;
 mod progress;
 mod restoring;
 mod resyncing;
@@ -14,6 +16,7 @@ mod running;
 mod serving;
 mod verifying;
 mod waiting;
+mod words;
 mod work;
 
 pub use admin_store::AdminStore;

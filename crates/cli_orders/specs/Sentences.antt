@@ -11,7 +11,7 @@ use Rattle.cli_orders.specs.CauseWords.{cause_words}
 use Rattle.cli_orders.specs.Hints.{fault_hint}
 use Rattle.cli_orders.specs.RowCauses.{cause_numbered}
 use Rattle.cli_orders.specs.StopWords.{device_words, open_advice, open_words, refusal_advice}
-use Rattle.cli_orders.specs.StopWords.{refusal_words, rows_words, store_words}
+use Rattle.cli_orders.specs.StopWords.{refusal_words, store_words, other_words}
 use Rattle.cli_orders.specs.declared.advice.Advice.{Advice}
 use Rattle.cli_orders.specs.declared.advice.Advice.TheVariants as advise
 use Rattle.cli_orders.specs.declared.found_cause.FoundCause.{FoundCause}
@@ -56,7 +56,8 @@ import_sentence rows row number cause = row_sentence rows row number
 
 abbrev pub refused_sentence : OrderNames → Refusal → FoundCause → List ℕ
 refused_sentence names (BadCard fault) cause = card_sentence fault
-refused_sentence names (BadImport row number) cause = import_sentence names.rows row number cause
+refused_sentence names (BadImport row number) cause =
+    import_sentence names.other row number cause
 refused_sentence names refusal cause =
     about names.file (refusal_words refusal) (refusal_advice refusal)
 
@@ -66,20 +67,25 @@ refused_sentence names refusal cause =
 abbrev pub other_port : ℕ → ℕ
 other_port port = if nat_lt port 1024 || port == 65535 then 8080 else port + 1
 
--- a file of rows or a port that can't be used, or standard input or output
+-- the other file or the socket
+abbrev pub other_sentence : OrderNames → FoundCause → List ℕ
+other_sentence names cause = about names.other (other_words cause) advise.Nothing
+
+-- another file, a socket or a port that can't be used, or standard input or output
 abbrev pub device_sentence : OrderNames → FoundCause → List ℕ
 device_sentence names found.PortTaken = codes "port " ++ (decimal names.port
     ++ (codes " is taken; try --port " ++ (decimal (other_port names.port) ++ line_feed ∷ [])))
 device_sentence names found.PortDenied = codes "you may not use port " ++ (decimal names.port
     ++ (codes "; try --port " ++ (decimal (other_port names.port) ++ line_feed ∷ [])))
-device_sentence names found.Missing =
-    about names.rows (rows_words found.Missing) advise.Nothing
-device_sentence names found.IsFolder =
-    about names.rows (rows_words found.IsFolder) advise.Nothing
-device_sentence names found.Denied = about names.rows (rows_words found.Denied) advise.Nothing
-device_sentence names found.TooLong = about names.rows (rows_words found.TooLong) advise.Nothing
-device_sentence names found.Unreadable =
-    about names.rows (rows_words found.Unreadable) advise.Nothing
+device_sentence names found.Missing = other_sentence names found.Missing
+device_sentence names found.IsFolder = other_sentence names found.IsFolder
+device_sentence names found.Denied = other_sentence names found.Denied
+device_sentence names found.TooLong = other_sentence names found.TooLong
+device_sentence names found.Unreadable = other_sentence names found.Unreadable
+device_sentence names found.NoFolder = other_sentence names found.NoFolder
+device_sentence names found.FolderDenied = other_sentence names found.FolderDenied
+device_sentence names found.SocketTaken = other_sentence names found.SocketTaken
+device_sentence names found.NotSocket = other_sentence names found.NotSocket
 device_sentence names cause = device_words names.kind ++ line_feed ∷ []
 
 -- ---- all stops

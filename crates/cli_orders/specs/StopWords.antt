@@ -63,7 +63,7 @@ open_words open_fault.NotOurs cause =
     codes "it isn't a file of this program, or its log isn't beside it"
 open_words (open_fault.OtherSchema has) cause = schema_words has
 open_words open_fault.Damaged cause = codes "it is damaged; restore a backup"
-open_words open_fault.NotEmpty cause = codes "it has tables already; nothing was changed"
+open_words open_fault.NotEmpty cause = codes "something is there already; nothing was changed"
 open_words open_fault.Memory cause = codes "there isn't enough memory to open it"
 
 abbrev pub open_advice : OrderKind → OpenFault → FoundCause → Advice
@@ -74,14 +74,19 @@ open_advice order fault cause = advise.Nothing
 
 -- ---- devices
 
--- why a file of rows, or a file to check, can't be read
-abbrev pub rows_words : FoundCause → List ℕ
-rows_words found.Missing = codes "there is no such file"
-rows_words found.IsFolder = codes "it is a folder; name a file"
-rows_words found.Denied = codes "you may not read it"
-rows_words found.TooLong =
+-- why a file that is no store can't be used, or a socket
+abbrev pub other_words : FoundCause → List ℕ
+other_words found.Missing = codes "there is no such file"
+other_words found.IsFolder = codes "it is a folder; name a file"
+other_words found.Denied = codes "you may not read it"
+other_words found.TooLong =
     codes "it has more than 8,388,608 bytes; make several files of it"
-rows_words cause = codes "it can't be read"
+other_words found.NoFolder = codes "there is no folder for it; make that first"
+other_words found.FolderDenied = codes "you may not make files in its folder"
+other_words found.SocketTaken = codes "another program listens there"
+other_words found.NotSocket =
+    codes "something else is there; move it away, or name another path"
+other_words cause = codes "it can't be read"
 
 -- what else than a file or a port can't be used
 abbrev pub device_words : OrderKind → List ℕ
@@ -90,6 +95,8 @@ device_words kind.Serve =
     codes "standard output can't be written, or waiting for connections failed"
 device_words kind.Run =
     codes "standard output can't be written, or waiting for connections failed"
+device_words kind.Restore =
+    codes "the system refuses to write or to rename a file, or to write standard output"
 device_words order = codes "standard output can't be written"
 
 -- ---- refusals

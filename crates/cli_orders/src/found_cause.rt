@@ -35,4 +35,8 @@ pub enum FoundCause {
     PortTaken,
     /// The user may not listen at the port.
     PortDenied,
+    /// Another program listens at the socket.
+    SocketTaken,
+    /// Something else than a socket is where it should be made.
+    NotSocket,
 }

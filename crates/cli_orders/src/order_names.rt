@@ -19,6 +19,12 @@ pub enum OrderKind {
     Books,
     /// `verify`.
     Verify,
+    /// `copy`.
+    Copy,
+    /// `restore`.
+    Restore,
+    /// `resync`.
+    Resync,
     /// Another order.
     Other,
 }
@@ -32,8 +38,9 @@ pub struct OrderNames {
     pub file: Text,
     /// Whether the order makes the store file if it isn't there.
     pub makes_file: bool,
-    /// The file of rows, or the file to check; empty if the order has none.
-    pub rows: Text,
+    /// The other file: the file of rows, the file to check, the new file of a copy, the copy that is
+    /// put back, or the Unix socket to listen at. Empty if the order has none.
+    pub other: Text,
     /// The port; 0 if the order has none.
     pub port: u16,
 }

@@ -14,7 +14,7 @@ use crate::order_names::{OrderKind, OrderNames};
 use crate::row_causes::cause_numbered;
 use crate::stop::Stop;
 use crate::stop_words::{
-    device_words, open_advice, open_words, refusal_advice, refusal_words, rows_words, store_words,
+    device_words, open_advice, open_words, other_words, refusal_advice, refusal_words, store_words,
 };
 use base_types::NoMemory;
 use csv_cards::CsvCause;
@@ -95,7 +95,7 @@ fn refused_sentence(
     match refusal {
         Refusal::BadCard(fault) => card_sentence(alloc, fault),
         Refusal::BadImport { row, cause: number } => {
-            import_sentence(alloc, names.rows.as_str(), row, number, cause)
+            import_sentence(alloc, names.other.as_str(), row, number, cause)
         }
         _ => {
             let words = refusal_words(refusal);
@@ -115,7 +115,7 @@ fn other_port(port: u16) -> u16
     }
 }
 
-/// The sentence about a file of rows, a port, or standard input or output.
+/// The sentence about another file, a port, or standard input or output.
 fn device_sentence(alloc: Global, names: &OrderNames, cause: FoundCause) -> Result<String, NoMemory>
     ensures { IfOk result (λ text. string_bytes text ≡ device_sentence names.now cause) }
 {
@@ -132,11 +132,15 @@ fn device_sentence(alloc: Global, names: &OrderNames, cause: FoundCause) -> Resu
         | FoundCause::IsFolder
         | FoundCause::Denied
         | FoundCause::TooLong
-        | FoundCause::Unreadable => {
+        | FoundCause::Unreadable
+        | FoundCause::NoFolder
+        | FoundCause::FolderDenied
+        | FoundCause::SocketTaken
+        | FoundCause::NotSocket => {
             about(
                 alloc,
-                names.rows.as_str(),
-                rows_words(cause),
+                names.other.as_str(),
+                other_words(cause),
                 Advice::Nothing,
             )
         }

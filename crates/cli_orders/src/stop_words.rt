@@ -1,7 +1,7 @@
 //! The words for why an order stopped, and which order helps.
 ghost use Rattle.std.specs.Prelude.{◌≡◌};
 ghost use Rattle.cli_orders.specs.StopWords.{damage_advice, device_words, open_advice, open_words};
-ghost use Rattle.cli_orders.specs.StopWords.{refusal_advice, refusal_words, rows_words};
+ghost use Rattle.cli_orders.specs.StopWords.{other_words, refusal_advice, refusal_words};
 ghost use Rattle.cli_orders.specs.StopWords.{schema_advice, schema_words, store_advice};
 ghost use Rattle.cli_orders.specs.StopWords.{store_words};
 
@@ -52,7 +52,7 @@ pub(crate) fn open_words(fault: OpenFault, cause: FoundCause) -> &'static str
         OpenFault::NotOurs => "it isn't a file of this program, or its log isn't beside it",
         OpenFault::OtherSchema { has } => schema_words(has),
         OpenFault::Damaged => "it is damaged; restore a backup",
-        OpenFault::NotEmpty => "it has tables already; nothing was changed",
+        OpenFault::NotEmpty => "something is there already; nothing was changed",
         OpenFault::Memory => "there isn't enough memory to open it",
     }
 }
@@ -103,15 +103,19 @@ pub(crate) fn open_advice(kind: OrderKind, fault: OpenFault, cause: FoundCause) 
     }
 }
 
-/// Why a file of rows, or a file to check, can't be read.
-pub(crate) fn rows_words(cause: FoundCause) -> &'static str
-    ensures { result.now ≡ rows_words cause }
+/// Why a file that is no store can't be used, or a socket.
+pub(crate) fn other_words(cause: FoundCause) -> &'static str
+    ensures { result.now ≡ other_words cause }
 {
     match cause {
         FoundCause::Missing => "there is no such file",
         FoundCause::IsFolder => "it is a folder; name a file",
         FoundCause::Denied => "you may not read it",
         FoundCause::TooLong => "it has more than 8,388,608 bytes; make several files of it",
+        FoundCause::NoFolder => "there is no folder for it; make that first",
+        FoundCause::FolderDenied => "you may not make files in its folder",
+        FoundCause::SocketTaken => "another program listens there",
+        FoundCause::NotSocket => "something else is there; move it away, or name another path",
         _ => "it can't be read",
     }
 }
@@ -124,6 +128,9 @@ pub(crate) fn device_words(kind: OrderKind) -> &'static str
         OrderKind::Try => "standard input can't be read, or standard output can't be written",
         OrderKind::Serve | OrderKind::Run => {
             "standard output can't be written, or waiting for connections failed"
+        }
+        OrderKind::Restore => {
+            "the system refuses to write or to rename a file, or to write standard output"
         }
         _ => "standard output can't be written",
     }
