@@ -1,6 +1,6 @@
-"""The numbers of definitions that README.md and docs/PROOFS.md give.
+"""The numbers of definitions and lines that README.md and docs/PROOFS.md give.
 
-They have to be about those that tools/reading-list counts.
+They have to be about those that tools/reading-list counts, and about those of the files.
 """
 
 import re
@@ -15,6 +15,11 @@ COUNT = re.compile(r"^(.*) on (\d+) definitions of (\d+) lines$", re.MULTILINE)
 # How the pages give the numbers of all claims, and that of the headline law.
 CLAIMED = re.compile(r"about ([\d,]+)\s+definitions,\s+some\s+([\d,]+)\s+lines")
 HEADLINE = re.compile(r"rests on (\d+)\s+definitions")
+# The lines of the program's crates, part by part.
+SIZES = re.compile(
+    r"have ([\d,]+) lines of definitions, beside ([\d,]+) of code and ([\d,]+) of proofs".replace(
+        " ", r"\s+"))
+PARTS = ["specs/**/*.antt", "src/**/*.rt", "proofs/**/*.antt"]
 
 
 def number(text):
@@ -47,6 +52,21 @@ class ReadingList(unittest.TestCase):
     def test_headline_law(self):
         wanted, _ = self.counts["book_service::runs_keep_the_promise rests"]
         self.assert_about(wanted, number(HEADLINE.search(Page("docs/PROOFS.md").prose())[1]))
+
+
+class Sizes(unittest.TestCase):
+    def test_lines(self):
+        given = SIZES.search(Page("docs/PROOFS.md").prose())
+        for part, text in zip(PARTS, given.groups()):
+            with self.subTest(part):
+                wanted = sum(self.lines_of(crate, part) for crate in (ROOT / "crates").iterdir())
+                self.assertLess(abs(wanted - number(text)), wanted / 20, f"{text} for {wanted}")
+
+    def lines_of(self, crate, part):
+        """None of a crate of tests, which isn't the program's."""
+        if crate.name.startswith("test_"):
+            return 0
+        return sum(file.read_bytes().count(b"\n") for file in crate.glob(part))
 
 
 if __name__ == "__main__":
