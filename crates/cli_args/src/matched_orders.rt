@@ -3,7 +3,7 @@ ghost use Rattle.clap.specs.Words.{found_of, rows_of, subcommand_rows_of};
 ghost use Rattle.cli_args.specs.ParsedOrders as parsed;
 ghost use Rattle.cli_args.specs.ParsedOrders.{ParsesTo};
 
-use crate::backup_orders::{copy_order, resync_order, restore_order};
+use crate::backup_orders::{copy_order, restore_order, resync_order};
 use crate::fault::LineFault;
 use crate::order::Order;
 use crate::values::{

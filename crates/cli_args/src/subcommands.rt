@@ -10,7 +10,7 @@ use crate::arguments::{
     argument, book_arg, file_arg, flag, free_option, number_arg, number_option, option_arg,
     repeated_option, site_option, switch,
 };
-use crate::backup_orders::{copy_command, resync_command, restore_command};
+use crate::backup_orders::{copy_command, restore_command, resync_command};
 use crate::convert_command::convert_command;
 use clap::{Arg, Command};
 use std::alloc::{AllocError, Global};

@@ -21,7 +21,7 @@ fn about_other(names: OrderNames) -> OrderNames {
     OrderNames {
         kind,
         file: other,
-        makes_file: true,
+        makes_file: matches!(kind, OrderKind::Copy),
         other: file,
         port,
     }

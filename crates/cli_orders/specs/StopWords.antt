@@ -38,6 +38,7 @@ store_words cause = codes "its disk failed, or what it holds can't be read"
 -- which order helps: one that makes the file, if it is missing
 abbrev pub store_advice : OrderKind → FoundCause → Advice
 store_advice kind.Run found.Missing = advise.RunWithCreate
+store_advice kind.Restore found.Missing = advise.Nothing
 store_advice order found.Missing = advise.InitFile
 store_advice order cause = advise.Nothing
 

@@ -64,6 +64,7 @@ fn store_advice(kind: OrderKind, cause: FoundCause) -> Advice
     match cause {
         FoundCause::Missing => match kind {
             OrderKind::Run => Advice::RunWithCreate,
+            OrderKind::Restore => Advice::Nothing,
             _ => Advice::InitFile,
         },
         _ => Advice::Nothing,
