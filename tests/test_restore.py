@@ -73,8 +73,8 @@ class Restores(RestoreTest):
         lost = {it["uid"]: it["version"] for it in page["members"]}
         self.assertEqual({"b": 2, "c": 3, "a": 4, "d": 5}, lost)
         backup = self.contents(self.backup)
-        wanted = self.printed(f"kept {self.kept()}", "made young again, empty",
-                              "made clients again, empty", "restored 3")
+        wanted = self.printed(f"kept {self.kept()}", "remade young",
+                              "remade clients", "restored 3")
         self.assertEqual(wanted, self.restore())
         self.assertEqual(backup, self.contents(self.backup))
 
@@ -116,8 +116,8 @@ class Restores(RestoreTest):
         self.lay()
         self.assertEqual(0, self.restore("--skip", 2).status)
         middle = self.contents(self.file)
-        wanted = self.printed(f"kept {self.kept(2)}", "made young again, empty",
-                              "made clients again, empty", "restored 3")
+        wanted = self.printed(f"kept {self.kept(2)}", "remade young",
+                              "remade clients", "restored 3")
         self.assertEqual(wanted, self.restore("--skip", 4))
         self.assertEqual(middle, self.contents(self.kept(2)))
 

@@ -12,7 +12,7 @@ kept_lines names = flat_map kept_line names
 
 -- a book that was made again
 abbrev pub made_line : List ℕ → List ℕ
-made_line name = codes "made " ++ (name ++ (codes " again, empty" ++ line_feed ∷ []))
+made_line name = codes "remade " ++ (name ++ line_feed ∷ [])
 
 abbrev pub made_lines : List (List ℕ) → List ℕ
 made_lines names = flat_map made_line names

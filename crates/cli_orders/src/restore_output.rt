@@ -45,7 +45,7 @@ fn write_made(out: &mut Vec<u8>, name: &str) -> Result<(), NoMemory>
     ensures { OnOk result (out.new.items ≡ out.old.items ++ made_line name.now) }
 {
     let alloc = *out.allocator();
-    let line = format!(in alloc; "made {name} again, empty\n")?;
+    let line = format!(in alloc; "remade {name}\n")?;
     out.extend_from_slice(line.as_bytes())?;
     Ok(())
 }
