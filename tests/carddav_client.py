@@ -4,7 +4,6 @@ The client knows no more of the gateway than a phone does: it reads replies by t
 """
 
 import base64
-import functools
 import os
 import re
 import shutil
@@ -16,7 +15,7 @@ import xml.etree.ElementTree as ET
 from http.client import HTTPConnection, HTTPException
 from urllib.parse import quote, unquote
 
-from http_requests import card
+import resynced
 from program import PATIENCE, ROOT, Folder, Server, run
 from python_client import office
 
@@ -159,12 +158,6 @@ class Client:
                            f"<D:prop><D:getetag/>{data}</D:prop>{inside}{limit}", depth="1")
 
 
-@functools.lru_cache(maxsize=None)
-def has_resync():
-    """Whether the program has the order `resync`."""
-    return run("resync", "--help").status == 0
-
-
 class Stack:
     """A server and a gateway over a folder; each may be killed and started again."""
 
@@ -243,23 +236,11 @@ class Stack:
             if (self.folder / f"old-{name}").exists():
                 shutil.copy(self.folder / f"old-{name}", self.folder / name)
 
-    def resync(self, skip=20):
-        """Makes all devices start again, with the server stopped; then starts it.
-
-        Where the program doesn't have that order yet, the commands are sent for which it stands.
-        """
-        if has_resync():
-            self.server.kill()
-            ended = run("resync", self.folder / "office.db", "--skip", skip)
-            assert ended.status == 0, ended
-            self.start_server()
-            return
+    def resync(self):
+        """Makes all devices start again, and starts the server, which has been stopped or not."""
+        self.server.kill()
+        resynced.resync(self.folder / "office.db")
         self.start_server()
-        for book in self.books:
-            for _ in range(skip // 2):
-                book.put(card("resync", "Resync"), 0)
-                book.remove("resync")
-            book.forget(book.tally()["number"])
 
     def memory(self):
         """The most memory that the gateway has had, in octets."""

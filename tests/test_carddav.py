@@ -18,7 +18,8 @@ from tosculai import lines_of
 ANN = card(
     "a", "Ann Lee", "N:Lee;Ann;;;", 'TEL;VALUE=uri;TYPE="voice,home";PREF=1;PID=1.1:tel:+1-555',
     "TEL;TYPE=cell:+1-777", "EMAIL;PREF=2:ann@example.test",
-    "PHOTO:data:image/jpeg;base64,/9j/AAAA", "RELATED;TYPE=spouse:urn:uuid:b", "LANG:fr", "BDAY:--0412", "NICKNAME:An,Annie",
+    "PHOTO:data:image/jpeg;base64,/9j/AAAA", "RELATED;TYPE=spouse:urn:uuid:b", "LANG:fr",
+    "BDAY:--0412", "NICKNAME:An,Annie",
     "URL:https://e.test/a,b", "ORG:Office, Inc.;Desk", "TZ:+0100", "REV:20261101T100000Z",
     'ADR;LABEL="a, b";GEO="geo:1.5,2.5":;;Street 1;Town;;1;C', 'X-ODD;X-P="a,b":x,y;z',
     "NOTE:first\\nsecond, third; fourth", "IMPP:xmpp:ann@e.test", "CATEGORIES:Board,Paris")
@@ -83,21 +84,35 @@ class Program:
         """Brings the copy up to date; returns the paths that changed."""
         reply = self.dav.ask("REPORT", book, self.changes.format(token=self.token),
                              Content_Type="text/xml", **self.fields)
+        if reply.status == self.refused and reply.reason[0] == "valid-sync-token":
+            self.token = ""
+            return self.pull_all(book)
         if reply.status != 207:
             raise AssertionError(reply)
         changed = reply.statuses()
         for path in [path for path, status in changed.items() if status == 404]:
             self.copy.pop(path, None)
-        wanted = [path for path, etag in reply.etags().items()
-                  if self.copy.get(path, ("",))[0] != etag]
+        self.fetch(book, reply.etags())
+        self.token = reply.token
+        return sorted(changed)
+
+    refused = 403  # the status after which it lists all cards again (RFC 6578, 3.2)
+
+    def pull_all(self, book):
+        """Lists all cards, and drops those that aren't there."""
+        changed = self.pull(book)
+        self.copy = {path: it for path, it in self.copy.items() if path in changed}
+        return changed
+
+    def fetch(self, book, etags):
+        """Reads the cards whose ETags aren't those of the copy."""
+        wanted = [path for path, etag in etags.items() if self.copy.get(path, ("",))[0] != etag]
         if wanted:
             hrefs = "".join(self.href.format(path=quote(it)) for it in wanted)
             cards = self.dav.ask("REPORT", book, self.multiget.format(hrefs=hrefs), Depth="1",
                                  Content_Type="text/xml")
             texts, etags = cards.cards(), cards.etags()
             self.copy.update((path, (etags[path], texts[path])) for path in texts)
-        self.token = reply.token
-        return sorted(changed)
 
     def respelled(self, text):
         """The card as this program writes it, without an edit."""
@@ -108,8 +123,11 @@ class Program:
     def spell(self, line):
         return line
 
+    has_conditions = True  # whether it says which version it changes
+
     def put(self, path, text, **fields):
-        return self.dav.ask("PUT", quote(path), text, Content_Type=self.content_type, **fields)
+        return self.dav.ask("PUT", quote(path), text, Content_Type=self.content_type,
+                            **(fields if self.has_conditions else {}))
 
     content_type = "text/vcard; charset=utf-8"
 
@@ -174,7 +192,16 @@ class Davx5(Program):
 
 
 class Thunderbird(Program):
-    agent = ("Mozilla/5.0 (X11; Linux x86_64; rv:128.0) Gecko/20100101 Thunderbird/128.1.0")
+    """After its CardDAVDirectory.sys.mjs of 153.8: it lists all cards by PROPFIND and reads its
+    token after that, lists them again after a 400 alone, and changes cards without conditions."""
+
+    agent = "Mozilla/5.0 (X11; Linux x86_64; rv:153.0) Gecko/20100101 Thunderbird/153.8.0"
+    refused, has_conditions = 400, False
+    list_all = ('<propfind xmlns="DAV:" xmlns:card="urn:ietf:params:xml:ns:carddav" '
+                'xmlns:cs="http://calendarserver.org/ns/"><prop><resourcetype/><getetag/>'
+                "<cs:getctag/></prop></propfind>")
+    read_token = list_all.replace("<resourcetype/><getetag/>", "<displayname/>").replace(
+        "</prop>", "<sync-token/></prop>")
     find_user = ('<propfind xmlns="DAV:" xmlns:card="urn:ietf:params:xml:ns:carddav" '
                  'xmlns:cs="http://calendarserver.org/ns/"><prop><resourcetype/><displayname/>'
                  "<current-user-principal/><current-user-privilege-set/></prop></propfind>")
@@ -185,6 +212,17 @@ class Thunderbird(Program):
                "<sync-token>{token}</sync-token><sync-level>1</sync-level><prop><getetag/>"
                "<card:address-data/></prop></sync-collection>")
     href = "<d:href xmlns:d='DAV:'>{path}</d:href>"
+
+    def pull(self, book):
+        return super().pull(book) if self.token else self.pull_all(book)
+
+    def pull_all(self, book):
+        found = self.dav.ask("PROPFIND", book, self.list_all, Depth="1").etags()
+        self.copy = {path: it for path, it in self.copy.items() if path in found}
+        self.fetch(book, found)
+        self.token = self.dav.ask("PROPFIND", book, self.read_token, Depth="0").prop(
+            book, D + "sync-token").text
+        return sorted(found)
 
     def spell(self, line):
         line = line.replace("BDAY;X-APPLE-OMIT-YEAR=1604:",
@@ -243,6 +281,7 @@ class Programs(GatewayTest):
         self.assertEqual(f"VERSION:{program.version}", lines_of(text)[1])
         self.edit_one_number(program)
         self.add_and_remove(program)
+        self.start_again(program)
 
     def edit_one_number(self, program):
         before = lines_of(self.staff.get("a").text)
@@ -256,7 +295,8 @@ class Programs(GatewayTest):
         self.assertEqual(["TEL;TYPE=cell:+1-778"], new)
         # What wasn't edited is where it was.
         self.assertEqual([it for it in before if it in after], [it for it in after if it in before])
-        self.assertEqual(412, program.edit(STAFF + "a.vcf", "+1-777", "+1-779").status)
+        if program.has_conditions:
+            self.assertEqual(412, program.edit(STAFF + "a.vcf", "+1-777", "+1-779").status)
         self.assertEqual([STAFF + "a.vcf"], program.pull(STAFF))
         self.assertIn("+1-778", program.copy[STAFF + "a.vcf"][1])
         self.assertEqual([], program.pull(STAFF))
@@ -266,17 +306,28 @@ class Programs(GatewayTest):
         text = text.replace("VERSION:3.0", f"VERSION:{program.version}")
         path = STAFF + "9F2A-1" + program.ending
         self.assertEqual(201, program.put(path, text, If_None_Match="*").status)
-        self.assertEqual(412, program.put(path, text, If_None_Match="*").status)
+        again = program.put(path, text, If_None_Match="*").status
+        self.assertEqual(412 if program.has_conditions else 204, again)
         self.assertEqual([path], program.pull(STAFF))
         self.staff.put(self.staff.get("9F2A-1").text.replace("FN:Jo", "FN:Joe"))
         old = program.copy[path][0]
         self.assertEqual(412, program.dav.ask("DELETE", path, If_Match=old).status)
         self.assertEqual([path], program.pull(STAFF))
-        new = program.copy[path][0]
+        new = program.copy[path][0] if program.has_conditions else None
         self.assertEqual(204, program.dav.ask("DELETE", path, If_Match=new).status)
         self.assertIsNone(self.staff.find("9F2A-1"))
         self.assertEqual([path], program.pull(STAFF))
         self.assertEqual([STAFF + "a.vcf"], list(program.copy))
+
+
+    def start_again(self, program):
+        """Its token is too old: it lists all cards again, and has what is there."""
+        self.staff.put(card3("b", "Bob").replace("3.0", "4.0"))
+        self.staff.remove("a")
+        self.staff.forget(self.staff.tally()["number"])
+        self.assertEqual([STAFF + "b.vcf"], program.pull(STAFF))
+        self.assertEqual([STAFF + "b.vcf"], list(program.copy))
+        self.assertEqual([], program.pull(STAFF))
 
 
 class Discovery(GatewayTest):

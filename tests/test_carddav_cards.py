@@ -1,9 +1,11 @@
 """Cards between programs and the server: merges, groups, and what a program leaves out."""
 
+import threading
 import time
 import unittest
+from unittest import mock
 
-from carddav_client import STAFF, GatewayTest, card3
+from carddav_client import SPACES, STAFF, GatewayTest, card3
 from histories import UIDS, Drawing
 from http_requests import card
 from model.cards import read_card
@@ -11,9 +13,12 @@ from model.cards import read_card
 import vcard3
 from gateway import cards
 from gateway.books import Shelf
+from gateway.dav import Dav
+from gateway.messages import Request
 from gateway.office import Offices
+from gateway.photos import Photos
 from gateway.state import State
-from tosculai import lines_of, same
+from tosculai import Unreachable, lines_of, same
 
 
 def nobody(name):
@@ -231,15 +236,17 @@ class States(unittest.TestCase):
                                                state.knows("DAVx5", "X-A")])
 
 
-class Following(GatewayTest):
+class FollowingTest(GatewayTest):
     """A copy of a book, within the test's own process."""
 
     def setUp(self):
         super().setUp()
-        offices = Offices(self.stack.url)
-        self.shelf = Shelf(offices, State(":memory:"), None, lambda text: None)
+        offices, state = Offices(self.stack.url), State(":memory:")
+        self.shelf = Shelf(offices, state, Photos("/nowhere", state), lambda text: None)
         self.book, self.one, self.count = self.shelf.book("staff"), offices.one, 0
 
+
+class Following(FollowingTest):
     def test_a_change_between_the_requests_of_a_sync(self):
         """An ETag never comes with a token that is newer than it: the change would be lost."""
         self.staff.put(card("a", "Ann"))
@@ -291,6 +298,31 @@ class Following(GatewayTest):
                 self.assertEqual(self.members(self.staff), {it.uid for it in self.book.entries()})
                 self.forget(f"u{at + 100}")
 
+    def test_a_book_that_is_read_anew_can_be_read_meanwhile(self):
+        """A reply in progress finds the cards that are there: a 404 would remove them from a phone.
+
+        If the load breaks off, none of them goes, and none that is gone stays after the next one.
+        """
+        for number in range(130):
+            self.staff.put(card(f"u{number:03}", "U"))
+        self.book.refresh()
+        self.forget("u007")
+        found = []
+
+        def one():
+            self.count += 1
+            found.append(len(self.book.entries()))
+            if self.count == 3:  # the first request is refused, the next ones read two pages
+                raise Unreachable("the server is away")
+            return self.one()
+
+        self.shelf.offices.one = one
+        with self.assertRaises(Unreachable):
+            self.book.refresh()
+        self.assertEqual([130] * 3, found)
+        self.book.refresh()
+        self.assertEqual(self.members(self.staff), {it.uid for it in self.book.entries()})
+
     def forget(self, uid):
         self.staff.remove(uid)
         self.staff.forget(self.staff.tally()["number"])
@@ -311,6 +343,56 @@ class Following(GatewayTest):
             pages = [len(page.members) for page in self.book.pages("", limit)]
             self.assertEqual(limit or 130, sum(pages))
             self.assertLessEqual(max(pages), 100)
+
+
+class Meanwhile(FollowingTest):
+    """Somebody edits a card at each moment of a request: it is found all the same.
+
+    A program that is told 404 of a card, or isn't told of it, may remove it.
+    """
+
+    def ask(self, method, path, body=""):
+        """The reply, with an edit of the card after each look at the copy."""
+        rows, is_at_it = self.book.state.rows, threading.Lock()
+
+        def with_an_edit(*query):
+            found = rows(*query)
+            if is_at_it.acquire(blocking=False):
+                self.count += 1
+                self.staff.put(card("a", f"Ann {self.count}"))
+                self.book.refresh()
+                is_at_it.release()
+            return found
+
+        with mock.patch.object(self.book.state, "rows", with_an_edit):
+            request = Request(method, path, {"depth": "1"}, body.encode(), "ann", {"*": "rw"})
+            reply = Dav(self.shelf).reply(request)
+            octets = reply.body if isinstance(reply.body, bytes) else b"".join(reply.body)
+        self.assertGreater(self.count, 0)
+        return reply.status, octets.decode()
+
+    def test_reads(self):
+        for uid in "ab":
+            self.staff.put(card(uid, "Ann"))
+        self.book.refresh()
+        find = ('<C:filter><C:prop-filter name="FN"><C:text-match>Ann</C:text-match>'
+                "</C:prop-filter></C:filter>")
+        etag = "<D:prop><D:getetag/></D:prop>"
+        for status, tag, count, method, path, body in [
+            (200, "BEGIN:VCARD", 1, "GET", STAFF + "a.vcf", ""),
+            (200, "BEGIN:VCARD", 2, "GET", STAFF, ""),
+            (207, "<D:getetag>", 2, "PROPFIND", STAFF, f"<D:propfind {SPACES}>{etag}</D:propfind>"),
+            (207, "<D:getetag>", 2, "REPORT", STAFF,
+             f"<C:addressbook-query {SPACES}>{etag}{find}</C:addressbook-query>"),
+            (207, "<D:getetag>", 2, "REPORT", STAFF,
+             f"<D:sync-collection {SPACES}><D:sync-token/>{etag}</D:sync-collection>"),
+            (207, "<D:getetag>", 1, "REPORT", STAFF,
+             f"<C:addressbook-multiget {SPACES}>{etag}<D:href>{STAFF}a.vcf</D:href>"
+             "</C:addressbook-multiget>"),
+        ]:
+            with self.subTest(method=method, body=body):
+                reply = self.ask(method, path, body)
+                self.assertEqual((status, count), (reply[0], reply[1].count(tag)), reply)
 
 
 class Folds(unittest.TestCase):

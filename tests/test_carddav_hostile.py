@@ -52,7 +52,7 @@ class Xml(GatewayTest):
                 self.assertEqual(207, self.asked(body, kind))
 
     def test_what_xml_cannot_carry(self):
-        """A card's U+FFFF would make each reply with it unreadable, and an edit must not lose it."""
+        """A card's U+FFFF would make each reply with it unreadable; an edit must not lose it."""
         text = card("odd", "a\uffffb\ufffec & <d> ]]> \U0001f600", "TEL:+1",
                     "NOTE:\u0085\u2028\ufffe")
         self.staff.put(text)

@@ -18,8 +18,8 @@ from tosculai import lines_of
 
 LARGE = bytes(random.Random(1).getrandbits(8) for _ in range(400_000))
 # What may come before a file.
-HEADS = ["PHOTO;ENCODING=b;TYPE=JPEG:", 'item1.photo;encoding=B;X-P="a:b":', "PHOTO;X=é;ENCODING=b:",
-         "LOGO:data:image/png;base64,", "KEY;PREF=1:DATA:a/b;c=d;BASE64,"]
+HEADS = ["PHOTO;ENCODING=b;TYPE=JPEG:", 'item1.photo;encoding=B;X-P="a:b":',
+         "PHOTO;X=é;ENCODING=b:", "LOGO:data:image/png;base64,", "KEY;PREF=1:DATA:a/b;c=d;BASE64,"]
 
 
 class Photos(GatewayTest):
@@ -114,6 +114,22 @@ class Photos(GatewayTest):
         self.assertEqual(204, self.dav.ask("PUT", path, text, If_Match=got.etag).status)
         found = [it for it in lines_of(self.dav.ask("GET", path).text) if len(it) > 1000]
         self.assertEqual(sorted([lines[0], *lines[2:]]), sorted(found))
+
+    def test_several_small_files(self):
+        """Each fits into a card, and all of them don't. An edit leaves the lines of all."""
+        path = STAFF + "s.vcf"
+        lines = [self.photo(LARGE[it:60_000 + it]).replace("PHOTO", name)
+                 for it, name in enumerate(["PHOTO", "LOGO", "item1.PHOTO", "item2.LOGO", "SOUND"])]
+        self.dav.ask("PUT", path, card3("s", "Sue", "TEL:+1", *lines))
+        before = lines_of(self.staff.get("s").text)
+        self.assertTrue(any("/photos/" in it for it in before))
+        got = self.dav.ask("GET", path)
+        self.assertEqual(sorted(lines), sorted(it for it in lines_of(got.text) if len(it) > 1000))
+        edited = got.text.replace("TEL:+1", "TEL:+2")
+        reply = self.dav.ask("PUT", path, edited, If_Match=got.etag, Host="other.example")
+        self.assertEqual(204, reply.status)
+        self.assertEqual([it.replace("TEL:+1", "TEL:+2") for it in before],
+                         lines_of(self.staff.get("s").text))
 
     def test_lengths(self):
         """A program that asks for the length gets that of the text with its photo."""

@@ -9,14 +9,12 @@ import warnings
 from contextlib import redirect_stderr, redirect_stdout
 from unittest import mock
 
-from carddav_client import (CATEGORIES, CLIENTS, PASSWORD, STAFF, Client, GatewayTest, Stack,
-                            card3)
+from carddav_client import CLIENTS, PASSWORD, STAFF, Client, GatewayTest, Stack, card3
 from http_requests import card
 from program import ROOT, Folder
 from python_client import Forwarder
 
 from gateway import accounts, cli, readers
-from tosculai import lines_of
 
 
 def run(*arguments, line=""):
@@ -282,86 +280,6 @@ class States(unittest.TestCase):
         octets = b"".join(it.read_bytes() for it in stack.state.glob("names.db*"))
         stack.start()
         return octets
-
-    def test_a_restored_server(self):
-        """An older file was put back, and changed since: the copy isn't its book any more."""
-        with Folder(in_memory=True) as folder:
-            stack = Stack(folder)
-            try:
-                self.restore(stack)
-            finally:
-                stack.stop()
-
-    def restore(self, stack):
-        dav, staff = stack.client(), stack.books[0]
-        staff.put(card("a", "Ann"))
-        stack.back_up()
-        staff.put(card("a", "Anna"))
-        got = dav.ask("GET", STAFF + "a.vcf")
-        stack.restore()
-        stack.start_server()
-        staff.put(card("b", "Bob"))  # now the book has as many changes as before
-        self.assertEqual([STAFF + "a.vcf"], list(dav.sync(STAFF).etags()))
-        edited = got.text.replace("FN:Anna", "FN:Annie")
-        self.assertEqual(412, dav.ask("PUT", STAFF + "a.vcf", edited, If_Match=got.etag).status)
-        self.assertIn("the copy isn't the server's", stack.logged())
-        self.assertEqual({STAFF + "a.vcf", STAFF + "b.vcf"}, set(dav.sync(STAFF).etags()))
-        self.assertIn("FN:Ann\r\n", dav.ask("GET", STAFF + "a.vcf").text)
-        # Before the user runs --start-over, a card that is in the way is found in the same way.
-        self.assertEqual("Ann", next(it[3:] for it in lines_of(staff.get("a").text)
-                                     if it.startswith("FN:")))
-        dav.close()
-
-    def test_a_resync(self):
-        """After a restore with `resync` each program starts again by itself, with what is there."""
-        for is_stopped in False, True:
-            with self.subTest(is_stopped), Folder(in_memory=True) as folder:
-                stack = Stack(folder, users=CATEGORIES)
-                try:
-                    self.resync(stack, is_stopped)
-                finally:
-                    stack.stop()
-
-    def resync(self, stack, is_stopped):
-        dav, cat, staff = stack.client(), stack.client("cat"), stack.books[0]
-        for uid, name in [("a", "Ann"), ("b", "Bob"), ("g", "Gone")]:
-            staff.put(card(uid, name))
-        stack.back_up()
-        staff.put(card("a", "Anna"))
-        staff.remove("g")
-        self.assertEqual(201, dav.ask("PUT", STAFF + "lost.vcf", card3("l", "Lost")).status)
-        before = dav.sync(STAFF, props="<D:getetag/><C:address-data/>")
-        seen = cat.sync(STAFF)
-        if is_stopped:
-            stack.kill_gateway()
-        stack.restore()
-        stack.resync()
-        # The same edits as in the lost time, in another order.
-        staff.put(card("b", "Bob", "NOTE:later"))
-        staff.put(card("a", "Anna"))
-        if is_stopped:
-            stack.start()
-            dav.close()
-            cat.close()
-        self.assertEqual((403, ("valid-sync-token", True)), (
-            dav.sync(STAFF, before.token).status, dav.sync(STAFF, before.token).reason))
-        after = dav.sync(STAFF, props="<D:getetag/><C:address-data/>")
-        self.assertEqual({STAFF + "a.vcf", STAFF + "b.vcf", STAFF + "g.vcf"}, set(after.etags()))
-        self.assertEqual(after.etags(), dav.propfind(STAFF, "<D:getetag/>", "1").etags())
-        old, new = before.etags()[STAFF + "a.vcf"], after.etags()[STAFF + "a.vcf"]
-        self.assertNotEqual(old, new)  # although the text is the same again
-        edited = before.cards()[STAFF + "a.vcf"].replace("FN:Anna", "FN:Annie")
-        self.assertEqual(412, dav.ask("PUT", STAFF + "a.vcf", edited, If_Match=old).status)
-        self.assertEqual(204, dav.ask("PUT", STAFF + "a.vcf", edited, If_Match=new).status)
-        self.assertEqual(404, dav.ask("GET", STAFF + "lost.vcf").status)
-        # A program of categories is told what is different, or starts again, too.
-        told = cat.sync(STAFF, seen.token)
-        if told.status == 207:
-            self.assertEqual(404, told.statuses()[STAFF + "lost.vcf"])
-            self.assertLessEqual({STAFF + "a.vcf", STAFF + "b.vcf", STAFF + "g.vcf"},
-                                 {it for it, status in told.statuses().items() if status == 200})
-        dav.close()
-        cat.close()
 
     def test_photos_that_no_card_names(self):
         with Folder(in_memory=True) as folder:

@@ -4,8 +4,8 @@ Three phones (one of vCard 3.0 that drops what it doesn't know, one of 4.0, one 
 categories) and the desk add numbers to cards, take numbers away, add and remove cards, and put
 people into groups and out of them. The desk edits older copies, and puts edits together by its own
 merge. Meanwhile the gateway and the server are killed and started again, the book forgets removals,
-and the file is resynced, where the program has that order. In the end all copies are equal, and
-each edit that got its 2xx is there, unless a later one took it away.
+and the file is resynced. In the end all copies are equal, and each edit that got its 2xx is there,
+unless a later one took it away.
 
 `SEEDS=20 ./test carddav_random` runs more of them.
 """
@@ -16,12 +16,13 @@ import threading
 import time
 import unittest
 
-from carddav_client import CATEGORIES, STAFF, Stack, has_resync
+from carddav_client import CATEGORIES, STAFF, Stack
 from carddav_desk import Merger
 from carddav_devices import OFFICE, CategoryPhone, Desk, Ledger, Phone, categories, numbers, teams
 from http_requests import card
 from program import Folder
 from python_client import office
+from resynced import can_resync
 
 from tosculai import Conflict, Error, lines_of
 
@@ -74,7 +75,7 @@ class Random(unittest.TestCase):
         for it in threads:
             it.start()
         kills, harms = 0, [stack.restart, stack.restart_server, lambda: self.forget(stack)]
-        harms += [stack.resync] * has_resync()
+        harms += [stack.resync] * can_resync()
         while time.monotonic() < end and not faults and (
                 kills < KILLS or any(it.done < EDITS for it in devices)):
             time.sleep(killer.uniform(0.1, 0.5))
@@ -138,13 +139,14 @@ class OneCard(unittest.TestCase):
     def phone(self, stack, name, done, faults):
         dav = stack.client(program=f"phone{name}/1.0")
         for number in range(self.EDITS):
-            status = 412
-            while status == 412:
+            reply = None
+            while reply is None or reply.status == 412:
                 got = dav.ask("GET", STAFF + "a.vcf")
                 line = f"TEL:+{name}-{number}\r\nEND:VCARD"
-                status = dav.ask("PUT", STAFF + "a.vcf", got.text.replace("END:VCARD", line),
-                                 If_Match=got.etag).status
-            (done if status == 204 else faults).append(f"+{name}-{number}")
+                reply = dav.ask("PUT", STAFF + "a.vcf", got.text.replace("END:VCARD", line),
+                                If_Match=got.etag)
+            done.append(f"+{name}-{number}")
+            faults += [] if reply.status == 204 else [reply]
         dav.close()
 
     def desk(self, stack, done):

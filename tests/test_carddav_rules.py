@@ -200,6 +200,22 @@ class Tokens(GatewayTest):
                 reply = self.dav.sync(STAFF, bad)
                 self.assertEqual((403, ("valid-sync-token", True)), (reply.status, reply.reason))
 
+    def test_a_token_of_thunderbird(self):
+        """Its CardDAVDirectory.updateAllFromServerV2 takes 207 and 400: any other status is an
+        error, after which it asks with the same token for ever."""
+        agent = "Mozilla/5.0 (X11; Linux x86_64; rv:153.0) Gecko/20100101 Thunderbird/153.8.0"
+        thunderbird = self.stack.client(program=agent)
+        self.addCleanup(thunderbird.close)
+        self.staff.put(card("a", "Ann"))
+        token = thunderbird.sync(STAFF).token
+        self.staff.put(card("b", "Bob"))
+        self.assertEqual((207, {STAFF + "b.vcf": 200}), (
+            thunderbird.sync(STAFF, token).status, thunderbird.sync(STAFF, token).statuses()))
+        self.staff.remove("a")
+        self.staff.forget(self.staff.tally()["number"])
+        reply = thunderbird.sync(STAFF, token)
+        self.assertEqual((400, ("valid-sync-token", True)), (reply.status, reply.reason))
+
     def test_what_the_book_has_forgotten(self):
         """A token that is too old for the server is refused here, and so is the gateway's own."""
         for uid in "ab":

@@ -7,7 +7,8 @@ sent with the version that the client saw, so nobody's edit is overwritten unsee
 
 import threading
 import time
-from typing import Callable, Collection, Dict, Iterator, List, NamedTuple, Optional, Tuple
+from contextlib import ExitStack
+from typing import Callable, Collection, Dict, Iterator, List, NamedTuple, Optional, Set, Tuple
 
 from tosculai import Card, InvalidToken, NoSuchBook, Page, lines_of
 
@@ -49,9 +50,18 @@ class Shelf:
         self._lock = threading.Lock()
 
     def names(self) -> List[str]:
-        """The names of all books, as the server has them now."""
+        """The names of all books, as the server has them now.
+
+        A book is never removed, and keeps its number. So if one of before isn't there, another file
+        is served, and each program lists all cards again.
+        """
+        known = self.state.books()
         with self.offices.one() as office:
             found = {str(it["name"]): int(it["id"]) for it in office.books()}
+        if not known.items() <= found.items():
+            self._start_over()
+        if known != found:
+            self.state.note_books(found)
         with self._lock:
             for name, number in found.items():
                 if name not in self._books or self._books[name].number != number:
@@ -59,6 +69,16 @@ class Shelf:
             for name in set(self._books) - set(found):
                 del self._books[name]
         return sorted(found)
+
+    def _start_over(self) -> None:
+        self.say("a book is gone from the server, so its file is another one: all cards anew")
+        books = sorted(self._books.values(), key=lambda it: it.number)
+        with ExitStack() as locks:
+            for book in books:
+                locks.enter_context(book.lock)
+            self.state.start_over()
+            for book in books:
+                book.forget_people()
 
     def book(self, name: str) -> "AddressBook":
         if name not in self._books:
@@ -92,40 +112,57 @@ class AddressBook:
     # Following the server.
 
     def refresh(self) -> str:
-        """Brings the copy to what the server has, and returns the token of that for clients."""
-        with self.lock:
-            token, loading = self.state.token(self.number), None
-            for page in self._pages(token):
-                loading = loading or (Loading(self) if page.truncated else None)
-                if loading:
-                    loading.tell(len(page.members))
-                if page.members or page.token != token:
-                    self.state.apply(self.number, [row_of(it) for it in page.members], page.token)
-                    self._tell(page.members)
-                token = page.token
-            if loading:
-                loading.end()
-            self.state.whole(self.number)
-            return self._wrapped(token)
+        """Brings the copy to what the server has, and returns the token of that for clients.
 
-    def _pages(self, token: str) -> Iterator[Page]:
-        """All pages since the token; since ever if it is refused, after the copy was cleared.
-
-        It may be refused between two pages, too, if the book forgets or starts anew meanwhile.
+        The server may refuse the copy's token, also between two pages, if the book forgets or
+        starts anew. Then all cards are read again.
         """
-        for left in reversed(range(ROUNDS)):
-            try:
-                yield from self.pages(token)
-                return
-            except InvalidToken:
-                if not left:
-                    raise
-                self.shelf.say(f"{self.name}: the server refuses the copy's token; all cards anew")
-                self._clear()
-                token = ""
+        with self.lock:
+            for left in reversed(range(ROUNDS)):
+                try:
+                    token = self._follow(self.state.token(self.number))
+                    break
+                except InvalidToken:
+                    if not left:
+                        raise
+                    self.shelf.say(f"{self.name}: the server refuses the copy's token; all cards "
+                                   "anew")
+                    self._restart()
+            self.state.whole(self.number)
+            return wrapped_token(token, self.state.epoch)
 
-    def _clear(self) -> None:
-        self.state.clear(self.number)
+    def _follow(self, token: str) -> str:
+        """Brings the copy from this token to the newest one.
+
+        Without a token all cards are read. Those that were in the copy before stay until the end,
+        since a reply to a program may be reading them: a card that it misses is removed there.
+        """
+        seen: Optional[Set[str]] = None if token or not self.state.count(self.number) else set()
+        loading = None
+        for page in self.pages(token):
+            loading = loading or (Loading(self) if page.truncated else None)
+            if loading:
+                loading.tell(len(page.members))
+            if page.members or page.token != token:
+                rows = [row_of(it) for it in page.members]
+                if seen is None:
+                    self.state.apply(self.number, rows, page.token)
+                else:
+                    seen.update(it.uid for it in rows)
+                    self.state.apply(self.number, rows, "" if page.truncated else page.token,
+                                     None if page.truncated else seen)
+                self._tell(page.members)
+            token = page.token
+        if loading:
+            loading.end()
+        return token
+
+    def _restart(self) -> None:
+        """Lets the next refresh read all cards."""
+        self.state.drop_token(self.number)
+        self.forget_people()
+
+    def forget_people(self) -> None:
         self._people = None
 
     def _tell(self, members: List[Card]) -> None:
@@ -161,7 +198,7 @@ class AddressBook:
             found = self.state.entry(self.number, uid)
             if (found and found.version) == (old and old.version):
                 self.shelf.say(f"{self.name}: the copy isn't the server's; all cards anew")
-                self._clear()
+                self._restart()
                 self.refresh()
 
     # Reading.
@@ -210,10 +247,6 @@ class AddressBook:
 
     # Tokens of clients.
 
-    def _wrapped(self, token: str) -> str:
-        """A token for clients: that of the server, and the epoch of the names."""
-        return f"{token}?names={self.state.epoch}"
-
     def _unwrapped(self, wrapped: str) -> str:
         token, _, epoch = wrapped.rpartition("?names=")
         if wrapped and (epoch != self.state.epoch or not token):
@@ -222,7 +255,7 @@ class AddressBook:
 
     def changes(self, wrapped: str, limit: Optional[int] = None) -> Changes:
         """What changed since a client's token, or since ever. Raises InvalidToken."""
-        token = self._unwrapped(wrapped)
+        token, epoch = self._unwrapped(wrapped), self.state.epoch
         with self.lock:
             now = self.refresh()
             if not wrapped and limit is None:
@@ -235,7 +268,8 @@ class AddressBook:
             members.update((it.uid, bool(it.version)) for it in page.members)
             token, truncated = page.token, page.truncated
         self.refresh()  # so the copy is as new as the pages, or newer
-        return self._told(members, bool(wrapped), self._wrapped(token), truncated)
+        # If the names were lost meanwhile, the token of before them is refused.
+        return self._told(members, bool(wrapped), wrapped_token(token, epoch), truncated)
 
     def _told(self, members: Dict[str, bool], has_token: bool, token: str,
               truncated: bool) -> Changes:
@@ -268,6 +302,11 @@ class Loading:
     def end(self) -> None:
         seconds = time.monotonic() - self._begun
         self._book.shelf.say(f"{self._book.name}: {self._count:,} changes read in {seconds:.1f} s")
+
+
+def wrapped_token(token: str, epoch: str) -> str:
+    """A token for clients: that of the server, and the epoch of the names."""
+    return f"{token}?names={epoch}"
 
 
 def row_of(card: Card) -> Row:

@@ -86,10 +86,10 @@ class Dav:
         as4 = self.has4 and VERSION4.search(request.field("accept")) is not None
         if place.is_book:
             return Reply(200, {"Content-Type": VCARD}, self.whole(place, as4))
-        entry = place.book.named(place.name)
-        text = place.book.text(entry) if entry else None
-        if not entry or text is None:
+        found = place.book.card("names.name", place.name)
+        if not found:
             raise Missing(f"there is no card {place.name}")
+        entry, text = found
         head = {"Content-Type": VCARD, "ETag": entry.etag, "Vary": "Accept"}
         if "if-none-match" in request.fields and edits.matches(request.field("if-none-match"),
                                                                entry.etag):
@@ -100,9 +100,9 @@ class Dav:
         """All cards of a book, one after another."""
         assert place.book
         for entry in place.book.entries():
-            text = place.book.text(entry)
-            if text is not None:
-                yield from place.book.filled(text, as4)
+            found = place.book.card("cards.uid", entry.uid)  # it may have been edited meanwhile
+            if found:
+                yield from place.book.filled(found[1], as4)
 
     def greet(self, request: Request) -> Reply:
         """What a browser shows of the address that phones use."""

@@ -151,7 +151,10 @@ def sync(answer: Answer, root: ET.Element, limit: Optional[int]) -> Iterator[str
     try:
         changes = answer.book.changes((root.findtext(dav("sync-token")) or "").strip(), limit)
     except InvalidToken:
-        raise Fault(403, "the token is refused: list all cards, without a token",
+        # RFC 6578 has 403 for this. Thunderbird lists all cards after a 400 alone, and would ask
+        # with the same token for ever.
+        code = 400 if answer.request.program == "Thunderbird" else 403
+        raise Fault(code, "the token is refused: list all cards, without a token",
                     BAD_TOKEN) from None
     return _synced(answer, changes.there, changes.gone, changes.token, changes.truncated)
 
@@ -197,12 +200,15 @@ def query(answer: Answer, wanted: Optional[ET.Element], limit: Optional[int]) ->
 def _matching(answer: Answer, wanted: Optional[ET.Element], limit: Optional[int]) -> Iterator[str]:
     count = 0
     for entry in answer.book.entries():
+        text = ""
         if wanted is not None and len(wanted):
-            text = answer.book.text(entry)
-            if text is None or not filters.matches(wanted, cards.written(text, answer.wanted.as4)):
+            found = answer.book.card("cards.uid", entry.uid)  # it may have been edited meanwhile
+            if not found or not filters.matches(wanted, cards.written(found[1],
+                                                                      answer.wanted.as4)):
                 continue
+            entry, text = found
         if count == limit:
             yield answer.more()
             return
-        yield answer.of(entry)
+        yield answer.full(entry, text) if text else answer.of(entry)
         count += 1

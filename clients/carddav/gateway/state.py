@@ -19,7 +19,7 @@ import secrets
 import sqlite3
 import threading
 from contextlib import contextmanager
-from typing import Iterable, Iterator, List, NamedTuple, Optional, Tuple
+from typing import Collection, Dict, Iterable, Iterator, List, NamedTuple, Optional, Tuple
 
 SCHEMA_NUMBER = "1"
 SCHEMA = """
@@ -135,17 +135,28 @@ class State:
                 self._db.execute(f"DELETE FROM {table}")
             self.epoch = secrets.token_hex(4)
             self._db.execute("UPDATE facts SET value = ? WHERE name = 'epoch'", (self.epoch,))
+            self._db.execute("DELETE FROM facts WHERE name GLOB 'book:*'")
             self._db.execute("INSERT OR IGNORE INTO stale SELECT DISTINCT book FROM names")
         self._stale = {int(it) for it, in self._db.execute("SELECT book FROM stale")}
+
+    def books(self) -> Dict[str, int]:
+        """The books that the office is known to have: their numbers by name."""
+        found = self.rows("SELECT substr(name, 6), value FROM facts WHERE name GLOB 'book:*'")
+        return {str(name): int(number) for name, number in found}
+
+    def note_books(self, books: Dict[str, int]) -> None:
+        with self.changing(durably=True):
+            self._db.executemany("INSERT OR IGNORE INTO facts VALUES (?, ?)",
+                                 [(f"book:{name}", str(it)) for name, it in books.items()])
 
     def whole(self, book: int) -> None:
         """Notes that the copy has the whole book, before a client gets a token of it."""
         if book not in self._stale:
             return
         with self.changing(durably=True):
-            self._db.execute("DELETE FROM names WHERE book = ? AND (old = 1 OR NOT EXISTS (SELECT 1"
-                             " FROM cards WHERE cards.book = names.book AND cards.uid = names.uid))",
-                             (book,))
+            self._db.execute("DELETE FROM names WHERE book = ? AND (old = 1 OR NOT EXISTS ("
+                             "SELECT 1 FROM cards WHERE cards.book = names.book AND"
+                             " cards.uid = names.uid))", (book,))
             self._db.execute("DELETE FROM stale WHERE book = ?", (book,))
         self._stale.discard(book)
 
@@ -163,18 +174,25 @@ class State:
         found = self.rows("SELECT token FROM books WHERE book = ?", book)
         return str(found[0][0]) if found else ""
 
-    def clear(self, book: int) -> None:
+    def drop_token(self, book: int) -> None:
+        """Lets the copy be read anew; its cards stay until that is done."""
         with self.changing():
-            self._db.execute("DELETE FROM cards WHERE book = ?", (book,))
             self._db.execute("DELETE FROM books WHERE book = ?", (book,))
             self._db.execute("UPDATE views SET token = '' WHERE book = ?", (book,))
 
-    def apply(self, book: int, rows: List[Row], token: str) -> None:
-        """Puts a page of the server into the copy, and keeps its token, in one transaction."""
+    def apply(self, book: int, rows: List[Row], token: str,
+              only: Optional[Collection[str]] = None) -> None:
+        """Puts a page of the server into the copy, and keeps its token, in one transaction.
+
+        If `only` is given, the copy keeps no card but those of these UIDs.
+        """
         there = [row for row in rows if row.text]
         gone = [(book, row.uid) for row in rows if not row.text]
         self.assign(book, [row.uid for row in there])  # before a client may be told of them
         with self.changing():
+            if only is not None:
+                found = self._db.execute("SELECT uid FROM cards WHERE book = ?", (book,))
+                gone += [(book, uid) for uid, in found if uid not in only]
             self._db.executemany("DELETE FROM cards WHERE book = ? AND uid = ?", gone)
             self._db.executemany("INSERT OR REPLACE INTO cards VALUES (?, ?, ?, ?, ?)",
                                  [(book, *row) for row in there])
