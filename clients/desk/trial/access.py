@@ -108,12 +108,34 @@ AUDIT = r"""(() => {
     const stops = all('button, a[href], input, select, textarea, summary, [tabindex="0"]')
         .filter((it) => it.tabIndex >= 0 && !it.closest('.skip, .toast') && !isSticky(it))
         .filter((it) => !document.querySelector('dialog[open]') || it.closest('dialog'));
+    // What is scrolled out of sight counts where it would be without the scrolling.
+    const placeOf = (node) => {
+        const box = node.getBoundingClientRect();
+        for (let at = node.parentElement; at; at = at.parentElement) box.y += at.scrollTop;
+        return box;
+    };
     for (let at = 1; at < stops.length; at += 1) {
-        const [one, next] = [stops[at - 1], stops[at]].map((it) => it.getBoundingClientRect());
+        const [one, next] = [stops[at - 1], stops[at]].map(placeOf);
         if (next.bottom <= one.top && next.left < one.right) wrong('Tab goes up to', stops[at]);
     }
     if (document.documentElement.scrollWidth > innerWidth) found.push('wider than the page');
     return found;
+})()"""
+
+
+# On a phone fingers need 44 by 44 for what is pressed, and the search and its buttons one row.
+TOUCH = """(() => {
+    const all = 'button, input, select, textarea, summary, [role=option], .quick a, a.copy';
+    const small = [...document.querySelectorAll(all)].filter((it) => it.checkVisibility())
+        .map((it) => [it, (it.closest('label') ?? it).getBoundingClientRect()])
+        .filter(([, box]) => Math.min(box.width, box.height) < 43.5)
+        .map(([it, box]) => `${it.localName}.${it.className} ${it.textContent.slice(0, 20)} `
+            + `${box.width} x ${box.height}`);
+    const top = [...document.querySelector('.top').children]
+        .filter((it) => it.checkVisibility() && it.getBoundingClientRect().height > 1)
+        .map((it) => it.getBoundingClientRect());
+    const isRow = top.every((it) => it.top < top[0].bottom && it.bottom > top[0].top);
+    return [...small, ...(isRow ? [] : ['the top has several rows'])];
 })()"""
 
 

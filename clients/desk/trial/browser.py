@@ -66,10 +66,11 @@ class Browser(Driver):
         page.size(width, height)
         return page
 
-    def another(self, with_bars=False):
-        """Another browser, with nothing kept."""
+    def another(self, with_bars=False, name=None):
+        """Another browser, with nothing kept. It takes `name` for one of this machine."""
         kept = [it for it in self.arguments if it != "--hide-scrollbars"]
-        return Browser(self.program, kept, with_bars)
+        rules = [f"--host-resolver-rules=MAP {name} 127.0.0.1"] if name else []
+        return Browser(self.program, [*kept, *rules], with_bars)
 
     def close(self):
         self.end("Browser.close")

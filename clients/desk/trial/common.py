@@ -43,8 +43,12 @@ class Trial:
             try:
                 page.picture(self.pictures / f"failed-{name}-{user}.png")
                 page.said.clear()
+                page.size(1280, 800)
             except Exception:
                 pass  # the browser is gone
+        # The next steps find the network and a desk as they would have without this one.
+        self.office.reopen()
+        self.desks.pop("away", None)
 
 
 def until(condition, seconds=60):

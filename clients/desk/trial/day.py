@@ -250,7 +250,7 @@ FILES = [
     ("bad.csv", f"{HEADER}n1,Ned,,,,,,\nn2,,,,,,,\nn3,Nora,,,,,,\n",
      "Row 2: The name (fn) is empty. Nothing was imported."),
     ("bad.vcf", card("v1", "FN:New") + card("v2", "FN:Old Olga").replace("4.0", "3.0"),
-     "Card 2 (Old Olga): It isn't vCard 4.0. Export it as vCard 4.0. Nothing was imported."),
+     "Card 2 (Old Olga): It isn’t vCard 4.0. Export it as vCard 4.0. Nothing was imported."),
     ("good.csv", f"{HEADER}n1,Ned Stone,Stone,Ned,ned@example.test,020 7946 0188,Stone & Sons,"
      "\nn3,Nora,,,,,,\n", "2 new cards, 0 changed, 0 as they were"),
     ("good.vcf", card("v1", "FN:Vic", "TEL;TYPE=cell:07700 900555")

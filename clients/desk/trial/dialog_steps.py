@@ -64,7 +64,7 @@ def dialogs(trial):
         page.key("Escape")
         hands.at("search")
     hands.press("Trash")
-    look(page, hands, "the trash", "Deleted, changed")
+    look(page, hands, "the trash", "Trash")
     page.key("Escape")
     search(page, "tilda twin")
     page.wait("document.querySelectorAll('#list .row').length === 2")
@@ -131,6 +131,29 @@ def menus(trial):
     page.key("Escape")
     hands.press("Cancel")
     page.wait("!document.querySelector('.form')")
+
+
+@step
+def side_bar_scrolled(trial):
+    """Where the side bar is longer than the page, Tab goes down it, and it stays where it is."""
+    page, office = at_desk(trial), trial.office
+    page.front()
+    page.press("clients", "document.querySelector('#books')")
+    search(page, "")
+    page.size(1280, 360)
+    hands = Hands(page)
+    hands.to("Suppliers")
+    scrolled = "document.querySelector('#books').scrollTop"
+    place = page.run(scrolled)
+    assert place > 0, "all of the side bar is in sight"
+    audit(page, "a side bar that is scrolled")
+    # It is drawn anew when a card comes.
+    office.put("clients", "barred", card("barred", "FN:Aad Barred"))
+    page.run("dispatchEvent(new Event('focus'))")
+    page.wait("document.querySelector('#list').textContent.includes('Aad Barred')")
+    assert page.run(scrolled) == place
+    assert page.run("document.activeElement.textContent").startswith("Suppliers")
+    page.size(1280, 800)
 
 
 # The copy was away from 1 to 2 November 2025, 9:00 each.

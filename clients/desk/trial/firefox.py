@@ -25,6 +25,8 @@ SETTINGS = {
     "browser.aboutwelcome.enabled": False, "browser.download.alwaysOpenPanel": False,
     "browser.shell.checkDefaultBrowser": False, "browser.startup.page": 0,
     "datareporting.policy.dataSubmissionEnabled": False, "extensions.update.enabled": False,
+    # A page of another site opens no dialog for a password, which nobody could answer here.
+    "network.auth.subresource-http-auth-allow": 1,
     "network.captive-portal-service.enabled": False, "network.connectivity-service.enabled": False,
     "network.http.phishy-userpass-length": 255, "services.settings.server": "data:,",
     "toolkit.telemetry.reportingpolicy.firstRun": False,
@@ -34,9 +36,10 @@ SETTINGS = {
 
 
 class Firefox(Driver):
-    def __init__(self, program):
+    def __init__(self, program, name=None):
         super().__init__(program, "firefox")
-        lines = (f"user_pref({json.dumps(it)}, {json.dumps(to)});" for it, to in SETTINGS.items())
+        settings = {**SETTINGS, **({"network.dns.localDomains": name} if name else {})}
+        lines = (f"user_pref({json.dumps(it)}, {json.dumps(to)});" for it, to in settings.items())
         (self.folder / "user.js").write_text("\n".join(lines))
         self.again()
 
@@ -86,9 +89,9 @@ class Firefox(Driver):
         page.size(width, height)
         return page
 
-    def another(self):
-        """Another browser, with nothing kept."""
-        return Firefox(self.program)
+    def another(self, name=None):
+        """Another browser, with nothing kept. It takes `name` for one of this machine."""
+        return Firefox(self.program, name)
 
     def close(self):
         self.end("browser.close")

@@ -4,10 +4,10 @@ import json
 import time
 
 from access import audit
-from between import fill_disk, refuse
+from between import fill_disk, hold, refuse
 from common import keep_files
-from office import logical
-from steps import STATE, TITLE, fault, fill, search, stored, until
+from office import card, logical
+from steps import STATE, TITLE, fault, fill, more, search, stored, until
 
 FORM = "document.querySelector('.form')"
 CARD = "(document.querySelector('#pane .card')?.innerText ?? '')"
@@ -86,6 +86,48 @@ def save_while_away(trial):
     page.wait(f"{TITLE} === 'Bea Later'")
     until(lambda: "Bea Later" in names(office))
     assert names(office).count("Ada Early") == 1
+
+
+NEW_CARD = "document.dispatchEvent(new KeyboardEvent('keydown'," \
+    " { altKey: true, code: 'KeyN', bubbles: true }))"
+HEADING = "document.querySelector('.form h2')?.textContent"
+
+
+@fault
+def form_at_once(trial):
+    """Who begins a new card right after Save, Cancel or Delete gets its form, and keeps it."""
+    page, office = at_desk(trial), trial.office
+
+    def stays():
+        page.wait(f"{HEADING} === 'New person' && !{FIELDS}.some((it) => it.includes('Instant'))")
+        page.rest(2000)
+        assert page.run(HEADING) == "New person", "the form was taken away"
+
+    new_form(page, "Ida", "Instant")
+    hold(page, 1500)  # the browser's disk is slow
+    page.press("Save")
+    page.run(NEW_CARD)
+    stays()
+    until(lambda: "Ida Instant" in names(office))
+    fill(page, "Given name", "Instant")
+    page.run(f"([...{FORM}.querySelectorAll('button')]"
+             f".find((it) => it.textContent === 'Cancel').click(), {NEW_CARD})")
+    stays()
+    page.press("Cancel", FORM)
+    search(page, "ida instant")
+    page.wait(f"{TITLE} === 'Ida Instant'")
+    more(page, "Delete")
+    hold(page, 1500)
+    page.press("Delete", "document.querySelector('dialog')")
+    page.wait("!document.querySelector('dialog')")
+    page.run(NEW_CARD)
+    stays()
+    until(lambda: "Ida Instant" not in names(office))
+    # Nor does an Undo lead away from a form.
+    page.press("Undo", "document.querySelector('#toast')")
+    until(lambda: "Ida Instant" in names(office))
+    stays()
+    page.press("Cancel", FORM)
 
 
 @fault
@@ -195,6 +237,29 @@ def sets(trial):
     page.press("Save what is chosen")
     stored(office, "c13", "TEL;TYPE=work:0121 496 0777")
     assert "TITLE:Architect" in logical(office.card("clients", "c13")["card"])
+    members_by_name(page, office)
+
+
+def members_by_name(page, office):
+    """Where something of a group is asked, its members are said by their names."""
+    def group(name, *members):
+        return card("gset", f"FN:{name}", "KIND:group", *(f"MEMBER:{it}" for it in members))
+
+    office.put("clients", "gset", group("Aae Set", "c00"))
+    page.press("Update now")
+    open_form(page, "aae set", "Aae Set")
+    fill(page, "Name as it is shown", "Aae Mine")
+    fill(page, "Add a member: search this book", "Gwen")
+    page.press("Gwen Ashdown", f"{FORM}.querySelector('.found')")
+    office.put("clients", "gset", group("Aae Theirs", "c00", "c20"))
+    page.press("Save")
+    page.wait("document.querySelector('dialog table.conflict')")
+    said = page.run("document.querySelector('dialog .taken').innerText")
+    assert "Gwen Ashdown" in said and "Ulrike Brandt" in said and "c20" not in said, said
+    page.press("Take theirs")
+    stored(office, "gset", "MEMBER:c06")
+    office.ask("DELETE", "/clients/cards/gset")
+    page.press("Update now")
 
 
 @fault
@@ -267,6 +332,7 @@ def conflict_offline(trial):
         "TITLE:Their position" if it.startswith("TITLE") else it for it in logical(text)))
     office.open()
     page.go(office.front)
+    page.front()  # it is asked where the user is, whichever tab sent it
     page.wait("document.querySelector('dialog table.conflict')")
     shown = page.run("document.querySelector('dialog').innerText")
     assert "My position" in shown and "Their position" in shown, shown
@@ -332,104 +398,6 @@ def refusals_kept(trial):
         page.press("Try again", "document.querySelector('#pane')")
         stored(office, "c08", f"TITLE:Refused with {status}")
         page.wait(f"{WAITING} === ''")
-
-
-OLD_TABLES = """(async () => {
-    const old = await new Promise((resolve) => {
-        const request = indexedDB.open('desk', 1);
-        request.onupgradeneeded = () => {
-            const db = request.result;
-            db.createObjectStore('books', { keyPath: 'name' });
-            for (const name of ['cards', 'rows', 'drafts']) {
-                db.createObjectStore(name, { keyPath: ['book', 'uid'] });
-            }
-            db.createObjectStore('settings');
-        };
-        request.onsuccess = () => resolve(request.result);
-    });
-    const tx = old.transaction(['books', 'drafts', 'settings'], 'readwrite');
-    tx.objectStore('books').put({ name: 'clients', token: 't', round: 1, whole: true, synced: 1 });
-    const text = (uid, fn) => ['BEGIN:VCARD', 'VERSION:4.0', 'UID:' + uid, 'FN:' + fn, 'END:VCARD',
-        ''].join('\\r\\n');
-    tx.objectStore('drafts').put({
-        book: 'clients', uid: '', version: 0, base: text('old-new', ''),
-        text: text('old-new', 'Typed Long Ago'),
-    });
-    tx.objectStore('drafts').put({
-        book: 'clients', uid: 'c17', version: 18, base: text('c17', 'Rosa Delgado'),
-        text: text('c17', 'Rosa Delgado-Long'),
-    });
-    tx.objectStore('settings').put('clients', 'book');
-    await new Promise((resolve) => { tx.oncomplete = resolve; });
-    old.close();
-})()"""
-
-
-@fault
-def older_desk(trial):
-    """A browser with the copy of an older desk: names of books and drafts are taken over."""
-    office = trial.office
-    page = trial.browser.page(trial.browser.context())
-    trial.desks["older"] = page
-    page.enter(office.front, "ann", "style/base.css")
-    page.run(OLD_TABLES)
-    page.go(office.front)
-    page.wait(f"{STATE}.startsWith('Up to date')")
-    page.wait("document.querySelector('#books').textContent.includes('clients')")
-    page.press("2 not saved yet")
-    page.wait("document.querySelector('dialog').innerText.includes('Rosa Delgado-Long')")
-    row = ("[...document.querySelectorAll('dialog li')]"
-           ".find((it) => it.innerText.includes('Typed Long Ago'))")
-    page.press("Go on", row)
-    page.wait(f"{FORM} && {FIELDS}.includes('Typed Long Ago')")
-    page.press("Save")
-    until(lambda: "Typed Long Ago" in names(office))
-
-
-SECOND_TABLES = """(async () => {
-    const old = await new Promise((resolve) => {
-        const request = indexedDB.open('desk', 2);
-        request.onupgradeneeded = () => {
-            const db = request.result;
-            db.createObjectStore('books', { keyPath: 'name' });
-            db.createObjectStore('cards', { keyPath: ['book', 'uid'] });
-            db.createObjectStore('rows', { autoIncrement: true }).createIndex('book', 'book');
-            db.createObjectStore('queue', { keyPath: ['book', 'uid'] });
-            db.createObjectStore('drafts', { keyPath: ['book', 'uid', 'slot'] });
-            db.createObjectStore('trash', { autoIncrement: true, keyPath: 'id' })
-                .createIndex('at', 'at');
-            db.createObjectStore('settings');
-        };
-        request.onsuccess = () => resolve(request.result);
-    });
-    const text = (uid, ...lines) => ['BEGIN:VCARD', 'VERSION:4.0', 'UID:' + uid, ...lines,
-        'END:VCARD', ''].join('\\r\\n');
-    const tx = old.transaction(['books', 'cards', 'rows', 'queue'], 'readwrite');
-    tx.objectStore('books').put({ name: 'staff', token: 't', round: 1, whole: true, synced: 1 });
-    tx.objectStore('cards').put({ book: 'staff', uid: 'kept', version: 1, round: 1,
-        text: text('kept', 'FN:Kept Before', 'CATEGORIES:Before') });
-    tx.objectStore('rows').add({ book: 'staff', text: JSON.stringify({ gone: [], rows: [
-        { book: 'staff', uid: 'kept', version: 1, kind: 'individual', name: 'Kept Before' }] }) });
-    tx.objectStore('queue').put({ book: 'staff', uid: 'waited', order: 1, kind: 'save', base: '',
-        version: 0, text: text('waited', 'FN:Waited Since'), state: 'waits', theirs: null,
-        fault: null, at: 1 });
-    await new Promise((resolve) => { tx.oncomplete = resolve; });
-    old.close();
-})()"""
-
-
-@fault
-def second_desk(trial):
-    """A browser with the copy of the desk before this one: all of it stays, and what waits goes."""
-    office = trial.office
-    page = trial.browser.page(trial.browser.context())
-    trial.desks["second"] = page
-    page.enter(office.front, "ann", "style/base.css")
-    page.run(SECOND_TABLES)
-    # The rows have categories, before the server says anything.
-    page.go(f"{office.front}?")
-    page.wait("document.querySelector('#books').textContent.includes('Before')")
-    until(lambda: "Waited Since" in names(office, "staff"))
 
 
 @fault

@@ -2,7 +2,7 @@
 
 import json
 
-from access import AUDIT, CALM
+from access import AUDIT, CALM, TOUCH
 from cards import EVIL, MARK, hostile_cards
 from common import keep_files
 from office import card
@@ -158,7 +158,7 @@ def new_files(trial):
 
 @step
 def looks(trial):
-    """Pictures: dark and light, middle and narrow widths. Nothing may be wider than the page."""
+    """Pictures: dark and light, all widths. Nothing is wider than the page, or hard to touch."""
     admin = trial.desks["admin"]
     admin.press("clients", "document.querySelector('#books')")
     for scheme in ("light", "dark"):
@@ -168,25 +168,30 @@ def looks(trial):
             admin.run("location.hash = '#/'")
             search(admin, "")
             admin.rest(400)
-            admin.picture(trial.pictures / f"{name}-{scheme}-list.png")
+            look(trial, admin, f"{name}-{scheme}-list", width)
             admin.run("location.hash = '#/card/clients/c12'")
             admin.wait(f"{TITLE} === 'Miriam O’Hara'")
             admin.rest(300)
-            admin.picture(trial.pictures / f"{name}-{scheme}-card.png")
-            assert not admin.run("document.documentElement.scrollWidth > innerWidth"), name
+            look(trial, admin, f"{name}-{scheme}-card", width)
             admin.run("location.hash = '#/edit/clients/c12'")
             admin.wait("document.querySelector('.form')")
-            admin.picture(trial.pictures / f"{name}-{scheme}-form.png")
-            assert not admin.run("document.documentElement.scrollWidth > innerWidth"), name
+            look(trial, admin, f"{name}-{scheme}-form", width)
             admin.press("Cancel", "document.querySelector('.form')")
-            admin.run(CALM)
-            wrong = admin.run(AUDIT)
-            assert not wrong, (scheme, name, wrong)
     admin.scheme("light")
     admin.size(1280, 800)
 
 
-SIZES = [("wide", 1360, 850), ("middle", 900, 700), ("narrow", 390, 780), ("least", 320, 640)]
+def look(trial, page, name, width):
+    """Keeps a picture of the page, and looks at it."""
+    page.run(CALM)
+    page.picture(trial.pictures / f"{name}.png")
+    wrong = page.run(AUDIT) + (page.run(TOUCH) if width < 500 else [])
+    assert not wrong, (name, wrong)
+
+
+# The least, a phone, a tablet, a laptop, a large screen.
+SIZES = [("least", 320, 640), ("narrow", 390, 780), ("middle", 768, 1024), ("usual", 1280, 800),
+         ("wide", 1600, 1000)]
 
 
 @step

@@ -19,6 +19,7 @@ ROOT = Path(__file__).resolve().parents[3]
 SITE = ROOT / "clients/desk/site"
 PYTHON = ROOT / "clients/python"
 DESK = "    # The desk: without it,"  # before which an office has the versions of cards
+HEARD = "log_format heard '$status $remote_user $request_method $request_uri';"
 USERS = ("admin", "ann", "bob", "hall")
 
 
@@ -117,8 +118,12 @@ class Office:
         (self.folder / "nginx.conf").write_text(
             f"user root;\ndaemon off;\npid {self.folder}/pid;\nerror_log {self.folder}/error.log;\n"
             "events {}\nhttp {\ninclude /etc/nginx/mime.types;\n"
-            f"access_log off;\n{temporary}{text}}}\n"
+            f"{HEARD} access_log {self.folder}/access.log heard;\n{temporary}{text}}}\n"
         )
+
+    def heard(self):
+        """What nginx was asked: the status, the user, the method and the target of each."""
+        return (self.folder / "access.log").read_text().splitlines()
 
     def handing_out(self, book):
         """docs/CLIENTS.md's lines that hand out a book's versions, with this office's paths."""
@@ -160,6 +165,11 @@ class Office:
         """Stops nginx: the network is gone, for a browser."""
         self.nginx.terminate()
         self.nginx.wait()
+
+    def reopen(self):
+        """Starts nginx if it is stopped."""
+        if self.nginx.poll() is not None:
+            self.open()
 
     def close(self):
         for process in (self.nginx, self.server):

@@ -22,31 +22,40 @@ LIST = "document.querySelector('#empty')"
 class Alone:
     """`contacts run` with the desk's files, at a port of its own."""
 
-    def __init__(self, office):
+    def __init__(self, office, name="alone"):
         self.program = office.program
-        self.file = office.folder / "alone.db"
+        self.file = office.folder / f"{name}.db"
+        self.logged = office.folder / f"{name}.log"
         self.port = free_port()
         self.front = f"http://127.0.0.1:{self.port}/"
         self.begin()
 
     def begin(self):
-        self.process = subprocess.Popen(
-            [self.program, "run", self.file, "--create", "--port", str(self.port),
-             "--site", SITE], stdout=subprocess.PIPE,
-        )
+        with open(self.logged, "ab") as log:
+            self.process = subprocess.Popen(
+                [self.program, "run", self.file, "--create", "--port", str(self.port), "--log",
+                 "--site", SITE], stdout=subprocess.PIPE, stderr=log,
+            )
         self.process.stdout.readline()
+
+    def log(self):
+        """A line for each request."""
+        return self.logged.read_text()
 
     def end(self):
         self.process.terminate()
         self.process.wait()
 
-    def request(self, method, path, **fields):
+    def request(self, method, path, body=None):
         connection = http.client.HTTPConnection("127.0.0.1", self.port, timeout=30)
-        connection.request(method, path, headers=fields)
+        connection.request(method, path, body)
         reply = connection.getresponse()
         body = reply.read()
         connection.close()
         return reply, body
+
+    def ask(self, method, path, body=None):
+        return self.request(method, path, body)[1]
 
 
 def has_site(program):

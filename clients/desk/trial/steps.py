@@ -299,7 +299,7 @@ def files(trial):
         ("empty.csv", HEADER + "x1,Good One,,,,,,\nx2,,,,,,,\n", "Row 2: The name (fn) is empty."),
         ("twice.csv", HEADER + "x1,One,,,,,,\nx1,Two,,,,,,\n", "Row 2 (Two): An earlier one"),
         ("old.vcf", card("v1", "FN:New") + card("v2", "FN:Old Olga").replace("4.0", "3.0"),
-         "Card 2 (Old Olga): It isn't vCard 4.0."),
+         "Card 2 (Old Olga): It isn’t vCard 4.0."),
         ("cut.vcf", card("v1", "FN:Cut")[:-14], "(END:VCARD) is missing"),
     ]
     admin.run(f"({MENU}).click()")

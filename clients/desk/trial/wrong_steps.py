@@ -34,6 +34,14 @@ def nobody_shown(trial):
         time.sleep(0.3)
     time.sleep(2)
     page.wait(f"{TITLE} === 'Gwen Ashdown'", 5)
+    # That a card isn't here is said, and what is searched for doesn't take its place.
+    page.run("location.hash = '#/card/clients/not-there'")
+    page.wait(f"{PANE}.includes('This card isn')")
+    office.put("clients", "empty", card("empty", "FN:Aaf Nobody"))
+    page.press("Update now")
+    page.wait("document.querySelector('#books').textContent.includes('clients')")
+    page.rest(1500)
+    assert page.run(TITLE) is None and not page.run("Boolean(document.querySelector('#pane a'))")
     status, _, _ = office.request("PUT", "/books/empty")
     assert status in (201, 409), status
     page.press("Update now")
@@ -271,6 +279,15 @@ def others_edits(trial):
     office.put("clients", "c19", text.replace("Studio manager", "Studio chief"))
     page.run("window.dispatchEvent(new Event('focus'))")
     page.wait(f"{CARD}.includes('Studio chief')", 5)
+    # At once after a change of one's own.
+    open_form(page, "hugo", "Hugo Petit")
+    fill(page, "Position", "Senior partner")
+    page.asked.clear()
+    page.press("Save")
+    stored(office, "c07", "TITLE:Senior partner")
+    page.rest(3000)
+    put = next(at for at, it in enumerate(page.asked) if "/cards/c07" in it)
+    assert [it for it in page.asked[put:] if "/clients/sync" in it], page.asked
 
 
 EDIT = """(async ([book, edits]) => {

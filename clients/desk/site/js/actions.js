@@ -123,18 +123,18 @@ export class Actions {
     if (!mails.length) {
       toast.call(this.desk.frame, t("mailNobody"));
     } else if (!href) {
-      this.copy(mails.join(", "));
-      toast.call(this.desk.frame, t("mailTooMany", { n: mails.length }) + said);
+      this.copy(mails.join(", "), t("mailTooMany", { n: mails.length }) + said);
     } else {
       location.href = href;
       toast.call(this.desk.frame, count("mailOpened", mails.length) + said);
     }
   }
 
-  async copy(value) {
+  /** Copies a value, and says so: in these words, if there are some. */
+  async copy(value, said = t("copied", { text: value })) {
     try {
       await navigator.clipboard.writeText(value);
-      this.desk.frame.toast(t("copied", { text: value }));
+      this.desk.frame.toast(said);
     } catch {
       this.desk.frame.toast(t("copyBad"));
     }
@@ -182,7 +182,7 @@ export class Actions {
     ]);
     if (!sure) return;
     await desk.queue.remove([[book, uid]]);
-    desk.pane.leave();
+    if (!desk.pane.hasForm) desk.pane.leave();
     await desk.changed();
     desk.frame.toast(t("removed", { name }), {
       text: t("undo"), run: () => this.restore(book, uid, kept.text),
@@ -193,7 +193,7 @@ export class Actions {
   async restore(book, uid, text) {
     await this.desk.queue.restore([[book, uid, text]]);
     await this.desk.changed();
-    this.desk.pane.open(book, uid);
+    this.desk.pane.lead(book, uid);
   }
 
   /** Moves a card to a book that the user chooses. */
@@ -223,7 +223,7 @@ export class Actions {
       return;
     }
     await desk.lists.moved(moved);
-    desk.pane.open(to, uid, true);
+    desk.pane.lead(to, uid, true);
     await desk.changed();
     desk.frame.toast(t("moved", { name, book: to }), isUndone ? null : {
       text: t("undo"), run: () => this.moveNow(to, uid, book, name, true),

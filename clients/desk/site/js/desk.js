@@ -4,7 +4,6 @@ import { Bulk } from "./bulk.js";
 import { Api, Fault } from "./api.js";
 import { Drafts } from "./drafts.js";
 import { Duplicates } from "./duplicates.js";
-import { ASKS } from "./entries.js";
 import { Faces } from "./faces.js";
 import { Frame } from "./frame.js";
 import { History } from "./history.js";
@@ -15,7 +14,7 @@ import { Memory } from "./memory.js";
 import { Outbox } from "./outbox.js";
 import { Pane } from "./pane.js";
 import { Queue } from "./queue.js";
-import { askNext, showWaiting } from "./questions.js";
+import { askNext, closeAnswered, showWaiting } from "./questions.js";
 import { keyOf, Shelf } from "./shelf.js";
 import { Follower } from "./sync.js";
 import { t } from "./say.js";
@@ -47,6 +46,7 @@ export class Desk {
       faces: new Faces((book, uid) => this.queue.seen(book, uid)),
       pick: (row, isFinal) => this.picked(row, isFinal),
       marked: (rows) => this.head.showMarked(rows),
+      drew: () => this.mark(),
     });
     this.letters = new Letters(document.getElementById("letters"), {
       top: () => this.list.first,
@@ -63,6 +63,7 @@ export class Desk {
     this.chosen = "";
     this.mayList = true;
     this.later = new Set(); // questions that somebody put off
+    this.asked = null; // the entry about which somebody is asked now
     this.drawing = 0;
     this.showing = 0;
     this.tabs = new BroadcastChannel("desk");
@@ -175,7 +176,9 @@ export class Desk {
     this.refresh(keys);
     this.draw();
     this.drawWaiting();
-    if (isOurs && this.entries.some((it) => it.state === ASKS)) askNext(this);
+    closeAnswered(this);
+    // What another tab has sent is asked where the user is.
+    if (isOurs || document.hasFocus()) askNext(this);
   }
 
   /** A change couldn't be kept in this browser, as on a full disk: all is as it was. */
@@ -266,7 +269,7 @@ export class Desk {
     if (!pane.shown && !pane.missing) pane.blank();
     this.drawState();
     // What was searched for may come later than the search.
-    const isEmpty = !pane.shown && !pane.cardKey;
+    const isEmpty = !pane.shown && !pane.cardKey && !pane.missing;
     if (text !== "" && rows.length && isEmpty && !frame.isNarrow) this.list.select(0);
     this.mark();
   }
@@ -464,6 +467,7 @@ export class Desk {
   wake() {
     this.follow();
     this.outbox.run();
+    askNext(this);
   }
 
   heard(data) {

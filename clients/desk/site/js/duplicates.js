@@ -109,7 +109,7 @@ export class Duplicates {
       }
     });
     await desk.changed();
-    desk.pane.open(book, first.uid);
+    desk.pane.lead(book, first.uid);
     const undo = () => desk.queue.change(async (entries) => {
       await entries.restore(book, other.uid, two.text);
       await entries.save({ ...edit, base: text, text: one.text });

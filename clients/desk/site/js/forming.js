@@ -56,6 +56,15 @@ export class Forming {
     return this.edit.book === book && this.edit.uid === uid && this.edit.slot === slot;
   }
 
+  /**
+   * Answers a question for later: whether the pane still has this form. It hasn't if another thing
+   * is on its way, as a new card that was begun while this one was being saved.
+   */
+  staying() {
+    const address = location.hash;
+    return () => this.desk.pane.form === this && location.hash === address;
+  }
+
   /** The card with what the form has now. */
   text() {
     return writeCard(editCard(this.card, this.before, this.fields));
@@ -131,6 +140,7 @@ export class Forming {
     }
     // Browsers may drop what pages keep if the disk is full, unless they are asked not to.
     navigator.storage?.persist?.();
+    const isHere = this.staying();
     const draft = this.draft();
     const kept = draft.text;
     let { text } = draft;
@@ -153,7 +163,7 @@ export class Forming {
     await desk.changed();
     desk.frame.toast(t("saved", { name: nameOf(readCard(text)) || t("nameless") }));
     // Another tab may have moved the card meanwhile.
-    if (desk.pane.form === this && !isOn) desk.pane.open(done.book, edit.uid, true);
+    if (isHere() && !isOn) desk.pane.open(done.book, edit.uid, true);
   }
 
   /** Drops what was typed. It can be undone, and is in the trash too. */
@@ -161,12 +171,14 @@ export class Forming {
     const { desk, edit } = this;
     const draft = this.draft();
     const { isTyped } = this;
+    const isHere = this.staying();
     this.end();
     await desk.drafts.drop(edit);
     if (isTyped) {
       await desk.trash.keep(edit.book, edit.uid, draft.text, "cancelled");
       desk.frame.toast(t("cancelled"), { text: t("undo"), run: () => this.restore(draft) });
     }
+    if (!isHere()) return;
     if (edit.isNew) desk.pane.leave();
     else desk.pane.open(edit.book, edit.uid, true);
   }

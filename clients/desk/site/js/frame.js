@@ -48,7 +48,9 @@ export class Frame {
       event.stopPropagation();
       this.showNav(false);
     }, true);
-    matchMedia(WIDE).addEventListener("change", () => this.showNav(false));
+    matchMedia(WIDE).addEventListener("change", (event) => {
+      if (event.matches) this.showNav(false);
+    });
     add.title = t("newCardKey");
     add.addEventListener("click", run.newCard);
     by("waiting").addEventListener("click", run.waiting);

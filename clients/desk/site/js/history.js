@@ -26,7 +26,7 @@ export class History {
   }
 
   /** What is kept of what was deleted, overwritten or dropped; some of it put back. */
-  async trash(title = t("trashTitle"), isWanted = () => true) {
+  async trash(title = t("trash"), isWanted = () => true) {
     const { desk } = this;
     const kept = (await desk.trash.all()).filter(isWanted)
       .filter((it) => it.why !== BY_OTHERS || !this.placesOf(it.uid).length);
@@ -41,7 +41,7 @@ export class History {
     await desk.queue.restore([[it.book, it.uid, it.text]]);
     if (now) await desk.trash.keep(it.book, it.uid, now.text, "changed");
     await desk.changed();
-    desk.pane.open(it.book, it.uid);
+    desk.pane.lead(it.book, it.uid);
     desk.frame.toast(t("isBack", { name: nameIn(it.text) }));
   }
 
@@ -125,7 +125,7 @@ export class History {
     // What the server has is kept when it takes the change; this is what it doesn't have.
     if (now.entry) await desk.trash.keep(book, uid, now.text, "changed");
     await desk.changed();
-    desk.pane.open(book, uid);
+    desk.pane.lead(book, uid);
     desk.frame.toast(t("isBack", { name: nameIn(put) }), {
       text: t("undo"), run: () => desk.actions.restore(book, uid, now.text),
     });
@@ -136,12 +136,12 @@ export class History {
     const { desk } = this;
     await desk.queue.restore([[book, uid, text]]);
     await desk.changed();
-    desk.pane.open(book, uid);
+    desk.pane.lead(book, uid);
     desk.frame.toast(t("isBack", { name: nameIn(text) }), {
       text: t("undo"),
       run: async () => {
         await desk.queue.remove([[book, uid]]);
-        desk.pane.leave();
+        if (!desk.pane.hasForm) desk.pane.leave();
         await desk.changed();
       },
     });

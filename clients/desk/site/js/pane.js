@@ -56,6 +56,16 @@ export class Pane {
     this.go(`#/card/${book}/${part(uid)}`, isInstead);
   }
 
+  /** Whether a form is shown, or on its way. */
+  get hasForm() {
+    return Boolean(this.form) || /^#\/(new|edit)\//.test(location.hash);
+  }
+
+  /** Shows a card of which something was done by now. Nobody is led away from a form. */
+  lead(book, uid, isInstead = false) {
+    if (!this.hasForm) this.open(book, uid, isInstead);
+  }
+
   goEdit(book, uid) {
     this.go(`#/edit/${book}/${part(uid)}`);
   }
@@ -162,7 +172,8 @@ export class Pane {
     const { shown } = this;
     if (shown?.kind !== "card") return;
     const seen = await this.desk.queue.seen(shown.book, shown.uid);
-    if (this.shown !== shown || this.coming) return;
+    // Another card may have been chosen by now, which isn't there yet.
+    if (this.shown !== shown || this.comingKey !== null) return;
     // Not while something of it is pressed, or while its menu is open.
     if (this.desk.isHeld || openMenu(this.node)) {
       setTimeout(() => this.again(), 150);
@@ -269,7 +280,7 @@ export class Pane {
       return;
     }
     if (!form) {
-      await this.show(place.book, place.uid, true);
+      this.open(place.book, place.uid, true);
       return;
     }
     this.set({ kind: "form", book: place.book, uid: place.uid });

@@ -29,6 +29,18 @@ export async function chooseBoth(desk, book, base, mine, theirs) {
   return choices && both.text(choices);
 }
 
+function isSame(entry, entries) {
+  const text = JSON.stringify(entry);
+  return entries.some((it) => JSON.stringify(it) === text);
+}
+
+/** Closes the question that is asked if it was answered in another tab. */
+export function closeAnswered(desk) {
+  if (!desk.asked || isSame(desk.asked, desk.entries)) return;
+  desk.asked = null;
+  document.querySelector("dialog[open]")?.close();
+}
+
 /** Asks the first question that waits, unless somebody is at something else. */
 export async function askNext(desk) {
   const isBusy = desk.pane.form || document.querySelector("dialog[open]");
@@ -40,7 +52,10 @@ export async function askNext(desk) {
 /** Asks what to do with an entry of the queue, and does it. */
 export async function decide(desk, entry) {
   const { queue } = desk;
+  desk.asked = entry;
   const answer = await answerFor(desk, entry);
+  desk.asked = null;
+  if (!isSame(entry, await queue.all())) return; // another tab has answered it
   if (answer === null) {
     desk.later.add(keyOf(entry));
     return;
@@ -119,7 +134,7 @@ export async function giveUp(desk, entry) {
   if (from) {
     await desk.queue.move([[book, uid, from]]);
     await desk.changed();
-    desk.pane.open(from, uid, true);
+    desk.pane.lead(from, uid, true);
     desk.frame.toast(t("moveStayed", { name: nameIn(entry.text), book: from }));
     return;
   }
@@ -132,7 +147,7 @@ export async function giveUp(desk, entry) {
     run: async () => {
       await desk.queue.save({ ...entry, version: entry.version });
       await desk.changed();
-      desk.pane.open(book, uid);
+      desk.pane.lead(book, uid);
     },
   });
 }

@@ -54,6 +54,15 @@ export function dateText({ year, month, day }) {
   return new Intl.DateTimeFormat(locale, form).format(date);
 }
 
+/** A language by its tag, as "Irish" for "ga". What is no tag is said as it is. */
+export function languageText(tag) {
+  try {
+    return new Intl.DisplayNames(locale, { type: "language" }).of(tag);
+  } catch {
+    return tag;
+  }
+}
+
 /** What a number or an address is for, as "work, mobile", or its own label. */
 export function usesText(label) {
   if (!label) return "";

@@ -2,7 +2,7 @@
 import { bdi, button, el } from "../dom.js";
 import { letters } from "../faces.js";
 import { icon } from "../icons.js";
-import { count, dateText, t, usesText } from "../say.js";
+import { count, dateText, languageText, propertyText, t, usesText } from "../say.js";
 import { mapLink, messageLink } from "../values.js";
 import { menuButton } from "./menu.js";
 import { entryButtons, whyText } from "./waiting.js";
@@ -29,7 +29,8 @@ export function cardView({ seen, row, text, entry, members, groups, mayChange, a
       tags(seen.categories.map((it) => tag(it, act))),
     ]),
     section(t("related"), seen.related.map((it) => line(it, null))),
-    section(t("languages"), [joined([...seen.languages, ...seen.zones])]),
+    section(propertyText("LANG"), [joined(seen.languages.map(languageText))]),
+    section(propertyText("TZ"), [joined(seen.zones)]),
     seen.kind === "group" ? group(members, act) : null,
     section(t("inGroups"), [tags(groups.map((it) => link(it, act)))]),
     more(seen, text),

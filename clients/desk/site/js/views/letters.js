@@ -8,6 +8,9 @@ const STEPS = {
   End: 100,
 };
 
+const LEAST = 13; // pixels that a letter needs
+const DOT = "·";
+
 function letterOf(text) {
   const first = fold(text.slice(0, 4)).charAt(0).toUpperCase();
   return /\p{L}/u.test(first) ? first : "#";
@@ -22,6 +25,7 @@ export class Letters {
     this.root = root;
     this.run = run;
     this.places = [];
+    this.spans = []; // which of the places each element stands for
     this.drawn = "";
     this.now = 0;
     root.addEventListener("pointerdown", (event) => {
@@ -33,6 +37,7 @@ export class Letters {
     });
     root.addEventListener("focus", () => this.mark(this.letterAt(this.run.top())));
     root.addEventListener("keydown", (event) => this.key(event));
+    new ResizeObserver(() => this.draw()).observe(root);
   }
 
   /** Shows the letters of sorted rows; none if they aren't sorted by name, or are few. */
@@ -52,10 +57,33 @@ export class Letters {
     if (drawn === this.drawn) return;
     this.drawn = drawn;
     this.root.hidden = drawn === "";
-    this.root.replaceChildren(...this.places.map(([letter]) => el("span", {}, letter)));
     this.root.setAttribute("aria-valuemin", "1");
     this.root.setAttribute("aria-valuemax", String(this.places.length));
-    this.mark(0);
+    this.now = 0;
+    this.spans = [];
+    this.draw();
+  }
+
+  /** Draws as many letters as have room. If there are more, dots stand for those between. */
+  draw() {
+    const all = this.places.length;
+    const count = Math.min(all, Math.max(3, Math.floor(this.root.clientHeight / LEAST)));
+    if (!all || count === this.spans.length) return;
+    const last = count - 1;
+    this.spans = Array.from({ length: count }, (_, at) => Math.round((at * (all - 1)) / last));
+    this.root.replaceChildren(...this.spans.map((_, at) => el("span", {}, this.textOf(at))));
+    this.mark(this.now);
+  }
+
+  /** What an element says of the letters that it stands for. */
+  textOf(at) {
+    const isLetter = this.spans.length === this.places.length || at % 2 === 0;
+    return isLetter || at === this.spans.length - 1 ? this.places[this.spans[at]][0] : DOT;
+  }
+
+  /** The element that stands for a letter. */
+  spanOf(now) {
+    return this.spans.findLastIndex((it) => it <= now);
   }
 
   /** Which of the letters a row is under. */
@@ -64,9 +92,14 @@ export class Letters {
   }
 
   mark(now) {
-    this.root.children[this.now]?.classList.remove("now");
+    const [before, after] = [this.now, now].map((it) => this.spanOf(it));
     this.now = now;
-    this.root.children[now]?.classList.add("now");
+    for (const [at, isNow] of [[before, false], [after, true]]) {
+      if (at < 0) continue;
+      const span = this.root.children[at];
+      span.classList.toggle("now", isNow);
+      span.textContent = isNow ? this.places[now][0] : this.textOf(at);
+    }
     this.root.setAttribute("aria-valuenow", String(now + 1));
     this.root.setAttribute("aria-valuetext", this.places[now]?.[0] ?? "");
   }

@@ -14,13 +14,15 @@ function labelText(label) {
 export class CardList {
   /**
    * `pick(row, isFinal)` is called when a row is chosen; it is final by a click or Enter.
-   * `faces` has the photos, and `marked(rows)` is called when several are marked.
+   * `faces` has the photos, `marked(rows)` is called when several are marked, and `drew()` when
+   * other rows are elements.
    */
-  constructor(root, { faces, pick, marked }) {
+  constructor(root, { faces, pick, marked, drew }) {
     this.root = root;
     this.pick = pick;
     this.faces = faces;
     this.tellMarked = marked;
+    this.drew = drew;
     this.rows = [];
     this.at = -1;
     this.anchor = -1;
@@ -98,6 +100,7 @@ export class CardList {
     const options = [];
     for (let at = first; at < last; at += 1) options.push(this.option(at));
     this.space.replaceChildren(...options);
+    this.drew();
   }
 
   again() {

@@ -27,5 +27,5 @@ export function pairsView(pairs) {
             button(t("notSame"), () => close([pair, "different"])))));
     })),
     el("div", { class: "bar" }, button(t("close"), () => close(null))),
-  ], "wide");
+  ], pairs.length ? "wide" : "");
 }

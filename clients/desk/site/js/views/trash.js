@@ -31,5 +31,5 @@ export function trashView(title, kept, hasVersions) {
     el("p", { class: "hint" }, kept.length ? t("trashText") : t("trashNone")),
     el("ul", { class: "entries" }, kept.slice(0, MOST).map((it) => one(it, close))),
     el("div", { class: "bar" }, button(t("close"), () => close(null))),
-  ], "wide");
+  ], kept.length ? "wide" : "");
 }
