@@ -16,6 +16,7 @@ import threading
 import time
 import unittest
 from fnmatch import fnmatch
+from pathlib import Path
 from urllib.request import urlopen
 
 from help_texts import HELP
@@ -114,6 +115,24 @@ class Listening(unittest.TestCase):
                                 ["--host", "office", "--port", port, "--log"]]:
                     script = self.wait_for(server.process, *options)
                     self.assertEqual(0, script.wait(PATIENCE), options)
+
+    def test_a_server_at_a_socket(self):
+        with Folder() as folder:
+            path = str(folder / "office.sock")
+            more = ["--create", "--socket", path]
+            with Server(folder / "office.db", order="run", more=more) as server:
+                for options in [["--socket", path], [f"--socket={path}"],
+                                ["--socket", path, "--port", "0"]]:
+                    script = self.wait_for(server.process, *options)
+                    self.assertEqual(0, script.wait(PATIENCE), options)
+                # The path has to be the whole one.
+                script = self.wait_for(server.process, "--socket", path[:-1])
+                with self.assertRaises(subprocess.TimeoutExpired):
+                    script.wait(0.5)
+            self.assertEqual(1, script.wait(PATIENCE))
+            # A socket is left behind, at which nobody listens.
+            self.assertTrue(Path(path).is_socket())
+            self.assertEqual(1, self.wait_for(server.process, "--socket", path).wait(PATIENCE))
 
     def test_it_waits_until_the_port_is_listened_at(self):
         port = free_port()

@@ -276,7 +276,7 @@ class Deb(unittest.TestCase):
                          set(re.findall(r"(?m)^#   (--[\w-]+)", text)))
         read = subprocess.run(["sh"], input=f"{text}\necho $CONTACTS_OPTIONS".encode(), check=True,
                               stdout=subprocess.PIPE).stdout
-        self.assertEqual(b"--port 8080\n", read)
+        self.assertEqual(b"--socket /run/tosculai/office.sock\n", read)
         unit = files["usr/lib/systemd/system/contacts.service"].decode()
         self.assertIn("\nEnvironmentFile=-/etc/default/tosculai\nExecStart=/usr/bin/contacts run "
                       "/var/lib/tosculai/office.db --create $CONTACTS_OPTIONS\n", unit)
@@ -290,7 +290,8 @@ class Deb(unittest.TestCase):
 
     def test_the_units_of_several_offices_are_as_those_of_one(self):
         own = {"Description", "ExecStart", "ExecStopPost", "Environment", "EnvironmentFile",
-               "StateDirectory", "TemporaryFileSystem", "BindPaths"}
+               "ExecStartPost", "StateDirectory", "RuntimeDirectory", "TemporaryFileSystem",
+               "BindPaths"}
         for template, single in TEMPLATES.items():
             self.assertEqual([it for it in self.settings(single) if it[0] not in own],
                              [it for it in self.settings(template) if it[0] not in own])
