@@ -37,7 +37,7 @@ TEMPLATES = {"contacts@.service": "contacts.service",
              "contacts-backup@.service": "contacts-backup.service",
              "contacts-backup@.timer": "contacts-backup.timer"}
 # The most points of `systemd-analyze security` that a service has, of 10.
-EXPOSED = {"contacts.service": 1.0, "contacts@.service": 1.0, "contacts-backup.service": 1.0,
+EXPOSED = {"contacts.service": 0.5, "contacts@.service": 0.5, "contacts-backup.service": 1.0,
            "contacts-backup@.service": 1.0, "carddav.service": 1.0, "ldap.service": 1.1,
            "contacts-follow.service": 1.1}
 WRAPPERS = ["tosculai", "tosculai-carddav", "tosculai-follow", "tosculai-ldap"]
