@@ -6,7 +6,7 @@
 #   PID     the server's process
 #   OPTION  those of `contacts run`, of which it reads --port and --socket
 set -eu
-pid=$1 port=8080 socket=
+pid=$1 socket= port=8080
 shift
 while [ $# -gt 0 ]; do
     case $1 in

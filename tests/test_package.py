@@ -466,7 +466,7 @@ class Completion(unittest.TestCase):
         rows = [(["contacts", "export", "--form", ""], {"cards", "columns"}),
                 (["contacts", "export", "--form", "co"], {"columns"}),
                 (["contacts", "run", "--port", ""], set()),
-                (["contacts", "c"], {"check", "convert"}),
+                (["contacts", "c"], {"check", "convert", "copy"}),
                 (["contacts", "run", "a.db", "--max"], {"--max-open"}),
                 (["contacts", "tally", "a.db", ""], set())]
         found = self.completed(*(words for words, _ in rows))
