@@ -1,5 +1,5 @@
 -- What is left of the output where an order isn't done.
-use Rattle.std.proofs.Common.{◌≡◌, ◌⊎◌, ℕ, Bool, false, List, Option, Some, None, Result, Ok, Err, IfErr, inl, inr}
+use Rattle.std.proofs.Common.{◌≡◌, ◌⊎◌, ℕ, Bool, List, Option, Some, None, Result, Ok, Err, IfErr, inl, inr}
 use Rattle.book_http.specs.ConnectionModels.{ConnectionModel}
 use Rattle.book_http.specs.OctetPromise.{ServiceStep}
 use Rattle.http_replies.specs.Replies.{head_fault_octets}
@@ -71,7 +71,7 @@ module _ {S P L : Type 0} where
     ])
   ]
 
-module _ {S P L : Type 0} (model : StoreModel S) where
+module _ {S : Type 0} (model : StoreModel S) where
   resync_leaves : (old new : S) (pairs : ℕ) (stop : Stop) (before after : Option (List ℕ)) → StopsResync model old pairs stop before after new → KeepsOutput stop before after
   resync_leaves old new pairs stop before after (inl s) = keeps_leaves stop before after s.unwritten
   resync_leaves old new pairs stop before after (inr s) = elim s.stops [
@@ -79,13 +79,14 @@ module _ {S P L : Type 0} (model : StoreModel S) where
     | inr cut ↦ output_kept_by_device stop before after cut.stop_is
   ]
 
+module _ {S P L : Type 0} (model : StoreModel S) where
   store_work_leaves : (work : StoreWork) (old new : S) (stop : Stop) (before after : Option (List ℕ)) (log : List (HostCall S P L)) → StopsStoreWork model old work stop before after new log → KeepsOutput stop before after
   store_work_leaves (Perform command) old new stop before after log s = stop_leaves s.1.reply stop before after s.1.stops
   store_work_leaves (ImportFile book key csv) old new stop before after log (inl s) = keeps_leaves stop before after s.unwritten
   store_work_leaves (ImportFile book key csv) old new stop before after log (inr s) = stop_leaves s.stops.reply stop before after s.stops.stops
   store_work_leaves (MirrorBook book limit pages) old new stop before after log s = mirror_stop_leaves model old new book limit pages stop before after s.1
   store_work_leaves (ListBooks what) old new stop before after log s = listing_stop_leaves model what old new stop before after s.1
-  store_work_leaves (Resync pairs) old new stop before after log s = resync_leaves old new pairs stop before after s.1
+  store_work_leaves (Resync pairs) old new stop before after log s = resync_leaves model old new pairs stop before after s.1
 
   in_file_leaves : (file : List ℕ) (work : StoreWork) (stop : Stop) (before after : Option (List ℕ)) (log : List (HostCall S P L)) → StopsInFile model file work stop before after log → KeepsOutput stop before after
   in_file_leaves file work stop before after log (inl s) = keeps_leaves stop before after s.2.unwritten
