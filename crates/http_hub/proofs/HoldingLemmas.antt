@@ -5,9 +5,9 @@ use Rattle.std.proofs.lemmas.Bool.{eqb-true}
 use Rattle.std.proofs.lemmas.Bool.Decides.{eqb_tells, leb_tells}
 use Rattle.std.proofs.Math.Dec.{eqb, leb}
 use Rattle.http_requests.specs.HandlerRuns.{HandlerRelation, FaultReplies}
-use Rattle.http_hub.specs.BoundedHubs.{ReceivesWithin, may_hold}
+use Rattle.http_hub.specs.BoundedHubs.{ReceivesWithin, SettlesAt, fits_at, may_hold}
 use Rattle.http_hub.specs.Holdings.{AreWithin, large_at, large_part, large_total, load_of, most_small, request_load}
-use Rattle.http_hub.specs.Hubs.{EndsAt, HubValue, IsAt, OpensAt, SendsAt, with_link}
+use Rattle.http_hub.specs.Hubs.{EndsAt, HubValue, IsAt, IsOpenAt, OpensAt, ReceivesAt, SendsAt, with_link}
 use Rattle.http_hub.specs.Links.{LinkValue, link_after_failure, link_after_refusal, link_after_sent, new_link, reply_length_after}
 use Rattle.http_hub.specs.declared.slot.Slot.{Slot}
 use Rattle.http_hub.proofs.HubLemmas.{refused_link}
@@ -164,6 +164,12 @@ ended_sum sum part place old new sum_is part_is ends =
     let own = part_is ends.slot ends.found in
     omega (arith, sum_is, changed, same, own)
 
+-- a place whose link was changed still has its connection
+pub open_changed : (place serial : ℕ) (slot : Slot) (link : LinkValue) (old new : HubValue) → IsAt old place slot → new ≡ with_link old place serial link → IsOpenAt new place
+open_changed place serial slot link old new at new_is =
+    let last : Slot = record { serial = serial; link = link } in
+    (last, ap (λ (h : HubValue). slice_get h.slots place) new_is ∙ set_same old.slots place (Some last) (Some slot) at)
+
 -- a place whose link was changed
 pub changed_sum : (sum part next place serial : ℕ) (slot : Slot) (link : LinkValue) (old new : HubValue) → sum ≡ large_total old.slots → IsAt old place slot → new ≡ with_link old place serial link
     → IsPartAt old place part → IsPartAt new place next → (sum - part) + next ≡ large_total new.slots
@@ -184,6 +190,15 @@ sent_sum sum part next place count now old new sum_is part_is sends next_is =
     changed_sum sum part next place sends.slot.serial sends.slot (link_after_sent sends.slot.link count now) old new sum_is sends.found sends.after_is part_is next_is
 
 module _ {State : Type 0} (does : HandlerRelation State) (fault_reply : FaultReplies) where
+  pub open_received : (most place : ℕ) (before : HubValue) (old : State) (piece : List ℕ) (now : ℕ) (new : State) (after : HubValue) → ReceivesWithin does fault_reply most place before old piece now new after
+      → IsOpenAt after place
+  open_received most place before old piece now new after (inl fits) = (fits.slot, fits.at)
+  open_received most place before old piece now new after (inr (inl failed)) =
+      open_changed place failed.slot.serial failed.slot (link_after_failure failed.slot.link) before after failed.found failed.after_is
+  open_received most place before old piece now new after (inr (inr large)) =
+      let r = large.refused.refused in
+      open_changed place r.slot.serial r.slot (link_after_refusal large.reply now) large.refused.full after r.found r.after_is
+
   pub received_sum : (sum part next most place : ℕ) (before : HubValue) (old : State) (piece : List ℕ) (now : ℕ) (new : State) (after : HubValue) → sum ≡ large_total before.slots
       → IsPartAt before place part → ReceivesWithin does fault_reply most place before old piece now new after → IsPartAt after place next → (sum - part) + next ≡ large_total after.slots
   received_sum sum part next most place before old piece now new after sum_is part_is (inl fits) next_is =
@@ -257,3 +272,37 @@ module _ {State : Type 0} (does : HandlerRelation State) (fault_reply : FaultRep
       refused_link before r.full after place r.received.slot r.refused.slot r.received.next last r.received.found r.received.after_is r.refused.found r.refused.after_is in
       let none = refused_holds_none large.reply now large.small in
       total_less bound place r.received.slot.serial r.received.slot last before after r.received.found is (omega (arith, none)) few
+
+-- ---- a piece that was fed, and what was settled then
+
+-- the others hold what they held
+pub others_after : (others place serial : ℕ) (was : Slot) (link : LinkValue) (before full : HubValue) → IsAt before place was → full ≡ with_link before place serial link
+    → large_total before.slots ≡ others + large_at (Some was) → (slot : Slot) → IsAt full place slot → large_total full.slots ≡ others + large_at (Some slot)
+others_after others place serial was link before full found full_is all slot at =
+    let last : Slot = record { serial = serial; link = link } in
+    let slots_are : full.slots ≡ slice_set before.slots place (Some last) = ap (λ (h : HubValue). h.slots) full_is in
+    let there : slice_get full.slots place ≡ Some (Some last) = ap (λ (xs : List (Option Slot)). slice_get xs place) slots_are ∙ set_same before.slots place (Some last) (Some was) found in
+    let same : slot ≡ last = cc (at, there) in
+    let changed = total_set before.slots place (Some was) (Some last) found in
+    let total = ap large_total slots_are in
+    let own = ap (λ (s : Slot). large_at (Some s)) same in
+    omega (arith, changed, total, own, all)
+
+module _ {State : Type 0} (does : HandlerRelation State) (fault_reply : FaultReplies) where
+  pub settled : (most place : ℕ) (before : HubValue) (old : State) (piece : List ℕ) (now : ℕ) (new : State) (full after : HubValue) → ReceivesAt does fault_reply place before old piece now new full
+      → SettlesAt fault_reply most place full now after → ReceivesWithin does fault_reply most place before old piece now new after
+  settled most place before old piece now new full after received (inl kept) = inl (record {
+    received = subst (λ (h : HubValue). ReceivesAt does fault_reply place before old piece now new h) (sym kept.after_is) received;
+    slot = kept.slot;
+    at = subst (λ (h : HubValue). IsAt h place kept.slot) (sym kept.after_is) kept.at;
+    fits = subst (λ (h : HubValue). fits_at most h kept.slot ≡ true) (sym kept.after_is) kept.fits;
+  })
+  settled most place before old piece now new full after received (inr large) = inr (inr (record {
+    reply = large.reply;
+    refused = record { full = full; received = received; refused = large.refused };
+    slot = large.slot;
+    at = large.at;
+    too_large = large.too_large;
+    reply_is = large.reply_is;
+    small = large.small;
+  }))

@@ -1,7 +1,13 @@
 use Rattle.std.proofs.Common.{◌≡◌, ◌∙◌, ◌≤◌, arith}
 use Rattle.http_hub.specs.Holdings.{large_total, most_load}
-use Rattle.http_hub.proofs.HoldingLemmas.{sent_sum, sent_total}
+use Rattle.http_hub.specs.Links.{link_after_sent}
+use Rattle.http_hub.proofs.HoldingLemmas.{open_changed, sent_sum, sent_total}
 use Rattle.http_hub.proofs.bounded.BoundedHub.mark_sent.Goals as goal
+
+pub large_part-next-requires : goal.large_part-next-requires
+large_part-next-requires c =
+    let sends = c.mark_sent.ensures in
+    open_changed c.args.place sends.slot.serial sends.slot (link_after_sent sends.slot.link c.args.count c.args.now) c.self.inside.hub c.mark_sent.new.self sends.found sends.after_is
 
 pub invariant_of-self : goal.invariant_of-self
 invariant_of-self c =

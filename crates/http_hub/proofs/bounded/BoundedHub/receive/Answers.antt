@@ -2,7 +2,7 @@ use Rattle.std.proofs.Common.{◌≡◌, ◌∙◌, ◌≤◌, arith, subst}
 use Rattle.http_hub.specs.BoundedHubs.{ReceivesWithin}
 use Rattle.http_hub.specs.Holdings.{large_total, most_load}
 use Rattle.http_hub.specs.Hubs.{HubValue}
-use Rattle.http_hub.proofs.HoldingLemmas.{others_of, received_sum, received_total}
+use Rattle.http_hub.proofs.HoldingLemmas.{open_received, others_of, received_sum, received_total}
 use Rattle.http_hub.proofs.bounded.BoundedHub.receive.Goals as goal
 
 pub receive_beside-requires-clause-others : goal.receive_beside-requires-clause-others
@@ -10,6 +10,11 @@ receive_beside-requires-clause-others g c = λ slot at.
     let left = c.saturating_sub-others.ensures in
     let all = others_of c.self.inside.large_sum c.large_part-part.result c.args.place c.self.inside.hub c.self.invariant.0 c.large_part-part.ensures.part slot at in
     omega (arith, left, all)
+
+pub large_part-next-requires : goal.large_part-next-requires
+large_part-next-requires g c =
+    open_received g.H.Handler.does g.H.Handler.fault_reply c.args.most c.args.place c.self.inside.hub c.args.handler.now c.args.piece.now c.args.now
+    c.receive_beside.new.handler c.receive_beside.new.hub c.receive_beside.ensures
 
 pub invariant_of-self : goal.invariant_of-self
 invariant_of-self g c =
