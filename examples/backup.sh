@@ -1,8 +1,8 @@
 #!/bin/sh
 # Backs up a file of books. It stops the service, copies the file and its log, starts the service
-# again, and then opens the copy, which tests all of its rows. The copy is the folder
-# FOLDER/DATE-TIME. If anything fails, the service is started again, the new copy is removed, older
-# copies are kept, and the status isn't 0.
+# again, and makes one file of the two by `contacts copy`, which tests all of their rows. The backup
+# is that file, in the folder FOLDER/DATE-TIME. If anything fails, the service is started again, the
+# new copy is removed, older copies are kept, and the status isn't 0.
 #
 # Usage: backup.sh FILE FOLDER [BOOK ..]
 #   With a BOOK, the copy has to have it. The file `tally` beside the copy says what it has.
@@ -51,23 +51,24 @@ part=$(mktemp -d "$folder/part.XXXXXX")
 
 stopped=yes
 sh -c "$stop" 9>&-
-cp "$file" "$part/"
-[ ! -e "$file-wal" ] || cp "$file-wal" "$part/"
+mkdir "$part/pair"
+cp "$file" "$part/pair/"
+[ ! -e "$file-wal" ] || cp "$file-wal" "$part/pair/"
 # After a signal the service is started again, even if this start is done; that is harmless.
 sh -c "$start" 9>&-
 stopped=
 
-copy=$part/$(basename "$file")
-if command -v sqlite3 > /dev/null; then
-    # Write the changes of the log into the copy's file.
-    sqlite3 "$copy" 'PRAGMA wal_checkpoint(TRUNCATE)' | grep -q '^0|' || fail 'no checkpoint'
-fi
-"$contacts" verify "$copy" > "$part/tally"
+# One file of the two, which needs no log and has no text of cards that were removed. `copy` tests
+# every row of both files. What is listed is listed of the pair, since a listing leaves a log.
+name=$(basename "$file")
+"$contacts" copy "$part/pair/$name" "$part/$name" > /dev/null
+"$contacts" verify "$part/pair/$name" > "$part/tally"
 for book; do
     echo "$book"
     # A name may begin with a hyphen.
-    "$contacts" tally "$copy" -- "$book"
+    "$contacts" tally "$part/pair/$name" -- "$book"
 done >> "$part/tally"
+rm -r "$part/pair"
 sync "$part"/*
 mv "$part" "$folder/$date"
 part=

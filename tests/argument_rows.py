@@ -21,6 +21,7 @@ FORGET = "forget <FILE> <BOOK> <UPTO>"
 MIRROR = "mirror [OPTIONS] <FILE> <BOOK>"
 EXPAND = "expand <FILE> <BOOK> <UID>"
 MIGRATE = "migrate <FILE>"
+COPY = "copy <FILE> <NEW>"
 CHECK = "check <FILE>"
 CONVERT = "convert [OPTIONS] <FILE>"
 BOOKS = "books <FILE>"
@@ -118,6 +119,8 @@ MISSING = [
     ("mirror --limit 1 a.db", missing("<BOOK>", "mirror --limit <L> <FILE> <BOOK>")),
     ("expand a.db staff", missing("<UID>", EXPAND)),
     ("migrate", missing("<FILE>", MIGRATE)),
+    ("copy", missing("<FILE> <NEW>", COPY)),
+    ("copy a.db", missing("<NEW>", COPY)),
     ("check", missing("<FILE>", CHECK)),
     ("convert", missing("<FILE>", "convert <FILE>")),
     ("books", missing("<FILE>", BOOKS)),
@@ -143,6 +146,7 @@ TOO_MANY = [
     ("mirror a.db staff 10", unexpected("10", MIRROR)),
     ("expand a.db staff a b", unexpected("b", EXPAND)),
     ("migrate a.db b.db", unexpected("b.db", MIGRATE)),
+    ("copy a.db b.db c.db", unexpected("c.db", COPY)),
     ("check a.csv b.csv", unexpected("b.csv", CHECK)),
     ("convert a.vcf b.vcf", unexpected("b.vcf", CONVERT)),
     ("books a.db staff", unexpected("staff", BOOKS)),
@@ -350,6 +354,8 @@ GOOD = [
     "expand a.db staff --  -x",
     "migrate a.db",
     "migrate -- --help",
+    "copy a.db b.db",
+    "copy -- --help -x",
     "books a.db",
     "verify a.db",
     "verify -- --version",

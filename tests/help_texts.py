@@ -26,6 +26,7 @@ book's initial report
   mirror   Sync a book to a new device page by page, and print the device's copy
   expand   List the people in a group and in its nested groups
   migrate  Convert a store file from schema 1 to schema 2, and print its number of books
+  copy     Copy all books of a store file into a new file, and print their number
   check    Check a CSV file or a vCard, and print its number of rows or the first fault
   convert  Convert cards and contacts of other programs to vCard 4.0, as CSV for `import`
   books    List the books with their ids, cards, numbers, horizons and keeps
@@ -281,6 +282,25 @@ Options:
 
 Example:
   contacts migrate office.db
+"""
+
+HELP["copy"] = """\
+Copy all books of a store file into a new file, and print their number
+
+Usage: contacts copy <FILE> <NEW>
+
+Arguments:
+  <FILE>  Path of the store file
+  <NEW>   Path of the new file; nothing may be there yet
+
+Options:
+  -h, --help  Print help
+
+Example:
+  contacts copy office.db backup.db
+
+The new file is whole without a log beside it. It holds no text of a card that was removed or \
+replaced. Every row of both files is tested. While a server has the file open, it can't be copied.
 """
 
 HELP["check"] = """\

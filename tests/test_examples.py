@@ -26,7 +26,7 @@ from shells import free_port
 
 EXAMPLES = ROOT / "examples"
 # The commands that a backup needs, beside the shell's own.
-COMMANDS = "basename cat cp date flock grep mkdir mktemp mv rm sh sync".split()
+COMMANDS = "basename cat cp date flock mkdir mktemp mv rm sh sync".split()
 # Each of these waits until the test has stopped or started its server.
 STOP = 'echo stop > "$TALK/ask"; cat "$TALK/answer"'
 START = 'echo start > "$TALK/ask"; cat "$TALK/answer"'
@@ -268,13 +268,6 @@ class BackupTest(unittest.TestCase):
             (self.copies / name).mkdir(parents=True)
             (self.copies / name / "office.db").write_bytes(b"old")
 
-    def path_without_sqlite3(self):
-        path = self.folder / "commands"
-        path.mkdir()
-        for name in COMMANDS:
-            (path / name).symlink_to(shutil.which(name))
-        return str(path)
-
     def assert_serves(self):
         """The service runs, with all of its cards."""
         self.assertRegex(self.ask(get("staff", "b")), rb"^HTTP/1\.1 200 ")
@@ -299,11 +292,6 @@ class Backups(BackupTest):
         self.assertEqual(wanted, re.findall(r"(?m)^name (\S+) id \d+ cards (\d+) ", tally))
         self.assertTrue(tally.endswith("\nverified 3\n"))
 
-    def test_all_books_without_sqlite3(self):
-        copy = self.back_up_well(PATH=self.path_without_sqlite3())
-        self.assert_whole(copy)
-        self.assert_lists_all_books(copy)
-
     def test_a_file_without_a_book(self):
         new = self.folder / "new.db"
         run("init", new)
@@ -312,20 +300,18 @@ class Backups(BackupTest):
         copy = self.copies / printed.strip().rpartition("/")[2]
         self.assertEqual("verified 0\n", (copy / "tally").read_text())
 
-    def test_the_file_alone_is_enough_after_a_checkpoint(self):
-        if lacking("sqlite3"):
-            self.skipTest("no sqlite3 on this machine")
+    def test_the_file_alone_is_enough(self):
         copy = self.back_up_well()
-        alone = self.folder / "alone"
-        alone.mkdir()
-        shutil.copy(copy / "office.db", alone)
-        self.assert_whole(alone)
+        self.assertEqual(["office.db", "tally"], sorted(it.name for it in copy.iterdir()))
+        self.assert_whole(copy)
 
-    def test_named_books_without_sqlite3(self):
-        copy = self.back_up_well("staff", "clients", PATH=self.path_without_sqlite3())
+    def test_named_books(self):
+        copy = self.back_up_well("staff", "clients")
         self.assertEqual(["stop", "start"], self.service.asked)
         self.assert_serves()
         self.assert_whole(copy)
+        lines = (copy / "tally").read_text().splitlines()
+        self.assertEqual(["staff", "clients"], [line for line in lines if " " not in line])
 
     def test_only_the_owner_may_read_a_copy(self):
         copy = self.back_up_well("staff")

@@ -1,0 +1,3 @@
+pub mod ClosedFiles
+pub mod Copies
+pub mod OnConnections
