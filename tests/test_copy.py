@@ -255,5 +255,77 @@ class Stops(CopyTest):
         shutil.rmtree(tried.parent)
 
 
+class LeftOut(CopyTest):
+    """Copies without some books."""
+
+    def leave_out(self, count, *books):
+        """Copies the file without these books, and leaves it as it is."""
+        before = self.contents(self.file)
+        words = [word for book in books for word in ("--without", book)]
+        self.assertEqual(copied(count), run("copy", self.file, self.new, *words))
+        self.assertFalse(log_of(self.new).exists())
+        self.assertEqual(before, self.contents(self.file))
+
+    def assert_holds(self, filled):
+        wanted = self.folder / "wanted.db"
+        with Tables(wanted) as tables:
+            tables.lay(filled)
+        self.assertEqual(self.contents(wanted).rows, self.contents(self.new).rows)
+
+    def test_a_book(self):
+        """The others have new ids and no tombstones, and numbers above those of the old file.
+
+        Its greatest number is 8, so each takes the ten numbers of five creations and removals.
+        """
+        filled = small_store()
+        self.lay(filled)
+        self.leave_out(2, "clients")
+        books = [(1, "staff", 18, 18, 8, 1, 1, 1, 0, 6, 1),
+                 (2, "friends", 12, 12, 5, 0, 2, 0, 0, 5, 0)]
+        members = [(min(book, 2), *rest) for book, *rest in filled[2][1]
+                   if book != 2 and rest[-1] is not None]
+        self.assert_holds([filled[0], ("book", books), ("member", members),
+                           ("import_key", [(1, "k1", 1, 1, 0, 7), (2, "k2", 2, 0, 0, 2)]),
+                           ("keeping", [(1, 3), (2, 3)])])
+        self.assertEqual(Ended(0, b"", b""), run("verify", self.new)._replace(out=b""))
+
+    def test_no_token_of_the_old_file_counts(self):
+        self.lay(small_store())
+        self.leave_out(2, "staff")
+        for book in "clients", "friends":
+            for number in 1, 2, 3:
+                for at in 0, 2, 6, 8:
+                    reply = serve(self.new, sync(book, f"{number}/{at}/{at}"))
+                    self.assertRegex(reply, rb"^HTTP/1\.1 403 ")
+                    self.assertRegex(reply, rb'"cause":[24]\b')
+            self.assertRegex(serve(self.new, sync(book)), rb"^HTTP/1\.1 200 ")
+
+    def test_all_books(self):
+        self.lay(small_store())
+        self.leave_out(0, "friends", "staff", "clients")
+        self.assert_holds([small_store()[0]] + [(name, []) for name, _ in small_store()[1:]])
+        self.assertEqual(Ended(0, b"book 1\n", b""), run("book", self.new, "desk"))
+
+    def test_a_book_named_twice(self):
+        self.lay(small_store())
+        self.leave_out(2, "friends", "friends")
+
+    def test_text_of_a_book_that_is_left_out(self):
+        make(self.file, "staff", "clients")
+        serve(self.file, put("staff", "a", "Ann"), put("clients", "s", SECRET))
+        self.leave_out(1, "clients")
+        self.assertNotIn(SECRET.encode(), self.new.read_bytes())
+        self.assertNotIn(b"clients", self.new.read_bytes())
+
+    def test_a_name_that_no_book_has(self):
+        """It is refused before anything is written."""
+        self.lay(small_store())
+        run("verify", self.file)
+        before = self.there()
+        ended = run("copy", self.file, self.new, "--without", "staff", "--without", "nobody")
+        self.assertEqual(Ended(1, b"", b"refused no-such-book 1\n"), ended)
+        self.assertEqual(before, self.there())
+
+
 if __name__ == "__main__":
     unittest.main()

@@ -26,7 +26,7 @@ pub(crate) struct BookRows {
 
 /// All rows of the tables of a store.
 #[derive(Drop)]
-pub struct StoredRows {
+pub(crate) struct StoredRows {
     pub(crate) others: BookRows,
     pub(crate) members: Vec<Row>,
 }
@@ -63,7 +63,7 @@ fn list_members<S: Alter>(conn: &mut Connection<S>) -> Result<Vec<Row>, Error>
 }
 
 /// Reads every row of the tables of a store, whatever their columns hold.
-pub fn list_tables<S: Alter>(conn: &mut Connection<S>) -> Result<StoredRows, Error>
+pub(crate) fn list_tables<S: Alter>(conn: &mut Connection<S>) -> Result<StoredRows, Error>
     ensures lists { GivenTables S.Store conn.old conn.new
         (IfOk result (HasRows S.Store conn.old)) }
     ensures reads_only { OnlyReads S.Store conn.old conn.new }

@@ -1,3 +1,0 @@
-pub mod ClosedFiles
-pub mod Copies
-pub mod OnConnections
