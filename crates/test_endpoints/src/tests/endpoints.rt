@@ -117,41 +117,6 @@ fn reads_and_writes_until_it_would_wait(rt: HostRuntime) {
 }
 
 #[test]
-fn is_writable_again_once_the_client_reads(rt: HostRuntime) {
-    let mut endpoint = bind(&rt, 4).expect(&rt, "an endpoint");
-    let mut client = connect(&rt, &endpoint).expect(&rt, "a client");
-    accept_at(&rt, &mut endpoint, 0);
-    let octets = [7u8; 10_000];
-    let mut written: usize = 0;
-    let mut sent = endpoint.write(0, &octets);
-    for _write in 0..10_000u32 {
-        let Sent::Octets(count) = sent else {
-            break;
-        };
-        written = written.saturating_add(count);
-        sent = endpoint.write(0, &octets);
-    }
-    assert_eq!(rt; sent, Sent::NoneNow);
-    // it isn't reported while the client reads nothing
-    let mut ready = [true; 4];
-    let now = endpoint.wait(Some(0), &mut ready).expect(&rt, "a wait").now;
-    endpoint
-        .wait(Some(now.saturating_add(20)), &mut ready)
-        .expect(&rt, "a wait");
-    assert_eq!(rt; ready, [false; 4]);
-    let mut room = [0u8; 10_000];
-    for _read in 0..10_000u32 {
-        if written == 0 {
-            break;
-        }
-        let count = client.read(&mut room).expect(&rt, "a reply");
-        written = written.saturating_sub(count);
-    }
-    assert!(rt; is_reported(&rt, &mut endpoint, 0));
-    assert!(rt; endpoint.write(0, &octets) != Sent::NoneNow);
-}
-
-#[test]
 fn a_place_is_used_again_while_the_old_socket_lingers(rt: HostRuntime) {
     let mut endpoint = bind(&rt, 4).expect(&rt, "an endpoint");
     let mut old = connect(&rt, &endpoint).expect(&rt, "a client");
