@@ -13,25 +13,34 @@ fn device_of_staff(rt: &impl Abort, alloc: Global) -> Vec<Device> {
     devices
 }
 
-/// The reply to a device of `staff` that asks the store.
-fn ask(rt: &impl Abort, alloc: Global, store: &mut FailingStore) -> Vec<Reply> {
-    let mut devices = device_of_staff(rt, alloc);
-    let events = [Event::Ask {
+/// A device that asks.
+fn asks(rt: &impl Abort, alloc: Global) -> Vec<Event> {
+    let ask = Event::Ask {
         device: 0,
         limit: None,
-    }];
+    };
+    let mut events = Vec::new(alloc);
+    events.push(ask).expect(rt, "memory");
+    events
+}
+
+/// The replies to a device of `staff` that asks the store.
+fn replies_of(rt: &impl Abort, alloc: Global, store: &mut FailingStore) -> Vec<Reply> {
+    let mut devices = device_of_staff(rt, alloc);
+    let events = asks(rt, alloc);
     let count = devices.len();
     if !events.iter().all(|event| event.is_within(count)) {
         return Vec::new(alloc);
     }
-    drive(alloc, store, &mut devices, &events).expect(rt, "replies")
+    drive(alloc, store, &mut devices, events.as_slice()).expect(rt, "replies")
 }
 
 /// Asserts that a device and a mirror get the fault.
 fn assert_passes_on(rt: &impl Abort, alloc: Global, fault: Fault) {
     let mut store = FailingStore::new(fault);
-    let replies = ask(rt, alloc, &mut store);
-    assert_eq!(rt; replies.as_slice().first(), Some(&Reply::Fault(fault)));
+    let replies = replies_of(rt, alloc, &mut store);
+    let expected = Reply::Fault(fault);
+    assert_eq!(rt; replies.as_slice().first(), Some(&expected));
     let denied = mirror(alloc, &mut store, "staff", 1, 1).err();
     assert_eq!(rt; denied, Some(Denied::Fault(fault)));
 }

@@ -10,10 +10,8 @@ fn serves_nobody_where_none_waits(rt: HostRuntime) {
     let listener = TcpListener::bind(&rt, address).expect(&rt, "a listener");
     listener.set_nonblocking(true).expect(&rt, "a listener");
     let mut service = new_service(&rt, rt.alloc());
-    assert_eq!(rt;
-        serve_listener(rt.alloc(), &mut service, &listener, 0),
-        Ok(())
-    );
+    let done = serve_listener(rt.alloc(), &mut service, &listener, 0);
+    assert_eq!(rt; done, Ok(()));
     let none = serve_listener(rt.alloc(), &mut service, &listener, 1);
     assert_eq!(rt; none, Err(ListenFault::Device));
 }
