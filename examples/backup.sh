@@ -1,16 +1,16 @@
 #!/bin/sh
 # Backs up a file of books. It stops the service, copies the file and its log, starts the service
-# again, and then opens the copy, which tests all of its rows. The copy is the folder
-# FOLDER/DATE-TIME. If anything fails, the service is started again, the new copy is removed, older
-# copies are kept, and the status isn't 0.
+# again, tests all rows of the copy, and lets `contacts copy` make one file of it, the backup. It is
+# in the folder FOLDER/DATE-TIME. If anything fails, the service is started again, the new backup is
+# removed, older ones are kept, and the status isn't 0.
 #
 # Usage: backup.sh FILE FOLDER [BOOK ..]
-#   With a BOOK, the copy has to have it. The file `tally` beside the copy says what it has.
+#   With a BOOK, the backup has to have it. The file `tally` beside it says what it has.
 # Environment:
 #   CONTACTS  the program; by default `contacts`
 #   STOP      a shell command that stops the service and waits until it has ended
 #   START     a shell command that starts it
-#   KEEP      the number of copies to keep; by default 14
+#   KEEP      the number of backups to keep; by default 14
 set -eu
 umask 077
 
@@ -45,29 +45,30 @@ exec 9> "$folder/lock"
 flock -n 9 || fail 'another backup is running'
 date=$(date -u +%Y-%m-%d-%H%M%S)
 [ ! -e "$folder/$date" ] || fail "$folder/$date is there already"
-# A backup that was killed may have left an incomplete copy.
+# One that was killed may have left a part.
 rm -rf "$folder"/part.*
 part=$(mktemp -d "$folder/part.XXXXXX")
+name=$(basename "$file")
+copy=$part/copied/$name
+mkdir "$part/copied"
 
 stopped=yes
 sh -c "$stop" 9>&-
-cp "$file" "$part/"
-[ ! -e "$file-wal" ] || cp "$file-wal" "$part/"
+cp "$file" "$copy"
+[ ! -e "$file-wal" ] || cp "$file-wal" "$copy-wal"
 # After a signal the service is started again, even if this start is done; that is harmless.
 sh -c "$start" 9>&-
 stopped=
 
-copy=$part/$(basename "$file")
-if command -v sqlite3 > /dev/null; then
-    # Write the changes of the log into the copy's file.
-    sqlite3 "$copy" 'PRAGMA wal_checkpoint(TRUNCATE)' | grep -q '^0|' || fail 'no checkpoint'
-fi
 "$contacts" verify "$copy" > "$part/tally"
 for book; do
     echo "$book"
     # A name may begin with a hyphen.
     "$contacts" tally "$copy" -- "$book"
 done >> "$part/tally"
+# Without a log, and without the text of removed cards. It compares the two before it ends.
+"$contacts" copy "$copy" "$part/$name" > /dev/null
+rm -r "$part/copied"
 sync "$part"/*
 mv "$part" "$folder/$date"
 part=

@@ -142,7 +142,7 @@ class Tree:
                 lines += [f"#   {term}", *textwrap.wrap(said, 90, initial_indent="#       ",
                                                         subsequent_indent="#       ")]
         unit = (self.root / "examples/contacts.service").read_text("utf-8")
-        given = re.search(r"^ExecStart=.*(--port \d+)", unit, re.M)
+        given = re.search(r"^ExecStart=.*(--socket \S+)", unit, re.M)
         text = (HERE / "defaults").read_text("utf-8")
         return (text.replace("@OPTIONS@", "\n".join(lines))
                 .replace("@GIVEN@", given[1] if given else ""))

@@ -21,6 +21,9 @@ FORGET = "forget <FILE> <BOOK> <UPTO>"
 MIRROR = "mirror [OPTIONS] <FILE> <BOOK>"
 EXPAND = "expand <FILE> <BOOK> <UID>"
 MIGRATE = "migrate <FILE>"
+COPY = "copy <FILE> <NEW>"
+RESTORE = "restore [OPTIONS] <BACKUP> <FILE>"
+RESYNC = "resync [OPTIONS] <FILE>"
 CHECK = "check <FILE>"
 CONVERT = "convert [OPTIONS] <FILE>"
 BOOKS = "books <FILE>"
@@ -87,6 +90,11 @@ def empty(option):
     return invalid("", option, "cannot parse integer from empty string")
 
 
+def odd(value):
+    return error(f"invalid value '{value}' for '--skip <N>': it is odd, and half of the numbers are "
+                 "creations, the others removals")
+
+
 def no_form(value):
     possible = "\n  [possible values: cards, columns]"
     return error(f"invalid value '{value}' for '--form <F>'{possible}")
@@ -118,6 +126,12 @@ MISSING = [
     ("mirror --limit 1 a.db", missing("<BOOK>", "mirror --limit <L> <FILE> <BOOK>")),
     ("expand a.db staff", missing("<UID>", EXPAND)),
     ("migrate", missing("<FILE>", MIGRATE)),
+    ("copy", missing("<FILE> <NEW>", COPY)),
+    ("copy a.db", missing("<NEW>", COPY)),
+    ("restore", missing("<BACKUP> <FILE>", "restore <BACKUP> <FILE>")),
+    ("restore b.db", missing("<FILE>", "restore <BACKUP> <FILE>")),
+    ("resync", missing("<FILE>", "resync <FILE>")),
+    ("resync --skip 2", missing("<FILE>", "resync --skip <N> <FILE>")),
     ("check", missing("<FILE>", CHECK)),
     ("convert", missing("<FILE>", "convert <FILE>")),
     ("books", missing("<FILE>", BOOKS)),
@@ -143,6 +157,9 @@ TOO_MANY = [
     ("mirror a.db staff 10", unexpected("10", MIRROR)),
     ("expand a.db staff a b", unexpected("b", EXPAND)),
     ("migrate a.db b.db", unexpected("b.db", MIGRATE)),
+    ("copy a.db b.db c.db", unexpected("c.db", COPY)),
+    ("restore a.db b.db c.db", unexpected("c.db", RESTORE)),
+    ("resync a.db b.db", unexpected("b.db", RESYNC)),
     ("check a.csv b.csv", unexpected("b.csv", CHECK)),
     ("convert a.vcf b.vcf", unexpected("b.vcf", CONVERT)),
     ("books a.db staff", unexpected("staff", BOOKS)),
@@ -215,6 +232,8 @@ DOUBLED = [
     ("serve a.db --connections 1 --connections 2", twice("--connections <N>", SERVE)),
     ("run --socket=s a.db --socket=s", twice("--socket <PATH>", RUN)),
     ("export a.db staff --form cards --form cards", twice("--form <F>", EXPORT)),
+    ("restore b.db a.db --skip 2 --skip 4", twice("--skip <N>", RESTORE)),
+    ("resync a.db --skip 2 --skip 4", twice("--skip <N>", RESYNC)),
     ("mirror a.db staff --limit 1 --limit 2", twice("--limit <L>", MIRROR)),
     ("mirror a.db staff --pages 1 --pages 2", twice("--pages <P>", MIRROR)),
 ]
@@ -235,6 +254,7 @@ NO_VALUES = [
     ("run --socket --port 1 a.db", no_value("--socket <PATH>")),
     ("convert a.vcf --to", no_value("--to <DIR>")),
     ("export a.db staff --form", no_value("--form <F>")),
+    ("resync a.db --skip", no_value("--skip <N>")),
     ("mirror a.db staff --limit", no_value("--limit <L>")),
     ("mirror a.db staff --pages", no_value("--pages <P>")),
 ]
@@ -283,6 +303,13 @@ NO_NUMBERS = [
     ("forget a.db staff 1e3", no_digits("1e3", "<UPTO>")),
     ("forget a.db staff all", no_digits("all", "<UPTO>")),
     (["forget", "a.db", "staff", ""], empty("<UPTO>")),
+    ("resync a.db --skip 0", out_of_range(0, "--skip <N>", 2, 1000000000)),
+    ("resync a.db --skip 1", out_of_range(1, "--skip <N>", 2, 1000000000)),
+    ("resync a.db --skip 1000000001", out_of_range(1000000001, "--skip <N>", 2, 1000000000)),
+    ("resync a.db --skip=all", no_digits("all", "--skip <N>")),
+    ("restore b.db a.db --skip 3", odd(3)),
+    ("resync a.db --skip 3", odd(3)),
+    ("resync a.db --skip=999999999", odd(999999999)),
     ("mirror a.db staff --limit 1000000000000000",
      out_of_range(1000000000000000, "--limit <L>", 0, 999999999999999)),
     ("mirror a.db staff --limit=", empty("--limit <L>")),
@@ -350,6 +377,13 @@ GOOD = [
     "expand a.db staff --  -x",
     "migrate a.db",
     "migrate -- --help",
+    "copy a.db b.db",
+    "copy -- --help -V",
+    "restore b.db a.db",
+    "restore --skip 2 b.db a.db",
+    "resync a.db",
+    "resync a.db --skip 2",
+    "resync --skip=1000000000 a.db",
     "books a.db",
     "verify a.db",
     "verify -- --version",

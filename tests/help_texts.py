@@ -26,6 +26,10 @@ book's initial report
   mirror   Sync a book to a new device page by page, and print the device's copy
   expand   List the people in a group and in its nested groups
   migrate  Convert a store file from schema 1 to schema 2, and print its number of books
+  copy     Copy all books of a store file into a new file, and print their number
+  restore  Put a copy back in place of a store file, and make every device start again
+  resync   Make every device start again after the file was put back from a copy, and print its \
+number of books
   check    Check a CSV file or a vCard, and print its number of rows or the first fault
   convert  Convert cards and contacts of other programs to vCard 4.0, as CSV for `import`
   books    List the books with their ids, cards, numbers, horizons and keeps
@@ -39,7 +43,7 @@ Options:
 Start an office: run, init, book, serve.
 Move in:         convert, check, import.
 Look:            books, tally, export, mirror, expand, verify.
-Keep:            migrate, forget.
+Keep:            copy, restore, resync, migrate, forget.
 
 Without a command, `try` runs. `contacts help COMMAND` shows the arguments, defaults and limits of \
 a command.
@@ -281,6 +285,69 @@ Options:
 
 Example:
   contacts migrate office.db
+"""
+
+HELP["copy"] = """\
+Copy all books of a store file into a new file, and print their number
+
+Usage: contacts copy <FILE> <NEW>
+
+Arguments:
+  <FILE>  Path of the store file
+  <NEW>   Path of the copy; nothing may be there
+
+Options:
+  -h, --help  Print help
+
+Example:
+  contacts copy office.db backup.db
+
+The copy is one file, without a log beside it. It was opened and compared before the command ends. \
+It holds no text of a card that was removed or replaced. While a server has the file open, it can't \
+be copied.
+"""
+
+HELP["restore"] = """\
+Put a copy back in place of a store file, and make every device start again
+
+Usage: contacts restore [OPTIONS] <BACKUP> <FILE>
+
+Arguments:
+  <BACKUP>  Path of a copy of the store file
+  <FILE>    Path of the store file
+
+Options:
+      --skip <N>  Even number of changes to skip in each book, 2 to 1000000000; it must be greater \
+than the number of changes that were lost [default: 1000000]
+  -h, --help      Print help
+
+Example:
+  contacts restore backup.db office.db
+
+The copy is tested first, and stays as it is. What was at FILE is kept under the names that are \
+printed. A book that FILE has and the copy hasn't is made again, empty. Then every device copies \
+the books anew, as after `resync`. Stop the server first.
+"""
+
+HELP["resync"] = """\
+Make every device start again after the file was put back from a copy, and print its number of books
+
+Usage: contacts resync [OPTIONS] <FILE>
+
+Arguments:
+  <FILE>  Path of the store file
+
+Options:
+      --skip <N>  Even number of changes to skip in each book, 2 to 1000000000; it must be greater \
+than the number of changes that were lost [default: 1000000]
+  -h, --help      Print help
+
+Example:
+  contacts resync office.db
+
+Each book takes N change numbers and forgets all removals, so every older sync token is refused and \
+every device copies the book anew. Cards stay as they are. All books change in one transaction. \
+Refused if a book would pass 1,000,000,000,000 changes.
 """
 
 HELP["check"] = """\

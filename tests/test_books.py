@@ -63,8 +63,10 @@ class Books(OrderTest):
         for name, number in ("none.db", 1), ("text.db", 2):
             for order in "books", "verify":
                 with self.subTest(f"{order} {name}"):
-                    self.assertEqual(Ended(3, b"", b"fault open %d\n" % number),
-                                     run(order, name, cwd=self.folder))
+                    ended = run(order, name, cwd=self.folder)
+                    self.assertEqual((3, b""), (ended.status, ended.out))
+                    self.assertRegex(ended.err, rb"\A%s: .*\nfault open %d\n\Z"
+                                     % (re.escape(name.encode()), number))
 
     @NEEDS_STRICT
     def test_a_damaged_file(self):
@@ -73,10 +75,10 @@ class Books(OrderTest):
         with sqlite3.connect(self.folder / "a.db") as connection:
             connection.execute("UPDATE book SET number = number + 1")
         connection.close()
-        for order in "books", "tally":
-            arguments = [order, "a.db", *(["staff"] if order == "tally" else [])]
-            with self.subTest(order):
-                self.assertEqual(Ended(3, b"", b"fault open 4\n"),
+        words = b"a.db: it is damaged; restore a backup; contacts verify a.db names the row\n"
+        for arguments, said in (["books", "a.db"], words), (["tally", "a.db", "staff"], b""):
+            with self.subTest(arguments):
+                self.assertEqual(Ended(3, b"", said + b"fault open 4\n"),
                                  run(*arguments, cwd=self.folder))
 
 

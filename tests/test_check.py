@@ -14,7 +14,7 @@ from program import Ended, run
 
 HEAD = "uid,fn,family,given,email,tel,org,note\n"
 ANN = "BEGIN:VCARD\r\nVERSION:4.0\r\nUID:a\r\nFN:Ann\r\nEND:VCARD\r\n"
-DEVICE = Ended(3, b"", b"fault device 1\n")
+TOO_LONG = "it has more than 8,388,608 bytes; make several files of it"
 
 HEADER = "the header is neither uid,vcard nor uid,fn,family,given,email,tel,org,note"
 COUNT = "the number of fields isn't that of the header"
@@ -81,6 +81,11 @@ BAD_CARDS = [
     ("a member of no group", ANN.replace("FN:Ann", "FN:Ann\r\nMEMBER:b"), 12, None,
      "MEMBER outside a group"),
 ]
+
+
+def unusable(name, words):
+    """How a check ends if the file can't be read."""
+    return Ended(3, b"", f"{name}: {words}\nfault device 1\n".encode())
 
 
 class Check(OrderTest):
@@ -163,16 +168,19 @@ class Check(OrderTest):
         while len(text) < 8_188_608:
             text += f"n{len(text)},Ann,,,,,,{'x' * 200_000}\n"
         count = text.count("\n")
-        for octets, ended in (8_388_608, Ended(0, b"rows %d\n" % count, b"")), (8_388_609, DEVICE):
+        for octets, ended in (8_388_608, Ended(0, b"rows %d\n" % count, b"")), (
+                8_388_609, unusable("a.csv", TOO_LONG)):
             with self.subTest(octets):
                 row = "last,Ann,,,,,,"
                 row += "x" * (octets - len(text) - len(row) - 1) + "\n"
                 self.assertEqual(ended, self.check("a.csv", (text + row).encode()))
 
     def test_no_file(self):
-        for name in "none.csv", "none.vcf", ".":
+        for name, words in [("none.csv", "there is no such file"),
+                            ("none.vcf", "there is no such file"),
+                            (".", "it is a folder; name a file")]:
             with self.subTest(name):
-                self.assertEqual(DEVICE, run("check", name, cwd=self.folder))
+                self.assertEqual(unusable(name, words), run("check", name, cwd=self.folder))
 
 
 if __name__ == "__main__":

@@ -16,17 +16,18 @@ import threading
 import time
 import unittest
 from fnmatch import fnmatch
+from pathlib import Path
 from urllib.request import urlopen
 
 from help_texts import HELP
-from http_requests import create, get, put
+from http_requests import create, get, put, remove
 from pages import Page
 from program import PATIENCE, PROGRAM, ROOT, Folder, Server, run
 from shells import free_port
 
 EXAMPLES = ROOT / "examples"
 # The commands that a backup needs, beside the shell's own.
-COMMANDS = "basename cat cp date flock grep mkdir mktemp mv rm sh sync".split()
+COMMANDS = "basename cat cp date flock mkdir mktemp mv rm sh sync".split()
 # Each of these waits until the test has stopped or started its server.
 STOP = 'echo stop > "$TALK/ask"; cat "$TALK/answer"'
 START = 'echo start > "$TALK/ask"; cat "$TALK/answer"'
@@ -114,6 +115,24 @@ class Listening(unittest.TestCase):
                                 ["--host", "office", "--port", port, "--log"]]:
                     script = self.wait_for(server.process, *options)
                     self.assertEqual(0, script.wait(PATIENCE), options)
+
+    def test_a_server_at_a_socket(self):
+        with Folder() as folder:
+            path = str(folder / "office.sock")
+            more = ["--create", "--socket", path]
+            with Server(folder / "office.db", order="run", more=more) as server:
+                for options in [["--socket", path], [f"--socket={path}"],
+                                ["--socket", path, "--port", "0"]]:
+                    script = self.wait_for(server.process, *options)
+                    self.assertEqual(0, script.wait(PATIENCE), options)
+                # The path has to be the whole one.
+                script = self.wait_for(server.process, "--socket", path[:-1])
+                with self.assertRaises(subprocess.TimeoutExpired):
+                    script.wait(0.5)
+            self.assertEqual(1, script.wait(PATIENCE))
+            # A socket is left behind, at which nobody listens.
+            self.assertTrue(Path(path).is_socket())
+            self.assertEqual(1, self.wait_for(server.process, "--socket", path).wait(PATIENCE))
 
     def test_it_waits_until_the_port_is_listened_at(self):
         port = free_port()
@@ -268,13 +287,6 @@ class BackupTest(unittest.TestCase):
             (self.copies / name).mkdir(parents=True)
             (self.copies / name / "office.db").write_bytes(b"old")
 
-    def path_without_sqlite3(self):
-        path = self.folder / "commands"
-        path.mkdir()
-        for name in COMMANDS:
-            (path / name).symlink_to(shutil.which(name))
-        return str(path)
-
     def assert_serves(self):
         """The service runs, with all of its cards."""
         self.assertRegex(self.ask(get("staff", "b")), rb"^HTTP/1\.1 200 ")
@@ -299,8 +311,12 @@ class Backups(BackupTest):
         self.assertEqual(wanted, re.findall(r"(?m)^name (\S+) id \d+ cards (\d+) ", tally))
         self.assertTrue(tally.endswith("\nverified 3\n"))
 
-    def test_all_books_without_sqlite3(self):
-        copy = self.back_up_well(PATH=self.path_without_sqlite3())
+    def test_it_needs_few_commands(self):
+        path = self.folder / "commands"
+        path.mkdir()
+        for name in COMMANDS:
+            (path / name).symlink_to(shutil.which(name))
+        copy = self.back_up_well(PATH=str(path))
         self.assert_whole(copy)
         self.assert_lists_all_books(copy)
 
@@ -312,17 +328,16 @@ class Backups(BackupTest):
         copy = self.copies / printed.strip().rpartition("/")[2]
         self.assertEqual("verified 0\n", (copy / "tally").read_text())
 
-    def test_the_file_alone_is_enough_after_a_checkpoint(self):
-        if lacking("sqlite3"):
-            self.skipTest("no sqlite3 on this machine")
+    def test_one_file_without_the_text_of_removed_cards(self):
+        self.ask(put("staff", "z", "Zebedee Quux"))
+        self.ask(remove("staff", "z"))
         copy = self.back_up_well()
-        alone = self.folder / "alone"
-        alone.mkdir()
-        shutil.copy(copy / "office.db", alone)
-        self.assert_whole(alone)
+        self.assertEqual(["office.db", "tally"], sorted(it.name for it in copy.iterdir()))
+        self.assertNotIn(b"Zebedee", (copy / "office.db").read_bytes())
+        self.assert_whole(copy)
 
-    def test_named_books_without_sqlite3(self):
-        copy = self.back_up_well("staff", "clients", PATH=self.path_without_sqlite3())
+    def test_named_books(self):
+        copy = self.back_up_well("staff", "clients")
         self.assertEqual(["stop", "start"], self.service.asked)
         self.assert_serves()
         self.assert_whole(copy)
@@ -336,12 +351,9 @@ class Backups(BackupTest):
         copy = self.back_up_well("staff")
         self.ask(put("staff", "c", "Cy"))
         self.service.server.kill()
-        # Both old files are removed first, and then those of the copy are put in their places.
-        for name in "office.db", "office.db-wal":
-            if (self.folder / name).exists():
-                (self.folder / name).unlink()
-        for file in copy.glob("office.db*"):
-            shutil.copy(file, self.folder)
+        done = run("restore", copy / "office.db", self.service.file)
+        kept = f"kept {self.service.file}.before-restore-1\nrestored 3\n"
+        self.assertEqual((0, kept.encode()), (done.status, done.out))
         self.service.server = Server(self.service.file)
         self.assert_serves()
         self.assertRegex(self.ask(get("staff", "c")), rb"^HTTP/1\.1 404 ")

@@ -383,9 +383,10 @@ class Unit(unittest.TestCase):
                  for it in (ROOT / "examples").glob("*.service")}
         own = units["contacts-follow.service"]
         wanted = {it for it in units["contacts.service"] if "=" in it and not it.startswith(
-            ("Description=", "After=", "User=", "StateDirectory=", "Exec", "Type=", "Timeout",
-             # It has less memory, and may reach a server on another machine.
-             "LimitAS=", "MemoryMax=", "IPAddress"))}
+            ("#", "Description=", "After=", "User=", "StateDirectory=", "Exec", "Type=", "Timeout",
+             # The socket is the server's. Follow has less memory, and may reach other machines.
+             "RuntimeDirectory", "LimitAS=", "MemoryMax=", "IPAddress", "PrivateNetwork=",
+             "RestrictAddressFamilies="))}
         self.assertEqual(set(), wanted - own)
         self.assertIn("MemoryMax=1G", own)
         self.assertIn("StateDirectory=tosculai-follow", own)

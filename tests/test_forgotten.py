@@ -7,7 +7,6 @@ import base64
 import os
 import random
 import shutil
-import sqlite3
 import subprocess
 import unittest
 from unittest import mock
@@ -126,9 +125,11 @@ class Everywhere(FollowTest):
         self.check_the_others()
 
     def write_anew(self, file):
-        with sqlite3.connect(file, isolation_level=None) as db:
-            db.execute("VACUUM")
-        db.close()
+        copy = self.folder / "erased.db"
+        self.assertEqual(0, run("copy", file, copy).status)
+        for it in file, self.folder / "office.db-wal":
+            it.unlink(missing_ok=True)
+        copy.rename(file)
 
     def tidy_gateway(self):
         photos = self.stack.state / "photos"

@@ -47,9 +47,12 @@ FIELDS = [
 
 
 class Front:
-    """nginx with the example's configuration, but for its paths and ports."""
+    """nginx with the example's configuration, but for its paths and ports.
 
-    def __init__(self, folder, port, gateway=8090, edit=lambda text: text):
+    `office` is where the contact server listens, as nginx says it.
+    """
+
+    def __init__(self, folder, office, gateway=8090, edit=lambda text: text):
         self.address, self.phones = (f"127.0.0.1:{free_port()}" for _ in range(2))
         self.folder = folder
         key = ["-newkey", "rsa:2048", "-nodes", "-keyout", "office.key", "-out", "office.pem"]
@@ -61,7 +64,7 @@ class Front:
             ("listen 443", f"listen {self.address}"),
             ("/etc/ssl/", f"{folder}/"),
             ("/etc/nginx/contacts.users", f"{folder}/users"),
-            ("127.0.0.1:8080", f"127.0.0.1:{port}"),
+            ("unix:/run/tosculai/office.sock", office),
             ("127.0.0.1:8090", f"127.0.0.1:{gateway}"),
         ]:
             if old not in text:
@@ -126,6 +129,15 @@ def missing_tool():
     return next((it for it in ("nginx", "openssl") if not shutil.which(it)), None)
 
 
+def serve_at_socket(folder, name, *hosts):
+    """A server of a new file at a socket that nginx's workers may use, as in the group tosculai."""
+    run("init", folder / f"{name}.db")
+    more = ["--socket", folder / f"{name}.sock", *(it for host in hosts for it in ("--host", host))]
+    server = Server(folder / f"{name}.db", order="run", more=more)
+    os.chmod(server.address, 0o666)
+    return server
+
+
 @unittest.skipIf(missing_tool(), f"no {missing_tool()} on this machine")
 class Gateway(unittest.TestCase):
     """What nginx passes on to the gateway of clients/carddav."""
@@ -140,7 +152,7 @@ class Gateway(unittest.TestCase):
                 "phones": accounts.Account(readers.by_address(["10.0.0.0/8"]), {"staff": "r"})})
             (folder / "front").mkdir()
             os.chmod(folder, 0o755)  # for nginx's workers
-            front = Front(folder / "front", stack.port, stack.place[1])
+            front = Front(folder / "front", f"127.0.0.1:{stack.port}", stack.place[1])
             try:
                 self.ask_all(front, stack, token)
                 stack.books[0].put(CARD.decode().replace("\r\nEND", "\r\nTEL:101\r\nEND") % "b")
@@ -155,7 +167,7 @@ class Gateway(unittest.TestCase):
             stack = Stack(folder, more=["--trust-front"])
             (folder / "front").mkdir()
             os.chmod(folder, 0o755)  # for nginx's workers
-            front = Front(folder / "front", stack.port, stack.place[1])
+            front = Front(folder / "front", f"127.0.0.1:{stack.port}", stack.place[1])
             try:
                 ann = {"Authorization": "", "X-Remote-User": "ann"}
                 self.assertEqual(200, Client(stack.place).ask(
@@ -213,11 +225,13 @@ class Gateway(unittest.TestCase):
 class Offices(unittest.TestCase):
     """The lines of docs/OPERATING.md for several offices, in the example's configuration."""
 
-    def edit(self, text, folder, ports):
+    def edit(self, text, folder):
         block, = [it.text for it in Page("docs/OPERATING.md").blocks() if it.info == "nginx"]
         head, _, settings = block.partition("    # In the map of users")
-        for old, new in zip(("8101", "8102"), ports):
-            head = head.replace(f":{old};", f":{new};")
+        for name in "north", "south":
+            socket = f"unix:/run/tosculai-{name}/office.sock;"
+            self.assertIn(socket, head)
+            head = head.replace(socket, f"unix:{folder}/{name}.sock;")
         text, count = re.subn(r"upstream contacts \{.*?\n\}\n", lambda _: head, text, 1, re.DOTALL)
         for line in re.findall(r"(?m)^    (\w+ +\S.*;)$", settings):
             line = line.replace("/etc/nginx/contacts-", f"{folder}/")
@@ -233,13 +247,9 @@ class Offices(unittest.TestCase):
     @unittest.skipIf(missing_tool(), f"no {missing_tool()} on this machine")
     def test_each_name_leads_to_its_office(self):
         with Folder() as folder, ExitStack() as servers:
-            ports = []
             for name in "north", "south":
-                run("init", folder / f"{name}.db")
-                more = ["--host", f"{name}.example"]
-                server = Server(folder / f"{name}.db", order="run", more=more)
-                ports.append(servers.enter_context(server).address[1])
-            front = Front(folder, 0, edit=lambda text: self.edit(text, folder, ports))
+                servers.enter_context(serve_at_socket(folder, name, f"{name}.example"))
+            front = Front(folder, "unix:/unused", edit=lambda text: self.edit(text, folder))
             servers.callback(front.stop)
             for name in "north", "south":
                 shutil.copy(folder / "users", folder / f"{name}.users")
@@ -260,27 +270,28 @@ class Pages(unittest.TestCase):
     @unittest.skipIf(missing_tool(), f"no {missing_tool()} on this machine")
     def test_pages_of_other_sites(self):
         with Folder() as folder:
-            run("init", folder / "office.db")
-            with Server(folder / "office.db", order="run") as server:
-                self.try_all(Front(folder, server.address[1]))
+            with serve_at_socket(folder, "office") as server:
+                self.try_all(Front(folder, f"unix:{server.address}"))
 
     @unittest.skipIf(missing_tool(), f"no {missing_tool()} on this machine")
     def test_names(self):
         """nginx passes the name on by which it is reached, and the server knows its own."""
-        with Folder() as folder:
-            run("init", folder / "office.db")
-            more = ["--host", "contacts.example"]
-            with Server(folder / "office.db", order="run", more=more) as server:
-                front = Front(folder, server.address[1])
-                try:
-                    for host, status in ("contacts.example", 201), ("other.example", 421):
-                        fields = {"Host": host, "Origin": f"https://{host}"}
-                        with self.subTest(host):
-                            self.assertEqual(
-                                status, front.ask("PUT", f"/books/b{status}", b"", fields))
-                    self.assertEqual(404, front.ask("GET", "/books/b421/tally"))
-                finally:
-                    front.stop()
+        one, two, other = "contacts.example", "office.example", "other.example"
+        with Folder() as folder, serve_at_socket(folder, "office", one, two) as server:
+            front = Front(folder, f"unix:{server.address}")
+            try:
+                for book, host, origin, status in [
+                    ("a", one, one, 201), ("b", two, two, 201), ("c", other, other, 421),
+                    # A page at one of the names is another site for the other one.
+                    ("d", one, two, 403), ("e", two, one, 403),
+                ]:
+                    fields = {"Host": host, "Origin": f"https://{origin}"}
+                    with self.subTest(host=host, origin=origin):
+                        self.assertEqual(status, front.ask("PUT", f"/books/{book}", b"", fields))
+                        there = 200 if status == 201 else 404
+                        self.assertEqual(there, front.ask("GET", f"/books/{book}/tally"))
+            finally:
+                front.stop()
 
     def try_all(self, front):
         try:

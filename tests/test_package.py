@@ -37,7 +37,7 @@ TEMPLATES = {"contacts@.service": "contacts.service",
              "contacts-backup@.service": "contacts-backup.service",
              "contacts-backup@.timer": "contacts-backup.timer"}
 # The most points of `systemd-analyze security` that a service has, of 10.
-EXPOSED = {"contacts.service": 1.0, "contacts@.service": 1.0, "contacts-backup.service": 1.0,
+EXPOSED = {"contacts.service": 0.5, "contacts@.service": 0.5, "contacts-backup.service": 1.0,
            "contacts-backup@.service": 1.0, "carddav.service": 1.0, "ldap.service": 1.1,
            "contacts-follow.service": 1.1}
 WRAPPERS = ["tosculai", "tosculai-carddav", "tosculai-follow", "tosculai-ldap"]
@@ -276,7 +276,7 @@ class Deb(unittest.TestCase):
                          set(re.findall(r"(?m)^#   (--[\w-]+)", text)))
         read = subprocess.run(["sh"], input=f"{text}\necho $CONTACTS_OPTIONS".encode(), check=True,
                               stdout=subprocess.PIPE).stdout
-        self.assertEqual(b"--port 8080\n", read)
+        self.assertEqual(b"--socket /run/tosculai/office.sock\n", read)
         unit = files["usr/lib/systemd/system/contacts.service"].decode()
         self.assertIn("\nEnvironmentFile=-/etc/default/tosculai\nExecStart=/usr/bin/contacts run "
                       "/var/lib/tosculai/office.db --create $CONTACTS_OPTIONS\n", unit)
@@ -290,7 +290,8 @@ class Deb(unittest.TestCase):
 
     def test_the_units_of_several_offices_are_as_those_of_one(self):
         own = {"Description", "ExecStart", "ExecStopPost", "Environment", "EnvironmentFile",
-               "StateDirectory", "TemporaryFileSystem", "BindPaths"}
+               "ExecStartPost", "StateDirectory", "RuntimeDirectory", "TemporaryFileSystem",
+               "BindPaths"}
         for template, single in TEMPLATES.items():
             self.assertEqual([it for it in self.settings(single) if it[0] not in own],
                              [it for it in self.settings(template) if it[0] not in own])
@@ -465,7 +466,7 @@ class Completion(unittest.TestCase):
         rows = [(["contacts", "export", "--form", ""], {"cards", "columns"}),
                 (["contacts", "export", "--form", "co"], {"columns"}),
                 (["contacts", "run", "--port", ""], set()),
-                (["contacts", "c"], {"check", "convert"}),
+                (["contacts", "c"], {"check", "convert", "copy"}),
                 (["contacts", "run", "a.db", "--max"], {"--max-open"}),
                 (["contacts", "tally", "a.db", ""], set())]
         found = self.completed(*(words for words, _ in rows))

@@ -5,43 +5,15 @@ there standard error is a pipe, and has to be empty.
 """
 
 import os
-import pty
 import re
-import subprocess
 import unittest
 
 from order_trials import NEEDS_STRICT, OrderTest, numbered
-from program import PROGRAM
 from tables import card
+from terminals import run_at_terminal
 
 DONE = rb"done after [0-9]+ milliseconds\n"
 LONG_NOTE = "x" * 240_000
-
-
-def read_all(terminal):
-    """What was written to the terminal, whose other side is closed."""
-    octets = b""
-    while True:
-        try:
-            some = os.read(terminal, 65_536)
-        except OSError:
-            return octets
-        if not some:
-            return octets
-        octets += some
-
-
-def run_at_terminal(*arguments, cwd):
-    """The status and the output of a command, and what it said on the terminal."""
-    terminal, side = pty.openpty()
-    try:
-        with subprocess.Popen([PROGRAM, *arguments], stdin=subprocess.DEVNULL,
-                              stdout=subprocess.PIPE, stderr=side, cwd=cwd) as process:
-            os.close(side)
-            output = process.stdout.read()
-        return process.returncode, output, read_all(terminal).replace(b"\r\n", b"\n")
-    finally:
-        os.close(terminal)
 
 
 class Progress(OrderTest):

@@ -351,7 +351,8 @@ class Options(OrderTest):
     def test_no_file_is_created(self):
         for more in [], OFFICE, ["--log"]:
             server = self.start(*more)
-            self.assertEqual(Ended(3, b"", b"fault open 1\n"), server.end())
+            said = b"a.db: there is no such file; contacts run a.db --create makes it\n"
+            self.assertEqual(Ended(3, b"", said + b"fault open 1\n"), server.end())
             self.assertEqual([], list(self.folder.iterdir()))
 
     def test_no_file_is_replaced(self):
@@ -363,7 +364,7 @@ class Options(OrderTest):
                     server = self.start(*more)
                     ended = server.end()
                     self.assertEqual((3, b""), (ended.status, ended.out))
-                    self.assertRegex(ended.err, rb"^fault open [1-6]\n\Z")
+                    self.assertRegex(ended.err, rb"\Aa\.db: .*\nfault open [1-6]\n\Z")
                     self.assertEqual(octets, (self.folder / "a.db").read_bytes())
 
     def test_an_empty_file_becomes_a_store(self):
@@ -374,25 +375,31 @@ class Options(OrderTest):
         server.kill()
         self.assertEqual(0, run("verify", "a.db", cwd=self.folder).status)
         (self.folder / "b.db").write_bytes(b"")
-        self.assertEqual(Ended(3, b"", b"fault open 2\n"), self.start(file="b.db").end())
+        said = b"b.db: it isn't a file of this program, or its log isn't beside it\nfault open 2\n"
+        self.assertEqual(Ended(3, b"", said), self.start(file="b.db").end())
 
     def test_a_file_that_cannot_be_made(self):
-        for file in ".", "none/a.db":
+        for file, words in [(".", b"it is a folder; name a file"),
+                            ("none/a.db", b"there is no folder for it; make that first")]:
             with self.subTest(file):
                 server = self.start("--create", file=file)
-                self.assertEqual(Ended(3, b"", b"fault open 1\n"), server.end())
+                said = b"%s: %s\nfault open 1\n" % (file.encode(), words)
+                self.assertEqual(Ended(3, b"", said), server.end())
                 self.assertEqual([], list(self.folder.iterdir()))
 
     def test_a_file_that_is_served(self):
         self.start("--create")
         for more in [], ["--create"]:
-            self.assertEqual(Ended(3, b"", b"fault open 1\n"), self.start(*more).end())
+            said = b"a.db: another program has it open\nfault open 1\n"
+            self.assertEqual(Ended(3, b"", said), self.start(*more).end())
 
     def test_the_port(self):
         first = self.start("--create")
         second = Server("b.db", order="run", port=first.address[1], more=["--create"],
                         cwd=self.folder)
-        self.assertEqual(Ended(3, b"", b"fault device 1\n"), second.end())
+        port = first.address[1]
+        said = b"port %d is taken; try --port %d\nfault device 1\n" % (port, port + 1)
+        self.assertEqual(Ended(3, b"", said), second.end())
         # The file was made before the port was bound. It stays, and is served the next time.
         self.assertEqual((0, b"verified 0\n"), run("verify", "b.db", cwd=self.folder)[:2])
 

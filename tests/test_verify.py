@@ -85,9 +85,12 @@ class Verify(OrderTest):
             tables.run(statements)
         before = file.read_bytes()
         refused = fault(DAMAGED)
-        self.assertEqual(refused._replace(out=f"{line}\n".encode()),
+        said = b"a.db: it is damaged; restore a backup"
+        self.assertEqual(refused._replace(out=f"{line}\n".encode(), err=said + b"\n" + refused.err),
                          run("verify", "a.db", cwd=self.folder))
-        self.assertEqual(refused, run("books", "a.db", cwd=self.folder))
+        said += b"; contacts verify a.db names the row\n"
+        self.assertEqual(refused._replace(err=said + refused.err),
+                         run("books", "a.db", cwd=self.folder))
         self.assertEqual(before, file.read_bytes())
 
     def test_small_store(self):
@@ -108,10 +111,13 @@ class Verify(OrderTest):
 
     def test_no_other_fault_has_a_row(self):
         (self.folder / "text.db").write_bytes(b"no database at all")
-        for name, number in ("none.db", 1), ("text.db", 2):
+        for name, words, number in [
+            ("none.db", b"there is no such file; contacts init none.db makes one", 1),
+            ("text.db", b"it isn't a file of this program, or its log isn't beside it", 2),
+        ]:
             with self.subTest(name):
-                self.assertEqual(Ended(3, b"", b"fault open %d\n" % number),
-                                 run("verify", name, cwd=self.folder))
+                said = b"%s: %s\nfault open %d\n" % (name.encode(), words, number)
+                self.assertEqual(Ended(3, b"", said), run("verify", name, cwd=self.folder))
 
 
 if __name__ == "__main__":

@@ -7,3 +7,4 @@ pub mod CrashLemmas
 pub mod RefusalLemmas
 pub mod CountLemmas
 pub mod SearchLemmas
+pub mod CopyLemmas

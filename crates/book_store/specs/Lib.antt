@@ -5,3 +5,4 @@ pub mod Crashes
 pub mod FileRefusals
 pub mod OnConnections
 pub mod FileSearches
+pub mod ClosedFiles

@@ -3,6 +3,8 @@
 #![tactic(auto)]
 
 mod calls;
+mod closing;
+mod copying;
 mod faulty;
 mod files;
 mod keeps;

@@ -1,6 +1,7 @@
 -- The order that a command line gives: the value of its matches, by `clap`'s definitions. This
 -- project's own.
-use Rattle.std.specs.Prelude.{ℕ, ◌≡◌, ◌≢◌, ◌-◌, ◌^◌, ◌&&◌, ⊤, Bool, true, false, List, [], Option}
+use Rattle.std.specs.Prelude.{ℕ, ◌≡◌, ◌≢◌, ◌-◌, ◌^◌, ◌/◌, ◌%◌, ◌==◌, ◌&&◌, ⊤, Bool, true, false}
+use Rattle.std.specs.Prelude.{List, [], Option}
 use Rattle.std.specs.Prelude.{Some, None, Result, Ok, Err, codes, find, option_map, option_and_then}
 use Rattle.std.specs.Prelude.{unwrap_or}
 use Rattle.std.specs.Prelude.{if◌then◌else◌}
@@ -23,7 +24,8 @@ use Rattle.cli_args.specs.declared.order.Order.{Order}
 use Rattle.cli_args.specs.declared.order.Order.TheVariants.{Try, Init, Book, Serve}
 use Rattle.cli_args.specs.declared.order.Order.TheVariants.{Import, Export, Tally, Forget, Mirror}
 use Rattle.cli_args.specs.declared.order.Order.TheVariants.{Expand, Migrate, Check, Books, Verify}
-use Rattle.cli_args.specs.declared.order.Order.TheVariants.{Run, Version, Convert}
+use Rattle.cli_args.specs.declared.order.Order.TheVariants.{Run, Version, Convert, Copy}
+use Rattle.cli_args.specs.declared.order.Order.TheVariants.{Resync, Restore}
 
 -- ---- the values of arguments and options
 
@@ -124,6 +126,23 @@ expand_order rows = with_book (λ file book.
 abbrev pub migrate_order : List Row → Option Order
 migrate_order = with_file (λ file. Some (Migrate file))
 
+-- half of the number, if it is even
+abbrev pub half_of : ℕ → Option ℕ
+half_of number = if number % 2 == 0 then Some (number / 2) else None
+
+abbrev pub pairs_arg : List Row → Option ℕ
+pairs_arg rows = option_and_then half_of (u64_arg (codes "N") rows)
+
+abbrev pub copy_order : List Row → Option Order
+copy_order rows = with_file (λ file. option_map (Copy file) (text_arg (codes "NEW") rows)) rows
+
+abbrev pub resync_order : List Row → Option Order
+resync_order rows = with_file (λ file. option_map (Resync file) (pairs_arg rows)) rows
+
+abbrev pub restore_order : List Row → Option Order
+restore_order rows = option_and_then (λ backup. with_file (λ file.
+    option_map (Restore backup file) (pairs_arg rows)) rows) (text_arg (codes "BACKUP") rows)
+
 abbrev pub check_order : List Row → Option Order
 check_order = with_file (λ file. Some (Check file))
 
@@ -163,6 +182,14 @@ book_order_of name rows =
     else (if bytes_eq name (codes "forget") then forget_order rows
     else query_order_of name rows))
 
+-- the order of this name and these matches, if it copies a file, puts a copy back, or is about books
+abbrev pub backup_order_of : Text → List Row → Option Order
+backup_order_of name rows =
+    if bytes_eq name (codes "copy") then copy_order rows
+    else (if bytes_eq name (codes "resync") then resync_order rows
+    else (if bytes_eq name (codes "restore") then restore_order rows
+    else book_order_of name rows))
+
 -- the order of this name and these matches
 abbrev pub order_of : Text → List Row → Option Order
 order_of name rows =
@@ -171,7 +198,7 @@ order_of name rows =
     else (if bytes_eq name (codes "run") then run_order rows
     else (if bytes_eq name (codes "serve") then serve_order rows
     else (if bytes_eq name (codes "migrate") then migrate_order rows
-    else book_order_of name rows))))
+    else backup_order_of name rows))))
 
 -- the order of the matched name; without a name it is `Try`
 abbrev pub named_order : Option (Text × List Row) → Option Order

@@ -144,6 +144,20 @@ expand_command = order_command (codes "expand") (file_arg ∷ book_arg ∷ argum
 abbrev pub migrate_command : Shape
 migrate_command = order_command (codes "migrate") (file_arg ∷ [])
 
+abbrev pub copy_command : Shape
+copy_command = order_command (codes "copy") (file_arg ∷ argument (codes "NEW") ∷ [])
+
+-- how many change numbers each book takes
+abbrev pub skip_option : Rule
+skip_option = number_option (codes "N") (codes "skip") 2 1000000000 (codes "1000000")
+
+abbrev pub resync_command : Shape
+resync_command = order_command (codes "resync") (file_arg ∷ skip_option ∷ [])
+
+abbrev pub restore_command : Shape
+restore_command = order_command (codes "restore")
+    (argument (codes "BACKUP") ∷ file_arg ∷ skip_option ∷ [])
+
 abbrev pub check_command : Shape
 check_command = order_command (codes "check") (file_arg ∷ [])
 
@@ -164,8 +178,8 @@ abbrev pub order_commands : List Shape
 order_commands = try_command ∷ init_command ∷ book_command ∷ run_command ∷ serve_command
     ∷ import_command
     ∷ export_command ∷ tally_command
-    ∷ forget_command ∷ mirror_command ∷ expand_command ∷ migrate_command
-    ∷ check_command ∷ convert_command ∷ books_command ∷ verify_command ∷ []
+    ∷ forget_command ∷ mirror_command ∷ expand_command ∷ migrate_command ∷ copy_command
+    ∷ restore_command ∷ resync_command ∷ check_command ∷ convert_command ∷ books_command ∷ verify_command ∷ []
 
 -- `--version` or `-V`; 86 is the letter V
 abbrev pub version_flag : Rule

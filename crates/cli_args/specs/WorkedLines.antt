@@ -149,6 +149,27 @@ WorkedPages =
     × (order_from (over_book (codes "mirror") (codes "--pages=0" ∷ [])) ≡ None)
     × (order_from (over_book (codes "mirror") (codes "--limit=1000000000000000" ∷ [])) ≡ None)
 
+abbrev pub WorkedCopies : Type 0
+WorkedCopies =
+    (order_from (over_file (codes "copy") (codes "b.db" ∷ []))
+    ≡ Some (order.Copy db (codes "b.db")))
+    × (order_from (over_file (codes "copy") []) ≡ None)
+    × (order_from (codes "restore" ∷ codes "b.db" ∷ db ∷ [])
+    ≡ Some (order.Restore (codes "b.db") db 500000))
+    × (order_from (codes "restore" ∷ codes "b.db" ∷ db ∷ codes "--skip=2" ∷ [])
+    ≡ Some (order.Restore (codes "b.db") db 1))
+    × (order_from (codes "restore" ∷ codes "b.db" ∷ []) ≡ None)
+
+abbrev pub WorkedResyncs : Type 0
+WorkedResyncs =
+    (order_from (over_file (codes "resync") []) ≡ Some (order.Resync db 500000))
+    × (order_from (over_file (codes "resync") (codes "--skip=2" ∷ [])) ≡ Some (order.Resync db 1))
+    × (order_from (over_file (codes "resync") (codes "--skip" ∷ codes "1000000000" ∷ []))
+    ≡ Some (order.Resync db 500000000))
+    × (order_from (over_file (codes "resync") (codes "--skip=3" ∷ [])) ≡ None)
+    × (order_from (over_file (codes "resync") (codes "--skip=0" ∷ [])) ≡ None)
+    × (order_from (over_file (codes "resync") (codes "--skip=1000000002" ∷ [])) ≡ None)
+
 abbrev pub WorkedFaults : Type 0
 WorkedFaults =
     (order_from (over_file (codes "tally") []) ≡ None)

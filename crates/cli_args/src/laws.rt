@@ -2,9 +2,9 @@
 //! stated in `specs/WorkedLines.antt`.
 ghost use Rattle.cli_args.specs.WorkedLines.{WorkedConnections, WorkedConversions, WorkedDefaults};
 ghost use Rattle.cli_args.specs.WorkedLines.{WorkedFaults, WorkedFiles, WorkedForms, WorkedLimits};
-ghost use Rattle.cli_args.specs.WorkedLines.{WorkedLogs};
+ghost use Rattle.cli_args.specs.WorkedLines.{WorkedCopies, WorkedLogs};
 ghost use Rattle.cli_args.specs.WorkedLines.{WorkedNumbers, WorkedOrders, WorkedPages};
-ghost use Rattle.cli_args.specs.WorkedLines.{WorkedPorts, WorkedRuns, WorkedServes};
+ghost use Rattle.cli_args.specs.WorkedLines.{WorkedPorts, WorkedResyncs, WorkedRuns, WorkedServes};
 ghost use Rattle.cli_args.specs.WorkedLines.{WorkedSockets, WorkedVersions};
 
 /// Some command lines and their orders, or none.
@@ -30,6 +30,10 @@ ghost use Rattle.cli_args.specs.WorkedLines.{WorkedSockets, WorkedVersions};
 /// - `numbers`: `forget` accepts 999999999999999, and not one more.
 /// - `pages`: `mirror` accepts a limit of 0 with 1000000 pages; not 1000001 or 0 pages, nor a limit
 ///   of 1000000000000000.
+/// - `copies`: `copy` with a file and the name of its copy, and not without that; `restore` with a
+///   copy and a file, without an option and with 2 numbers to skip, and not without a file.
+/// - `resyncs`: `resync` without an option skips 1000000 numbers, which are 500000 pairs; 2 and
+///   1000000000 are accepted, and 3, 0 and 1000000002 are not.
 /// - `faults`: `tally` without a book or with a further argument, `more`, `help` and `--help` have
 ///   no order.
 pub fn worked_lines_are_orders()
@@ -48,5 +52,7 @@ pub fn worked_lines_are_orders()
     ensures forms { WorkedForms }
     ensures numbers { WorkedNumbers }
     ensures pages { WorkedPages }
+    ensures copies { WorkedCopies }
+    ensures resyncs { WorkedResyncs }
     ensures faults { WorkedFaults }
 {}

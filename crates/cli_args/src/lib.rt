@@ -2,6 +2,7 @@
 #![tactic(auto)]
 
 mod arguments;
+mod backup_orders;
 mod convert_command;
 mod fault;
 pub mod laws;

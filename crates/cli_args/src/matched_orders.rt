@@ -3,6 +3,7 @@ ghost use Rattle.clap.specs.Words.{found_of, rows_of, subcommand_rows_of};
 ghost use Rattle.cli_args.specs.ParsedOrders as parsed;
 ghost use Rattle.cli_args.specs.ParsedOrders.{ParsesTo};
 
+use crate::backup_orders::{copy_order, restore_order, resync_order};
 use crate::fault::LineFault;
 use crate::order::Order;
 use crate::values::{
@@ -232,6 +233,21 @@ fn book_order_of(alloc: Global, name: &str, matches: &ArgMatches<'_>) -> Result<
     }
 }
 
+/// The order with this name, if it copies a file, puts a copy back, or is about books.
+fn backup_order_of(alloc: Global, name: &str, matches: &ArgMatches<'_>) -> Result<Order, LineFault>
+    ensures { ParsesTo (parsed.backup_order_of name.now (rows_of (found_of matches.now))) result }
+{
+    if name == "copy" {
+        copy_order(alloc, matches)
+    } else if name == "resync" {
+        resync_order(alloc, matches)
+    } else if name == "restore" {
+        restore_order(alloc, matches)
+    } else {
+        book_order_of(alloc, name, matches)
+    }
+}
+
 /// The order with this name. (The names are split over four functions because in one list the
 /// prover would carry all earlier names into each later case.)
 fn order_of(alloc: Global, name: &str, matches: &ArgMatches<'_>) -> Result<Order, LineFault>
@@ -248,7 +264,7 @@ fn order_of(alloc: Global, name: &str, matches: &ArgMatches<'_>) -> Result<Order
     } else if name == "migrate" {
         migrate_order(alloc, matches)
     } else {
-        book_order_of(alloc, name, matches)
+        backup_order_of(alloc, name, matches)
     }
 }
 

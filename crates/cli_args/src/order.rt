@@ -112,6 +112,29 @@ pub enum Order {
         /// The path of a store file of schema 1.
         file: Text,
     },
+    /// Copy all books of a store file into a new file.
+    Copy {
+        /// The path of a store file.
+        file: Text,
+        /// The path of the new file.
+        target: Text,
+    },
+    /// Put a copy back in place of a store file, and make every device start again.
+    Restore {
+        /// The path of the copy.
+        backup: Text,
+        /// The path of the store file.
+        file: Text,
+        /// Half of the numbers that each book takes, 1 to 500,000,000.
+        pairs: u64,
+    },
+    /// Make every device start again, after the file was put back from a copy.
+    Resync {
+        /// The path of a store file.
+        file: Text,
+        /// Half of the numbers that each book takes, 1 to 500,000,000.
+        pairs: u64,
+    },
     /// Check a CSV file or a card, without a store.
     Check {
         /// The path of a file with rows, or with one card if its name ends in `.vcf`.

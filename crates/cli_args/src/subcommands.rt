@@ -10,6 +10,7 @@ use crate::arguments::{
     argument, book_arg, file_arg, flag, free_option, number_arg, number_option, option_arg,
     repeated_option, site_option, switch,
 };
+use crate::backup_orders::{copy_command, restore_command, resync_command};
 use crate::convert_command::convert_command;
 use clap::{Arg, Command};
 use std::alloc::{AllocError, Global};
@@ -427,6 +428,9 @@ fn order_commands<'a>(alloc: Global) -> Result<Vec<Command<'a>>, AllocError>
     let lines = with_command(lines, mirror_command(alloc))?;
     let lines = with_command(lines, expand_command(alloc))?;
     let lines = with_command(lines, migrate_command(alloc))?;
+    let lines = with_command(lines, copy_command(alloc))?;
+    let lines = with_command(lines, restore_command(alloc))?;
+    let lines = with_command(lines, resync_command(alloc))?;
     let lines = with_command(lines, check_command(alloc))?;
     let lines = with_command(lines, convert_command(alloc))?;
     let lines = with_command(lines, books_command(alloc))?;
@@ -456,7 +460,7 @@ pub(crate) fn contacts_command<'a>(alloc: Global) -> Result<Command<'a>, AllocEr
             "Start an office: run, init, book, serve.\n\
              Move in:         convert, check, import.\n\
              Look:            books, tally, export, mirror, expand, verify.\n\
-             Keep:            migrate, forget.\n\n\
+             Keep:            copy, restore, resync, migrate, forget.\n\n\
              Without a command, `try` runs. `contacts help COMMAND` shows the arguments, defaults \
              and limits of a command.\n\nExample:\n  contacts tally office.db staff",
         )

@@ -4,7 +4,9 @@ use Rattle.std.specs.Io.KnownBytes.{Appends}
 use Rattle.book_commands.specs.declared.command.Command.TheVariants.{Import as ImportRows}
 use Rattle.cli_orders.specs.Announcements.{AnnouncesAndServes, StopsServing}
 use Rattle.cli_orders.specs.CommandRuns.{PrintsCommand, StopsCommand}
-use Rattle.cli_orders.specs.OrderOutputs.{made_output, migrate_output}
+use Rattle.cli_orders.specs.OrderOutputs.{copy_output, made_output, migrate_output}
+use Rattle.cli_orders.specs.RestoreOutputs.{restore_output}
+use Rattle.cli_orders.specs.declared.restore_output.Restored.{Restored}
 use Rattle.cli_orders.specs.FaultyRows.{ReportsDamage}
 use Rattle.cli_orders.specs.Findings.{PassesCheck, StopsCheck, kind_of_file}
 use Rattle.cli_host.specs.Listings.{PrintsListing, StopsListing}
@@ -15,9 +17,11 @@ use Rattle.cli_orders.specs.declared.address.Address.{Address}
 use Rattle.cli_orders.specs.declared.stop.Stop.{Stop}
 use Rattle.cli_orders.specs.declared.stop.Stop.TheVariants.{Open, Device}
 use Rattle.cli_orders.proofs.StopLemmas.{kept_same}
-use Rattle.cli_host.specs.Hosts.{HostCall, Creates, Looks, Opens, FindsFault, Migrates, ReadsRows, Binds, Finishes, HasLog, IsBoundAs, LogsCalls, MakesCalls}
-use Rattle.cli_host.specs.OrdersOnHost.{ChecksFile, DoesInFile, DoesStoreWork, GetsStore, ImportsRows, MakesStore, MigratesFile, ServesAt, ServesStore, StopsAt, StopsChecking, StopsInFile, StopsMaking, StopsMigrating, StopsOnImport, StopsReadingRows, StopsStore, StopsStoreWork, StopsUnbound, StopsUnopened, StopsVerifying, VerifiesFile}
+use Rattle.cli_host.specs.Hosts.{HostCall, Copies, Creates, Looks, Opens, FindsFault, Migrates, ReadsRows, Restores, Binds, Finishes, HasLog, IsBoundAs, LogsCalls, MakesCalls}
+use Rattle.cli_host.specs.OrdersOnHost.{ChecksFile, CopiesFile, DoesInFile, DoesStoreWork, GetsStore, ImportsRows, MakesStore, MigratesFile, RestoresFile, ServesAt, ServesStore, StopsAt, StopsChecking, StopsCopying, StopsInFile, StopsMaking, StopsMigrating, StopsOnImport, StopsReadingRows, StopsRestoring, StopsStore, StopsStoreWork, StopsUnbound, StopsUnopened, StopsVerifying, VerifiesFile}
+use Rattle.cli_host.specs.Resyncs.{StopsResync}
 use Rattle.cli_host.specs.declared.work.StoreWork.{StoreWork}
+use Rattle.cli_host.specs.declared.work.StoreWork.TheVariants.{Resync}
 use Rattle.http_replies.specs.Replies.{head_fault_octets}
 use Rattle.http_requests.specs.HandlerRuns.{FaultReplies, HandlerRelation}
 use Rattle.hub_server.specs.EndpointRuns.{EndpointRelation}
@@ -74,6 +78,47 @@ module _ {S P L H : Type 0} (calls : HostCall S P L → H → H → Type 0) wher
   file_migrated_unprinted (Ok done) old new file count before after made front device = tt
   file_migrated_unprinted (Err stop) old new file count before after made front device =
       one_call old new (Migrates file (Ok count)) (StopsMigrating file stop before after) made (inr (count, refl, inr (record { stop_is = device; front = front })))
+
+  -- ---- a copy
+
+  pub file_uncopied : (old new : H) (file target : List ℕ) (fault : OpenFault) (w : Option (List ℕ)) → calls (Copies file target (Err fault)) old new → LogsCalls calls old new (StopsCopying file target (Open fault) w w)
+  file_uncopied old new file target fault w made = one_call old new (Copies file target (Err fault)) (StopsCopying file target (Open fault) w w) made (inl (fault, refl, unopened fault w))
+
+  pub copy_without_text : (old new : H) (file target : List ℕ) (count : ℕ) (w : Option (List ℕ)) → calls (Copies file target (Ok count)) old new → LogsCalls calls old new (StopsCopying file target out_of_memory w w)
+  copy_without_text old new file target count w made = one_call old new (Copies file target (Ok count)) (StopsCopying file target out_of_memory w w) made (inr (count, refl, inl (record { stop_is = refl; unwritten = kept_same w })))
+
+  pub file_copied : (result : Result (Unit {0}) Stop) (old new : H) (file target : List ℕ) (count : ℕ) (before after : Option (List ℕ)) → calls (Copies file target (Ok count)) old new → OnOk result (Appends before after (copy_output count))
+      → OnOk result (LogsCalls calls old new (CopiesFile file target before after))
+  file_copied (Ok done) old new file target count before after made printed = one_call old new (Copies file target (Ok count)) (CopiesFile file target before after) made (record { count = count; calls = refl; printed = printed })
+  file_copied (Err stop) old new file target count before after made printed = tt
+
+  pub file_copied_unprinted : (result : Result (Unit {0}) Stop) (old new : H) (file target : List ℕ) (count : ℕ) (before after : Option (List ℕ)) → calls (Copies file target (Ok count)) old new → WritesPrefix (copy_output count) before after
+      → IfErr result (λ stop. stop ≡ Device) → IfErr result (λ stop. LogsCalls calls old new (StopsCopying file target stop before after))
+  file_copied_unprinted (Ok done) old new file target count before after made front device = tt
+  file_copied_unprinted (Err stop) old new file target count before after made front device =
+      one_call old new (Copies file target (Ok count)) (StopsCopying file target stop before after) made (inr (count, refl, inr (record { stop_is = device; front = front })))
+
+  -- ---- a copy that is put back
+
+  pub file_unrestored : (old new : H) (backup file : List ℕ) (pairs : ℕ) (stop : Stop) (w : Option (List ℕ)) → calls (Restores backup file pairs (Err stop)) old new → LogsCalls calls old new (StopsRestoring backup file pairs stop w w)
+  file_unrestored old new backup file pairs stop w made = one_call old new (Restores backup file pairs (Err stop)) (StopsRestoring backup file pairs stop w w) made (inl (refl, kept_same w))
+
+  pub restore_without_text : (old new : H) (backup file : List ℕ) (pairs : ℕ) (restored : Restored) (w : Option (List ℕ)) → calls (Restores backup file pairs (Ok restored)) old new
+      → LogsCalls calls old new (StopsRestoring backup file pairs out_of_memory w w)
+  restore_without_text old new backup file pairs restored w made =
+      one_call old new (Restores backup file pairs (Ok restored)) (StopsRestoring backup file pairs out_of_memory w w) made (inr (restored, refl, inl (record { stop_is = refl; unwritten = kept_same w })))
+
+  pub file_restored : (result : Result (Unit {0}) Stop) (old new : H) (backup file : List ℕ) (pairs : ℕ) (restored : Restored) (before after : Option (List ℕ)) → calls (Restores backup file pairs (Ok restored)) old new
+      → OnOk result (Appends before after (restore_output file restored)) → OnOk result (LogsCalls calls old new (RestoresFile backup file pairs before after))
+  file_restored (Ok done) old new backup file pairs restored before after made printed =
+      one_call old new (Restores backup file pairs (Ok restored)) (RestoresFile backup file pairs before after) made (record { restored = restored; calls = refl; printed = printed })
+  file_restored (Err stop) old new backup file pairs restored before after made printed = tt
+
+  pub file_restored_unprinted : (result : Result (Unit {0}) Stop) (old new : H) (backup file : List ℕ) (pairs : ℕ) (restored : Restored) (before after : Option (List ℕ)) → calls (Restores backup file pairs (Ok restored)) old new
+      → WritesPrefix (restore_output file restored) before after → IfErr result (λ stop. stop ≡ Device) → IfErr result (λ stop. LogsCalls calls old new (StopsRestoring backup file pairs stop before after))
+  file_restored_unprinted (Ok done) old new backup file pairs restored before after made front device = tt
+  file_restored_unprinted (Err stop) old new backup file pairs restored before after made front device =
+      one_call old new (Restores backup file pairs (Ok restored)) (StopsRestoring backup file pairs stop before after) made (inr (restored, refl, inr (record { stop_is = device; front = front })))
 
   -- ---- a check of a file
 
@@ -134,6 +179,13 @@ module _ {S P L H : Type 0} (model : StoreModel S) (calls : HostCall S P L → H
     made = (opened, made, stops.made);
     holds = inr (record { store = store; later = stops.log; calls = refl; store_after = store_after; stops = stops.holds });
   }
+
+  -- ---- a resync
+
+  pub resync_stopped : (result : Result (Unit {0}) Stop) (host : H) (old new : S) (pairs : ℕ) (before after : Option (List ℕ)) → IfErr result (λ stop. StopsResync model old pairs stop before after new)
+      → IfErr result (λ stop. LogsCalls calls host host (StopsStoreWork model old (Resync pairs) stop before after new))
+  resync_stopped (Ok done) host old new pairs before after s = tt
+  resync_stopped (Err stop) host old new pairs before after s = record { log = []; made = refl; holds = (refl, s) }
 
   -- ---- verifying a file
 

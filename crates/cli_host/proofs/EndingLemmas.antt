@@ -1,13 +1,11 @@
 -- How what was done, or why it stopped, ends the program.
-use Rattle.std.proofs.Common.{◌⊎◌, ℕ, List, Option, Some, None, Result, Ok, Err, OnOk, IfErr, IfSome, inl, inr}
+use Rattle.std.proofs.Common.{ℕ, List, Option, Result, Ok, Err, OnOk, IfErr, inl, inr}
 use Rattle.book_http.specs.ConnectionModels.{ConnectionModel}
 use Rattle.cli_args.specs.declared.order.Order.{Order}
-use Rattle.cli_host.specs.Exits.{EndsOrder, IsTryDone, IsTryStopped, ReportsResult}
+use Rattle.cli_host.specs.Exits.{EndsOrder, ReportsResult}
 use Rattle.cli_host.specs.Hosts.{HostCall, LogsCalls}
 use Rattle.cli_host.specs.OrdersOnHost.{KeepsOrderOutput, RunsOnHost, StopsOnHost}
 use Rattle.cli_host.specs.declared.exit.ProgramExit.{ProgramExit}
-use Rattle.cli_orders.specs.TryOutputs.{KeepsTryOutput, PrintsTryResult}
-use Rattle.cli_orders.specs.TryStops.{IsTryStop}
 use Rattle.cli_orders.specs.declared.stop.Stop.{Stop}
 use Rattle.hub_server.specs.EndpointRuns.{EndpointRelation}
 use Rattle.sync_core.specs.StoreModels.{StoreModel}

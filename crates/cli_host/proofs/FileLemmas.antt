@@ -1,5 +1,5 @@
 -- What is left of the output where an order isn't done.
-use Rattle.std.proofs.Common.{◌≡◌, ◌⊎◌, ℕ, Bool, false, List, Option, Some, None, Result, Ok, Err, IfErr, inl, inr}
+use Rattle.std.proofs.Common.{◌≡◌, ◌⊎◌, ℕ, Bool, List, Option, Some, None, Result, Ok, Err, IfErr, inl, inr}
 use Rattle.book_http.specs.ConnectionModels.{ConnectionModel}
 use Rattle.book_http.specs.OctetPromise.{ServiceStep}
 use Rattle.http_replies.specs.Replies.{head_fault_octets}
@@ -12,17 +12,18 @@ use Rattle.sync_core.specs.StoreModels.{StoreModel}
 use Rattle.cli_orders.specs.declared.address.Address.{Address}
 use Rattle.cli_orders.specs.declared.stop.Stop.{Stop}
 use Rattle.cli_host.specs.Hosts.{HostCall, LogsCalls}
-use Rattle.cli_host.specs.OrdersOnHost.{HasRefusedFile, HasReportedDamage, KeepsWorkOutput, StopsAtDamage, StopsChecking, StopsFolder, StopsInFile, StopsMaking, StopsMigrating, StopsRun, StopsStore, StopsStoreWork, StopsVerifying, StopsWork}
+use Rattle.cli_host.specs.OrdersOnHost.{HasRefusedFile, HasReportedDamage, KeepsWorkOutput, StopsAtDamage, StopsChecking, StopsCopying, StopsFolder, StopsInFile, StopsMaking, StopsMigrating, StopsRestoring, StopsRun, StopsStore, StopsStoreWork, StopsVerifying, StopsWork}
 use Rattle.cli_host.specs.declared.work.StoreWork.{StoreWork}
-use Rattle.cli_host.specs.declared.work.StoreWork.TheVariants.{Perform, ImportFile, ListBooks, MirrorBook}
+use Rattle.cli_host.specs.declared.work.StoreWork.TheVariants.{Perform, ImportFile, ListBooks, MirrorBook, Resync}
 use Rattle.cli_host.specs.declared.work.Work.{Work}
-use Rattle.cli_host.specs.declared.work.Work.TheVariants.{Nothing, PrintVersion, CheckFile, CreateFile, MigrateFile, RunFile, ServeFile, UseFile, VerifyFile}
+use Rattle.cli_host.specs.declared.work.Work.TheVariants.{Nothing, PrintVersion, CheckFile, CopyFile, CreateFile, MigrateFile, RestoreFile, RunFile, ServeFile, UseFile, VerifyFile}
 use Rattle.cli_orders.specs.Announcements.{WritesListeningLine}
 use Rattle.cli_host.specs.declared.listing.Listing.TheVariants.{Verified}
 use Rattle.cli_orders.specs.ReplyTexts.{KeepsOutput}
 use Rattle.cli_orders.specs.Stops.{out_of_memory}
 use Rattle.cli_orders.proofs.CommandLemmas.{mirror_stop_leaves}
 use Rattle.cli_host.proofs.ListingLemmas.{listing_stop_leaves}
+use Rattle.cli_host.specs.Resyncs.{StopsResync}
 use Rattle.cli_host.proofs.TurnLemmas.{turns_leave}
 use Rattle.cli_orders.proofs.StopLemmas.{keeps_leaves, output_kept_by_device, serving_stop_leaves, stop_leaves}
 
@@ -35,6 +36,16 @@ module _ {S P L : Type 0} where
   migrating_leaves file stop before after log (inl s) = keeps_leaves stop before after s.2.unwritten
   migrating_leaves file stop before after log (inr (count, migrated, inl s)) = keeps_leaves stop before after s.unwritten
   migrating_leaves file stop before after log (inr (count, migrated, inr s)) = output_kept_by_device stop before after s.stop_is
+
+  copying_leaves : (file target : List ℕ) (stop : Stop) (before after : Option (List ℕ)) (log : List (HostCall S P L)) → StopsCopying file target stop before after log → KeepsOutput stop before after
+  copying_leaves file target stop before after log (inl s) = keeps_leaves stop before after s.2.unwritten
+  copying_leaves file target stop before after log (inr (count, copied, inl s)) = keeps_leaves stop before after s.unwritten
+  copying_leaves file target stop before after log (inr (count, copied, inr s)) = output_kept_by_device stop before after s.stop_is
+
+  restoring_leaves : (backup file : List ℕ) (pairs : ℕ) (stop : Stop) (before after : Option (List ℕ)) (log : List (HostCall S P L)) → StopsRestoring backup file pairs stop before after log → KeepsOutput stop before after
+  restoring_leaves backup file pairs stop before after log (inl s) = keeps_leaves stop before after s.1
+  restoring_leaves backup file pairs stop before after log (inr (restored, called, inl s)) = keeps_leaves stop before after s.unwritten
+  restoring_leaves backup file pairs stop before after log (inr (restored, called, inr s)) = output_kept_by_device stop before after s.stop_is
 
   -- a check that was stopped wrote nothing, or the words for why it refuses the file
   checking_leaves : (file : List ℕ) (stop : Stop) (before after : Option (List ℕ)) (log : List (HostCall S P L)) → StopsChecking file stop before after log
@@ -60,6 +71,14 @@ module _ {S P L : Type 0} where
     ])
   ]
 
+module _ {S : Type 0} (model : StoreModel S) where
+  resync_leaves : (old new : S) (pairs : ℕ) (stop : Stop) (before after : Option (List ℕ)) → StopsResync model old pairs stop before after new → KeepsOutput stop before after
+  resync_leaves old new pairs stop before after (inl s) = keeps_leaves stop before after s.unwritten
+  resync_leaves old new pairs stop before after (inr s) = elim s.stops [
+    | inl memory ↦ keeps_leaves stop before after memory.unwritten
+    | inr cut ↦ output_kept_by_device stop before after cut.stop_is
+  ]
+
 module _ {S P L : Type 0} (model : StoreModel S) where
   store_work_leaves : (work : StoreWork) (old new : S) (stop : Stop) (before after : Option (List ℕ)) (log : List (HostCall S P L)) → StopsStoreWork model old work stop before after new log → KeepsOutput stop before after
   store_work_leaves (Perform command) old new stop before after log s = stop_leaves s.1.reply stop before after s.1.stops
@@ -67,6 +86,7 @@ module _ {S P L : Type 0} (model : StoreModel S) where
   store_work_leaves (ImportFile book key csv) old new stop before after log (inr s) = stop_leaves s.stops.reply stop before after s.stops.stops
   store_work_leaves (MirrorBook book limit pages) old new stop before after log s = mirror_stop_leaves model old new book limit pages stop before after s.1
   store_work_leaves (ListBooks what) old new stop before after log s = listing_stop_leaves model what old new stop before after s.1
+  store_work_leaves (Resync pairs) old new stop before after log s = resync_leaves model old new pairs stop before after s.1
 
   in_file_leaves : (file : List ℕ) (work : StoreWork) (stop : Stop) (before after : Option (List ℕ)) (log : List (HostCall S P L)) → StopsInFile model file work stop before after log → KeepsOutput stop before after
   in_file_leaves file work stop before after log (inl s) = keeps_leaves stop before after s.2.unwritten
@@ -114,6 +134,8 @@ module _ {S P L Connection : Type 0} (model : StoreModel S) (effects : EndpointR
   ]
   work_leaves (CreateFile file) stop before after log s = inl (making_leaves file stop before after log s)
   work_leaves (MigrateFile file) stop before after log s = inl (migrating_leaves file stop before after log s)
+  work_leaves (CopyFile file target) stop before after log s = inl (copying_leaves file target stop before after log s)
+  work_leaves (RestoreFile backup file pairs) stop before after log s = inl (restoring_leaves backup file pairs stop before after log s)
   work_leaves (ServeFile file port connections) stop before after log s = inl (turns_leave model stream coming file port connections stop before after log s)
   work_leaves (RunFile file creates names address limits is_logged site) stop before after log s = elim (run_leaves model effects file creates names address limits site stop before after log s) [
     | inl kept ↦ inl kept

@@ -4,6 +4,7 @@ use Rattle.std.specs.declared.net.ip_addr.IpAddr.{IpAddr}
 use Rattle.std.specs.declared.net.ip_addr.IpAddr.TheVariants.{V4}
 use Rattle.book_model.specs.Bounds.{Bounds}
 use Rattle.cli_orders.specs.declared.address.Address.{Address}
+use Rattle.cli_orders.specs.declared.restore_output.Restored.{Restored}
 use Rattle.cli_orders.specs.declared.address.Address.TheVariants.{Port, Socket}
 use Rattle.cli_orders.specs.declared.stop.Stop.{Stop}
 use Rattle.cli_orders.specs.declared.stop.Stop.TheVariants.{Device}
@@ -28,6 +29,12 @@ pub data HostCall (Store Endpoint Listener : Type 0) : Type 0 where
   FindsFault : List ℕ → Result (Option FaultyRow) OpenFault → HostCall Store Endpoint Listener
   -- migrating the file to the current schema, which returns its number of books
   Migrates : List ℕ → Result ℕ OpenFault → HostCall Store Endpoint Listener
+  -- copying the store in the first file into the second, a new one, which returns its number of
+  -- books
+  Copies : List ℕ → List ℕ → Result ℕ OpenFault → HostCall Store Endpoint Listener
+  -- putting the copy in the first file back in place of the second, and making every device start
+  -- again with this many pairs of numbers
+  Restores : List ℕ → List ℕ → ℕ → Result Restored Stop → HostCall Store Endpoint Listener
   -- reading all octets of the file
   ReadsRows : List ℕ → Result (List ℕ) Stop → HostCall Store Endpoint Listener
   -- reading all files of the folder, each with its name and its octets

@@ -3,6 +3,8 @@ pub mod Waiting
 pub mod Progress
 pub mod Hosts
 pub mod Keeps
+pub mod Naming
+pub mod Resyncs
 pub mod Listings
 pub mod EarlyStops
 pub mod OrdersInTurn

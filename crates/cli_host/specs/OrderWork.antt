@@ -8,16 +8,18 @@ use Rattle.cli_args.specs.declared.order.Order.{Order}
 use Rattle.cli_args.specs.declared.order.Order.TheVariants.{Try, Init, Book, Serve}
 use Rattle.cli_args.specs.declared.order.Order.TheVariants.{Import, Export, Tally, Forget, Mirror}
 use Rattle.cli_args.specs.declared.order.Order.TheVariants.{Expand, Migrate, Check, Books, Verify}
-use Rattle.cli_args.specs.declared.order.Order.TheVariants.{Run, Version}
+use Rattle.cli_args.specs.declared.order.Order.TheVariants.{Run, Version, Copy, Restore}
+use Rattle.cli_args.specs.declared.order.Order.TheVariants.{Resync as ResyncFile}
 use Rattle.cli_orders.specs.declared.address.Address.{Address}
 use Rattle.cli_orders.specs.declared.address.Address.TheVariants.{Port, Socket}
 use Rattle.hub_server.specs.declared.limits.ServeLimits.{ServeLimits}
 use Rattle.cli_host.specs.declared.work.Work.{Work}
 use Rattle.cli_host.specs.declared.work.Work.TheVariants.{Nothing, PrintVersion, CheckFile}
-use Rattle.cli_host.specs.declared.work.Work.TheVariants.{CreateFile, MigrateFile, RunFile}
-use Rattle.cli_host.specs.declared.work.Work.TheVariants.{ServeFile, UseFile, VerifyFile}
+use Rattle.cli_host.specs.declared.work.Work.TheVariants.{CreateFile, MigrateFile, CopyFile}
+use Rattle.cli_host.specs.declared.work.Work.TheVariants.{RestoreFile, RunFile, ServeFile, UseFile}
+use Rattle.cli_host.specs.declared.work.Work.TheVariants.{VerifyFile}
 use Rattle.cli_host.specs.declared.work.StoreWork.TheVariants.{Perform, ImportFile, MirrorBook}
-use Rattle.cli_host.specs.declared.work.StoreWork.TheVariants.{ListBooks}
+use Rattle.cli_host.specs.declared.work.StoreWork.TheVariants.{ListBooks, Resync}
 use Rattle.cli_host.specs.declared.listing.Listing.TheVariants as listing
 
 -- more connections than anybody makes, so that `run` serves until it is stopped
@@ -53,6 +55,7 @@ store_work_of (Mirror file book limit pages) = UseFile file (MirrorBook book lim
 store_work_of (Expand file book uid) = UseFile file (Perform (People book uid))
 store_work_of (Books file) = UseFile file (ListBooks listing.Books)
 store_work_of (Verify file) = VerifyFile file
+store_work_of (ResyncFile file pairs) = UseFile file (Resync pairs)
 store_work_of order = Nothing
 
 -- each order's arguments in their places
@@ -62,6 +65,8 @@ work_of Version = PrintVersion
 work_of (Check file) = CheckFile file
 work_of (Init file) = CreateFile file
 work_of (Migrate file) = MigrateFile file
+work_of (Copy file target) = CopyFile file target
+work_of (Restore backup file pairs) = RestoreFile backup file pairs
 work_of (Run file port socket names max_open idle_timeout creates is_logged site) =
     RunFile file creates names (address_of port socket)
     (limits_of endless_connections max_open idle_timeout) is_logged site

@@ -12,7 +12,9 @@ use Rattle.http_requests.specs.GuardedHandlers.{guarded}
 use Rattle.http_requests.specs.HandlerRuns.{FaultReplies, HandlerRelation}
 use Rattle.hub_server.specs.EndpointRuns.{EndpointRelation}
 use Rattle.hub_server.specs.declared.limits.ServeLimits.{ServeLimits}
-use Rattle.cli_orders.specs.OrderOutputs.{made_output, migrate_output}
+use Rattle.cli_orders.specs.OrderOutputs.{copy_output, made_output, migrate_output}
+use Rattle.cli_orders.specs.RestoreOutputs.{restore_output}
+use Rattle.cli_orders.specs.declared.restore_output.Restored.{Restored}
 use Rattle.cli_orders.specs.CommandRuns.{PrintsCommand, PrintsMirror, StopsCommand, StopsMirror}
 use Rattle.cli_orders.specs.declared.address.Address.{Address}
 use Rattle.cli_orders.specs.declared.stop.Stop.{Stop}
@@ -20,19 +22,22 @@ use Rattle.cli_orders.specs.declared.stop.Stop.TheVariants.{Open, Device}
 pub use Rattle.cli_host.specs.EarlyStops.{StopsAtDevice, StopsForMemory, StopsOverText}
 pub use Rattle.cli_host.specs.EarlyStops.{StopsUnopened}
 use Rattle.cli_host.specs.Hosts.{HostCall, Creates, Looks, Opens, FindsFault, Migrates}
-use Rattle.cli_host.specs.Hosts.{ReadsRows, ReadsSite, Binds, Finishes, IsBoundAs}
+use Rattle.cli_host.specs.Hosts.{Copies, Restores, ReadsRows, ReadsSite, Binds, Finishes}
+use Rattle.cli_host.specs.Hosts.{IsBoundAs}
 use Rattle.cli_host.specs.OrderWork.{work_of}
 use Rattle.cli_host.specs.OrdersInTurn.{ServesFile, StopsServe}
 use Rattle.cli_host.specs.declared.work.StoreWork.{StoreWork}
 use Rattle.cli_host.specs.declared.work.StoreWork.TheVariants.{Perform, ImportFile, MirrorBook}
-use Rattle.cli_host.specs.declared.work.StoreWork.TheVariants.{ListBooks}
+use Rattle.cli_host.specs.declared.work.StoreWork.TheVariants.{ListBooks, Resync}
 use Rattle.cli_host.specs.declared.work.Work.{Work}
 use Rattle.cli_host.specs.declared.work.Work.TheVariants.{Nothing, PrintVersion, CheckFile}
-use Rattle.cli_host.specs.declared.work.Work.TheVariants.{CreateFile, MigrateFile, RunFile}
+use Rattle.cli_host.specs.declared.work.Work.TheVariants.{CreateFile, MigrateFile, CopyFile}
+use Rattle.cli_host.specs.declared.work.Work.TheVariants.{RestoreFile, RunFile}
 use Rattle.cli_host.specs.declared.work.Work.TheVariants.{ServeFile, UseFile, VerifyFile}
 use Rattle.cli_orders.specs.FaultyRows.{ReportsDamage, damage_text}
 use Rattle.cli_orders.specs.Findings.{PassesCheck, PrintsFinding, StopsCheck, kind_of_file}
 use Rattle.cli_host.specs.Listings.{PrintsListing, StopsListing}
+use Rattle.cli_host.specs.Resyncs.{PrintsResync, StopsResync}
 use Rattle.cli_host.specs.declared.listing.Listing.TheVariants.{Verified}
 use Rattle.cli_orders.specs.Versions.{version_output}
 use Rattle.cli_orders.specs.Announcements.{AnnouncesAndServes, StopsServing, WritesListeningLine}
@@ -120,6 +125,41 @@ module _ {S P L : Type 0} where
       × (StopsForMemory stop before after
       ⊎ StopsOverText (migrate_output count) stop before after))
 
+  -- ---- a copy
+
+  -- the store in the file was copied into a new file, and its number of books is printed
+  pub record CopiesFile (file target : List ℕ) (before after : Option (List ℕ))
+      (log : List (HostCall S P L)) : Type 0 where
+    pub count : ℕ
+    pub calls : log ≡ Copies file target (Ok count) ∷ []
+    pub printed : Appends before after (copy_output count)
+
+  -- it wasn't copied, or memory ran out or the writer failed over the text
+  abbrev pub StopsCopying : List ℕ → List ℕ → Stop → Option (List ℕ) → Option (List ℕ)
+      → List (HostCall S P L) → Type 0
+  StopsCopying file target stop before after log =
+      ((fault : OpenFault) × (log ≡ Copies file target (Err fault) ∷ [])
+      × StopsUnopened fault stop before after)
+      ⊎ ((count : ℕ) × (log ≡ Copies file target (Ok count) ∷ [])
+      × (StopsForMemory stop before after
+      ⊎ StopsOverText (copy_output count) stop before after))
+
+  -- the copy was put back in place of the file, and what became of the file is printed
+  pub record RestoresFile (backup file : List ℕ) (pairs : ℕ) (before after : Option (List ℕ))
+      (log : List (HostCall S P L)) : Type 0 where
+    pub restored : Restored
+    pub calls : log ≡ Restores backup file pairs (Ok restored) ∷ []
+    pub printed : Appends before after (restore_output file restored)
+
+  -- it wasn't, or memory ran out or the writer failed over the text
+  abbrev pub StopsRestoring : List ℕ → List ℕ → ℕ → Stop → Option (List ℕ) → Option (List ℕ)
+      → List (HostCall S P L) → Type 0
+  StopsRestoring backup file pairs stop before after log =
+      ((log ≡ Restores backup file pairs (Err stop) ∷ []) × Keeps before after)
+      ⊎ ((restored : Restored) × (log ≡ Restores backup file pairs (Ok restored) ∷ [])
+      × (StopsForMemory stop before after
+      ⊎ StopsOverText (restore_output file restored) stop before after))
+
   -- ---- a check of a file
 
   -- the octets of the file were read, they have no fault, and what was found is printed
@@ -199,6 +239,8 @@ module _ {S P L : Type 0} (model : StoreModel S) where
       (log ≡ []) × PrintsMirror model old book limit pages before after new
   DoesStoreWork old (ListBooks what) before after new log =
       (log ≡ []) × PrintsListing model what old before after new
+  DoesStoreWork old (Resync pairs) before after new log =
+      (log ≡ []) × PrintsResync model old pairs before after new
 
   -- why the work wasn't done on the store, or its result wasn't printed
   abbrev pub StopsStoreWork : S → StoreWork → Stop → Option (List ℕ) → Option (List ℕ) → S
@@ -212,6 +254,8 @@ module _ {S P L : Type 0} (model : StoreModel S) where
       (log ≡ []) × StopsMirror model old book limit pages stop before after new
   StopsStoreWork old (ListBooks what) stop before after new log =
       (log ≡ []) × StopsListing model what old stop before after new
+  StopsStoreWork old (Resync pairs) stop before after new log =
+      (log ≡ []) × StopsResync model old pairs stop before after new
 
   -- ---- the store in a file
 
@@ -426,6 +470,9 @@ module _ {S P L Connection : Type 0} (model : StoreModel S) (effects : EndpointR
   DoesWork (CheckFile file) before after log = ChecksFile file before after log
   DoesWork (CreateFile file) before after log = MakesStore file before after log
   DoesWork (MigrateFile file) before after log = MigratesFile file before after log
+  DoesWork (CopyFile file target) before after log = CopiesFile file target before after log
+  DoesWork (RestoreFile backup file pairs) before after log =
+      RestoresFile backup file pairs before after log
   DoesWork (ServeFile file port connections) before after log =
       ServesFile model stream coming file port connections before after log
   DoesWork (RunFile file creates names address limits is_logged site) before after log =
@@ -443,6 +490,10 @@ module _ {S P L Connection : Type 0} (model : StoreModel S) (effects : EndpointR
   StopsWork (CheckFile file) stop before after log = StopsChecking file stop before after log
   StopsWork (CreateFile file) stop before after log = StopsMaking file stop before after log
   StopsWork (MigrateFile file) stop before after log = StopsMigrating file stop before after log
+  StopsWork (CopyFile file target) stop before after log =
+      StopsCopying file target stop before after log
+  StopsWork (RestoreFile backup file pairs) stop before after log =
+      StopsRestoring backup file pairs stop before after log
   StopsWork (ServeFile file port connections) stop before after log =
       StopsServe model stream coming file port connections stop before after log
   StopsWork (RunFile file creates names address limits is_logged site) stop before after log =

@@ -10,9 +10,11 @@ ghost use Rattle.cli_orders.specs.Inputs.{read_octets_max};
 ghost use Rattle.cli_orders.specs.Stops.{out_of_memory, stop_line};
 ghost use Rattle.book_http.specs.Streams.{ReadsAtMost};
 
+use crate::admin_store::AdminStore;
 use crate::host::Host;
-use crate::keeps::BookKeeps;
+use crate::naming::names_to_say;
 use crate::running::run_on_host;
+use crate::words::say_why;
 use book_http::Listener;
 use cli_args::{LineFault, Order};
 use cli_orders::{Stop, run_try, write_out};
@@ -98,7 +100,7 @@ fn run_try_order<R: Read, W: Write, E: Write>(
 
 /// Runs another order, and reports a stop.
 fn run_other_order<
-    S: BookKeeps + Drop,
+    S: AdminStore + Drop,
     P: Endpoint,
     L: Listener + Drop,
     M: Host<S, P, L>,
@@ -110,13 +112,17 @@ fn run_other_order<
         (W.contents writer.old) (W.contents writer.new)
         (E.contents errors.old) (E.contents errors.new) result) }
 {
+    let names = names_to_say(alloc, &*host, &order);
     let done = run_on_host(alloc, host, order, writer);
+    if let Err(stop) = &done {
+        say_why(alloc, &*host, names, *stop);
+    }
     report_result(alloc, errors, done)
 }
 
 /// Runs an order on a host, and reports errors on standard error.
 pub fn run_and_report<
-    S: BookKeeps + Drop,
+    S: AdminStore + Drop,
     P: Endpoint,
     L: Listener + Drop,
     M: Host<S, P, L>,

@@ -1,14 +1,17 @@
 //! The trait of hosts: the files and ports that orders use.
 ghost use Rattle.std.specs.Prelude.{◌≡◌, ◌≢◌, ◌⊎◌, IfErr, IfOk, IfSome, OnErr};
-ghost use Rattle.cli_host.specs.Hosts.{HostCall, Creates, Opens, Migrates, ReadsRows, ReadsSite};
+ghost use Rattle.cli_host.specs.Hosts.{HostCall, Copies, Creates, Opens, Migrates, ReadsRows};
+ghost use Rattle.cli_host.specs.Hosts.{ReadsSite, Restores};
 ghost use Rattle.cli_host.specs.Hosts.{Binds, BindsListener, FindsFault, Finishes, IsBoundAs};
 ghost use Rattle.cli_host.specs.Hosts.{Looks, loopback_ip, standard_limits, stop_of_binding};
 ghost use Rattle.std.specs.Net.Socket.{socket_ip, socket_port};
 ghost use Rattle.cli_orders.specs.Stops.{out_of_memory};
 
+use crate::causes::{port_cause, rows_cause, socket_cause, store_cause};
+use crate::restoring::restore_file;
 use base_types::Items;
 use book_store::{FileBooks, OpenFault, SqlStore};
-use cli_orders::{Address, Stop, read_rows_of};
+use cli_orders::{Address, FoundCause, Restored, Stop, read_rows_of};
 use request_log::RequestLog;
 use site_files::{Site, SiteFault, read_site};
 use socket_endpoint::{BindFault, SocketEndpoint};
@@ -28,8 +31,9 @@ use sync_core::Limits;
 /// The contracts of the real host say neither what a file holds nor who connects to a port. The
 /// contracts over any host say which calls are made of it, and one body runs orders on all hosts.
 ///
-/// A host also prints the lines of `run --log`, and says that a long import or opening goes on.
-/// These are no calls, since they change nothing.
+/// A host also prints the lines of `run --log`, says that a long import or opening goes on, and looks
+/// for why a file, a socket or a port couldn't be used. These are no calls, since they change
+/// nothing.
 pub trait Host<S, P, L>: RequestLog {
     /// What is known of a call: its result, and the host before and after it.
     ghost calls: { HostCall S P L → Self → Self → Type 0 };
@@ -55,6 +59,16 @@ pub trait Host<S, P, L>: RequestLog {
     /// Migrates the file to the current schema, and returns its number of books.
     fn migrate_file(&mut self, file: &str) -> Result<u64, OpenFault>
         ensures { calls (Migrates file.now result) self.old self.new };
+
+    /// Copies the store in the file into a new file, and returns its number of books. `NotEmpty` if
+    /// something is there.
+    fn copy_file(&mut self, file: &str, target: &str) -> Result<u64, OpenFault>
+        ensures { calls (Copies file.now target.now result) self.old self.new };
+
+    /// Puts the copy in the file `backup` back in place of the file, and makes every device start
+    /// again. Returns what became of the file. After an error the file is as it was.
+    fn restore_file(&mut self, backup: &str, file: &str, pairs: u64) -> Result<Restored, Stop>
+        ensures { calls (Restores backup.now file.now pairs result) self.old self.new };
 
     /// Reads a file of rows. `Device` if it can't be read or has more than 8,388,608 octets, and
     /// `Memory` if the buffer can't be allocated.
@@ -97,13 +111,27 @@ pub trait Host<S, P, L>: RequestLog {
     /// Says a text on standard error. If it can't be written, it is lost.
     fn say(&self, text: &[u8]);
 
+    /// Looks for why the store file can't be used, which the order makes if it isn't there, or
+    /// doesn't. For this it may open the file once more, and make a file beside it, which it
+    /// removes.
+    fn cause_of_store(&self, file: &str, makes_file: bool) -> FoundCause;
+
+    /// Looks for why the file of rows can't be read, or isn't one.
+    fn cause_of_rows(&self, file: &str) -> FoundCause;
+
+    /// Looks for why no endpoint can be bound to a Unix socket at the path.
+    fn cause_of_socket(&self, path: &str) -> FoundCause;
+
+    /// Looks for why no endpoint can be bound to the port.
+    fn cause_of_port(&self, port: u16) -> FoundCause;
+
     /// Closes the endpoint, after its connections were served.
     fn finish(&mut self, endpoint: P)
         ensures { calls (Finishes endpoint) self.old self.new };
 }
 
 /// The socket address of the port at 127.0.0.1, which only programs of this host can connect to.
-fn loopback(port: u16) -> SocketAddr
+pub(crate) fn loopback(port: u16) -> SocketAddr
     ensures ip { socket_ip result ≡ loopback_ip }
     ensures port { socket_port result ≡ port }
 {
@@ -226,6 +254,14 @@ impl Host<FileBooks, SocketEndpoint, TcpListener> for HostRuntime {
         migrate(self, file)
     }
 
+    fn copy_file(&mut self, file: &str, target: &str) -> Result<u64, OpenFault> {
+        SqlStore::copy_file(self, file, target)
+    }
+
+    fn restore_file(&mut self, backup: &str, file: &str, pairs: u64) -> Result<Restored, Stop> {
+        restore_file(self, backup, file, pairs)
+    }
+
     fn read_rows(&mut self, alloc: Global, file: &str) -> Result<Items<u8>, Stop> {
         rows_from(alloc, fs::open(self, file))
     }
@@ -281,6 +317,22 @@ impl Host<FileBooks, SocketEndpoint, TcpListener> for HostRuntime {
 
     fn say(&self, text: &[u8]) {
         let _said = self.stderr().write(text);
+    }
+
+    fn cause_of_store(&self, file: &str, makes_file: bool) -> FoundCause {
+        store_cause(self, file, makes_file)
+    }
+
+    fn cause_of_rows(&self, file: &str) -> FoundCause {
+        rows_cause(self, file)
+    }
+
+    fn cause_of_socket(&self, path: &str) -> FoundCause {
+        socket_cause(self, path)
+    }
+
+    fn cause_of_port(&self, port: u16) -> FoundCause {
+        port_cause(self, port)
     }
 
     fn finish(&mut self, endpoint: SocketEndpoint) {

@@ -1,22 +1,28 @@
 //! Runs the orders of the command line on the files and ports of a host.
 #![tactic(auto)]
 
+mod admin_store;
 mod args;
+mod causes;
+mod copying;
 mod exit;
 mod host;
-mod keeps;
 mod listing;
+mod naming;
 mod progress;
+mod restoring;
+mod resyncing;
 mod running;
 mod serving;
 mod verifying;
 mod waiting;
+mod words;
 mod work;
 
+pub use admin_store::AdminStore;
 pub use args::order_of_args;
 pub use exit::{ProgramExit, run_and_report};
 pub use host::Host;
-pub use keeps::BookKeeps;
 pub use listing::{Listing, run_listing};
 pub use running::{run_on_host, run_order};
 pub use waiting::note_waiting;

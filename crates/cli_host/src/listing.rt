@@ -7,7 +7,7 @@ ghost use Rattle.cli_host.specs.Listings.{book_row, last_line, listed_row, listi
 ghost use Rattle.cli_host.specs.internal.ListingSteps.{IsLineDenial, IsLinesDenial};
 ghost use Rattle.sync_core.specs.StoreModels.{KeepsBooks};
 
-use crate::keeps::BookKeeps;
+use crate::admin_store::AdminStore;
 use cli_orders::{Stop, write_out};
 use std::alloc::Global;
 use std::io::Write;
@@ -44,7 +44,11 @@ fn write_row(out: &mut Vec<u8>, line: &BookLine, tally: &Tally, keep: u64) -> Re
 }
 
 /// Appends the line of a book of the store, with the number of its live cards and its keep.
-fn write_book<S: BookKeeps>(store: &mut S, out: &mut Vec<u8>, line: &BookLine) -> Result<(), Denied>
+fn write_book<S: AdminStore>(
+    store: &mut S,
+    out: &mut Vec<u8>,
+    line: &BookLine,
+) -> Result<(), Denied>
     ensures premise { S.model.premise store.new → S.model.premise store.old }
     ensures kept { KeepsBooks S.model store.old store.new }
     ensures fault { IfFault result (IsOutOfMemoryOr S.model.may_fault) }
@@ -60,7 +64,7 @@ fn write_book<S: BookKeeps>(store: &mut S, out: &mut Vec<u8>, line: &BookLine) -
 }
 
 /// Appends the lines of books of the store.
-fn write_books<S: BookKeeps>(
+fn write_books<S: AdminStore>(
     store: &mut S,
     out: &mut Vec<u8>,
     lines: &[BookLine],
@@ -95,7 +99,7 @@ fn write_last(out: &mut Vec<u8>, what: Listing, count: usize) -> Result<(), NoMe
 }
 
 /// The text that lists the books of the store.
-fn listing_text<S: BookKeeps>(
+fn listing_text<S: AdminStore>(
     alloc: Global,
     store: &mut S,
     what: Listing,
@@ -120,7 +124,7 @@ fn listing_text<S: BookKeeps>(
 ///
 /// Stops with a fault of the store, with `Memory` if an allocation fails, and with `Device` if the
 /// writer fails.
-pub fn run_listing<S: BookKeeps, W: Write>(
+pub fn run_listing<S: AdminStore, W: Write>(
     alloc: Global,
     store: &mut S,
     what: Listing,

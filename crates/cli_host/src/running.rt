@@ -9,10 +9,12 @@ ghost use Rattle.cli_host.specs.OrdersOnHost.{StopsInFile, StopsMaking, StopsMig
 ghost use Rattle.cli_host.specs.OrdersOnHost.{StopsOnHost, StopsOnImport, StopsReadingRows};
 ghost use Rattle.cli_host.specs.OrdersOnHost.{StopsStoreWork, StopsWork};
 
+use crate::admin_store::AdminStore;
+use crate::copying::{run_copy, run_restore};
 use crate::host::Host;
-use crate::keeps::BookKeeps;
 use crate::listing::run_listing;
 use crate::progress::{line_count, open_watched, run_import};
+use crate::resyncing::run_resync;
 use crate::serving::{run_file, run_serve};
 use crate::verifying::run_verify;
 use crate::work::{StoreWork, Work, work_of};
@@ -108,7 +110,7 @@ fn import_rows<S: BookStore, P, L, M: Host<S, P, L>, W: Write>(
 }
 
 /// Does an order's work on a store, and prints the result.
-fn do_store_work<S: BookKeeps, P, L, M: Host<S, P, L>, W: Write>(
+fn do_store_work<S: AdminStore, P, L, M: Host<S, P, L>, W: Write>(
     alloc: Global,
     host: &mut M,
     store: &mut S,
@@ -131,11 +133,12 @@ fn do_store_work<S: BookKeeps, P, L, M: Host<S, P, L>, W: Write>(
             run_mirror(alloc, store, book.as_str(), limit, pages, writer)
         }
         StoreWork::ListBooks(what) => run_listing(alloc, store, what, writer),
+        StoreWork::Resync { pairs } => run_resync(alloc, store, pairs, writer),
     }
 }
 
 /// Does an order's work on the store in the file, which is opened first.
-fn use_file<S: BookKeeps + Drop, P, L, M: Host<S, P, L>, W: Write>(
+fn use_file<S: AdminStore + Drop, P, L, M: Host<S, P, L>, W: Write>(
     alloc: Global,
     host: &mut M,
     file: Text,
@@ -152,7 +155,7 @@ fn use_file<S: BookKeeps + Drop, P, L, M: Host<S, P, L>, W: Write>(
 }
 
 /// Does an order's work on a host, and prints its output.
-fn do_work<S: BookKeeps + Drop, P: Endpoint, L: Listener + Drop, M: Host<S, P, L>, W: Write>(
+fn do_work<S: AdminStore + Drop, P: Endpoint, L: Listener + Drop, M: Host<S, P, L>, W: Write>(
     alloc: Global,
     host: &mut M,
     work: Work,
@@ -171,6 +174,12 @@ fn do_work<S: BookKeeps + Drop, P: Endpoint, L: Listener + Drop, M: Host<S, P, L
         Work::CheckFile { file } => run_check_of(alloc, host, file.as_str(), writer),
         Work::CreateFile { file } => run_init(host, file, writer),
         Work::MigrateFile { file } => run_migrate(alloc, host, file, writer),
+        Work::CopyFile { file, target } => run_copy(alloc, host, file, target, writer),
+        Work::RestoreFile {
+            backup,
+            file,
+            pairs,
+        } => run_restore(alloc, host, backup, file, pairs, writer),
         Work::VerifyFile { file } => run_verify(alloc, host, file, writer),
         Work::ServeFile {
             file,
@@ -204,7 +213,7 @@ fn do_work<S: BookKeeps + Drop, P: Endpoint, L: Listener + Drop, M: Host<S, P, L
 /// written. The stop for a faulty file is its refusal. `Device` for `Try`, which needs standard
 /// input, and for `Convert`, which needs files of another kind (`cli_convert` runs it).
 pub fn run_on_host<
-    S: BookKeeps + Drop,
+    S: AdminStore + Drop,
     P: Endpoint,
     L: Listener + Drop,
     M: Host<S, P, L>,

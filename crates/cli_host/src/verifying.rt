@@ -3,8 +3,8 @@ ghost use Rattle.std.specs.Prelude.{IfErr, OnOk};
 ghost use Rattle.cli_host.specs.Hosts.{LogsCalls};
 ghost use Rattle.cli_host.specs.OrdersOnHost.{StopsVerifying, VerifiesFile};
 
+use crate::admin_store::AdminStore;
 use crate::host::Host;
-use crate::keeps::BookKeeps;
 use crate::listing::{Listing, run_listing};
 use crate::progress::open_watched;
 use base_types::Text;
@@ -15,7 +15,7 @@ use std::io::Write;
 
 /// Opens the store in the file, which tests all its rows, and lists its books and their number. If
 /// the file is damaged, it prints which row is at fault, and why.
-pub(crate) fn run_verify<S: BookKeeps + Drop, P, L, M: Host<S, P, L>, W: Write>(
+pub(crate) fn run_verify<S: AdminStore + Drop, P, L, M: Host<S, P, L>, W: Write>(
     alloc: Global,
     host: &mut M,
     file: Text,

@@ -36,6 +36,22 @@ pub enum Work {
         /// The file's name.
         file: Text,
     },
+    /// Copies the store in the file into a new file.
+    CopyFile {
+        /// The file's name.
+        file: Text,
+        /// The name of the new file.
+        target: Text,
+    },
+    /// Puts a copy back in place of the file, and makes every device start again.
+    RestoreFile {
+        /// The name of the copy.
+        backup: Text,
+        /// The file's name.
+        file: Text,
+        /// How many pairs of numbers each book takes.
+        pairs: u64,
+    },
     /// Opens the store in the file, which tests all its rows, and lists its books.
     VerifyFile {
         /// The file's name.
@@ -102,6 +118,11 @@ pub enum StoreWork {
     },
     /// Lists the books.
     ListBooks(Listing),
+    /// Makes every device start again.
+    Resync {
+        /// How many pairs of numbers each book takes.
+        pairs: u64,
+    },
 }
 
 /// The limits of a server, with its patience in seconds.
@@ -167,6 +188,7 @@ fn store_work_of(order: Order) -> Work
         Order::Expand { file, book, uid } => perform_in(file, Command::People { book, uid }),
         Order::Books { file } => use_in(file, StoreWork::ListBooks(Listing::Books)),
         Order::Verify { file } => Work::VerifyFile { file },
+        Order::Resync { file, pairs } => use_in(file, StoreWork::Resync { pairs }),
         _ => Work::Nothing,
     }
 }
@@ -181,6 +203,16 @@ pub fn work_of(order: Order) -> Work
         Order::Check { file } => Work::CheckFile { file },
         Order::Init { file } => Work::CreateFile { file },
         Order::Migrate { file } => Work::MigrateFile { file },
+        Order::Copy { file, target } => Work::CopyFile { file, target },
+        Order::Restore {
+            backup,
+            file,
+            pairs,
+        } => Work::RestoreFile {
+            backup,
+            file,
+            pairs,
+        },
         Order::Run {
             file,
             port,

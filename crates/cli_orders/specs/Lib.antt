@@ -17,6 +17,11 @@ pub mod Hints
 pub mod Findings
 pub mod CheckLaws
 pub mod Versions
+pub mod RestoreOutputs
 pub mod RowFaultWords
 pub mod FaultyRows
+pub mod Advice
+pub mod StopWords
+pub mod RowCauses
+pub mod Sentences
 pub mod internal

@@ -40,6 +40,14 @@ forget_output dropped horizon =
 abbrev pub migrate_output : ℕ → List ℕ
 migrate_output books = codes "migrated " ++ (decimal books ++ line_feed ∷ [])
 
+-- the output of `copy`
+abbrev pub copy_output : ℕ → List ℕ
+copy_output books = codes "copied " ++ (decimal books ++ line_feed ∷ [])
+
+-- the output of `resync`
+abbrev pub resync_output : ℕ → List ℕ
+resync_output books = codes "resynced " ++ (decimal books ++ line_feed ∷ [])
+
 -- ---- tallies
 
 -- a line: the padded name and its number

@@ -1,7 +1,8 @@
 //! The outputs that are one line.
 ghost use Rattle.std.specs.Prelude.{◌≡◌, IfOk};
-ghost use Rattle.cli_orders.specs.OrderOutputs.{book_output, forget_output, import_output};
-ghost use Rattle.cli_orders.specs.OrderOutputs.{made_output, migrate_output};
+ghost use Rattle.cli_orders.specs.OrderOutputs.{book_output, copy_output, forget_output};
+ghost use Rattle.cli_orders.specs.OrderOutputs.{import_output, made_output, migrate_output};
+ghost use Rattle.cli_orders.specs.OrderOutputs.{resync_output};
 
 use std::alloc::Global;
 use sync_core::ImportTally;
@@ -46,4 +47,18 @@ pub fn migrate_text(alloc: Global, books: u64) -> Result<Vec<u8>, NoMemory>
     ensures { IfOk result (λ text. text.items ≡ migrate_output books) }
 {
     Ok(format!(in alloc; "migrated {books}\n")?.into_bytes())
+}
+
+/// The output of `copy` for a file with this number of books, such as `copied 2`.
+pub fn copy_text(alloc: Global, books: u64) -> Result<Vec<u8>, NoMemory>
+    ensures { IfOk result (λ text. text.items ≡ copy_output books) }
+{
+    Ok(format!(in alloc; "copied {books}\n")?.into_bytes())
+}
+
+/// The output of `resync` for a file with this number of books, such as `resynced 2`.
+pub fn resync_text(alloc: Global, books: u64) -> Result<Vec<u8>, NoMemory>
+    ensures { IfOk result (λ text. text.items ≡ resync_output books) }
+{
+    Ok(format!(in alloc; "resynced {books}\n")?.into_bytes())
 }

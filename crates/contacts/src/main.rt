@@ -3,6 +3,8 @@
 //! prints the book's initial report.
 #![tactic(auto)]
 
+mod streams;
+
 use base_types::Text;
 use cli_args::{LineFault, Order};
 use cli_convert::{RowsOutlet, Wanted, run_convert};
@@ -10,6 +12,7 @@ use cli_host::{note_waiting, order_of_args, run_and_report};
 use std::env;
 use std::io::IsTerminal;
 use std::process::ExitCode;
+use streams::hold_streams;
 
 /// The text that was given, if any was.
 fn given(text: &Option<Text>) -> Option<&str> {
@@ -40,6 +43,8 @@ fn conversion_of(order: &Result<Order, LineFault>) -> Option<Wanted<'_>> {
 }
 
 fn main(rt: HostRuntime) -> ExitCode {
+    // Before anything is opened, so that no file or socket gets the number of a stream.
+    hold_streams(&rt);
     let order = order_of_args(rt.alloc(), env::args(&rt));
     if let Some(wanted) = conversion_of(&order) {
         let mut rows = RowsOutlet {

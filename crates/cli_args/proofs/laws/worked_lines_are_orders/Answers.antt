@@ -62,6 +62,14 @@ pub returns-clause-pages : goal.returns-clause-pages
 unfolding clap_on_literals
 returns-clause-pages c = (refl, refl, refl, refl)
 
+pub returns-clause-copies : goal.returns-clause-copies
+unfolding clap_on_literals
+returns-clause-copies c = (refl, refl, refl, refl, refl)
+
+pub returns-clause-resyncs : goal.returns-clause-resyncs
+unfolding clap_on_literals
+returns-clause-resyncs c = (refl, refl, refl, refl, refl, refl)
+
 pub returns-clause-faults : goal.returns-clause-faults
 unfolding clap_on_literals
 returns-clause-faults c = (refl, refl, refl, refl, refl)

@@ -1,6 +1,6 @@
 use Rattle.std.proofs.Common.{List, [], ◌∷◌, ◌++◌}
 use Rattle.clap.specs.Simple.{Shape}
-use Rattle.cli_args.specs.Subcommands.{book_command, books_command, check_command, convert_command, expand_command, export_command, forget_command, import_command, init_command, migrate_command, mirror_command, run_command, serve_command, tally_command, try_command, verify_command}
+use Rattle.cli_args.specs.Subcommands.{book_command, books_command, check_command, convert_command, copy_command, expand_command, export_command, forget_command, import_command, init_command, migrate_command, mirror_command, restore_command, resync_command, run_command, serve_command, tally_command, try_command, verify_command}
 use Rattle.cli_args.proofs.subcommands.order_commands.Goals as goal
 
 -- the list of orders up to each of them
@@ -40,8 +40,17 @@ up_to_expand = up_to_mirror ++ expand_command ∷ []
 abbrev up_to_migrate : List Shape
 up_to_migrate = up_to_expand ++ migrate_command ∷ []
 
+abbrev up_to_copy : List Shape
+up_to_copy = up_to_migrate ++ copy_command ∷ []
+
+abbrev up_to_restore : List Shape
+up_to_restore = up_to_copy ++ restore_command ∷ []
+
+abbrev up_to_resync : List Shape
+up_to_resync = up_to_restore ++ resync_command ∷ []
+
 abbrev up_to_check : List Shape
-up_to_check = up_to_migrate ++ check_command ∷ []
+up_to_check = up_to_resync ++ check_command ∷ []
 
 abbrev up_to_convert : List Shape
 up_to_convert = up_to_check ++ convert_command ∷ []
@@ -63,7 +72,10 @@ returns c =
     let mirrors = c.in_ok-lines-10.ensures up_to_forget mirror_command forgets c.mirror_command.ensures in
     let expands = c.in_ok-lines-11.ensures up_to_mirror expand_command mirrors c.expand_command.ensures in
     let migrates = c.in_ok-lines-12.ensures up_to_expand migrate_command expands c.migrate_command.ensures in
-    let checks = c.in_ok-lines-13.ensures up_to_migrate check_command migrates c.check_command.ensures in
-    let converts = c.in_ok-lines-14.ensures up_to_check convert_command checks c.convert_command.ensures in
-    let lists = c.in_ok-lines-15.ensures up_to_convert books_command converts c.books_command.ensures in
-    c.with_command-16.ensures up_to_books verify_command lists c.verify_command.ensures
+    let copies = c.in_ok-lines-13.ensures up_to_migrate copy_command migrates c.copy_command.ensures in
+    let restores = c.in_ok-lines-14.ensures up_to_copy restore_command copies c.restore_command.ensures in
+    let resyncs = c.in_ok-lines-15.ensures up_to_restore resync_command restores c.resync_command.ensures in
+    let checks = c.in_ok-lines-16.ensures up_to_resync check_command resyncs c.check_command.ensures in
+    let converts = c.in_ok-lines-17.ensures up_to_check convert_command checks c.convert_command.ensures in
+    let lists = c.in_ok-lines-18.ensures up_to_convert books_command converts c.books_command.ensures in
+    c.with_command-19.ensures up_to_books verify_command lists c.verify_command.ensures

@@ -1,4 +1,3 @@
-use Rattle.std.proofs.Common.{Err}
 use Rattle.std.proofs.lemmas.Result.{err_from_is_err_and}
 use Rattle.cli_host.proofs.SiteLemmas.{folder_served, folder_unread, folder_unserved}
 use Rattle.cli_host.proofs.serving.run_folder.Goals as goal

@@ -1,9 +1,8 @@
-use Rattle.std.proofs.Common.{◌∙◌, false, Ok, Err, IfErr, OnOk, ap, rules, subst}
+use Rattle.std.proofs.Common.{Ok, Err, rules}
 use Rattle.std.proofs.lemmas.Result.{err_from_is_err_and}
 use Rattle.book_http.specs.OctetPromise.{ServiceStep}
 use Rattle.cli_host.specs.Hosts.{LogsCalls}
-use Rattle.cli_host.specs.OrdersOnHost.{GetsStore, ServesAt, StopsAt}
-use Rattle.http_replies.specs.Replies.{head_fault_octets}
+use Rattle.cli_host.specs.OrdersOnHost.{GetsStore}
 use Rattle.http_requests.specs.GuardedHandlers.{guarded}
 use Rattle.site_files.specs.SiteHandlers.{with_site}
 use Rattle.cli_host.proofs.CallLemmas.{store_missing, store_served, store_unserved, store_without_memory}

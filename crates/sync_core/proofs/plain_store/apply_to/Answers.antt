@@ -2,7 +2,7 @@ use Rattle.std.proofs.Common.{◌≡◌, IfSome, Option, string_bytes, sym, ap, 
 use Rattle.std.specs.FinMap as finite
 use Rattle.book_model.specs.Books.{Book}
 use Rattle.book_model.specs.BookChanges.{book_with_row}
-use Rattle.memory_book.proofs.MapLemmas.{on_ok_map, on_err_map, in_place, insert_same}
+use Rattle.sync_core.proofs.MapLemmas.{on_ok_map, on_err_map, in_place, insert_same}
 use Rattle.sync_core.proofs.plain_store.apply_to.Goals as goal
 
 pub returns-clause-ok : goal.returns-clause-ok

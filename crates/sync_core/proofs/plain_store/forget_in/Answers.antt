@@ -2,7 +2,7 @@ use Rattle.std.proofs.Common.{◌≡◌, IfSome, Option, ap, ◌∙◌, subst}
 use Rattle.std.specs.FinMap as finite
 use Rattle.book_model.specs.Books.{Book}
 use Rattle.book_model.specs.Forgetting.{book_after_forget}
-use Rattle.memory_book.proofs.MapLemmas.{in_place}
+use Rattle.sync_core.proofs.MapLemmas.{in_place}
 use Rattle.sync_core.proofs.plain_store.forget_in.Goals as goal
 
 pub returns-clause-books : goal.returns-clause-books

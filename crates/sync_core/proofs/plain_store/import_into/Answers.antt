@@ -2,7 +2,7 @@ use Rattle.std.proofs.Common.{◌≡◌, IfSome, Option, sym, ap, ◌∙◌, sub
 use Rattle.std.specs.FinMap as finite
 use Rattle.book_model.specs.Books.{Book, live_at}
 use Rattle.book_model.specs.Importing.{import_cards, book_after_store, book_with_kept_import}
-use Rattle.memory_book.proofs.MapLemmas.{on_ok_map, on_err_map, in_place, insert_same}
+use Rattle.sync_core.proofs.MapLemmas.{on_ok_map, on_err_map, in_place, insert_same}
 use Rattle.sync_core.proofs.plain_store.import_into.Goals as goal
 
 pub returns-clause-ok : goal.returns-clause-ok

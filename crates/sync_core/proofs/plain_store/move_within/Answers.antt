@@ -6,7 +6,7 @@ use Rattle.book_model.specs.declared.change.RemovalReason.TheVariants.{MoveOut}
 use Rattle.book_model.specs.declared.change.StoreReason.TheVariants.{MoveIn}
 use Rattle.book_model.specs.Books.{Book, Books, live_at}
 use Rattle.book_model.specs.BookChanges.{book_after_change}
-use Rattle.memory_book.proofs.MapLemmas.{on_ok_map, on_err_map, on_ok_both, on_err_both, if_some_map, both_in_place, none_there, insert_same, get_other}
+use Rattle.sync_core.proofs.MapLemmas.{on_ok_map, on_err_map, on_ok_both, on_err_both, if_some_map, both_in_place, none_there, insert_same, get_other}
 use Rattle.sync_core.proofs.plain_store.move_within.Goals as goal
 
 pub returns-in_default-replace-clause-ok : goal.returns-in_default-replace-clause-ok

@@ -4,7 +4,7 @@ use Rattle.book_model.specs.Books.{Book}
 use Rattle.book_model.specs.BookChanges.{book_after_change}
 use Rattle.book_model.specs.declared.change.Change.TheVariants.{TakesAway}
 use Rattle.book_model.specs.declared.change.RemovalReason.TheVariants.{Deletion}
-use Rattle.memory_book.proofs.MapLemmas.{in_place}
+use Rattle.sync_core.proofs.MapLemmas.{in_place}
 use Rattle.sync_core.proofs.plain_store.remove_from.Goals as goal
 
 pub returns : goal.returns

@@ -1,0 +1,146 @@
+//! Closes the store in a file, and copies a store into a new file.
+ghost use Rattle.book_store.specs.StoreViews.{table_model};
+ghost use Rattle.book_store.specs.ClosedFiles.{AreBooksAlone};
+ghost use Rattle.sqlite.specs.Files.{over_files};
+ghost use Rattle.sqlite.specs.WalReads.{AreClean};
+ghost use Rattle.store_lookups.specs.OnConnections.{IsOpenOnHonestDisk, stored_books};
+ghost use Rattle.store_tables.specs.OnConnections.{OnlyReads};
+ghost use Rattle.store_tables.specs.SchemaCreation.{empty_schema};
+ghost use Rattle.sync_core.specs.StoreModels.{KeepsBooks, KeepsTerms};
+ghost use Rattle.std.specs.Prelude.{◌≡◌, IfOk, OnOk, false};
+
+use crate::files::FileBooks;
+use crate::schema_creation::is_schema_empty;
+use crate::sql_store::SqlStore;
+use book_model::Limits;
+use sqlite::{Alter, Connection, FileStore, Files};
+use sqlite_disk::Disk;
+use sqlite_std_file::{FileFrom, Unknown};
+use std::fs;
+use store_schema::{OpenFault, open_fault_of};
+use sync_core::BookStore;
+
+impl<D: Disk + Drop> SqlStore<FileStore<D>> {
+    /// Closes the store and copies its log into the file, which then holds the books without the
+    /// log.
+    ///
+    /// Fails with `Memory` if memory runs out, and with `Store` if the disk fails. An error drops
+    /// the files; what was committed is still in the file and its log.
+    pub fn close(self) -> Result<Files<D>, OpenFault>
+        ensures alone { IfOk result (λ files. AreClean D.Disk files.log files.db
+            → AreBooksAlone D.Disk files (stored_books over_files self.conn)) }
+        ensures was_open { IfOk result (λ files. AreClean D.Disk files.log files.db
+            → IsOpenOnHonestDisk over_files self.conn) }
+    {
+        match self.into_connection().close_files() {
+            Ok(files) => Ok(files),
+            Err((error, _store)) => Err(open_fault_of(error)),
+        }
+    }
+}
+
+impl<S: Alter> SqlStore<S> {
+    /// Copies all books into the files of the connection, whose database must have no tables, and
+    /// closes them: the file then holds the copy without its log. The connection must be outside a
+    /// transaction.
+    ///
+    /// Fails as `copy_into` and `close` do.
+    pub fn copy_to<D: Disk + Drop>(
+        &mut self,
+        target: Connection<FileStore<D>>,
+    ) -> Result<Files<D>, OpenFault>
+        requires { target.in_transaction ≡ false }
+        ensures alone { IfOk result (λ files. IsOpenOnHonestDisk S.Store self.new.conn
+            → AreClean D.Disk files.log files.db
+            → AreBooksAlone D.Disk files (stored_books S.Store self.old.conn)) }
+
+        // No tables are overwritten.
+        ensures was_empty { OnOk result (target.schema ≡ empty_schema) }
+
+        // This store is only read.
+        ensures terms { KeepsTerms (table_model S.Store) self.old self.new }
+        ensures keeps_books { KeepsBooks (table_model S.Store) self.old self.new }
+        ensures reads_only { OnlyReads S.Store self.old.conn self.new.conn }
+    {
+        let copy = self.copy_into(target)?;
+        copy.close()
+    }
+}
+
+// ---- the files of a program
+
+/// Fails with `NotEmpty` if something is at the path, and with `Store` if the host can't tell.
+fn check_free(rt: &HostRuntime, path: &str) -> Result<(), OpenFault> {
+    match fs::exists(rt, path) {
+        Ok(false) => Ok(()),
+        Ok(true) => Err(OpenFault::NotEmpty),
+        Err(_) => Err(OpenFault::Store),
+    }
+}
+
+/// Removes the new file and its log if no copy was made in them. An error is ignored: then what is
+/// left doesn't open as a store.
+fn remove_new(rt: &HostRuntime, target: &str, log: &str) {
+    let _removed = fs::remove_file(rt, target);
+    let _removed_log = fs::remove_file(rt, log);
+}
+
+/// Whether the file is there and has no octets.
+fn is_empty_file(rt: &HostRuntime, path: &str) -> bool {
+    match fs::metadata(rt, path) {
+        Ok(metadata) => metadata.len() == 0,
+        Err(_) => false,
+    }
+}
+
+/// Copies the books into a new file, which needs no log.
+fn copy_to_new(
+    rt: &HostRuntime,
+    books: &mut FileBooks,
+    target: &str,
+    log: &str,
+) -> Result<(), OpenFault> {
+    let connection = match Connection::open_from(rt, target, false, Unknown) {
+        Ok(connection) => connection,
+        Err((error, _left)) => {
+            if is_empty_file(rt, target) {
+                remove_new(rt, target, log);
+            }
+            return Err(open_fault_of(error));
+        }
+    };
+    if !is_schema_empty(connection.schema()) {
+        return Err(OpenFault::NotEmpty);
+    }
+    match books.copy_to(connection) {
+        Ok(_files) => {}
+        Err(fault) => {
+            remove_new(rt, target, log);
+            return Err(fault);
+        }
+    }
+    let _removed = fs::remove_file(rt, log);
+    Ok(())
+}
+
+impl SqlStore<FileStore<FileFrom<Unknown>>> {
+    /// Copies the store in the file at the path into a new file, and returns the number of books.
+    /// The new file needs no log, and none stays beside it. It holds no text that the tables don't
+    /// hold: none of a card that was removed or replaced.
+    ///
+    /// Fails with `NotEmpty` if something is at the path `target`, or at that of its log; as `open`
+    /// does for the file; and as `copy_to` does. An error removes the new file.
+    pub fn copy_file(rt: &HostRuntime, path: &str, target: &str) -> Result<u64, OpenFault> {
+        let Ok(log) = format!(in rt.alloc(); "{target}-wal") else {
+            return Err(OpenFault::Memory);
+        };
+        check_free(rt, target)?;
+        check_free(rt, log.as_str())?;
+        let mut books = SqlStore::open(rt, path, Limits::standard())?;
+        let Ok(lines) = books.books() else {
+            return Err(OpenFault::Store);
+        };
+        copy_to_new(rt, &mut books, target, log.as_str())?;
+        Ok(lines.len() as u64)
+    }
+}

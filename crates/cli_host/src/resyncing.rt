@@ -1,0 +1,26 @@
+//! The resync of a store, and what it prints.
+ghost use Rattle.std.specs.Prelude.{IfErr, OnOk};
+ghost use Rattle.cli_host.specs.Resyncs.{PrintsResync, StopsResync};
+
+use crate::admin_store::AdminStore;
+use cli_orders::{Stop, resync_text, write_out};
+use std::alloc::Global;
+use std::io::Write;
+
+/// Makes every device of the store's books start again, and prints the number of books. The resync
+/// remains if this can't be written.
+pub(crate) fn run_resync<S: AdminStore, W: Write>(
+    alloc: Global,
+    store: &mut S,
+    pairs: u64,
+    writer: &mut W,
+) -> Result<(), Stop>
+    ensures printed { OnOk result (PrintsResync S.model store.old pairs
+        (W.contents writer.old) (W.contents writer.new) store.new) }
+    ensures stopped { IfErr result (λ stop. StopsResync S.model store.old pairs stop
+        (W.contents writer.old) (W.contents writer.new) store.new) }
+{
+    let books = store.resync_books(pairs)?;
+    let text = resync_text(alloc, books)?;
+    write_out(writer, text.as_slice())
+}

@@ -1,7 +1,0 @@
-pub mod MapLemmas
-pub mod RowLemmas
-pub mod PageLemmas
-mod ForgetLemmas
-mod LiveCardLemmas
-mod DropLemmas
-mod ImportLemmas

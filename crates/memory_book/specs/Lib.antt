@@ -1,2 +1,0 @@
-pub mod BookInvariants
-pub mod ImportedRows

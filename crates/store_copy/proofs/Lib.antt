@@ -1,0 +1,4 @@
+pub mod CompareLemmas
+pub mod CopyLemmas
+pub mod ReadLemmas
+pub mod WriteLemmas

@@ -1,0 +1,2 @@
+pub mod CopiedRows
+pub mod OnConnections

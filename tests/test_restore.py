@@ -1,0 +1,245 @@
+"""`contacts restore BACKUP FILE`: a copy is put back, and every device notices.
+
+What has to be there afterwards is written by hand, or read by sqlite3 from the copy.
+"""
+
+import json
+import signal
+import subprocess
+import time
+import unittest
+
+from http_requests import SYNC, books, create, put, remove, sync
+from office_files import QuickFolder, contents, fault, log_of, make, serve
+from program import PROGRAM, Ended, Server, run
+from tables import setUpModule  # noqa: F401
+
+TOO_OLD = {"cause": 4, "fault": "valid-sync-token", "number": 10}
+SPENT = Ended(1, b"", b"refused changes-spent 13\n")
+
+
+def bodies(replies):
+    """The JSON values of the replies."""
+    return [json.loads(it.rpartition(b"\r\n\r\n")[2]) for it in replies.split(b"HTTP/1.1 ")[1:]]
+
+
+def ask(file, *requests):
+    return bodies(serve(file, *requests))
+
+
+class RestoreTest(unittest.TestCase):
+    """An office with a backup that lacks the last changes of the book and two books."""
+
+    def setUp(self):
+        folder = QuickFolder()
+        self.folder = folder.__enter__()
+        self.addCleanup(folder.__exit__)
+        self.file, self.backup = self.folder / "office.db", self.folder / "backup.db"
+        self.looks = 0
+
+    def lay(self):
+        """The copy has two changes of `staff`; three more are lost, and so are two books."""
+        make(self.file, "staff")
+        ask(self.file, put("staff", "a", "Ann"), put("staff", "b", "Bob"))
+        self.assertEqual(Ended(0, b"copied 1\n", b""), run("copy", self.file, self.backup))
+        *_, page = ask(self.file, put("staff", "c", "Cy"), put("staff", "a", "Anna"),
+                       put("staff", "d", "Dee"), create("young"), create("clients"),
+                       put("young", "y", "Yan"), sync("staff"))
+        self.assertEqual(f"{SYNC}1/5/5", page["token"])
+        return page
+
+    def contents(self, file):
+        self.looks += 1
+        return contents(file, self.folder / f"look {self.looks}")
+
+    def names(self):
+        """What is in the folder."""
+        return sorted(it.name for it in self.folder.iterdir() if not it.name.startswith("look"))
+
+    def restore(self, *options):
+        return run("restore", self.backup, self.file, *options)
+
+    def kept(self, number=1):
+        return self.folder / f"office.db.before-restore-{number}"
+
+    def printed(self, *lines):
+        return Ended(0, b"".join(it.encode() + b"\n" for it in lines), b"")
+
+
+class Restores(RestoreTest):
+    def test_lost_time(self):
+        """Tokens and versions of the lost time are refused, and the device ends with the book."""
+        page = self.lay()
+        lost = {it["uid"]: it["version"] for it in page["members"]}
+        self.assertEqual({"b": 2, "c": 3, "a": 4, "d": 5}, lost)
+        backup = self.contents(self.backup)
+        wanted = self.printed(f"kept {self.kept()}", "remade young",
+                              "remade clients", "restored 3")
+        self.assertEqual(wanted, self.restore())
+        self.assertEqual(backup, self.contents(self.backup))
+
+        changes = [put("staff", "e", "Eve"), remove("staff", "b"), put("staff", "a", "Annabel")]
+        self.assertEqual([{"put": "created", "version": 1_000_003}, {"number": 1_000_004},
+                          {"put": "edited", "version": 1_000_005}], ask(self.file, *changes))
+        refused, page = ask(self.file, sync("staff", "1/5/5"), sync("staff"))
+        self.assertEqual(TOO_OLD, refused)
+        self.assertEqual({"e": 1_000_003, "a": 1_000_005},
+                         {it["uid"]: it["version"] for it in page["members"]})
+        for uid, version in lost.items():
+            with self.subTest(uid=uid):
+                refused, = ask(self.file, put("staff", uid, "Zoe", f"?expect={version}"))
+                self.assertEqual("version-mismatch", refused["fault"])
+
+    def test_lost_books(self):
+        """They get their ids again, are empty, and take no token of before."""
+        self.lay()
+        self.assertEqual(0, self.restore("--skip", 10).status)
+        young, clients, page, listed = ask(
+            self.file, sync("young", "2/1/1"), sync("clients", "3/0/0"), sync("young"), books())
+        self.assertEqual([TOO_OLD, TOO_OLD], [young, clients])
+        self.assertEqual({"members": [], "token": f"{SYNC}2/10/10", "truncated": False}, page)
+        self.assertEqual({"staff": 1, "young": 2, "clients": 3},
+                         {it["name"]: it["id"] for it in listed["books"]})
+
+    def test_kept(self):
+        """What was lost can be read from the file that is kept."""
+        self.lay()
+        before = self.contents(self.file)
+        self.assertEqual(0, self.restore().status)
+        self.assertEqual(before, self.contents(self.kept()))
+        self.assertEqual(["backup.db", "office.db", "office.db.before-restore-1"],
+                         [it for it in self.names() if not it.endswith("-wal")])
+        self.assertEqual(0, run("verify", self.kept()).status)
+
+    def test_twice(self):
+        """Each restore keeps what it replaces."""
+        self.lay()
+        self.assertEqual(0, self.restore("--skip", 2).status)
+        middle = self.contents(self.file)
+        wanted = self.printed(f"kept {self.kept(2)}", "remade young",
+                              "remade clients", "restored 3")
+        self.assertEqual(wanted, self.restore("--skip", 4))
+        self.assertEqual(middle, self.contents(self.kept(2)))
+
+    def test_no_file(self):
+        self.lay()
+        for it in self.file, log_of(self.file):
+            it.unlink(missing_ok=True)
+        self.assertEqual(self.printed("restored 1"), self.restore())
+        self.assertEqual(["backup.db", "office.db"], self.names())
+
+    def test_empty_file(self):
+        self.lay()
+        log_of(self.file).unlink(missing_ok=True)
+        self.file.write_bytes(b"")
+        self.assertEqual(self.printed("restored 1"), self.restore())
+        self.assertEqual(0, run("verify", self.file).status)
+
+    def test_damaged_file(self):
+        """A file that can't be read is kept with its log, octet for octet, and the order says so."""
+        self.lay()
+        octets = bytearray(self.file.read_bytes())
+        octets[100:4096] = bytes(3996)
+        self.file.write_bytes(octets)
+        log_of(self.file).write_bytes(b"a log")
+        unread = f"unread {self.file}: its books that the copy hasn't are not made again"
+        wanted = self.printed(f"kept {self.kept()}", f"kept {log_of(self.kept())}", unread,
+                              "restored 1")
+        self.assertEqual(wanted, self.restore())
+        self.assertEqual(bytes(octets), self.kept().read_bytes())
+        self.assertEqual(b"a log", log_of(self.kept()).read_bytes())
+        self.assertEqual(0, run("verify", self.file).status)
+
+    def test_text_file(self):
+        self.lay()
+        log_of(self.file).unlink(missing_ok=True)
+        self.file.write_text("no store")
+        ended = self.restore()
+        self.assertEqual(0, ended.status)
+        self.assertEqual("no store", self.kept().read_text())
+
+    def test_leftover(self):
+        """What a restore left that was stopped is no obstacle."""
+        self.lay()
+        (self.folder / "office.db.restoring").write_text("half a file")
+        self.assertEqual(0, self.restore().status)
+        self.assertNotIn("office.db.restoring", self.names())
+
+
+class Refusals(RestoreTest):
+    """The file stays as it was, and nothing is left beside it."""
+
+    def assert_refused(self, wanted, *options):
+        before, names = self.file.read_bytes(), self.names()
+        self.assertEqual(wanted, self.restore(*options))
+        self.assertEqual(before, self.file.read_bytes())
+        self.assertEqual(names, self.names())
+
+    def test_running_server(self):
+        self.lay()
+        with Server(self.file) as server:
+            names = self.names()
+            self.assertEqual(fault(1), self.restore())
+            self.assertEqual(names, self.names())
+            page, = bodies(server.ask(sync("staff")))
+            self.assertEqual(f"{SYNC}1/5/5", page["token"])
+
+    def test_no_copy(self):
+        self.lay()
+        self.assertEqual(0, run("verify", self.file).status)
+        self.backup.unlink()
+        self.assert_refused(fault(1))
+        self.backup.write_text("no store")
+        self.assert_refused(fault(2))
+
+    def test_itself(self):
+        """A file isn't put in its own place."""
+        self.lay()
+        self.backup = self.file
+        self.assert_refused(fault(1))
+
+    def test_damaged_copy(self):
+        self.lay()
+        self.assertEqual(0, run("verify", self.file).status)
+        octets = bytearray(self.backup.read_bytes())
+        octets[100:4096] = bytes(3996)
+        self.backup.write_bytes(octets)
+        before = self.file.read_bytes()
+        self.assertEqual(3, self.restore().status)
+        self.assertEqual(before, self.file.read_bytes())
+
+    def test_odd_skip(self):
+        self.assertEqual(2, run("restore", "a.db", "b.db", "--skip", "3").status)
+
+
+class Stops(RestoreTest):
+    def test_kills(self):
+        """A restore that is killed leaves the old file or the new one, whole."""
+        self.lay()
+        old = self.contents(self.file).rows
+        office, copied = self.file.read_bytes(), self.backup.read_bytes()
+        seen = set()
+        for step in range(60):
+            for it in self.folder.glob("office.db*"):
+                it.unlink()
+            self.file.write_bytes(office)
+            self.backup.write_bytes(copied)
+            words = [PROGRAM, "restore", self.backup, self.file, "--skip", "4"]
+            with subprocess.Popen(words, stdout=subprocess.DEVNULL,
+                                  stderr=subprocess.DEVNULL) as started:
+                time.sleep(step * 0.0004)
+                started.send_signal(signal.SIGKILL)
+            self.assertEqual(0, run("verify", self.file).status, step)
+            rows = self.contents(self.file).rows
+            if rows == old:
+                seen.add("old")
+                self.assertEqual(0, self.restore("--skip", "4").status)
+            else:
+                seen.add("new")
+                self.assertEqual([(1, b"staff", 6), (2, b"young", 4), (3, b"clients", 4)],
+                                 [it[:3] for it in rows[1]])
+        self.assertIn("old", seen)
+
+
+if __name__ == "__main__":
+    unittest.main()
