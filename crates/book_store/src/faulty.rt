@@ -19,10 +19,9 @@ pub type FileSearch<S> = (
 );
 
 impl<S: Start> SqlStore<FileStore<FileFrom<S>>> {
-    /// Searches the file at the path for a row that is not good. It tests the rows as `open_from`
-    /// does, in the same order, and returns the row that it stops at; `None` if the file holds
-    /// well-formed books. No row is written. What `open_from` writes to the file and its log it
-    /// writes too.
+    /// Searches the file at the path for a row that has a fault, and returns one; `None` if the
+    /// file holds well-formed books. Which of several faulty rows it is, is only tested, and so is
+    /// that it writes no row.
     ///
     /// Fails as `open_from` does. It fails with `Damaged` only if rows break the declarations of
     /// their tables: then no connection opens, and no row can be named.

@@ -130,9 +130,9 @@ impl<S: Start> SqlStore<FileStore<FileFrom<S>>> {
     ///
     /// Fails with `NotEmpty` if it has tables, also if their rows break their declarations; with
     /// `NotOurs` if it is not a database; with `Memory` if memory runs out; and with `Store` if it
-    /// can't be used: another process has it open, it has two names, or the disk fails. After an
-    /// error no book was written, but a new file may remain, empty or as a database without tables.
-    /// An error returns what is left of the files, if they were opened.
+    /// can't be used: another process has it open, it has two names, or the disk fails. An error
+    /// returns what is left of the files, if they were opened. What they hold then is only tested:
+    /// no book, but a new file may remain, empty or as a database without tables.
     pub fn create_from(
         rt: &HostRuntime,
         path: &str,
@@ -159,9 +159,9 @@ impl<S: Start> SqlStore<FileStore<FileFrom<S>>> {
         }
     }
 
-    /// Opens the store in the file at the path. All rows are read and tested, and no row is
-    /// written. The log beside the file is created, or its commits are recovered, and an empty file
-    /// may be written to before it is refused.
+    /// Opens the store in the file at the path, with the books that the file and the log beside it
+    /// held. Only tested: no row is written; the log is created, or its commits are recovered; and
+    /// an empty file may be written to before it is refused.
     ///
     /// Fails as `try_adopt` does for the tables in the file, with `Damaged` also if their rows
     /// break their declarations; with `NotOurs` if the file is not a database or is empty; with

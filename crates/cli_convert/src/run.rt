@@ -136,8 +136,8 @@ fn convert<F: Files, W: Write, E: Write>(
 /// rows to files, or as one file for each card.
 ///
 /// Returns the exit status of the program: 0 if all was carried, 1 if something wasn't, and 3 if
-/// the conversion stopped, which standard error tells. It stops where a file, a folder, standard
-/// output or standard error can't be used, or without memory.
+/// the conversion stopped: a file, a folder, standard output or standard error can't be used, or
+/// there is no memory. Of files, a folder and standard error this is only tested.
 pub fn run_convert<F: Files, W: Write, E: Write>(
     alloc: Global,
     files: &F,

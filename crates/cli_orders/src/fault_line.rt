@@ -76,9 +76,8 @@ fn find_line(alloc: Global, text: &[u8], fault: CardFault) -> Result<u64, NoMemo
 /// The number of the line at which a text has its first fault, counted from 1. A line that is
 /// continued has the number of its first physical line (RFC 6350, section 3.2).
 ///
-/// `None` if the fault isn't one of a line: the text is too long, or ends too early, or lacks a
-/// property. Also if the text is broken off in its last line, with fewer than 3 octets to the limit
-/// of 262,144.
+/// `None` for `TooLong`, and for a fault that no line has: the text ends too early, lacks a
+/// property, or is broken off in its last line, with fewer than 3 octets to the limit of 262,144.
 ///
 /// It reads at most 40 beginnings of the text. `NoMemory` if an allocation fails.
 pub(crate) fn line_of_fault(

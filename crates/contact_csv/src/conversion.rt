@@ -70,13 +70,13 @@ fn contact_lines(
 
 /// Converts a row of a file of contacts to a card of vCard 4.0.
 ///
-/// The changes are those of cells that no property of the card holds as they are, in order; `place`
-/// is the index of the cell, from 0. `Rewritten` is a date in another form, and `KeptAside` a cell
-/// that is kept under a name that begins with `X-`.
+/// Each cell's text is in the card, or a change has the cell's index, from 0, as its `place`. Only
+/// tested: there are no other changes, and they are in the order of their cells; `Rewritten` is a
+/// date in another form, and `KeptAside` a cell that is kept under a name that begins with `X-`.
 ///
-/// An `Err` is the first fault of the card's lines: `NoName` if no cell of the row has a value,
-/// mostly `TooLong` if the card has more than 262,144 octets. `Memory` replaces any result if an
-/// allocation fails.
+/// An `Err` is the first fault of such lines, by the tests `NoName` if no cell of the row has a
+/// value, and else mostly `TooLong`, if the card has more than 262,144 octets. `Memory` may replace
+/// any result.
 pub fn convert_row(
     alloc: Global,
     columns: &ContactColumns,

@@ -194,13 +194,12 @@ fn test_rows<S: Alter>(
 }
 
 /// Tests whether the tables of the connection are a store's and hold well-formed books within the
-/// limits. Reads all rows and parses each card. Returns the first row found that is not good, or
-/// `None` if the tables hold well-formed books.
+/// limits. Returns a row that has a fault, or `None` if the tables hold well-formed books.
 ///
-/// The rows of books, imports and keeps are tested first, then the members in the order of their
-/// row ids, and then whether each book agrees with its members. Fails with `NotOurs` or
-/// `OtherSchema` if the schema test does, before any book is read; with `Memory` if memory runs
-/// out; and with `Store` for any other error of the database. It never fails with `Damaged`.
+/// Which of several faulty rows it is, is only tested: the rows of books, imports and keeps come
+/// first, then the members in the order of their row ids, and then whether each book agrees with
+/// its members. Fails with `NotOurs` or `OtherSchema` if the tables aren't those of a store; with
+/// `Memory` or `Store` if the database can't be read. It never fails with `Damaged`.
 pub fn find_faulty_row<S: Alter>(
     alloc: Global,
     conn: &mut Connection<S>,

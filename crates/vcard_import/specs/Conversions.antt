@@ -81,8 +81,8 @@ abbrev pub card_raw_lines : List ℕ → List RawLine
 card_raw_lines octets = raw_lines (folding_of (version_of octets)) (without_bom octets)
 
 -- The lines are those that the logical lines of the octets become, and then the FN and the UID that
--- they lack. The changes are those of these lines, and then one for each line that was added. If a
--- logical line spells the UID of the card, it is the card's UID.
+-- they lack. The changes are those of these lines, and then one for each line that was added. The
+-- first legal UID that a logical line spells is the card's UID, if one does.
 pub record IsConverted (octets : List ℕ) (card : List Line) (changes : List Change) : Type 0 where
   pub lines : List Line
   pub reported : List Change

@@ -70,16 +70,18 @@ fn convert_refused(alloc: Global, octets: &[u8]) -> Result<Conversion, CardFault
 /// Converts one card of vCard 2.1, 3.0 or 4.0, from its `BEGIN:VCARD` to its `END:VCARD`, to a card
 /// of vCard 4.0. A card of vCard 4.0 that the reader accepts stays as it is.
 ///
-/// `TooLong` comes if the canonical text of the card would have more than 262,144 octets, and
-/// `Memory` if an allocation fails. No other octets are refused.
+/// `TooLong` comes only if the converted lines are a card but for their length: their canonical
+/// text has more than 262,144 octets. What a changed line becomes isn't proved, so nor is it that
+/// no shorter card is refused. `Memory` comes if an allocation fails. There are no other errors.
 pub fn convert_card(alloc: Global, octets: &[u8]) -> Result<Conversion, CardFault>
     // A card of vCard 4.0 that the reader accepts stays as it is, with no change.
     ensures same { (lines : List Line) → Spells octets.now lines → result ≢ Err Memory
         → IsOkAnd result (λ made. (made.card ≡ lines) × (made.changes ≡ [])) }
 
     // Any other card has one line for each logical line, in order, but for those that begin or end
-    // it or give its version, and then the FN and the UID that it lacked. The changes are those of
-    // the lines that aren't what their logical line spells. A UID that a line spells is the card's.
+    // it or give its version, which may be left out, and then the FN and the UID that it lacked.
+    // The changes are those of the lines that aren't what their logical line spells. The first
+    // legal UID that a line spells is the card's.
     ensures converted { IfOk result (λ made. Spells octets.now made.card
         ⊎ IsConverted octets.now made.card made.changes) }
 
