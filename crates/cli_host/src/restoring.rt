@@ -1,10 +1,11 @@
 //! Puts a copy back in place of a file. A program that is stopped on the way leaves the file as it
-//! was, or the new one.
+//! was, or the new one. Of a file that can't be read it may leave only what it kept of it.
 
 use crate::admin_store::AdminStore;
 use base_types::{Items, NoMemory, Text};
 use book_store::{FileBooks, OpenFault, SqlStore};
 use cli_orders::{Restored, Stop};
+use sqlite_std_file::Unknown;
 use std::alloc::Global;
 use std::rt::HostRuntime;
 use std::{fs, io};
@@ -45,6 +46,7 @@ fn log_of(alloc: Global, file: &str) -> Result<String, NoMemory> {
     Ok(format!(in alloc; "{file}-wal")?)
 }
 
+/// Whether something is at the path, or the system can't tell.
 fn is_there(rt: &HostRuntime, path: &str) -> bool {
     fs::exists(rt, path).unwrap_or(true)
 }
@@ -56,6 +58,19 @@ fn remove(rt: &HostRuntime, path: &str) -> Result<(), Stop> {
         Err(error) if error.kind() == io::ErrorKind::NotFound => Ok(()),
         Err(_) => Err(Stop::Device),
     }
+}
+
+/// Removes the file's log if it is there.
+fn remove_log(rt: &HostRuntime, file: &str) -> Result<(), Stop> {
+    let log = log_of(rt.alloc(), file)?;
+    remove(rt, log.as_str())
+}
+
+/// Removes the file and its log if they are there. The log goes last: a file without its log could
+/// be read as an older state.
+fn remove_with_log(rt: &HostRuntime, file: &str) -> Result<(), Stop> {
+    remove(rt, file)?;
+    remove_log(rt, file)
 }
 
 // ---- the old file
@@ -74,24 +89,40 @@ fn names_by_age(alloc: Global, store: &mut FileBooks) -> Result<Vec<Text>, Stop>
     Ok(names)
 }
 
-/// Looks at what is to be replaced. Stops if it can't be opened now, as while a server has it open.
-fn look_at_old(rt: &HostRuntime, file: &str) -> Result<Old, Stop> {
-    match fs::metadata(rt, file) {
-        Ok(metadata) if metadata.is_file() && metadata.len() == 0 => return Ok(Old::Vacant),
-        Ok(_) => {}
-        Err(error) if error.kind() == io::ErrorKind::NotFound => return Ok(Old::Vacant),
-        Err(_) => return Err(Stop::Device),
+/// Whether the system lets this program hold the file and its log.
+fn can_be_held(rt: &HostRuntime, file: &str) -> bool {
+    sqlite_std_file::open(rt, file, Unknown).is_ok()
+}
+
+/// What an opening that failed says of the file that is to be replaced.
+fn old_by_fault(rt: &HostRuntime, file: &str, fault: OpenFault) -> Result<Old, Stop> {
+    match fault {
+        OpenFault::NotOurs | OpenFault::OtherSchema { .. } | OpenFault::Damaged => Ok(Old::Unread),
+        // Its log can't be read, say.
+        OpenFault::Store if can_be_held(rt, file) => Ok(Old::Unread),
+        fault => Err(Stop::Open(fault)),
     }
+}
+
+/// Opens the file that is to be replaced.
+fn read_old(rt: &HostRuntime, file: &str) -> Result<Old, Stop> {
     match SqlStore::open(rt, file, Limits::standard()) {
         Ok(store) => {
             let mut store = store;
             let names = names_by_age(rt.alloc(), &mut store)?;
             Ok(Old::Read(store, names))
         }
-        Err(OpenFault::NotOurs) | Err(OpenFault::OtherSchema { .. }) | Err(OpenFault::Damaged) => {
-            Ok(Old::Unread)
-        }
-        Err(fault) => Err(Stop::Open(fault)),
+        Err(fault) => old_by_fault(rt, file, fault),
+    }
+}
+
+/// Looks at what is to be replaced. Stops if it can't be held now, as while a server has it open.
+fn look_at_old(rt: &HostRuntime, file: &str) -> Result<Old, Stop> {
+    match fs::metadata(rt, file) {
+        Ok(metadata) if metadata.is_file() && metadata.len() == 0 => Ok(Old::Vacant),
+        Ok(_) => read_old(rt, file),
+        Err(error) if error.kind() == io::ErrorKind::NotFound => Ok(Old::Vacant),
+        Err(_) => Err(Stop::Device),
     }
 }
 
@@ -114,8 +145,26 @@ fn make_missing<S: BookStore>(
     Ok(Items::from_vec(made))
 }
 
-/// Creates the missing books of the new file, makes every device start again, and folds the log
-/// into the file. Returns the names of the books that were made, and the number of all books.
+/// Creates each book that the store hasn't, and makes every device start again. Returns the names
+/// of the books that were made, and the number of all books.
+fn renew_books(
+    alloc: Global,
+    store: &mut FileBooks,
+    names: &[Text],
+    pairs: u64,
+) -> Result<(Items<Text>, u64), Stop> {
+    let made = make_missing(alloc, store, names)?;
+    let books = store.resync_books(pairs)?;
+    Ok((made, books))
+}
+
+/// Closes the store, whose file then needs no log, and removes the log.
+fn close_alone(rt: &HostRuntime, store: FileBooks, file: &str) -> Result<(), Stop> {
+    let _files = store.close()?;
+    remove_log(rt, file)
+}
+
+/// Renews the books of the new file, and folds the log into the file.
 fn renew(
     rt: &HostRuntime,
     fresh: &str,
@@ -123,12 +172,9 @@ fn renew(
     pairs: u64,
 ) -> Result<(Items<Text>, u64), Stop> {
     let mut store: FileBooks = SqlStore::open(rt, fresh, Limits::standard())?;
-    let made = make_missing(rt.alloc(), &mut store, names)?;
-    let books = store.resync_books(pairs)?;
-    let _files = store.close()?;
-    let log = log_of(rt.alloc(), fresh)?;
-    remove(rt, log.as_str())?;
-    Ok((made, books))
+    let renewed = renew_books(rt.alloc(), &mut store, names, pairs)?;
+    close_alone(rt, store, fresh)?;
+    Ok(renewed)
 }
 
 /// Makes the new file of the copy. After an error there is none.
@@ -139,28 +185,32 @@ fn make_new(
     names: &[Text],
     pairs: u64,
 ) -> Result<(Items<Text>, u64), Stop> {
-    let log = log_of(rt.alloc(), fresh)?;
     // What a restore left that was stopped.
-    remove(rt, fresh)?;
-    remove(rt, log.as_str())?;
+    remove_with_log(rt, fresh)?;
     let _books = SqlStore::copy_file(rt, backup, fresh)?;
     let renewed = renew(rt, fresh, names, pairs);
     if renewed.is_err() {
-        let _removed = remove(rt, fresh);
-        let _removed_log = remove(rt, log.as_str());
+        let _removed = remove_with_log(rt, fresh);
     }
     renewed
 }
 
 // ---- putting it in place
 
-/// A name under which the file can be kept: neither it nor its log is there.
+/// The name of this number under which the file can be kept, if neither it nor its log is there.
+fn name_if_free(rt: &HostRuntime, file: &str, number: u32) -> Result<Option<String>, NoMemory> {
+    let name = format!(in rt.alloc(); "{file}.before-restore-{number}")?;
+    let log = log_of(rt.alloc(), name.as_str())?;
+    if is_there(rt, name.as_str()) || is_there(rt, log.as_str()) {
+        return Ok(None);
+    }
+    Ok(Some(name))
+}
+
+/// The first name under which the file can be kept.
 fn free_name(rt: &HostRuntime, file: &str) -> Result<String, Stop> {
-    let alloc = rt.alloc();
     for number in 1..KEPT_NAMES_MAX {
-        let name = format!(in alloc; "{file}.before-restore-{number}")?;
-        let log = log_of(alloc, name.as_str())?;
-        if !is_there(rt, name.as_str()) && !is_there(rt, log.as_str()) {
+        if let Some(name) = name_if_free(rt, file, number)? {
             return Ok(name);
         }
     }
@@ -174,21 +224,30 @@ fn keep_file(rt: &HostRuntime, path: &str, kept: &str) -> Result<(), Stop> {
     on_device(file.sync_all())
 }
 
+/// Keeps the file's log, if it has one, beside the file that was kept, and adds its name.
+fn keep_log(
+    rt: &HostRuntime,
+    file: &str,
+    kept: &str,
+    names: &mut Vec<Text>,
+) -> Result<(), Stop> {
+    let log = log_of(rt.alloc(), file)?;
+    if !is_there(rt, log.as_str()) {
+        return Ok(());
+    }
+    let kept_log = log_of(rt.alloc(), kept)?;
+    keep_file(rt, log.as_str(), kept_log.as_str())?;
+    add(names, Text::new(kept_log))?;
+    Ok(())
+}
+
 /// Keeps what is at the name of the file, and its log if it has one, under new names.
 fn keep_old(rt: &HostRuntime, file: &str) -> Result<Items<Text>, Stop> {
-    let alloc = rt.alloc();
-    let mut names = Vec::new(alloc);
+    let mut names = Vec::new(rt.alloc());
     let name = free_name(rt, file)?;
-    let log = log_of(alloc, file)?;
     keep_file(rt, file, name.as_str())?;
-    if fs::exists(rt, log.as_str()).unwrap_or(false) {
-        let kept_log = log_of(alloc, name.as_str())?;
-        keep_file(rt, log.as_str(), kept_log.as_str())?;
-        add(&mut names, Text::new(name))?;
-        add(&mut names, Text::new(kept_log))?;
-    } else {
-        add(&mut names, Text::new(name))?;
-    }
+    add(&mut names, Text::copy_of(rt.alloc(), name.as_str())?)?;
+    keep_log(rt, file, name.as_str(), &mut names)?;
     Ok(Items::from_vec(names))
 }
 
@@ -200,31 +259,25 @@ fn replace_read(
     fresh: &str,
     file: &str,
 ) -> Result<Items<Text>, Stop> {
-    let log = log_of(rt.alloc(), file)?;
     // Held until the new file is in its place, so that no server opens the old one.
-    let files = store.close()?;
-    remove(rt, log.as_str())?;
+    let _files = store.close()?;
+    remove_log(rt, file)?;
     let kept = keep_old(rt, file)?;
     on_device(fs::rename(rt, fresh, file))?;
-    let _held = files;
     Ok(kept)
 }
 
-/// Puts the new file in place of one that can't be read. The log goes last of the old ones: a file
-/// without its log could be read as an older state.
+/// Puts the new file in place of one that can't be read.
 fn replace_unread(rt: &HostRuntime, fresh: &str, file: &str) -> Result<Items<Text>, Stop> {
-    let log = log_of(rt.alloc(), file)?;
     let kept = keep_old(rt, file)?;
-    remove(rt, file)?;
-    remove(rt, log.as_str())?;
+    remove_with_log(rt, file)?;
     on_device(fs::rename(rt, fresh, file))?;
     Ok(kept)
 }
 
 /// Puts the new file where there is none.
 fn put_new(rt: &HostRuntime, fresh: &str, file: &str) -> Result<Items<Text>, Stop> {
-    let log = log_of(rt.alloc(), file)?;
-    remove(rt, log.as_str())?;
+    remove_log(rt, file)?;
     on_device(fs::rename(rt, fresh, file))?;
     Ok(Items::from_vec(Vec::new(rt.alloc())))
 }
