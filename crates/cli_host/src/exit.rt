@@ -12,7 +12,7 @@ ghost use Rattle.book_http.specs.Streams.{ReadsAtMost};
 
 use crate::admin_store::AdminStore;
 use crate::host::Host;
-use crate::naming::names_to_say;
+use crate::naming::{names_to_say, site_of};
 use crate::running::run_on_host;
 use crate::words::say_why;
 use book_http::Listener;
@@ -98,7 +98,7 @@ fn run_try_order<S, P, L, M: Host<S, P, L>, R: Read, W: Write, E: Write>(
     let names = names_to_say(alloc, host, &Order::Try);
     let done = run_try(alloc, reader, writer);
     if let Err(stop) = &done {
-        say_why(alloc, host, names, *stop);
+        say_why(alloc, host, names, None, *stop);
     }
     report_result(alloc, errors, done)
 }
@@ -118,9 +118,10 @@ fn run_other_order<
         (E.contents errors.old) (E.contents errors.new) result) }
 {
     let names = names_to_say(alloc, &*host, &order);
+    let site = site_of(alloc, &order);
     let done = run_on_host(alloc, host, order, writer);
     if let Err(stop) = &done {
-        say_why(alloc, &*host, names, *stop);
+        say_why(alloc, &*host, names, site.as_ref(), *stop);
     }
     report_result(alloc, errors, done)
 }

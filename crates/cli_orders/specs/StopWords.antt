@@ -87,6 +87,7 @@ other_words found.TooLong =
 other_words found.NoFolder = codes "there is no folder for it; make that first"
 other_words found.FolderDenied = codes "you may not make files in its folder"
 other_words found.SocketTaken = codes "another program listens there"
+other_words found.LongPath = codes "a socket's path has at most 107 bytes; name a shorter one"
 other_words found.NotSocket =
     codes "something else is there; move it away, or name another path"
 other_words cause = codes "it can't be read"

@@ -116,6 +116,7 @@ pub(crate) fn other_words(cause: FoundCause) -> &'static str
         FoundCause::NoFolder => "there is no folder for it; make that first",
         FoundCause::FolderDenied => "you may not make files in its folder",
         FoundCause::SocketTaken => "another program listens there",
+        FoundCause::LongPath => "a socket's path has at most 107 bytes; name a shorter one",
         FoundCause::NotSocket => "something else is there; move it away, or name another path",
         _ => "it can't be read",
     }
