@@ -42,6 +42,7 @@ limits_of connections together patience = record {
   connections = connections;
   together = together;
   patience = milliseconds_of patience;
+  held = 2 ^ 64 - 1;
 }
 
 -- what an order does that uses the store in a file; for any other order, nothing

@@ -134,6 +134,7 @@ fn limits_of(connections: u64, together: u64, patience: u64) -> ServeLimits
         // The checker proves that this cast loses nothing.
         together: together as usize,
         patience: patience.saturating_mul(1_000),
+        held: u64::MAX,
     }
 }
 

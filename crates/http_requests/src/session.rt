@@ -48,6 +48,13 @@ impl Session {
         self.progress.is_closed()
     }
 
+    /// Closes the session, and drops what it holds.
+    pub fn close(&mut self, alloc: Global)
+        ensures { self.new ≡ None }
+    {
+        self.progress.close(alloc);
+    }
+
     /// The number of octets of the incomplete request that the session holds. It is 0 between
     /// requests, and once the session is closed.
     pub fn held_len(&self) -> usize

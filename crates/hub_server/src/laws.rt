@@ -1,5 +1,5 @@
 //! Laws of every run of a server. Each law is a function that does nothing.
-ghost use Rattle.hub_server.specs.ServerLaws.{ServerRunsAreHubRuns};
+ghost use Rattle.hub_server.specs.ServerLaws.{ServerRunsAreHubRuns, ServersHoldWithin};
 
 use http_requests::Handler;
 
@@ -9,4 +9,12 @@ use http_requests::Handler;
 /// order.
 pub fn server_runs_are_hub_runs<H: Handler>()
     ensures { ServerRunsAreHubRuns H.does H.fault_reply }
+{}
+
+/// Connections that hold more than 16,384 octets, of incomplete requests with all their announced
+/// octets and of replies that aren't taken, hold at most `limits.held` together, or there is only
+/// one of them. So a server holds at most that, or one request or reply that is larger by itself,
+/// and 16,384 octets for each of its places.
+pub fn servers_hold_within<H: Handler>()
+    ensures { ServersHoldWithin H.does H.fault_reply }
 {}
