@@ -1,6 +1,6 @@
 -- A hub whose connections together hold no more than a bound.
 use Rattle.std.specs.Prelude.{◌≡◌, ◌≤◌, ◌+◌, ◌-◌, ◌||◌, ◌⊎◌, ℕ, Bool, true, false, List, [], length}
-use Rattle.std.specs.Prelude.{nat_eq, nat_le, slice_get, Option, Some}
+use Rattle.std.specs.Prelude.{nat_eq, nat_le, Some}
 use Rattle.http_requests.specs.HandlerRuns.{HandlerRelation, FaultReplies}
 use Rattle.http_requests.specs.declared.head_fault.HeadFault.TheVariants.{Busy}
 use Rattle.http_hub.specs.Holdings.{large_at, large_total, most_small}

@@ -127,10 +127,7 @@ impl BoundedHub {
         ensures { IfOk result (λ hub. hub ≡ new_hub limit) }
     {
         let hub = Hub::new(alloc, limit)?;
-        Ok(BoundedHub {
-            hub,
-            large_sum: 0,
-        })
+        Ok(BoundedHub { hub, large_sum: 0 })
     }
 
     /// The number of open connections.
@@ -240,7 +237,16 @@ impl BoundedHub {
     {
         let part = self.hub.large_part(place);
         let others = self.large_sum.saturating_sub(part);
-        receive_beside(&mut self.hub, alloc, handler, place, piece, now, most, others);
+        receive_beside(
+            &mut self.hub,
+            alloc,
+            handler,
+            place,
+            piece,
+            now,
+            most,
+            others,
+        );
         let next = self.hub.large_part(place);
         self.large_sum = sum_with(self.large_sum, part, next);
     }

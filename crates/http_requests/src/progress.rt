@@ -88,8 +88,8 @@ fn append_reply(out: &mut Vec<u8>, reply: Vec<u8>) -> Result<(), NoMemory>
     Ok(())
 }
 
-/// Empties the octets of a request that was handled. Room for more than a head is given back, so
-/// that a silent connection holds little, however long its last request was.
+/// Empties the octets of a request. Room for more than a head is given back, so that a silent
+/// connection holds little, however long its last request was.
 fn empty(held: &mut Vec<u8>, alloc: Global)
     ensures emptied { held.new.items ≡ [] }
     ensures room { vec_capacity held.new ≤ longest_head }
@@ -106,6 +106,7 @@ impl Progress {
         ensures holds { MatchesStage result.held.items result.stage }
         ensures is_open { IsOpen result.stage }
         ensures nothing { result.held.items ≡ [] }
+        ensures room { vec_capacity result.held ≤ longest_head }
     {
         Progress {
             held: Vec::new(alloc),
@@ -370,21 +371,24 @@ impl Progress {
         ensures holds { MatchesStage self.new.held.items self.new.stage }
         ensures is_closed { IsClosed self.new.stage }
         ensures released { HoldsNoneIfClosed self.new.held.items self.new.stage }
+        ensures room { vec_capacity self.new.held ≤ longest_head }
     {
         self.held = Vec::new(alloc);
         self.stage = Stage::Closed;
     }
 
-    /// Drops the octets that a closed session still holds.
-    pub(crate) fn release_if_closed(&mut self, alloc: Global)
+    /// Drops the octets that a closed session still holds. Without octets it has room for no more
+    /// than a head.
+    pub(crate) fn release(&mut self, alloc: Global)
         requires holds { MatchesStage self.old.held.items self.old.stage }
         ensures holds { MatchesStage self.new.held.items self.new.stage }
         ensures same_value { open_octets self.new.held.items self.new.stage
             ≡ open_octets self.old.held.items self.old.stage }
         ensures released { HoldsNoneIfClosed self.new.held.items self.new.stage }
+        ensures room { self.new.held.items ≡ [] → vec_capacity self.new.held ≤ longest_head }
     {
-        if self.is_closed() {
-            self.held = Vec::new(alloc);
+        if self.is_closed() || self.held.is_empty() {
+            empty(&mut self.held, alloc);
         }
     }
 

@@ -1,4 +1,4 @@
-use Rattle.std.proofs.Common.{◌≡◌, ◌∙◌, arith}
+use Rattle.std.proofs.Common.{◌∙◌, arith}
 use Rattle.http_hub.proofs.HoldingLemmas.{ended_sum}
 use Rattle.http_hub.proofs.bounded.BoundedHub.end.Goals as goal
 

@@ -1,4 +1,4 @@
-use Rattle.std.proofs.Common.{◌≡◌, ◌∙◌, ◌≤◌, arith}
+use Rattle.std.proofs.Common.{◌∙◌, ◌≤◌, arith}
 use Rattle.http_hub.specs.Holdings.{large_total, most_load}
 use Rattle.http_hub.specs.Links.{link_after_sent}
 use Rattle.http_hub.proofs.HoldingLemmas.{open_changed, sent_sum, sent_total}

@@ -1,4 +1,4 @@
-use Rattle.std.proofs.Common.{◌≡◌, ◌∙◌, ◌≤◌, arith, subst}
+use Rattle.std.proofs.Common.{◌∙◌, ◌≤◌, arith, subst}
 use Rattle.http_hub.specs.BoundedHubs.{ReceivesWithin}
 use Rattle.http_hub.specs.Holdings.{large_total, most_load}
 use Rattle.http_hub.specs.Hubs.{HubValue}
