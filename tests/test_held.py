@@ -10,7 +10,7 @@ import unittest
 from pathlib import Path
 
 from dialogue import ServedTest
-from http_requests import books, card, create, put, request, sync, tally
+from http_requests import books, card, create, export, put, request, sync, tally
 
 LARGEST = 8_388_608
 MIB = 1 << 20
@@ -169,6 +169,22 @@ class Replies(HeldTest):
         body.socket.close()
         self.let_finish()
         self.serve(sync("staff"))
+
+    def test_the_only_long_export(self):
+        """So is an export of the whole book. Beside another large one it is refused, and alone again
+        once that is gone."""
+        self.restart(more=["--max-held", 16])
+        self.serve(export("staff"))
+        taker = self.connect()
+        taker.send(export("staff"))
+        self.let_finish()
+        other = self.connect()
+        other.send(export("staff"))
+        self.assertTrue(self.is_refused(other))
+        self.serve_small()
+        taker.finish()
+        self.assertGreater(len(taker.rest()), 16 * MIB)
+        self.serve(export("staff"))
 
     def test_no_reply_stays_in_memory(self):
         """Clients that took a long page, and stay silent since."""
